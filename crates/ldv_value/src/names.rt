@@ -1,0 +1,53 @@
+//! The rules for paths and for words.
+
+ghost use Rattle.std.specs.Prelude.{◌≡◌};
+ghost use Rattle.std.specs.List.{list_all};
+ghost use Rattle.ldv_value.specs.Names.{path_test, word_test, is_path_byte, is_word_start, is_word_byte};
+
+/// Whether a text is a path: 1 to 255 bytes, none below 32 and none 127.
+pub fn is_path(text: &str) -> bool
+    ensures { result ≡ path_test text.now }
+{
+    1 <= text.len() && text.len() <= 255 && path_bytes(text.as_bytes())
+}
+
+fn path_bytes(bytes: &[u8]) -> bool
+    ensures { result ≡ list_all is_path_byte bytes.now }
+{
+    bytes.iter().all(|b| path_byte(*b))
+}
+
+fn path_byte(b: u8) -> bool
+    ensures { result ≡ is_path_byte b }
+{
+    32 <= b && b != 127
+}
+
+/// Whether a text is a lower-case word: 1 to 63 bytes, a letter from `a` to `z` or `_`, and then such
+/// letters, digits and `_`.
+pub fn is_word(text: &str) -> bool
+    ensures { result ≡ word_test text.now }
+{
+    match text.as_bytes() {
+        [] => false,
+        [first, rest @ ..] => word_start(*first) && rest.len() <= 62 && word_bytes(rest),
+    }
+}
+
+fn word_start(b: u8) -> bool
+    ensures { result ≡ is_word_start b }
+{
+    b'a' <= b && b <= b'z' || b == b'_'
+}
+
+fn word_bytes(bytes: &[u8]) -> bool
+    ensures { result ≡ list_all is_word_byte bytes.now }
+{
+    bytes.iter().all(|b| word_byte(*b))
+}
+
+fn word_byte(b: u8) -> bool
+    ensures { result ≡ is_word_byte b }
+{
+    word_start(b) || b'0' <= b && b <= b'9'
+}

@@ -1,0 +1,120 @@
+//! Text: a `String` that contracts see as the list of its bytes.
+
+ghost use Rattle.std.specs.Prelude.{◌≡◌, ◌==◌, string_bytes, ◌++◌, [], IfOk, OnOk, OnErr, ◌↔◌, IsTrue, nat_eq, length};
+ghost use Rattle.std.specs.Cmp.Lexicographic.{pointwise};
+
+use crate::list::CopyItem;
+use std::alloc::{AllocError, Global};
+use std::marker::Model;
+
+/// A text in UTF-8.
+#[derive(Drop)]
+pub struct Utf8 {
+    text: String,
+}
+
+impl Model for Utf8 {
+    ghost use Rattle.std.specs.Prelude.{List, ℕ, string_bytes};
+
+    ghost Value = { List ℕ };
+
+    ghost view = { λ a. string_bytes a.text };
+}
+
+impl Utf8 {
+    /// The empty text. It takes no memory.
+    pub fn new(alloc: Global) -> Self
+        ensures { result ≡ [] }
+    {
+        Utf8 {
+            text: String::new(alloc),
+        }
+    }
+
+    /// A text equal to another. `AllocError` means want of memory alone.
+    pub fn of(alloc: Global, text: &str) -> Result<Self, AllocError>
+        ensures { IfOk result (λ made. made ≡ text.now) }
+    {
+        Ok(Utf8 {
+            text: String::from_str(alloc, text)?,
+        })
+    }
+
+    /// The text of a `String`, in its own memory.
+    pub fn of_string(text: String) -> Self
+        ensures { result ≡ string_bytes text }
+    {
+        Utf8 { text }
+    }
+
+    /// The text as a `String`, in its own memory.
+    pub fn into_string(self) -> String
+        ensures { string_bytes result ≡ self }
+    {
+        let Utf8 { text } = self;
+        text
+    }
+
+    /// The allocator that the text keeps.
+    pub fn allocator(&self) -> Global {
+        *self.text.allocator()
+    }
+
+    /// The number of bytes.
+    pub fn len(&self) -> usize
+        ensures { result ≡ length self.now }
+    {
+        self.text.len()
+    }
+
+    /// Whether there is no byte.
+    pub fn is_empty(&self) -> bool
+        ensures { result ≡ (length self.now == 0) }
+    {
+        self.text.as_str().is_empty()
+    }
+
+    /// The text as a slice.
+    pub fn as_str(&self) -> &str
+        ensures { result.now ≡ self.now }
+    {
+        self.text.as_str()
+    }
+
+    /// Appends a text. `AllocError` means want of memory alone, and the text is as it was.
+    pub fn push_str(&mut self, text: &str) -> Result<(), AllocError>
+        ensures ok { OnOk result (self.new ≡ self.old ++ text.now) }
+        ensures err { OnErr result (self.new ≡ self.old) }
+    {
+        self.text.push_str(text)
+    }
+
+    /// A copy that is equal to the text. `AllocError` means want of memory alone.
+    pub fn copy(&self) -> Result<Self, AllocError>
+        ensures { IfOk result (λ copy. copy ≡ self.now) }
+    {
+        Utf8::of(*self.text.allocator(), self.text.as_str())
+    }
+
+    /// Whether two texts have the same bytes.
+    pub fn is_same(&self, other: &Utf8) -> bool
+        ensures same { IsTrue result ↔ (self.now ≡ other.now) }
+        ensures test { result ≡ pointwise nat_eq self.now other.now }
+    {
+        self.as_str() == other.as_str()
+    }
+
+    /// Whether the bytes are those of a slice.
+    pub fn is_text(&self, other: &str) -> bool
+        ensures same { IsTrue result ↔ (self.now ≡ other.now) }
+        ensures test { result ≡ pointwise nat_eq self.now other.now }
+    {
+        self.as_str() == other
+    }
+}
+
+impl CopyItem for Utf8 {
+    fn copy_item(&self, _alloc: Global) -> Result<Self, AllocError> {
+        self.copy()
+    }
+}

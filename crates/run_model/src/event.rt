@@ -1,0 +1,80 @@
+//! Events of a run.
+
+use ldv_value::{List, Names, Utf8};
+use sql_model::{Members, Needs};
+
+/// What happened in a step. A `path` is the path that an instruction named.
+#[derive(Drop)]
+pub enum Act {
+    /// The first process was started on a path.
+    Started {
+        path: Utf8,
+    },
+    /// A child was made.
+    Spawned {
+        path: Utf8,
+    },
+    /// A child was refused; `found` says whether the file was there.
+    Unspawned {
+        path: Utf8,
+        found: bool,
+    },
+    OpenedRead {
+        path: Utf8,
+    },
+    OpenedWrite {
+        path: Utf8,
+    },
+    OpenedAppend {
+        path: Utf8,
+        found: bool,
+    },
+    OpenedNew {
+        path: Utf8,
+    },
+    /// An open was refused: found for a new file, not found for reading.
+    Unopened {
+        path: Utf8,
+        found: bool,
+    },
+    Read {
+        path: Utf8,
+    },
+    Wrote {
+        path: Utf8,
+    },
+    Removed {
+        path: Utf8,
+    },
+    Tested {
+        path: Utf8,
+        found: bool,
+    },
+    /// A child, by its creation number, was waited for.
+    Waited {
+        child: u32,
+    },
+    /// The process ended.
+    Ended {
+        status: u8,
+    },
+    /// A statement was asked: the tables that it names, the rows that it needed and the versions that it
+    /// made.
+    Asked {
+        statement: u32,
+        tables: Names,
+        reads: Needs,
+        made: Members,
+    },
+}
+
+/// An act of a process, by its creation number, at a step; step 0 is the start.
+#[derive(Drop)]
+pub struct Event {
+    pub step: u32,
+    pub process: u32,
+    pub act: Act,
+}
+
+/// Events, in the order in which they happened.
+pub type Events = List<Event>;

@@ -1,0 +1,81 @@
+//! Packages.
+
+use crate::event::Events;
+use crate::name::ProcName;
+use ldv_value::{Bytes, List, Utf8, Values, Words};
+use sql_model::{Reply, Rule, Schema};
+
+/// Whether a package has the rows that its run needed, or the recorded replies.
+#[derive(Clone, Copy, Debug, PartialEq, Eq)]
+pub enum Mode {
+    Included,
+    Excluded,
+}
+
+/// What is needed to run again what was recorded, with the trace of the recorded run.
+#[derive(Drop)]
+pub struct Package {
+    pub mode: Mode,
+    pub start: Words,
+    pub seed: u64,
+    /// The number of steps of the recorded run, 1 to 10,000,000.
+    pub steps: u32,
+    /// Rising by path.
+    pub files: PackedFiles,
+    /// Rising by name.
+    pub tables: PackedTables,
+    /// Rising by process name.
+    pub logs: Logs,
+    pub events: Events,
+}
+
+/// A needed file: whole with its content, or present, where only its being there was needed.
+#[derive(Drop)]
+pub struct PackedFile {
+    pub path: Utf8,
+    pub content: Option<Bytes>,
+}
+
+/// A needed table with the initial rows that some statement needed.
+#[derive(Drop)]
+pub struct PackedTable {
+    pub name: Utf8,
+    pub schema: Schema,
+    pub next: u32,
+    pub rows: PackedRows,
+}
+
+/// A needed initial row, with the first statement that needed it and the rule by which it did.
+#[derive(Drop)]
+pub struct PackedRow {
+    pub number: u32,
+    pub statement: u32,
+    pub rule: Rule,
+    pub values: Values,
+}
+
+/// The recorded questions and replies of a process, in order.
+#[derive(Drop)]
+pub struct Log {
+    pub process: ProcName,
+    pub entries: Entries,
+}
+
+/// A recorded question and its reply.
+#[derive(Drop)]
+pub struct Entry {
+    pub text: Utf8,
+    pub params: Values,
+    pub reply: Reply,
+}
+
+/// Needed files.
+pub type PackedFiles = List<PackedFile>;
+/// Needed tables.
+pub type PackedTables = List<PackedTable>;
+/// Needed rows.
+pub type PackedRows = List<PackedRow>;
+/// Logs.
+pub type Logs = List<Log>;
+/// Entries of a log.
+pub type Entries = List<Entry>;

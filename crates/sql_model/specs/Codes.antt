@@ -1,0 +1,13 @@
+-- The code of each refusal.
+use Rattle.std.specs.Prelude.{ℕ}
+use Rattle.sql_model.specs.declared.reply.SqlRefusal.{SqlRefusal}
+use Rattle.sql_model.specs.declared.reply.SqlRefusal.TheVariants.{Syntax, NoTable, NoColumn, TypeClash, NotNull, KeyTaken, Full}
+
+abbrev pub code_of : SqlRefusal → ℕ
+code_of Syntax = 1
+code_of NoTable = 2
+code_of NoColumn = 3
+code_of TypeClash = 4
+code_of NotNull = 5
+code_of (KeyTaken table key) = 6
+code_of Full = 7

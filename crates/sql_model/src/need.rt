@@ -1,0 +1,54 @@
+//! Rows of tables at a version, and the rows that a statement needs.
+
+use ldv_value::{CopyItem, List, Utf8};
+use std::alloc::{AllocError, Global};
+
+/// Why a statement needs a row. Where several hold, the first is the rule.
+#[derive(Clone, Copy, Debug, PartialEq, Eq)]
+pub enum Rule {
+    /// It is in the lineage of an answer row, or matched by an UPDATE or DELETE.
+    L,
+    /// It is in the lineage of a group that HAVING rejected, or of a row that LIMIT cut.
+    H,
+    /// It is one of the two rows of a refused key.
+    K,
+}
+
+/// A row of a table at a version, the number of earlier changes of that row.
+#[derive(Drop)]
+pub struct Member {
+    pub table: Utf8,
+    pub row: u32,
+    pub version: u32,
+}
+
+/// A row that a statement needs.
+#[derive(Drop)]
+pub struct Need {
+    pub member: Member,
+    pub rule: Rule,
+}
+
+/// Members, rising by table and row, each row once.
+pub type Members = List<Member>;
+/// Needs, rising by table and row, each row once.
+pub type Needs = List<Need>;
+
+impl CopyItem for Member {
+    fn copy_item(&self, _alloc: Global) -> Result<Self, AllocError> {
+        Ok(Member {
+            table: self.table.copy()?,
+            row: self.row,
+            version: self.version,
+        })
+    }
+}
+
+impl CopyItem for Need {
+    fn copy_item(&self, alloc: Global) -> Result<Self, AllocError> {
+        Ok(Need {
+            member: self.member.copy_item(alloc)?,
+            rule: self.rule,
+        })
+    }
+}

@@ -1,0 +1,85 @@
+//! Replies and refusals.
+
+ghost use Rattle.std.specs.Prelude.{◌≡◌};
+
+use ldv_value::{CopyItem, List, RowList, Utf8, Values};
+use std::alloc::{AllocError, Global};
+
+/// Why a statement is refused. The refusals are tried in this order.
+#[derive(Drop)]
+pub enum SqlRefusal {
+    /// The text, with its parameters, has no reading.
+    Syntax,
+    /// A table isn't there, or two sources have one name.
+    NoTable,
+    /// A column isn't there, or isn't one alone.
+    NoColumn,
+    /// Kinds or counts don't fit.
+    TypeClash,
+    /// A NULL would stand in a NOT NULL column.
+    NotNull,
+    /// Two rows would have one key.
+    KeyTaken { table: Utf8, key: Values },
+    /// There is no number for a new row.
+    Full,
+}
+
+/// What a statement answers.
+#[derive(Drop)]
+pub enum Reply {
+    /// The rows of a query.
+    Rows(RowList),
+    /// How many rows were inserted or matched.
+    Changed(u64),
+    /// Nothing was changed.
+    Refused(SqlRefusal),
+}
+
+/// Replies.
+pub type Replies = List<Reply>;
+
+impl SqlRefusal {
+    ghost use Rattle.sql_model.specs.Codes.{code_of};
+
+    /// The refusal's code, 1 to 7.
+    pub fn code(&self) -> u8
+        ensures { result ≡ code_of self.now }
+    {
+        match self {
+            SqlRefusal::Syntax => 1,
+            SqlRefusal::NoTable => 2,
+            SqlRefusal::NoColumn => 3,
+            SqlRefusal::TypeClash => 4,
+            SqlRefusal::NotNull => 5,
+            SqlRefusal::KeyTaken { table: _, key: _ } => 6,
+            SqlRefusal::Full => 7,
+        }
+    }
+}
+
+impl CopyItem for SqlRefusal {
+    fn copy_item(&self, _alloc: Global) -> Result<Self, AllocError> {
+        match self {
+            SqlRefusal::Syntax => Ok(SqlRefusal::Syntax),
+            SqlRefusal::NoTable => Ok(SqlRefusal::NoTable),
+            SqlRefusal::NoColumn => Ok(SqlRefusal::NoColumn),
+            SqlRefusal::TypeClash => Ok(SqlRefusal::TypeClash),
+            SqlRefusal::NotNull => Ok(SqlRefusal::NotNull),
+            SqlRefusal::KeyTaken { table, key } => Ok(SqlRefusal::KeyTaken {
+                table: table.copy()?,
+                key: key.copy()?,
+            }),
+            SqlRefusal::Full => Ok(SqlRefusal::Full),
+        }
+    }
+}
+
+impl CopyItem for Reply {
+    fn copy_item(&self, alloc: Global) -> Result<Self, AllocError> {
+        match self {
+            Reply::Rows(rows) => Ok(Reply::Rows(rows.copy()?)),
+            Reply::Changed(count) => Ok(Reply::Changed(*count)),
+            Reply::Refused(refusal) => Ok(Reply::Refused(refusal.copy_item(alloc)?)),
+        }
+    }
+}

@@ -1,0 +1,83 @@
+//! Tables.
+
+use ldv_value::{CopyItem, List, Places, Utf8, Values};
+use std::alloc::{AllocError, Global};
+
+/// A column: its name, whether its kind is TEXT and not INT, and whether NULL is refused in it.
+#[derive(Drop)]
+pub struct Column {
+    pub name: Utf8,
+    pub text: bool,
+    pub not_null: bool,
+}
+
+/// The columns of a table, 1 to 64, and the places of its key, which may be none.
+#[derive(Drop)]
+pub struct Schema {
+    pub columns: Columns,
+    pub key: Places,
+}
+
+/// A row with its number, which it keeps as long as it stands.
+#[derive(Drop)]
+pub struct TableRow {
+    pub number: u32,
+    pub values: Values,
+}
+
+/// A table. Its row numbers rise and are below `next`, the number of the next new row.
+#[derive(Drop)]
+pub struct Table {
+    pub name: Utf8,
+    pub schema: Schema,
+    pub rows: TableRows,
+    pub next: u32,
+}
+
+/// Columns.
+pub type Columns = List<Column>;
+/// Schemas.
+pub type Schemas = List<Schema>;
+/// Rows with their numbers.
+pub type TableRows = List<TableRow>;
+/// Tables, rising by name.
+pub type Tables = List<Table>;
+
+impl CopyItem for Column {
+    fn copy_item(&self, _alloc: Global) -> Result<Self, AllocError> {
+        Ok(Column {
+            name: self.name.copy()?,
+            text: self.text,
+            not_null: self.not_null,
+        })
+    }
+}
+
+impl CopyItem for Schema {
+    fn copy_item(&self, _alloc: Global) -> Result<Self, AllocError> {
+        Ok(Schema {
+            columns: self.columns.copy()?,
+            key: self.key.copy()?,
+        })
+    }
+}
+
+impl CopyItem for TableRow {
+    fn copy_item(&self, _alloc: Global) -> Result<Self, AllocError> {
+        Ok(TableRow {
+            number: self.number,
+            values: self.values.copy()?,
+        })
+    }
+}
+
+impl CopyItem for Table {
+    fn copy_item(&self, alloc: Global) -> Result<Self, AllocError> {
+        Ok(Table {
+            name: self.name.copy()?,
+            schema: self.schema.copy_item(alloc)?,
+            rows: self.rows.copy()?,
+            next: self.next,
+        })
+    }
+}
