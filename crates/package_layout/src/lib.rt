@@ -1,0 +1,6 @@
+//! The bytes of a package.
+#![tactic(auto)]
+
+mod damage;
+
+pub use damage::DamageKind;

@@ -1,0 +1,24 @@
+//! Why a document is no world.
+
+/// Why a document is no world. The faults are tried in this order, each over the whole document.
+#[derive(Clone, Copy, Debug, PartialEq, Eq)]
+pub enum WorldFault {
+    /// The bytes are no JSON text.
+    NotJson,
+    /// A member too many or too few, or of another JSON type.
+    Shape,
+    /// A path, a table name or a column name outside its rule.
+    Name,
+    /// A limit is passed.
+    Limit,
+    /// A text in an INT column, or a number in a TEXT column.
+    RowType,
+    /// A null in a NOT NULL column.
+    NotNull,
+    /// A key column that may be NULL, or two rows of one key.
+    Key,
+    /// The first start word is no file.
+    NoStart,
+    /// The file of the first start word is no script: its first bad line, from 1.
+    BadScript(u32),
+}
