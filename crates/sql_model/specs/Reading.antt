@@ -54,15 +54,21 @@ cut_at_blank text = if nat_lt (position_or_len is_blank text) (length text) then
 abbrev pub is_digit : ℕ → Bool
 is_digit b = nat_le 48 b && nat_le b 57
 
--- the number that digits go on to from a number, below 2^63
+-- a number with one more digit, below 2^63
+abbrev pub digit_onto : ℕ → ℕ → Option ℕ
+digit_onto n b = if is_digit b && nat_lt (n * 10 + (b - 48)) (2 ^ 63) then Some (n * 10 + (b - 48)) else None
+
 abbrev pub number_from : ℕ → List ℕ → Option ℕ
 number_from n [] = Some n
-number_from n (b ∷ bytes) = if is_digit b && nat_lt (n * 10 + (b - 48)) (2 ^ 63) then number_from (n * 10 + (b - 48)) bytes else None
+number_from n (b ∷ bytes) = option_and_then (λ m. number_from m bytes) (digit_onto n b)
 
 -- a run of digits
+abbrev pub digits_number : List ℕ → Option ℕ
+digits_number [] = None
+digits_number (b ∷ bytes) = number_from 0 (b ∷ bytes)
+
 abbrev pub number_of : List ℕ → Option Value
-number_of [] = None
-number_of (b ∷ bytes) = option_map (λ n. Int (pos n)) (number_from 0 (b ∷ bytes))
+number_of text = option_map (λ n. Int (pos n)) (digits_number text)
 
 -- neither a quote nor a backslash
 abbrev pub is_plain : ℕ → Bool
@@ -88,9 +94,12 @@ abbrev pub equality_as : List ℕ → Value → Equality
 equality_as column constant = record { column = column; constant = constant }
 
 -- `c = V`, cut at the first blank
+abbrev pub equality_parts : List ℕ → List ℕ → Option Equality
+equality_parts column rest = if sql_name_test column then option_map (equality_as column) (option_and_then constant_of (after_prefix (codes "= ") rest)) else None
+
 abbrev pub equality_in : Option (List ℕ × List ℕ) → Option Equality
 equality_in None = None
-equality_in (Some (column, rest)) = if sql_name_test column then option_map (equality_as column) (option_and_then constant_of (after_prefix (codes "= ") rest)) else None
+equality_in (Some pair) = equality_parts pair.0 pair.1
 
 -- `WHERE c = V`
 abbrev pub condition_of : List ℕ → Option Equality
@@ -104,10 +113,15 @@ pub record Parts : Type 0 where
 abbrev pub parts_as : List ℕ → Option Equality → Parts
 parts_as table pick = record { table = table; pick = pick }
 
--- what follows `SELECT * FROM `, cut at the first blank
+abbrev pub whole_parts : List ℕ → Option Parts
+whole_parts text = if sql_name_test text then Some (parts_as text None) else None
+
+abbrev pub picked_parts : List ℕ → List ℕ → Option Parts
+picked_parts table rest = if sql_name_test table then option_map (λ e. parts_as table (Some e)) (condition_of rest) else None
+
 abbrev pub source_in : Option (List ℕ × List ℕ) → List ℕ → Option Parts
-source_in None text = if sql_name_test text then Some (parts_as text None) else None
-source_in (Some (table, rest)) text = if sql_name_test table then option_map (λ e. parts_as table (Some e)) (condition_of rest) else None
+source_in None text = whole_parts text
+source_in (Some pair) text = picked_parts pair.0 pair.1
 
 abbrev pub parts_of : List ℕ → Option Parts
 parts_of text = option_and_then (λ rest. source_in (cut_at_blank rest) rest) (after_prefix (codes "SELECT * FROM ") text)

@@ -1,5 +1,5 @@
 -- Tables by name, and which column a name means.
-use Rattle.std.specs.Prelude.{ℕ, List, [], ◌∷◌, ◌++◌, map, find, position, count_by, Bool, true, false, ◌&&◌, ◌==◌, Option, Some, None, option_map, option_and_then, unwrap_or, nat_eq, slice_get}
+use Rattle.std.specs.Prelude.{ℕ, List, [], ◌∷◌, ◌++◌, map, find, position, filter, length, Bool, true, false, ◌&&◌, ◌==◌, Option, Some, None, option_map, option_and_then, unwrap_or, nat_eq, slice_get}
 use Rattle.std.specs.List.{flat_map}
 use Rattle.std.specs.Cmp.Lexicographic.{pointwise}
 use Rattle.ldv_value.specs.declared.value.Value.{Value}
@@ -54,7 +54,7 @@ place_of scope c = position (is_meant c) scope
 
 -- one column alone is meant
 abbrev pub resolves : List InScope → ColumnName → Bool
-resolves scope c = count_by (is_meant c) scope == 1
+resolves scope c = length (filter (is_meant c) scope) == 1
 
 -- a joined row as an environment
 abbrev pub environment : List InScope → List Value → Environment

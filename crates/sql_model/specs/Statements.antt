@@ -2,7 +2,7 @@
 --
 -- The refusals are tried in the order of their codes over the whole statement. The codes 2 to 4 look at
 -- the statement and the schemas alone.
-use Rattle.std.specs.Prelude.{ℕ, List, [], ◌∷◌, ◌++◌, map, Bool, true, false, not, ◌&&◌, ◌||◌, if◌then◌else◌, Option, Some, None, is_none, count_by, nat_lt}
+use Rattle.std.specs.Prelude.{ℕ, List, [], ◌∷◌, ◌++◌, map, Bool, true, false, not, ◌&&◌, ◌||◌, if◌then◌else◌, Option, Some, None, is_none, filter, length, nat_lt}
 use Rattle.std.specs.List.{flat_map, list_any, list_all}
 use Rattle.sql_model.specs.declared.expr.ColumnName.{ColumnName}
 use Rattle.sql_model.specs.declared.reply.Reply.{Reply}
@@ -40,7 +40,7 @@ cores_of (TheDelete delete) = []
 
 -- two sources of the core have this name
 abbrev pub is_doubled : Core → FromItem → Bool
-is_doubled core item = nat_lt 1 (count_by (λ other. same_text other.name item.name) core.from)
+is_doubled core item = nat_lt 1 (length (filter (λ other. same_text other.name item.name) core.from))
 
 -- code 2
 abbrev pub lacks_table : Statement → List Table → Bool
