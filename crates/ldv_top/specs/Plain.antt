@@ -10,6 +10,8 @@ use Rattle.script_parse.specs.declared.script.Instr.{Instr}
 use Rattle.script_parse.specs.declared.script.Instr.TheVariants.{Print, Exit, Sql}
 use Rattle.sql_model.specs.declared.reply.Reply.{Reply}
 use Rattle.sql_model.specs.declared.table.Table.{Table}
+use Rattle.run_model.specs.declared.outcome.Outcome.{Outcome}
+use Rattle.run_model.specs.declared.outcome.ProcOutcome.{ProcOutcome}
 use Rattle.run_model.specs.Step.{printed_line, exit_status}
 use Rattle.ldv_top.specs.declared.finish.Finish.{Finish}
 use Rattle.ldv_top.specs.declared.finish.Shown.{Shown}
@@ -98,3 +100,10 @@ finish_of db steps = finish db steps (shown_as [] [])
 abbrev pub Took : Went → Option ℕ → Shown → Shown → Type 0
 Took went None old new = went ≡ Goes new
 Took went (Some status) old new = (went ≡ Stops status) × (new ≡ old)
+
+-- the outcome of the one process; no path is touched
+abbrev pub process_from : Finish → ProcOutcome
+process_from f = record { name = record { parts = 0 ∷ [] }; status = f.status; printed = f.shown.printed; replies = f.shown.replies }
+
+abbrev pub outcome_from : Finish → Outcome
+outcome_from f = record { processes = process_from f ∷ []; paths = [] }

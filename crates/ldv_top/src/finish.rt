@@ -6,12 +6,13 @@ ghost use Rattle.ldv_value.specs.Shown.{shown};
 ghost use Rattle.run_model.specs.Step.{printed_line, exit_status};
 ghost use Rattle.ldv_top.specs.Replies.{selection_reply};
 ghost use Rattle.ldv_value.specs.declared.value.Value.TheVariants.{Int};
-ghost use Rattle.ldv_top.specs.Plain.{finish_of};
+ghost use Rattle.ldv_top.specs.Plain.{finish_of, outcome_from};
 
 use crate::answer::reply_to;
 use crate::plain::{PlainStep, PlainSteps};
 use crate::selection::Selection;
-use ldv_value::{Bytes, FILE_LIMIT, Value, append_text};
+use ldv_value::{Bytes, FILE_LIMIT, Parts, Value, append_text};
+use run_model::{Outcome, PathOutcomes, ProcName, ProcOutcome, ProcOutcomes};
 use sql_model::{Replies, Table};
 use std::alloc::{AllocError, Global};
 
@@ -141,4 +142,25 @@ pub fn run_steps(alloc: Global, steps: &PlainSteps, tables: &[Table]) -> Result<
         }
     }
     Ok(Finish { status: 0, shown })
+}
+
+/// The outcome of a run of one process that touched no path. `AllocError` means want of memory alone.
+pub fn outcome_of(alloc: Global, end: Finish) -> Result<Outcome, AllocError>
+    ensures { IfOk result (λ outcome. outcome ≡ outcome_from end) }
+{
+    let Finish { status, shown } = end;
+    let Shown { printed, replies } = shown;
+    let mut parts = Parts::new(alloc);
+    parts.push(0)?;
+    let mut processes = ProcOutcomes::new(alloc);
+    processes.push(ProcOutcome {
+        name: ProcName { parts },
+        status,
+        printed,
+        replies,
+    })?;
+    Ok(Outcome {
+        processes,
+        paths: PathOutcomes::new(alloc),
+    })
 }
