@@ -1,3 +1,4 @@
 pub mod CutLemmas
 pub mod ReplyLaw
 pub mod RunLaw
+pub mod WriteLemmas

@@ -2,6 +2,8 @@
 #![tactic(auto)]
 
 mod answer;
+mod exit;
 mod finish;
+mod lines;
 mod plain;
 mod selection;

@@ -1,0 +1,66 @@
+//! How the program ends.
+
+ghost use Rattle.std.specs.Prelude.{◌≡◌, ℕ, ◌<◌, ◌≤◌, take, length, OnOk, OnErr};
+ghost use Rattle.std.specs.Io.KnownBytes.{Appends};
+ghost use Rattle.ldv_io.specs.Causes.{Rose};
+ghost use Rattle.ldv_top.specs.Exits.{line_of, status_of};
+
+use ldv_io::{Sink, WriteStop, write_all};
+use package_layout::DamageKind;
+use run_model::ProcName;
+use world_json::WorldFault;
+
+/// How the program ends. Each answer comes in the order of `docs/ARCHITECTURE.md`.
+#[derive(Drop)]
+pub enum Exit {
+    /// All was written.
+    Done,
+    /// The words are no command.
+    Usage,
+    /// A read of the input failed.
+    ReadFault,
+    /// A write of the output failed.
+    WriteFault,
+    /// The input has more than 67,108,864 bytes.
+    TooLong,
+    /// The input is no world document.
+    NotWorld(WorldFault),
+    /// The run hadn't ended after so many steps.
+    NotEnded { steps: u32 },
+    /// The input is no package.
+    Damaged(DamageKind),
+    /// A statement of a process isn't the recorded one.
+    Diverged { process: ProcName, index: u32 },
+    /// There is no such item.
+    NoSuch,
+    /// Memory ran out.
+    NoMemory,
+    /// The package would have more than 67,108,864 bytes.
+    PackageTooLong,
+    /// The world is one that this version can't run yet.
+    NotBuilt,
+}
+
+/// The status with which the program ends.
+pub fn status(exit: &Exit) -> u8
+    ensures { result ≡ status_of exit.now }
+{
+    match exit {
+        Exit::Done => 0,
+        Exit::Usage => 2,
+        Exit::ReadFault => 3,
+        Exit::WriteFault => 4,
+        Exit::TooLong => 5,
+        Exit::NotWorld(_) => 6,
+        Exit::NotEnded { steps: _ } => 7,
+        Exit::Damaged(_) => 8,
+        Exit::Diverged {
+            process: _,
+            index: _,
+        } => 9,
+        Exit::NoSuch => 10,
+        Exit::NoMemory => 11,
+        Exit::PackageTooLong => 12,
+        Exit::NotBuilt => 13,
+    }
+}
