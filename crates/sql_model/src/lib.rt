@@ -10,6 +10,7 @@
 
 mod catalog;
 mod expr;
+mod names;
 mod need;
 mod reply;
 mod statement;
@@ -17,6 +18,7 @@ mod table;
 
 pub use catalog::{Catalog, Checked};
 pub use expr::{ColumnName, ColumnNames, Expr, ExprRows, Exprs, Fold, Operator};
+pub use names::is_sql_name;
 pub use need::{Member, Members, Need, Needs, Rule};
 pub use reply::{Replies, Reply, SqlRefusal};
 pub use statement::{
