@@ -1,1 +1,3 @@
+pub mod Each
 pub mod JsonText
+pub mod Lookups

@@ -63,8 +63,15 @@ optional f x (Some d) = f d
 abbrev pub whole_of : Data → Option ℕ
 whole_of d = as_number d >>= as_u64
 
+-- the bytes of hex digits in either case, two for each byte
+abbrev pub hex_text : List ℕ → Option (List ℕ)
+hex_text text = result_ok (decode_of text)
+
 abbrev pub hex_of : Data → Option (List ℕ)
-hex_of d = as_str d >>= λ text. result_ok (decode_of text)
+hex_of d = as_str d >>= hex_text
+
+abbrev pub content_in : Members → Option (List ℕ)
+content_in ms = if only (codes "hex" ∷ []) ms then required hex_of (get_member (codes "hex") ms) else None
 
 -- a text is its bytes, or they stand in the one member `hex`
 abbrev pub content_of : Data → Option (List ℕ)
@@ -73,7 +80,7 @@ content_of (boolean b) = None
 content_of (number n) = None
 content_of (string text) = Some text
 content_of (array ds) = None
-content_of (object ms) = if only (codes "hex" ∷ []) ms then required hex_of (get_member (codes "hex") ms) else None
+content_of (object ms) = content_in ms
 
 abbrev pub file_of : List ℕ → Data → Option File
 file_of path d = do
