@@ -80,3 +80,153 @@ fn has_width(rows: &RowList, width: usize) -> bool
 {
     rows.items().iter().all(|row| row.len() == width)
 }
+
+impl FromMember for Draft {
+    ghost use Rattle.world_json.specs.Shape.{table_of};
+
+    ghost of_member = { table_of };
+
+    fn from_member(alloc: Global, name: Utf8, value: Value) -> Result<Self, ShapeStop> {
+        match value {
+            Value::Object(members) => read_table(alloc, name, members),
+            _ => Err(ShapeStop::Shape),
+        }
+    }
+}
+
+fn read_table(alloc: Global, name: Utf8, members: Map<String, Value>) -> Result<Draft, ShapeStop>
+    ensures ok { IfOk result (λ draft. table_in name (members_view members.entries) ≡ Some draft) }
+    ensures shape { result ≡ Err ShapeStop.Shape → table_in name (members_view members.entries) ≡ None }
+{
+    if !has_only(&members, &["columns", "key", "rows", "next"]) {
+        return Err(ShapeStop::Shape);
+    }
+    table_of_parts(alloc, name, table_parts(members))
+}
+
+fn table_parts(mut members: Map<String, Value>) -> TableParts
+    ensures columns { option_map view result.columns ≡ get_member (codes "columns") (members_view members.entries) }
+    ensures key { option_map view result.key ≡ get_member (codes "key") (members_view members.entries) }
+    ensures rows { option_map view result.rows ≡ get_member (codes "rows") (members_view members.entries) }
+    ensures next { option_map view result.next ≡ get_member (codes "next") (members_view members.entries) }
+{
+    let columns = take_member(&mut members, "columns");
+    let key = take_member(&mut members, "key");
+    let rows = take_member(&mut members, "rows");
+    let next = take_member(&mut members, "next");
+    TableParts {
+        columns,
+        key,
+        rows,
+        next,
+    }
+}
+
+fn table_of_parts(alloc: Global, name: Utf8, parts: TableParts) -> Result<Draft, ShapeStop>
+    ensures ok { IfOk result (λ draft. table_from name (option_map view parts.columns) (option_map view parts.key) (option_map view parts.rows) (option_map view parts.next) ≡ Some draft) }
+    ensures shape { result ≡ Err ShapeStop.Shape
+        → table_from name (option_map view parts.columns) (option_map view parts.key) (option_map view parts.rows) (option_map view parts.next) ≡ None }
+{
+    let TableParts {
+        columns,
+        key,
+        rows,
+        next,
+    } = parts;
+    let columns: Columns = read_required(alloc, columns)?;
+    let key: Names = read_optional(alloc, key)?;
+    let rows: RowList = read_optional(alloc, rows)?;
+    let next = read_whole(next, rows.len() as u64)?;
+    if !has_width(&rows, columns.len()) {
+        return Err(ShapeStop::Shape);
+    }
+    Ok(Draft {
+        name,
+        columns,
+        key,
+        rows,
+        next,
+    })
+}
+
+/// The parts of a document, of their types.
+pub(crate) fn read_document(alloc: Global, value: Value) -> Result<Document, ShapeStop>
+    ensures ok { IfOk result (λ document. document_of (view value) ≡ Some document) }
+    ensures shape { result ≡ Err ShapeStop.Shape → document_of (view value) ≡ None }
+{
+    match value {
+        Value::Object(members) => read_whole_document(alloc, members),
+        _ => Err(ShapeStop::Shape),
+    }
+}
+
+fn read_whole_document(alloc: Global, members: Map<String, Value>) -> Result<Document, ShapeStop>
+    ensures ok { IfOk result (λ document. document_in (members_view members.entries) ≡ Some document) }
+    ensures shape { result ≡ Err ShapeStop.Shape → document_in (members_view members.entries) ≡ None }
+{
+    if !has_only(&members, &["start", "seed", "files", "tables"]) {
+        return Err(ShapeStop::Shape);
+    }
+    document_of_parts(alloc, document_parts(members))
+}
+
+fn document_parts(mut members: Map<String, Value>) -> DocumentParts
+    ensures start { option_map view result.start ≡ get_member (codes "start") (members_view members.entries) }
+    ensures seed { option_map view result.seed ≡ get_member (codes "seed") (members_view members.entries) }
+    ensures files { option_map view result.files ≡ get_member (codes "files") (members_view members.entries) }
+    ensures tables { option_map view result.tables ≡ get_member (codes "tables") (members_view members.entries) }
+{
+    let start = take_member(&mut members, "start");
+    let seed = take_member(&mut members, "seed");
+    let files = take_member(&mut members, "files");
+    let tables = take_member(&mut members, "tables");
+    DocumentParts {
+        start,
+        seed,
+        files,
+        tables,
+    }
+}
+
+fn document_of_parts(alloc: Global, parts: DocumentParts) -> Result<Document, ShapeStop>
+    ensures ok { IfOk result (λ document. document_from (option_map view parts.start) (option_map view parts.seed) (option_map view parts.files) (option_map view parts.tables) ≡ Some document) }
+    ensures shape { result ≡ Err ShapeStop.Shape
+        → document_from (option_map view parts.start) (option_map view parts.seed) (option_map view parts.files) (option_map view parts.tables) ≡ None }
+{
+    let DocumentParts {
+        start,
+        seed,
+        files,
+        tables,
+    } = parts;
+    let start: Names = read_required(alloc, start)?;
+    let seed = read_whole(seed, 0)?;
+    let files = read_files(alloc, files)?;
+    let tables = read_tables(alloc, tables)?;
+    Ok(Document {
+        start,
+        seed,
+        files,
+        tables,
+    })
+}
+
+fn read_files(alloc: Global, value: Option<Value>) -> Result<Files, ShapeStop>
+    ensures ok { IfOk result (λ files. required (object_of file_of) (option_map view value) ≡ Some files) }
+    ensures shape { result ≡ Err ShapeStop.Shape → required (object_of file_of) (option_map view value) ≡ None }
+{
+    match value {
+        Some(object) => read_object(alloc, object),
+        None => Err(ShapeStop::Shape),
+    }
+}
+
+fn read_tables(alloc: Global, value: Option<Value>) -> Result<Drafts, ShapeStop>
+    ensures ok { IfOk result (λ tables. optional (object_of table_of) [] (option_map view value) ≡ Some tables) }
+    ensures shape { result ≡ Err ShapeStop.Shape → optional (object_of table_of) [] (option_map view value) ≡ None }
+{
+    match value {
+        Some(object) => read_object(alloc, object),
+        None => Ok(List::new(alloc)),
+    }
+}
