@@ -6,8 +6,11 @@ mod content;
 mod document;
 mod fault;
 mod json;
+mod keys;
 mod members;
+mod names;
 mod parts;
+mod repeats;
 mod shape;
 
 pub use document::{Document, Draft, Drafts};
