@@ -1,3 +1,4 @@
+pub mod Columns
 pub mod Each
 pub mod JsonText
 pub mod Lookups

@@ -7,6 +7,8 @@ mod document;
 mod fault;
 mod json;
 mod keys;
+mod kinds;
+mod limits;
 mod members;
 mod names;
 mod parts;
