@@ -1,5 +1,5 @@
 -- Lists in which an item is the same as a later one, found by a set of those that were seen.
-use Rattle.std.proofs.Common.{◌≡◌, List, [], ◌∷◌, Bool, true, false, ◌||◌, not, cond, map, Ordering, refl, sym, ap, ◌∙◌}
+use Rattle.std.proofs.Common.{◌≡◌, List, [], ◌∷◌, Bool, true, false, ◌&&◌, ◌||◌, not, cond, map, Ordering, refl, sym, ap, ◌∙◌}
 use Rattle.std.specs.List.{list_any}
 use Rattle.world_json.specs.Faults.{repeats}
 use Rattle.world_json.proofs.Lookups.{any_map}
@@ -52,3 +52,7 @@ one_more same all seen now x rest is fresh after =
 pub seen_false : (added seen : Bool) → added ≡ true → added ≡ not seen → seen ≡ false
 seen_false added true yes_added is = let e : true ≡ false = sym yes_added ∙ is in cc
 seen_false added false yes_added is = refl
+
+pub some_twice : (none twice repeating : Bool) → none ≡ false → twice ≡ repeating → twice ≡ (not none && repeating)
+some_twice true twice repeating miss same = cc
+some_twice false twice repeating miss same = same

@@ -90,9 +90,12 @@ is_filled doc = list_all (each_value is_there) doc.tables
 abbrev pub is_not_null : List Column → List ℕ → Bool
 is_not_null columns name = list_any (λ column. bytes_eq name column.name && column.not_null) columns
 
--- the places of the key's columns, from 0
+-- the place of the column of a name, from 0
+abbrev pub place_in : List Column → List ℕ → ℕ
+place_in columns name = unwrap_or (position (λ column. bytes_eq name column.name) columns) 0
+
 abbrev pub key_places : List Column → List (List ℕ) → List ℕ
-key_places columns key = map (λ name. unwrap_or (position (λ column. bytes_eq name column.name) columns) 0) key
+key_places columns key = map (place_in columns) key
 
 -- a row's values at some places
 abbrev pub values_at : List ℕ → List Value → List Value

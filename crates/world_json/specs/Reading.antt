@@ -1,5 +1,5 @@
 -- The world that a document is, or the first fault by which it is none.
-use Rattle.std.specs.Prelude.{ℕ, ◌+◌, List, [], ◌∷◌, map, Bool, if◌then◌else◌, Option, Some, None, Result, Ok, Err}
+use Rattle.std.specs.Prelude.{◌≡◌, ℕ, ◌+◌, List, [], ◌∷◌, map, Bool, if◌then◌else◌, Option, Some, None, Result, Ok, Err}
 use Rattle.std.specs.Str.{is_utf8}
 use Rattle.serde_json.specs.Data.{Data}
 use Rattle.serde_json.specs.Read.{read}
@@ -13,6 +13,8 @@ use Rattle.world_json.specs.declared.document.Document.{Document}
 use Rattle.world_json.specs.declared.document.Draft.{Draft}
 use Rattle.world_json.specs.declared.fault.WorldFault.{WorldFault}
 use Rattle.world_json.specs.declared.fault.WorldFault.TheVariants.{NotJson, Shape, Name, Limit, RowType, NotNull, Key, NoStart, BadScript}
+use Rattle.world_json.specs.declared.fault.WorldStop.{WorldStop}
+use Rattle.world_json.specs.declared.fault.WorldStop.TheVariants.{Fault, NoMemory}
 use Rattle.world_json.specs.Shape.{document_of}
 use Rattle.world_json.specs.Faults.{is_named, is_within, is_typed, is_filled, is_keyed, key_places, start_file}
 
@@ -36,9 +38,17 @@ world_as doc = record { start = doc.start; seed = doc.seed; files = doc.files; t
 
 -- ---- the faults in their order, each over the whole document
 
-abbrev pub started : Document → Option File → Result World WorldFault
-started doc None = Err NoStart
-started doc (Some file) = Ok (world_as doc)
+-- NoStart, where the first start word is no file
+abbrev pub start_fault_of : Option File → Option WorldFault
+start_fault_of None = Some NoStart
+start_fault_of (Some file) = None
+
+abbrev pub start_fault : Document → Option WorldFault
+start_fault doc = start_fault_of (start_file doc)
+
+abbrev pub ending : Document → Option WorldFault → Result World WorldFault
+ending doc None = Ok (world_as doc)
+ending doc (Some fault) = Err fault
 
 abbrev pub reading_of : Document → Result World WorldFault
 reading_of doc =
@@ -46,7 +56,7 @@ reading_of doc =
     then (if is_within doc
         then (if is_typed doc
             then (if is_filled doc
-                then (if is_keyed doc then started doc (start_file doc) else Err Key)
+                then (if is_keyed doc then ending doc (start_fault doc) else Err Key)
                 else Err NotNull)
             else Err RowType)
         else Err Limit)
@@ -66,3 +76,8 @@ parsed (Some d) = shaped (document_of d)
 
 abbrev pub world_reading : List ℕ → Result World WorldFault
 world_reading bytes = parsed (json_of bytes)
+
+-- a stop that names the fault of a reading; want of memory names none
+abbrev pub IsFaultOf : Result World WorldFault → WorldStop → Type 0
+IsFaultOf reading (Fault fault) = reading ≡ Err fault
+IsFaultOf reading NoMemory = Unit {0}

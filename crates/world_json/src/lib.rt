@@ -14,6 +14,9 @@ mod names;
 mod parts;
 mod repeats;
 mod shape;
+mod start;
+mod world;
 
 pub use document::{Document, Draft, Drafts};
-pub use fault::WorldFault;
+pub use fault::{WorldFault, WorldStop};
+pub use world::world_of;
