@@ -16,6 +16,8 @@ mod list;
 mod names;
 mod order;
 mod show;
+#[cfg(test)]
+mod tests;
 mod utf8;
 mod value;
 

@@ -1,0 +1,5 @@
+pub mod Ends
+pub mod OutcomeText
+pub mod Run
+pub mod State
+pub mod Step

@@ -5,6 +5,7 @@ mod event;
 mod name;
 mod outcome;
 mod package;
+mod text;
 mod world;
 
 pub use event::{Act, Event, Events};
@@ -14,4 +15,5 @@ pub use package::{
     Entries, Entry, Log, Logs, Mode, Package, PackedFile, PackedFiles, PackedRow, PackedRows,
     PackedTable, PackedTables,
 };
+pub use text::outcome_text;
 pub use world::World;

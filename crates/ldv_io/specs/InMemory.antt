@@ -1,0 +1,48 @@
+-- Sources and sinks in memory, whose calls are numbered and fail where their number is listed.
+use Rattle.std.specs.Prelude.{◌≡◌, ℕ, ◌+◌, ◌-◌, ◌^◌, ◌<◌, ◌⊎◌, List, length, drop, ◌++◌, Contains}
+use Rattle.ldv_io.specs.Causes.{raised}
+
+-- What a source in memory is: the bytes left, the most that a read gives, the numbers of the calls
+-- that fail, the calls made and the faults, both up to the last number of 64 bits.
+pub record Reader : Type 0 where
+  pub left : List ℕ
+  pub piece : ℕ
+  pub failing : List ℕ
+  pub calls : ℕ
+  pub faults : ℕ
+
+-- What a sink in memory is: the bytes taken, the room that is left, and the rest as above.
+pub record Writer : Type 0 where
+  pub taken : List ℕ
+  pub room : ℕ
+  pub piece : ℕ
+  pub failing : List ℕ
+  pub calls : ℕ
+  pub faults : ℕ
+
+-- What a source that never fails is: the bytes left, and the most that a read gives.
+pub record Steady : Type 0 where
+  pub left : List ℕ
+  pub piece : ℕ
+
+-- Calls are numbered from 1, and numbers end at 2^64 - 1. The call after so many calls is listed.
+abbrev pub IsListed : List ℕ → ℕ → Type 0
+IsListed failing calls = (calls + 1 < 2 ^ 64) × Contains failing (calls + 1)
+
+-- the source after a read that failed, and after one that gave n bytes
+abbrev pub read_failed : Reader → Reader
+read_failed r = record r { calls = raised r.calls; faults = raised r.faults }
+
+abbrev pub read_gave : ℕ → Reader → Reader
+read_gave n r = record r { left = drop n r.left; calls = raised r.calls }
+
+-- the sink after a write that failed, and after one that took these bytes
+abbrev pub write_failed : Writer → Writer
+write_failed w = record w { calls = raised w.calls; faults = raised w.faults }
+
+abbrev pub write_took : List ℕ → Writer → Writer
+write_took bytes w = record w { taken = w.taken ++ bytes; room = w.room - length bytes; calls = raised w.calls }
+
+-- a write of these bytes fails
+abbrev pub IsRefused : Writer → List ℕ → Type 0
+IsRefused w bytes = IsListed w.failing w.calls ⊎ ((0 < length bytes) × (w.room ≡ 0))

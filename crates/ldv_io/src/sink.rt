@@ -1,0 +1,26 @@
+//! Where bytes go.
+
+ghost use Rattle.std.specs.Prelude.{List, ℕ, ◌<◌, length, IfOk};
+ghost use Rattle.std.specs.declared.option.Option.{Option};
+ghost use Rattle.std.specs.Io.{WritesAtMost};
+ghost use Rattle.std.specs.Io.KnownBytes.{WriteAppends};
+ghost use Rattle.ldv_io.specs.Causes.{HasCause};
+
+use crate::source::Failed;
+
+/// Where bytes go.
+pub trait Sink {
+    /// The bytes that were taken, where they are told.
+    ghost taken: { Self → Option (List ℕ) };
+
+    /// How often a write has failed. It never falls; at its last number, 2^64 - 1, it stays.
+    ghost faults: { Self → ℕ };
+
+    /// Takes bytes from the front of `bytes`, and says how many: at least one where there is one.
+    /// `Failed` took none, and comes only where the count of faults rose.
+    fn write(&mut self, bytes: &[u8]) -> Result<usize, Failed>
+        ensures bound { WritesAtMost result bytes.now }
+        ensures bytes { WriteAppends (taken self.old) (taken self.new) result bytes.now }
+        ensures progress { IfOk result (λ n. 0 < length bytes.now → 0 < n) }
+        ensures cause { HasCause (faults self.old) (faults self.new) result };
+}

@@ -1,0 +1,28 @@
+//! Where bytes come from.
+
+ghost use Rattle.std.specs.Prelude.{List, ℕ};
+ghost use Rattle.std.specs.declared.option.Option.{Option};
+ghost use Rattle.std.specs.Io.{ReadsAtMost};
+ghost use Rattle.std.specs.Io.KnownBytes.{ReadConsumes};
+ghost use Rattle.ldv_io.specs.Causes.{HasCause};
+
+/// A read or a write failed.
+#[derive(Clone, Copy, Debug, PartialEq, Eq)]
+pub struct Failed;
+
+/// Where bytes come from.
+pub trait Source {
+    /// The bytes that are left, where they are told.
+    ghost left: { Self → Option (List ℕ) };
+
+    /// How often a read has failed. It never falls; at its last number, 2^64 - 1, it stays.
+    ghost faults: { Self → ℕ };
+
+    /// Reads the next bytes into the front of `buf`, and says how many they are. 0 bytes for a buffer
+    /// that isn't empty are the end of input, and come only where no bytes are left. `Failed` leaves
+    /// all bytes, and comes only where the count of faults rose.
+    fn read(&mut self, buf: &mut [u8]) -> Result<usize, Failed>
+        ensures bound { ReadsAtMost result buf.new }
+        ensures bytes { ReadConsumes (left self.old) (left self.new) result buf.new }
+        ensures cause { HasCause (faults self.old) (faults self.new) result };
+}

@@ -1,0 +1,4 @@
+pub mod Cuts
+pub mod Plain
+pub mod Replies
+pub mod Selections

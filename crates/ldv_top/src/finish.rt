@@ -1,0 +1,166 @@
+//! The run of a plain script.
+
+ghost use Rattle.std.specs.Prelude.{◌≡◌, ◌+◌, ◌++◌, ◌∷◌, [], nat_lt, IfOk, OnOk};
+ghost use Rattle.std.specs.List.{flat_map};
+ghost use Rattle.ldv_value.specs.Shown.{shown};
+ghost use Rattle.run_model.specs.Step.{printed_line, exit_status};
+ghost use Rattle.ldv_top.specs.Replies.{selection_reply};
+ghost use Rattle.ldv_value.specs.declared.value.Value.TheVariants.{Int};
+ghost use Rattle.ldv_top.specs.Plain.{finish_of, outcome_from};
+
+use crate::answer::reply_to;
+use crate::plain::{PlainStep, PlainSteps};
+use crate::selection::Selection;
+use ldv_value::{Bytes, FILE_LIMIT, Parts, Value, append_text};
+use run_model::{Outcome, PathOutcomes, ProcName, ProcOutcome, ProcOutcomes};
+use sql_model::{Replies, Table};
+use std::alloc::{AllocError, Global};
+
+/// What a process has printed, and the replies that it had.
+#[derive(Drop)]
+pub struct Shown {
+    pub printed: Bytes,
+    pub replies: Replies,
+}
+
+/// The status with which a process ended, and what it came to.
+#[derive(Drop)]
+pub struct Finish {
+    pub status: u8,
+    pub shown: Shown,
+}
+
+fn append_values(to: &mut Bytes, values: &[Value]) -> Result<(), AllocError>
+    ensures { OnOk result (to.new ≡ to.old ++ flat_map shown values.now) }
+{
+    for value in values {
+        append_text(value, to)?;
+    }
+    Ok(())
+}
+
+// The shown values and LF.
+fn line_of(alloc: Global, values: &[Value]) -> Result<Bytes, AllocError>
+    ensures { IfOk result (λ line. line ≡ printed_line values.now) }
+{
+    let mut line = Bytes::new(alloc);
+    append_values(&mut line, values)?;
+    line.extend(b"\n")?;
+    Ok(line)
+}
+
+// Whether so many bytes and so many more are too many for a process to print.
+fn passes_limit(printed: usize, more: usize) -> bool
+    ensures { result ≡ nat_lt 16777216 (printed + more) }
+{
+    printed > FILE_LIMIT || more > FILE_LIMIT - printed
+}
+
+impl Shown {
+    ghost use Rattle.ldv_top.specs.Plain.{shown_line, Took, take_step, finish_of};
+
+    // Prints a line, or gives the status of misuse where too much would be printed.
+    fn print(&mut self, line: &Bytes) -> Result<Option<u8>, AllocError>
+        ensures { IfOk result (λ status. Took (shown_line line.now self.old) status self.old self.new) }
+    {
+        if passes_limit(self.printed.len(), line.len()) {
+            return Ok(Some(242));
+        }
+        self.printed.extend(line.as_slice())?;
+        Ok(None)
+    }
+
+    fn answer(
+        &mut self,
+        alloc: Global,
+        selection: &Selection,
+        tables: &[Table],
+    ) -> Result<(), AllocError>
+        ensures replies { OnOk result (self.new.replies ≡ self.old.replies ++ selection_reply selection.now tables.now ∷ []) }
+        ensures printed { OnOk result (self.new.printed ≡ self.old.printed) }
+    {
+        self.replies.push(reply_to(alloc, selection, tables)?)
+    }
+
+    // Takes a step, and gives the status where the step ends the process.
+    fn take(
+        &mut self,
+        alloc: Global,
+        step: &PlainStep,
+        tables: &[Table],
+    ) -> Result<Option<u8>, AllocError>
+        ensures { IfOk result (λ status. Took (take_step tables.now step.now self.old) status self.old self.new) }
+    {
+        match step {
+            PlainStep::Show(values) => {
+                let line = line_of(alloc, values.items())?;
+                self.print(&line)
+            }
+            PlainStep::Stop(value) => Ok(Some(status_of(value))),
+            PlainStep::Ask(selection) => {
+                self.answer(alloc, selection, tables)?;
+                Ok(None)
+            }
+            PlainStep::Misuse => Ok(Some(240)),
+        }
+    }
+}
+
+// The status that a value is: a number from 0 to 255, else that of misuse.
+fn status_of(value: &Value) -> u8
+    ensures { result ≡ exit_status value.now }
+{
+    match value {
+        Value::Null => 240,
+        Value::Int(number) => small_or_misuse(*number),
+        Value::Text(_) => 240,
+    }
+}
+
+fn small_or_misuse(number: i64) -> u8
+    ensures { result ≡ exit_status (Int number) }
+{
+    if 0 <= number && number < 256 {
+        number as u8
+    } else {
+        240
+    }
+}
+
+/// Runs a plain script to its end. `AllocError` means want of memory alone.
+pub fn run_steps(alloc: Global, steps: &PlainSteps, tables: &[Table]) -> Result<Finish, AllocError>
+    ensures { IfOk result (λ end. end ≡ finish_of tables.now steps.now) }
+{
+    let mut shown = Shown {
+        printed: Bytes::new(alloc),
+        replies: Replies::new(alloc),
+    };
+    for step in steps.items() {
+        match shown.take(alloc, step, tables)? {
+            Some(status) => return Ok(Finish { status, shown }),
+            None => {}
+        }
+    }
+    Ok(Finish { status: 0, shown })
+}
+
+/// The outcome of a run of one process that touched no path. `AllocError` means want of memory alone.
+pub fn outcome_of(alloc: Global, end: Finish) -> Result<Outcome, AllocError>
+    ensures { IfOk result (λ outcome. outcome ≡ outcome_from end) }
+{
+    let Finish { status, shown } = end;
+    let Shown { printed, replies } = shown;
+    let mut parts = Parts::new(alloc);
+    parts.push(0)?;
+    let mut processes = ProcOutcomes::new(alloc);
+    processes.push(ProcOutcome {
+        name: ProcName { parts },
+        status,
+        printed,
+        replies,
+    })?;
+    Ok(Outcome {
+        processes,
+        paths: PathOutcomes::new(alloc),
+    })
+}

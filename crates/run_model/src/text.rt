@@ -1,0 +1,249 @@
+//! The text of an outcome (`docs/FORMATS.md`).
+
+ghost use Rattle.std.specs.Prelude.{◌≡◌, ◌++◌, ◌∷◌, [], codes, length, IfOk, OnOk};
+ghost use Rattle.std.specs.List.{flat_map};
+ghost use Rattle.std.specs.Fmt.{decimal, signed_decimal};
+ghost use Rattle.run_model.specs.OutcomeText.{line, value_text, values_text, row_text, refusal_text, reply_text, name_text, head_text, process_text, file_text, content_text, path_text, outcome_text_of};
+
+use crate::name::ProcName;
+use crate::outcome::{Outcome, PathOutcome, ProcOutcome};
+use ldv_value::{Bytes, RowList, Utf8, Value, Values};
+use sql_model::{Replies, Reply, SqlRefusal};
+use std::alloc::{AllocError, Global};
+
+/// The text of an outcome: its counts, its processes and its touched paths. `AllocError` means want of
+/// memory alone.
+pub fn outcome_text(alloc: Global, outcome: &Outcome) -> Result<Bytes, AllocError>
+    ensures { IfOk result (λ text. text ≡ outcome_text_of outcome.now) }
+{
+    let mut text = Bytes::new(alloc);
+    text.extend(b"outcome ")?;
+    append_number(&mut text, outcome.processes.len() as u64)?;
+    text.extend(b" ")?;
+    append_number(&mut text, outcome.paths.len() as u64)?;
+    text.extend(b"\n")?;
+    append_processes(&mut text, outcome.processes.items())?;
+    append_paths(&mut text, outcome.paths.items())?;
+    Ok(text)
+}
+
+fn append_number(to: &mut Bytes, number: u64) -> Result<(), AllocError>
+    ensures { OnOk result (to.new ≡ to.old ++ decimal number) }
+{
+    let text = number.to_string(to.allocator())?;
+    to.extend(text.as_bytes())
+}
+
+fn append_signed(to: &mut Bytes, number: i64) -> Result<(), AllocError>
+    ensures { OnOk result (to.new ≡ to.old ++ signed_decimal number) }
+{
+    let text = number.to_string(to.allocator())?;
+    to.extend(text.as_bytes())
+}
+
+fn append_line(to: &mut Bytes, bytes: &[u8]) -> Result<(), AllocError>
+    ensures { OnOk result (to.new ≡ to.old ++ line bytes.now) }
+{
+    to.extend(bytes)?;
+    to.extend(b"\n")
+}
+
+// A word that ends in a blank, a number and LF.
+fn append_counted(to: &mut Bytes, word: &[u8], number: u64) -> Result<(), AllocError>
+    ensures { OnOk result (to.new ≡ to.old ++ line (word.now ++ decimal number)) }
+{
+    to.extend(word)?;
+    append_number(to, number)?;
+    to.extend(b"\n")
+}
+
+fn append_value(to: &mut Bytes, value: &Value) -> Result<(), AllocError>
+    ensures { OnOk result (to.new ≡ to.old ++ value_text value.now) }
+{
+    match value {
+        Value::Null => to.extend(b"null\n"),
+        Value::Int(number) => {
+            to.extend(b"int ")?;
+            append_signed(to, *number)?;
+            to.extend(b"\n")
+        }
+        Value::Text(text) => append_text_value(to, text),
+    }
+}
+
+fn append_text_value(to: &mut Bytes, text: &Utf8) -> Result<(), AllocError>
+    ensures { OnOk result (to.new ≡ to.old ++ line (codes "text " ++ decimal (length text.now)) ++ line text.now) }
+{
+    append_counted(to, b"text ", text.len() as u64)?;
+    append_line(to, text.as_str().as_bytes())
+}
+
+fn append_values(to: &mut Bytes, values: &[Value]) -> Result<(), AllocError>
+    ensures { OnOk result (to.new ≡ to.old ++ values_text values.now) }
+{
+    for value in values {
+        append_value(to, value)?;
+    }
+    Ok(())
+}
+
+fn append_row(to: &mut Bytes, values: &Values) -> Result<(), AllocError>
+    ensures { OnOk result (to.new ≡ to.old ++ row_text values.now) }
+{
+    append_counted(to, b"row ", values.len() as u64)?;
+    append_values(to, values.items())
+}
+
+fn append_rows(to: &mut Bytes, rows: &[Values]) -> Result<(), AllocError>
+    ensures { OnOk result (to.new ≡ to.old ++ flat_map row_text rows.now) }
+{
+    for row in rows {
+        append_row(to, row)?;
+    }
+    Ok(())
+}
+
+fn append_refusal(to: &mut Bytes, refusal: &SqlRefusal) -> Result<(), AllocError>
+    ensures { OnOk result (to.new ≡ to.old ++ refusal_text refusal.now) }
+{
+    match refusal {
+        SqlRefusal::Syntax => append_counted(to, b"refused ", 1),
+        SqlRefusal::NoTable => append_counted(to, b"refused ", 2),
+        SqlRefusal::NoColumn => append_counted(to, b"refused ", 3),
+        SqlRefusal::TypeClash => append_counted(to, b"refused ", 4),
+        SqlRefusal::NotNull => append_counted(to, b"refused ", 5),
+        SqlRefusal::KeyTaken { table, key } => append_key(to, table, key),
+        SqlRefusal::Full => append_counted(to, b"refused ", 7),
+    }
+}
+
+fn append_key(to: &mut Bytes, table: &Utf8, key: &Values) -> Result<(), AllocError>
+    ensures { OnOk result (to.new ≡ to.old ++ line (codes "refused 6 " ++ table.now ++ codes " " ++ decimal (length key.now)) ++ values_text key.now) }
+{
+    to.extend(b"refused 6 ")?;
+    to.extend(table.as_str().as_bytes())?;
+    append_counted(to, b" ", key.len() as u64)?;
+    append_values(to, key.items())
+}
+
+fn append_reply(to: &mut Bytes, reply: &Reply) -> Result<(), AllocError>
+    ensures { OnOk result (to.new ≡ to.old ++ reply_text reply.now) }
+{
+    match reply {
+        Reply::Rows(rows) => append_answer(to, rows),
+        Reply::Changed(count) => append_counted(to, b"changed ", *count),
+        Reply::Refused(refusal) => append_refusal(to, refusal),
+    }
+}
+
+fn append_answer(to: &mut Bytes, rows: &RowList) -> Result<(), AllocError>
+    ensures { OnOk result (to.new ≡ to.old ++ line (codes "rows " ++ decimal (length rows.now)) ++ flat_map row_text rows.now) }
+{
+    append_counted(to, b"rows ", rows.len() as u64)?;
+    append_rows(to, rows.items())
+}
+
+fn append_replies(to: &mut Bytes, replies: &[Reply]) -> Result<(), AllocError>
+    ensures { OnOk result (to.new ≡ to.old ++ flat_map reply_text replies.now) }
+{
+    for reply in replies {
+        append_reply(to, reply)?;
+    }
+    Ok(())
+}
+
+fn append_parts(to: &mut Bytes, parts: &[u32]) -> Result<(), AllocError>
+    ensures { OnOk result (to.new ≡ to.old ++ flat_map (λ part. 46 ∷ decimal part) parts.now) }
+{
+    for part in parts {
+        to.extend(b".")?;
+        append_number(to, *part as u64)?;
+    }
+    Ok(())
+}
+
+pub(crate) fn append_name(to: &mut Bytes, name: &ProcName) -> Result<(), AllocError>
+    ensures { OnOk result (to.new ≡ to.old ++ name_text name.now.parts) }
+{
+    append_joined(to, name.parts.items())
+}
+
+fn append_joined(to: &mut Bytes, parts: &[u32]) -> Result<(), AllocError>
+    ensures { OnOk result (to.new ≡ to.old ++ name_text parts.now) }
+{
+    match parts {
+        [] => Ok(()),
+        [first, rest @ ..] => append_parts_from(to, *first, rest),
+    }
+}
+
+fn append_parts_from(to: &mut Bytes, first: u32, rest: &[u32]) -> Result<(), AllocError>
+    ensures { OnOk result (to.new ≡ to.old ++ decimal first ++ flat_map (λ part. 46 ∷ decimal part) rest.now) }
+{
+    append_number(to, first as u64)?;
+    append_parts(to, rest)
+}
+
+fn append_process(to: &mut Bytes, process: &ProcOutcome) -> Result<(), AllocError>
+    ensures { OnOk result (to.new ≡ to.old ++ process_text process.now) }
+{
+    append_head(to, process)?;
+    append_line(to, process.printed.as_slice())?;
+    append_replies(to, process.replies.items())
+}
+
+fn append_head(to: &mut Bytes, process: &ProcOutcome) -> Result<(), AllocError>
+    ensures { OnOk result (to.new ≡ to.old ++ head_text process.now) }
+{
+    to.extend(b"process ")?;
+    append_name(to, &process.name)?;
+    to.extend(b" ")?;
+    append_number(to, process.status as u64)?;
+    to.extend(b" ")?;
+    append_number(to, process.printed.len() as u64)?;
+    append_counted(to, b" ", process.replies.len() as u64)
+}
+
+fn append_processes(to: &mut Bytes, processes: &[ProcOutcome]) -> Result<(), AllocError>
+    ensures { OnOk result (to.new ≡ to.old ++ flat_map process_text processes.now) }
+{
+    for process in processes {
+        append_process(to, process)?;
+    }
+    Ok(())
+}
+
+fn append_path(to: &mut Bytes, path: &PathOutcome) -> Result<(), AllocError>
+    ensures { OnOk result (to.new ≡ to.old ++ path_text path.now) }
+{
+    match &path.content {
+        None => append_removed(to, &path.path),
+        Some(bytes) => append_file(to, &path.path, bytes),
+    }
+}
+
+fn append_removed(to: &mut Bytes, path: &Utf8) -> Result<(), AllocError>
+    ensures { OnOk result (to.new ≡ to.old ++ line (codes "removed " ++ decimal (length path.now)) ++ line path.now) }
+{
+    append_counted(to, b"removed ", path.len() as u64)?;
+    append_line(to, path.as_str().as_bytes())
+}
+
+fn append_file(to: &mut Bytes, path: &Utf8, bytes: &Bytes) -> Result<(), AllocError>
+    ensures { OnOk result (to.new ≡ to.old ++ file_text path.now bytes.now) }
+{
+    to.extend(b"file ")?;
+    append_number(to, path.len() as u64)?;
+    append_counted(to, b" ", bytes.len() as u64)?;
+    append_line(to, path.as_str().as_bytes())?;
+    append_line(to, bytes.as_slice())
+}
+
+fn append_paths(to: &mut Bytes, paths: &[PathOutcome]) -> Result<(), AllocError>
+    ensures { OnOk result (to.new ≡ to.old ++ flat_map path_text paths.now) }
+{
+    for path in paths {
+        append_path(to, path)?;
+    }
+    Ok(())
+}

@@ -1,0 +1,156 @@
+-- What an expression means: its value and its truth over a group of rows.
+--
+-- A row is given by the value of each column that a name can mean there (an environment). Over one row
+-- the group is that row alone. Over a group a column outside an aggregate has its value in the first
+-- row, and an aggregate folds over the group. No expression fails: arithmetic over NULL or outside 64
+-- bits is NULL. An expression of the kind TRUTH has a truth, and every other one a value; what the
+-- other half says there isn't looked at.
+use Rattle.std.specs.Prelude.{ℕ, ◌^◌, ℤ, pos, negsuc, ◌+ℤ◌, ◌-ℤ◌, ◌*ℤ◌, neg_ℤ, List, [], ◌∷◌, length, map, filter, Bool, true, false, not, nat_lt, if◌then◌else◌, Option, Some, None}
+use Rattle.std.specs.List.{reduce}
+use Rattle.std.specs.Ordering.{is_lt, is_gt}
+use Rattle.ldv_value.specs.declared.value.Value.{Value}
+use Rattle.ldv_value.specs.declared.value.Value.TheVariants.{Null, Int, Text}
+use Rattle.ldv_value.specs.declared.value.Truth.{Truth}
+use Rattle.ldv_value.specs.declared.value.Truth.TheVariants.{True, False, Unknown}
+use Rattle.ldv_value.specs.Order.{order, test_of, known}
+use Rattle.sql_model.specs.declared.expr.ColumnName.{ColumnName}
+use Rattle.sql_model.specs.declared.expr.Operator.{Operator}
+use Rattle.sql_model.specs.declared.expr.Operator.TheVariants.{Add, Subtract, Multiply, Compare, And, Or}
+use Rattle.sql_model.specs.declared.expr.Fold.{Fold}
+use Rattle.sql_model.specs.declared.expr.Fold.TheVariants.{Count, Sum, Min, Max}
+use Rattle.sql_model.specs.declared.expr.Expr.{Expr}
+use Rattle.sql_model.specs.declared.expr.Expr.TheOpen.{Expr-F}
+use Rattle.sql_model.specs.declared.expr.Expr.TheOpen as open_expr
+use Rattle.sql_model.specs.declared.expr.Expr.TheFolds.{fold-Expr}
+
+abbrev pub Environment : Type 0
+Environment = ColumnName → Value
+
+pub record Sense : Type 0 where
+  pub value : Value
+  pub truth : Truth
+
+abbrev pub of_value : Value → Sense
+of_value v = record { value = v; truth = Unknown }
+
+abbrev pub of_truth : Truth → Sense
+of_truth t = record { value = Null; truth = t }
+
+-- a number within 64 bits, else NULL
+abbrev pub number_value : ℤ → Value
+number_value (pos n) = if nat_lt n (2 ^ 63) then Int (pos n) else Null
+number_value (negsuc n) = if nat_lt n (2 ^ 63) then Int (negsuc n) else Null
+
+abbrev pub with_numbers : (ℤ → ℤ → ℤ) → Value → Value → Value
+with_numbers f Null b = Null
+with_numbers f (Int m) Null = Null
+with_numbers f (Int m) (Int n) = number_value (f m n)
+with_numbers f (Int m) (Text t) = Null
+with_numbers f (Text s) b = Null
+
+abbrev pub negated : Value → Value
+negated Null = Null
+negated (Int n) = number_value (neg_ℤ n)
+negated (Text t) = Null
+
+-- three-valued logic
+abbrev pub truth_not : Truth → Truth
+truth_not True = False
+truth_not False = True
+truth_not Unknown = Unknown
+
+abbrev pub truth_and : Truth → Truth → Truth
+truth_and True b = b
+truth_and False b = False
+truth_and Unknown True = Unknown
+truth_and Unknown False = False
+truth_and Unknown Unknown = Unknown
+
+abbrev pub truth_or : Truth → Truth → Truth
+truth_or True b = True
+truth_or False b = b
+truth_or Unknown True = True
+truth_or Unknown False = Unknown
+truth_or Unknown Unknown = Unknown
+
+abbrev pub is_null : Value → Bool
+is_null Null = true
+is_null (Int n) = false
+is_null (Text t) = false
+
+abbrev pub both : Operator → Sense → Sense → Sense
+both Add a b = of_value (with_numbers (λ m n. m +ℤ n) a.value b.value)
+both Subtract a b = of_value (with_numbers (λ m n. m -ℤ n) a.value b.value)
+both Multiply a b = of_value (with_numbers (λ m n. m *ℤ n) a.value b.value)
+both (Compare c) a b = of_truth (test_of c a.value b.value)
+both And a b = of_truth (truth_and a.truth b.truth)
+both Or a b = of_truth (truth_or a.truth b.truth)
+
+-- IS NULL, or IS NOT NULL where the flag is set
+abbrev pub null_test : Bool → Value → Truth
+null_test false v = known (is_null v)
+null_test true v = known (not (is_null v))
+
+-- ---- aggregates
+
+abbrev pub number_in : Value → ℤ
+number_in Null = pos 0
+number_in (Int n) = n
+number_in (Text t) = pos 0
+
+abbrev pub total : List Value → ℤ
+total [] = pos 0
+total (v ∷ vs) = number_in v +ℤ total vs
+
+abbrev pub lesser : Value → Value → Value
+lesser a b = if is_lt (order b a) then b else a
+
+abbrev pub greater : Value → Value → Value
+greater a b = if is_gt (order b a) then b else a
+
+abbrev pub or_null : Option Value → Value
+or_null None = Null
+or_null (Some v) = v
+
+-- over the values that aren't NULL: the exact count and the exact sum, NULL outside 64 bits
+abbrev pub folded : Fold → List Value → Value
+folded Count vs = number_value (pos (length vs))
+folded Sum [] = Null
+folded Sum (v ∷ vs) = number_value (total (v ∷ vs))
+folded Min vs = or_null (reduce lesser vs)
+folded Max vs = or_null (reduce greater vs)
+
+abbrev pub known_values : List Value → List Value
+known_values vs = filter (λ v. not (is_null v)) vs
+
+-- COUNT(*) counts the rows
+abbrev pub counted : List Environment → Value
+counted group = number_value (pos (length group))
+
+-- ---- expressions
+
+abbrev pub in_first : List Environment → ColumnName → Value
+in_first [] c = Null
+in_first (env ∷ rest) c = env c
+
+abbrev pub sense_step : Expr-F (List Environment → Sense) → List Environment → Sense
+sense_step (open_expr.Constant v) group = of_value v
+sense_step (open_expr.Column c) group = of_value (in_first group c)
+sense_step (open_expr.Negate e) group = of_value (negated (e group).value)
+sense_step (open_expr.Not e) group = of_truth (truth_not (e group).truth)
+sense_step (open_expr.Both op a b) group = both op (a group) (b group)
+sense_step (open_expr.IsNull e negative) group = of_truth (null_test negative (e group).value)
+sense_step (open_expr.Aggregate f None) group = of_value (counted group)
+sense_step (open_expr.Aggregate f (Some e)) group = of_value (folded f (known_values (map (λ env. (e (env ∷ [])).value) group)))
+
+abbrev pub sense : Expr → List Environment → Sense
+sense = fold-Expr (List Environment → Sense) sense_step
+
+-- over one row
+abbrev pub truth : Expr → Environment → Truth
+truth e env = (sense e (env ∷ [])).truth
+
+abbrev pub is_true : Truth → Bool
+is_true True = true
+is_true False = false
+is_true Unknown = false
