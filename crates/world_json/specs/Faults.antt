@@ -76,14 +76,14 @@ is_there column Null = not column.not_null
 is_there column (Int n) = true
 is_there column (Text text) = true
 
-abbrev pub each_value : (Column → Value → Bool) → Draft → Bool
-each_value test table = list_all (λ row. list_all (λ pair. test pair.0 pair.1) (zip table.columns row)) table.rows
+abbrev pub each_value : (Column → Value → Bool) → List Column → List (List Value) → Bool
+each_value test columns rows = list_all (λ row. list_all (λ pair. test pair.0 pair.1) (zip columns row)) rows
 
 abbrev pub is_typed : Document → Bool
-is_typed doc = list_all (each_value is_kind) doc.tables
+is_typed doc = list_all (λ table. each_value is_kind table.columns table.rows) doc.tables
 
 abbrev pub is_filled : Document → Bool
-is_filled doc = list_all (each_value is_there) doc.tables
+is_filled doc = list_all (λ table. each_value is_there table.columns table.rows) doc.tables
 
 -- ---- Key: every key column is NOT NULL, and no two rows have the same key
 

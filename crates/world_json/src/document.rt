@@ -6,7 +6,7 @@ use sql_model::Columns;
 /// The parts of a document: the start words, the seed, the files rising by path and the tables rising
 /// by name.
 #[derive(Drop)]
-pub struct Document {
+pub(crate) struct Document {
     pub start: Words,
     pub seed: u64,
     pub files: Files,
@@ -15,7 +15,7 @@ pub struct Document {
 
 /// The parts of a table: its key is a list of names, and its rows have one value for each column.
 #[derive(Drop)]
-pub struct Draft {
+pub(crate) struct Draft {
     pub name: Utf8,
     pub columns: Columns,
     pub key: Names,
@@ -24,4 +24,4 @@ pub struct Draft {
 }
 
 /// Tables.
-pub type Drafts = List<Draft>;
+pub(crate) type Drafts = List<Draft>;

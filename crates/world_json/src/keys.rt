@@ -137,7 +137,7 @@ fn value_at(alloc: Global, row: &Values, place: usize) -> Result<Value, AllocErr
 
 /// The values of a row in its key columns. Keys are ordered value by value.
 #[derive(Drop)]
-pub struct RowKey {
+pub(crate) struct RowKey {
     pub values: Values,
 }
 

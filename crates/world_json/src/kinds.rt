@@ -20,7 +20,7 @@ pub(crate) fn meets_kinds(document: &Document) -> bool
 }
 
 fn table_meets_kinds(table: &Draft) -> bool
-    ensures { result ≡ each_value is_kind table.now }
+    ensures { result ≡ each_value is_kind table.now.columns table.now.rows }
 {
     table
         .rows
@@ -61,7 +61,7 @@ pub(crate) fn meets_not_null(document: &Document) -> bool
 }
 
 fn table_meets_not_null(table: &Draft) -> bool
-    ensures { result ≡ each_value is_there table.now }
+    ensures { result ≡ each_value is_there table.now.columns table.now.rows }
 {
     table
         .rows
