@@ -1,0 +1,3 @@
+pub mod Magnitude
+pub mod TokensFrom
+pub mod Utf8

@@ -1,0 +1,4 @@
+pub mod Gives
+pub mod Names
+pub mod Number
+pub mod Tokens
