@@ -1,3 +1,4 @@
+pub mod Each
 pub mod Magnitude
 pub mod TokensFrom
 pub mod Utf8

@@ -1,7 +1,10 @@
 //! Scripts: the instructions of a process, and their reading from bytes.
 #![tactic(auto)]
 
+mod keyword;
+mod line;
 mod number;
+mod operand;
 mod refused;
 mod scan;
 mod script;
