@@ -68,6 +68,15 @@ abbrev pub names_from_one : List Token → Option (List (List ℕ))
 names_from_one [] = None
 names_from_one (t ∷ ts) = only_if (nat_le (length ts) 255) (each name_of (t ∷ ts))
 
+abbrev pub sign_in : Token → Option Sign
+sign_in t = word_of t >>= sign_of
+
+abbrev pub comparison_in : Token → Option Cmp
+comparison_in t = word_of t >>= comparison_of
+
+abbrev pub mode_in : Token → Option OpenMode
+mode_in t = word_of t >>= mode_of
+
 -- `x = v` with a sign and a second operand, behind `let`
 abbrev pub signed : List ℕ → Operand → Operand → Sign → Instr
 signed x v w Plus = instr.Calc x Add v w
@@ -86,8 +95,7 @@ let_value x (i ∷ v ∷ []) = do
   only_if (is_word (codes "int") i) (Some (instr.ToInt x value))
 let_value x (v ∷ s ∷ w ∷ []) = do
   left ← operand_of v
-  word ← word_of s
-  sign ← sign_of word
+  sign ← sign_in s
   right ← operand_of w
   Some (signed x left right sign)
 let_value x (a ∷ b ∷ c ∷ d ∷ more) = None
@@ -118,8 +126,7 @@ goto_of _ = None
 abbrev pub if_of : List Token → Option Line
 if_of (v ∷ c ∷ w ∷ g ∷ l ∷ []) = do
   left ← operand_of v
-  word ← word_of c
-  op ← comparison_of word
+  op ← comparison_in c
   right ← operand_of w
   label ← name_of l
   only_if (is_word (codes "goto") g) (Some (Jumping (instr.JumpIf op left right 0) label))
@@ -209,8 +216,7 @@ else_of ts = position (is_word (codes "else")) ts >>= else_at ts
 abbrev pub open_of : List Token → List ℕ → Option Line
 open_of (f ∷ m ∷ v ∷ []) label = do
   file ← name_of f
-  word ← word_of m
-  mode ← mode_of word
+  mode ← mode_in m
   path ← operand_of v
   Some (Jumping (instr.OpenPath file mode path 0) label)
 open_of _ label = None

@@ -15,3 +15,8 @@ Fails NoMemory due = Unit {0}
 abbrev pub Gives : {X : Type 0} → Result X Refused → Option X → Type 0
 Gives (Ok x) due = due ≡ Some x
 Gives (Err e) due = Fails e due
+
+-- the same of an answer as a contract sees it by `view`
+abbrev pub GivesBy : {X Y : Type 0} → (X → Y) → Result X Refused → Option Y → Type 0
+GivesBy view (Ok x) due = due ≡ Some (view x)
+GivesBy view (Err e) due = Fails e due

@@ -1,6 +1,7 @@
 //! Scripts: the instructions of a process, and their reading from bytes.
 #![tactic(auto)]
 
+mod forms;
 mod keyword;
 mod line;
 mod number;
