@@ -1,4 +1,7 @@
+pub mod Colon
+pub mod Cut
 pub mod Each
 pub mod Magnitude
+pub mod Options
 pub mod TokensFrom
 pub mod Utf8

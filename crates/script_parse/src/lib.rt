@@ -1,6 +1,7 @@
 //! Scripts: the instructions of a process, and their reading from bytes.
 #![tactic(auto)]
 
+mod form;
 mod forms;
 mod keyword;
 mod line;
@@ -9,6 +10,7 @@ mod operand;
 mod refused;
 mod scan;
 mod script;
+mod split;
 mod token;
 
 pub use number::read_number;
