@@ -55,7 +55,11 @@ labels_from n (e ∷ es) = labels_in e.number n e.line ++ labels_from (n + instr
 -- the first definition of a name
 abbrev pub definition_of : List Labelled → List ℕ → Option Definition
 definition_of [] name = None
-definition_of (l ∷ ls) name = if is_text name l.name then Some l.definition else definition_of ls name
+definition_of (l ∷ ls) name = if is_text l.name name then Some l.definition else definition_of ls name
+
+abbrev pub first_of : {A : Type 0} → Option A → Option A → Option A
+first_of None o = o
+first_of (Some x) o = Some x
 
 -- an instruction with the place of its label
 abbrev pub with_place : ℕ → Instr → Instr

@@ -4,6 +4,7 @@
 mod form;
 mod forms;
 mod keyword;
+mod labels;
 mod line;
 mod number;
 mod operand;
