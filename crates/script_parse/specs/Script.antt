@@ -1,18 +1,20 @@
 -- A script as a function of its bytes: the lines, what each says, the places of labels.
-use Rattle.std.specs.Prelude.{ℕ, ◌+◌, ◌++◌, List, [], ◌∷◌, Bool, true, false, ◌==◌, if◌then◌else◌, Option, Some, None, is_some, option_to_list}
+use Rattle.std.specs.Prelude.{◌≡◌, ℕ, ◌+◌, ◌++◌, List, [], ◌∷◌, Bool, true, false, ◌==◌, if◌then◌else◌, Option, Some, None, is_some, option_to_list, Result, Ok, Err}
 use Rattle.script_parse.specs.declared.script.Instr.{Instr}
 use Rattle.script_parse.specs.declared.script.Instr.TheVariants as instr
-use Rattle.script_parse.specs.declared.line.Line.{Line}
+use Rattle.script_parse.specs.declared.line.Line.{Line as Said}
 use Rattle.script_parse.specs.declared.line.Line.TheVariants.{Quiet, Label, Plain, Jumping}
 use Rattle.script_parse.specs.declared.line.Entry.{Entry}
 use Rattle.script_parse.specs.declared.line.Definition.{Definition}
+use Rattle.script_parse.specs.declared.parse.ScriptStop.{ScriptStop}
+use Rattle.script_parse.specs.declared.parse.ScriptStop.TheVariants.{Line, NoMemory}
 use Rattle.script_parse.specs.Forms.{only_if}
 use Rattle.script_parse.specs.Gives.{◌>>=◌}
 use Rattle.script_parse.specs.Lines.{lines_of, line_of}
 use Rattle.script_parse.specs.Names.{is_text}
 
 -- a line with its number; none where it is quiet
-abbrev pub entry_of : ℕ → Option Line → List Entry
+abbrev pub entry_of : ℕ → Option Said → List Entry
 entry_of n None = record { number = n; line = None } ∷ []
 entry_of n (Some Quiet) = []
 entry_of n (Some (Label l)) = record { number = n; line = Some (Label l) } ∷ []
@@ -33,14 +35,14 @@ pub record Labelled : Type 0 where
   pub definition : Definition
 
 -- the label that a line defines, with n instructions before it
-abbrev pub labels_in : ℕ → ℕ → Option Line → List Labelled
+abbrev pub labels_in : ℕ → ℕ → Option Said → List Labelled
 labels_in number n None = []
 labels_in number n (Some Quiet) = []
 labels_in number n (Some (Label l)) = record { name = l; definition = record { line = number; place = n } } ∷ []
 labels_in number n (Some (Plain i)) = []
 labels_in number n (Some (Jumping i l)) = []
 
-abbrev pub instructions_in : Option Line → ℕ
+abbrev pub instructions_in : Option Said → ℕ
 instructions_in None = 0
 instructions_in (Some Quiet) = 0
 instructions_in (Some (Label l)) = 0
@@ -92,7 +94,7 @@ is_first number (Some d) = d.line == number
 
 -- The instruction of a line, or none where it defines a label; `None` where the line is bad: it is bad in
 -- itself, an earlier line defines its label, or no line defines the label that it uses.
-abbrev pub resolve_line : (List ℕ → Option Definition) → ℕ → Option Line → Option (Option Instr)
+abbrev pub resolve_line : (List ℕ → Option Definition) → ℕ → Option Said → Option (Option Instr)
 resolve_line look number None = None
 resolve_line look number (Some Quiet) = Some None
 resolve_line look number (Some (Label l)) = only_if (is_first number (look l)) (Some None)
@@ -122,3 +124,13 @@ script_of bytes = instructions_of (look_up (entries_of bytes)) (entries_of bytes
 -- the first bad line, from 1, where they aren't
 abbrev pub first_bad_line : List ℕ → ℕ
 first_bad_line bytes = first_bad (look_up (entries_of bytes)) (entries_of bytes)
+
+-- a fact for the number of the first bad line
+abbrev pub IfLine : ScriptStop → (ℕ → Type 0) → Type 0
+IfLine (Line n) P = P n
+IfLine NoMemory P = Unit {0}
+
+-- the answer is the list that is due, or the line that is bad where none is
+abbrev pub Answers : Result (List Instr) ScriptStop → Option (List Instr) → ℕ → Type 0
+Answers (Ok is) due bad = due ≡ Some is
+Answers (Err stop) due bad = IfLine stop (λ n. (due ≡ None) × (n ≡ bad))

@@ -8,6 +8,7 @@ mod labels;
 mod line;
 mod number;
 mod operand;
+mod parse;
 mod refused;
 mod scan;
 mod script;
@@ -15,4 +16,5 @@ mod split;
 mod token;
 
 pub use number::read_number;
+pub use parse::{ScriptStop, parse_script};
 pub use script::{CalcOp, Instr, Instrs, Operand, Operands, Script};
