@@ -18,3 +18,6 @@ mod token;
 pub use number::read_number;
 pub use parse::{ScriptStop, parse_script};
 pub use script::{CalcOp, Instr, Instrs, Operand, Operands, Script};
+
+#[cfg(test)]
+mod tests;
