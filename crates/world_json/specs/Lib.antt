@@ -1,0 +1,4 @@
+pub mod Shape
+pub mod Faults
+pub mod Reading
+pub mod KeyOrder

@@ -1,5 +1,7 @@
 //! Why a document is no world.
 
+use std::alloc::AllocError;
+
 /// Why a document is no world. The faults are tried in this order, each over the whole document.
 #[derive(Clone, Copy, Debug, PartialEq, Eq)]
 pub enum WorldFault {
@@ -21,4 +23,24 @@ pub enum WorldFault {
     NoStart,
     /// The file of the first start word is no script: its first bad line, from 1.
     BadScript(u32),
+}
+
+/// Why bytes give no world.
+#[derive(Clone, Copy, Debug, PartialEq, Eq)]
+pub enum WorldStop {
+    /// They are none: the first fault.
+    Fault(WorldFault),
+    /// Want of memory.
+    NoMemory,
+}
+
+impl From<AllocError> for WorldStop {
+    ghost use Rattle.std.specs.Prelude.{◌≡◌};
+    ghost use Rattle.world_json.specs.declared.fault.WorldStop.TheVariants.{NoMemory};
+
+    ghost from_gives = { λ _ stop. stop ≡ NoMemory };
+
+    fn from(_refused: AllocError) -> WorldStop {
+        WorldStop::NoMemory
+    }
 }

@@ -1,6 +1,33 @@
 //! World documents: the world that a JSON document is, or the first fault by which it is none.
+//!
+//! A document is read in three steps, and each step takes what the one before gave, so that memory is
+//! let go on the way: bytes to a JSON value of `serde_json`, the value to a `Document` whose parts have
+//! their types, the document to a world. It promises to the layers above:
+//! - `world_of` gives the world of `specs/Reading.antt`, or its fault;
+//! - a fault is the first that holds, in the order of `WorldFault`, each tried over the whole document.
+//!
+//! The definitions: `specs/Shape.antt` has the members of a document and their types, `specs/Faults.antt`
+//! a test for each later fault, and `specs/Reading.antt` their order and the world. `docs/WORLDS.md` has
+//! the format in plain words.
 #![tactic(auto)]
 
+mod cells;
+mod content;
+mod document;
 mod fault;
+mod json;
+mod keys;
+mod kinds;
+mod limits;
+mod members;
+mod names;
+mod parts;
+mod repeats;
+mod shape;
+mod start;
+#[cfg(test)]
+mod tests;
+mod world;
 
-pub use fault::WorldFault;
+pub use fault::{WorldFault, WorldStop};
+pub use world::world_of;

@@ -1,0 +1,98 @@
+//! From the bytes of a line to what it says.
+
+ghost use Rattle.std.specs.Prelude.{◌≡◌};
+ghost use Rattle.std.specs.Option.{option_map};
+ghost use Rattle.std.specs.Str.{is_utf8};
+ghost use Rattle.script_parse.specs.Gives.{Gives};
+ghost use Rattle.script_parse.specs.Lines.{before_colon, label_in, worded, form_of, first_shown, is_comment, line_of};
+
+use crate::forms::instruction;
+use crate::keyword::find_keyword;
+use crate::line::Line;
+use crate::operand::is_name;
+use crate::refused::Refused;
+use crate::scan::{blank, tokens};
+use crate::token::Token;
+use ldv_value::Utf8;
+use std::alloc::Global;
+
+/// What a line says.
+pub(crate) fn read_line(alloc: Global, line: &[u8]) -> Result<Line, Refused>
+    ensures { Gives result (line_of line.now) }
+{
+    if !is_text(line) {
+        return Err(Refused::Bad);
+    }
+    if is_comment(line) {
+        return Ok(Line::Quiet);
+    }
+    let tokens = tokens(alloc, line)?;
+    form(alloc, tokens.items())
+}
+
+#[tactic(auto, using(crate::proofs::Utf8::text_rules))]
+fn is_text(line: &[u8]) -> bool
+    ensures { result ≡ is_utf8 line.now }
+{
+    str::from_utf8(line).is_ok()
+}
+
+fn is_comment(line: &[u8]) -> bool
+    ensures { result ≡ is_comment line.now }
+{
+    match first_shown(line) {
+        None => false,
+        Some(b) => b == b'#',
+    }
+}
+
+fn first_shown(line: &[u8]) -> Option<u8>
+    ensures { result ≡ first_shown line.now }
+{
+    line.iter().copied().find(|b| !blank(*b))
+}
+
+fn form(alloc: Global, tokens: &[Token]) -> Result<Line, Refused>
+    ensures { Gives result (form_of tokens.now) }
+{
+    match tokens {
+        [] => Ok(Line::Quiet),
+        [first, rest @ ..] => match first {
+            Token::Word(word) => worded(alloc, word.as_str(), rest),
+            Token::Number(_) => Err(Refused::Bad),
+            Token::Quoted(_) => Err(Refused::Bad),
+        },
+    }
+}
+
+fn worded(alloc: Global, word: &str, rest: &[Token]) -> Result<Line, Refused>
+    ensures { Gives result (worded word.now rest.now) }
+{
+    match rest {
+        [] => label(alloc, word),
+        [_, ..] => {
+            let Some(keyword) = find_keyword(word) else {
+                return Err(Refused::Bad);
+            };
+            instruction(alloc, keyword, rest)
+        }
+    }
+}
+
+fn label(alloc: Global, word: &str) -> Result<Line, Refused>
+    ensures { Gives result (label_in word.now) }
+{
+    let Some(name) = before_colon(word) else {
+        return Err(Refused::Bad);
+    };
+    if !is_name(name) {
+        return Err(Refused::Bad);
+    }
+    Ok(Line::Label(Utf8::of(alloc, name)?))
+}
+
+fn before_colon(word: &str) -> Option<&str>
+    ensures { option_map (λ x. x.now) result ≡ before_colon word.now }
+{
+    word.strip_suffix(':')
+}

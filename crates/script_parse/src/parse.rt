@@ -1,0 +1,134 @@
+//! From bytes to a script.
+
+ghost use Rattle.std.specs.Prelude.{◌≡◌, ◌<◌, ◌^◌, length, IfOk, IfErr, option_map};
+ghost use Rattle.std.specs.BTreeMap.{get_by_text};
+ghost use Rattle.script_parse.specs.Gives.{Gives};
+ghost use Rattle.script_parse.specs.Script.{script_of, first_bad_line, resolve, is_first, with_place, instructions_of, first_bad, Answers, IfLine, look_up};
+
+use crate::labels::{Labels, labels};
+use crate::line::{Entries, Entry, Line};
+use crate::refused::Refused;
+use crate::script::{Instr, Instrs, Script};
+use crate::split::entries;
+use ldv_value::Utf8;
+use std::alloc::{AllocError, Global};
+
+/// Why bytes aren't read as a script.
+#[derive(Clone, Copy, Debug, PartialEq, Eq)]
+pub enum ScriptStop {
+    /// They aren't a script. The number, from 1, is that of the first bad line: one that isn't UTF-8 or
+    /// has no form, that defines a label which an earlier line defines, or that uses a label which no
+    /// line defines.
+    Line(u32),
+    /// Want of memory.
+    NoMemory,
+}
+
+impl From<AllocError> for ScriptStop {
+    ghost use Rattle.std.specs.Prelude.{◌≡◌};
+    ghost use Rattle.script_parse.specs.declared.parse.ScriptStop.TheVariants.{NoMemory};
+
+    ghost from_gives = { λ _ stop. stop ≡ NoMemory };
+
+    fn from(_error: AllocError) -> Self {
+        ScriptStop::NoMemory
+    }
+}
+
+/// Reads a script, in one pass over its bytes.
+pub fn parse_script(alloc: Global, bytes: &[u8]) -> Result<Script, ScriptStop>
+    requires { length bytes.now < 2 ^ 32 }
+    ensures script { IfOk result (λ script. script_of bytes.now ≡ Some script.instructions) }
+    ensures line { IfErr result (λ stop. IfLine stop (λ n. (script_of bytes.now ≡ None) × (n ≡ first_bad_line bytes.now))) }
+{
+    let entries = entries(alloc, bytes)?;
+    match resolved(alloc, entries) {
+        Ok(instructions) => Ok(Script { instructions }),
+        Err(stop) => Err(stop),
+    }
+}
+
+// The instructions of lines, with the labels that they define.
+#[tactic(auto, using(crate::proofs::LookUp::answers_same))]
+fn resolved(alloc: Global, entries: Entries) -> Result<Instrs, ScriptStop>
+    requires { length entries < 2 ^ 32 }
+    ensures { Answers result (instructions_of (look_up entries) entries) (first_bad (look_up entries) entries) }
+{
+    let labels = labels(alloc, &entries)?;
+    instructions(alloc, &labels, entries)
+}
+
+// The instructions of lines, where none is bad.
+fn instructions(alloc: Global, labels: &Labels, entries: Entries) -> Result<Instrs, ScriptStop>
+    ensures { Answers result (instructions_of (get_by_text labels.now) entries) (first_bad (get_by_text labels.now) entries) }
+{
+    let mut instructions = Instrs::new(alloc);
+    for entry in entries.into_vec() {
+        let number = entry.number;
+        match resolve(labels, entry) {
+            Ok(None) => {}
+            Ok(Some(instr)) => instructions.push(instr)?,
+            Err(Refused::Bad) => return Err(ScriptStop::Line(number)),
+            Err(Refused::NoMemory) => return Err(ScriptStop::NoMemory),
+        }
+    }
+    Ok(instructions)
+}
+
+fn resolve(labels: &Labels, entry: Entry) -> Result<Option<Instr>, Refused>
+    ensures { Gives result (resolve (get_by_text labels.now) entry) }
+{
+    let Entry { number, line } = entry;
+    match line {
+        None => Err(Refused::Bad),
+        Some(Line::Quiet) => Ok(None),
+        Some(Line::Label(name)) => {
+            if !is_first(labels, number, &name) {
+                return Err(Refused::Bad);
+            }
+            Ok(None)
+        }
+        Some(Line::Plain(instr)) => Ok(Some(instr)),
+        Some(Line::Jumping(instr, label)) => {
+            let Some(place) = place_of(labels, &label) else {
+                return Err(Refused::Bad);
+            };
+            Ok(Some(with_place(instr, place)))
+        }
+    }
+}
+
+fn is_first(labels: &Labels, number: u32, name: &Utf8) -> bool
+    ensures { result ≡ is_first number (get_by_text labels.now name.now) }
+{
+    match labels.get(name.as_str()) {
+        None => false,
+        Some(definition) => definition.line == number,
+    }
+}
+
+fn place_of(labels: &Labels, name: &Utf8) -> Option<u32>
+    ensures { result ≡ option_map (λ d. d.place) (get_by_text labels.now name.now) }
+{
+    match labels.get(name.as_str()) {
+        None => None,
+        Some(definition) => Some(definition.place),
+    }
+}
+
+fn with_place(instr: Instr, place: u32) -> Instr
+    ensures { result ≡ with_place place instr }
+{
+    match instr {
+        Instr::Jump { place: _ } => Instr::Jump { place },
+        Instr::JumpIf { op, left, right, place: _ } => Instr::JumpIf { op, left, right, place },
+        Instr::OpenPath { file, mode, path, place: _ } => Instr::OpenPath { file, mode, path, place },
+        Instr::ReadLine { to, file, place: _ } => Instr::ReadLine { to, file, place },
+        Instr::Remove { path, place: _ } => Instr::Remove { path, place },
+        Instr::Spawn { child, path, arguments, place: _ } => {
+            Instr::Spawn { child, path, arguments, place }
+        }
+        Instr::Fetch { cursor, to, place: _ } => Instr::Fetch { cursor, to, place },
+        other => other,
+    }
+}

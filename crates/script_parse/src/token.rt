@@ -1,0 +1,58 @@
+//! Tokens of a line.
+
+ghost use Rattle.std.specs.Prelude.{◌≡◌, OnErr, OnOk};
+ghost use Rattle.std.specs.Str.{is_utf8};
+ghost use Rattle.script_parse.specs.Gives.{Gives};
+ghost use Rattle.script_parse.specs.Tokens.{text_of, word_token, text_token};
+
+use crate::number::number;
+use crate::refused::Refused;
+use ldv_value::{Bytes, List, TEXT_LIMIT, Utf8};
+
+/// A token of a line.
+#[derive(Drop)]
+pub enum Token {
+    /// A token without quotes that isn't a number.
+    Word(Utf8),
+    /// A number.
+    Number(i64),
+    /// A token in quotes: its text with the escapes read.
+    Quoted(Utf8),
+}
+
+/// Tokens, in the order of the line.
+pub(crate) type Tokens = List<Token>;
+
+/// The token of bytes that stood without quotes.
+pub(crate) fn word_token(bytes: Bytes) -> Result<Token, Refused>
+    ensures { Gives result (word_token bytes) }
+{
+    match number(bytes.as_slice()) {
+        Some(number) => Ok(Token::Number(number)),
+        None => {
+            let text = text(bytes)?;
+            Ok(Token::Word(text))
+        }
+    }
+}
+
+/// The token of bytes that stood in quotes, their escapes read.
+pub(crate) fn text_token(bytes: Bytes) -> Result<Token, Refused>
+    ensures { Gives result (text_token bytes) }
+{
+    if bytes.len() > TEXT_LIMIT {
+        return Err(Refused::Bad);
+    }
+    let text = text(bytes)?;
+    Ok(Token::Quoted(text))
+}
+
+#[tactic(auto, using(crate::proofs::Utf8::text_rules))]
+fn text(bytes: Bytes) -> Result<Utf8, Refused>
+    ensures { Gives result (text_of bytes) }
+{
+    match String::from_utf8(bytes.into_vec()) {
+        Ok(text) => Ok(Utf8::of_string(text)),
+        Err(_) => Err(Refused::Bad),
+    }
+}

@@ -1,0 +1,6 @@
+use Rattle.std.proofs.Common.{◌≡◌, take, map}
+use Rattle.world_json.specs.Faults.{values_at}
+use Rattle.world_json.proofs.keys.row_keys.Given as goal
+
+abbrev pub invariant-loop-row : goal.invariant-loop-row
+invariant-loop-row l = map (λ key. key.values) l.keys.items ≡ map (values_at l.places) (take l.row-index l.row-items)

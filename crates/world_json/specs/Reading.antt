@@ -1,0 +1,83 @@
+-- The world that a document is, or the first fault by which it is none.
+use Rattle.std.specs.Prelude.{◌≡◌, ℕ, ◌+◌, List, [], ◌∷◌, map, Bool, if◌then◌else◌, Option, Some, None, Result, Ok, Err}
+use Rattle.std.specs.Str.{is_utf8}
+use Rattle.serde_json.specs.Data.{Data}
+use Rattle.serde_json.specs.Read.{read}
+use Rattle.ldv_value.specs.declared.file.File.{File}
+use Rattle.ldv_value.specs.declared.value.Value.{Value}
+use Rattle.sql_model.specs.declared.table.Schema.{Schema}
+use Rattle.sql_model.specs.declared.table.Table.{Table}
+use Rattle.sql_model.specs.declared.table.TableRow.{TableRow}
+use Rattle.run_model.specs.declared.world.World.{World}
+use Rattle.world_json.specs.declared.document.Document.{Document}
+use Rattle.world_json.specs.declared.document.Draft.{Draft}
+use Rattle.world_json.specs.declared.fault.WorldFault.{WorldFault}
+use Rattle.world_json.specs.declared.fault.WorldFault.TheVariants.{NotJson, Shape, Name, Limit, RowType, NotNull, Key, NoStart, BadScript}
+use Rattle.world_json.specs.declared.fault.WorldStop.{WorldStop}
+use Rattle.world_json.specs.declared.fault.WorldStop.TheVariants.{Fault, NoMemory}
+use Rattle.world_json.specs.Shape.{document_of}
+use Rattle.world_json.specs.Faults.{is_named, is_within, is_typed, is_filled, is_keyed, key_places, start_file}
+
+-- ---- the world of a document without a fault
+
+-- the rows, numbered from a number on
+abbrev pub numbered_from : ℕ → List (List Value) → List TableRow
+numbered_from n [] = []
+numbered_from n (row ∷ rows) = record { number = n; values = row } ∷ numbered_from (n + 1) rows
+
+abbrev pub table_as : Draft → Table
+table_as draft = record {
+  name = draft.name;
+  schema = record { columns = draft.columns; key = key_places draft.columns draft.key };
+  rows = numbered_from 0 draft.rows;
+  next = draft.next;
+}
+
+abbrev pub world_as : Document → World
+world_as doc = record { start = doc.start; seed = doc.seed; files = doc.files; tables = map table_as doc.tables }
+
+-- ---- the faults in their order, each over the whole document
+
+-- NoStart, where the first start word is no file
+abbrev pub start_fault_of : Option File → Option WorldFault
+start_fault_of None = Some NoStart
+start_fault_of (Some file) = None
+
+abbrev pub start_fault : Document → Option WorldFault
+start_fault doc = start_fault_of (start_file doc)
+
+abbrev pub ending : Document → Option WorldFault → Result World WorldFault
+ending doc None = Ok (world_as doc)
+ending doc (Some fault) = Err fault
+
+abbrev pub reading_of : Document → Result World WorldFault
+reading_of doc =
+    if is_named doc
+    then (if is_within doc
+        then (if is_typed doc
+            then (if is_filled doc
+                then (if is_keyed doc then ending doc (start_fault doc) else Err Key)
+                else Err NotNull)
+            else Err RowType)
+        else Err Limit)
+    else Err Name
+
+abbrev pub shaped : Option Document → Result World WorldFault
+shaped None = Err Shape
+shaped (Some doc) = reading_of doc
+
+-- the JSON value of UTF-8 bytes
+abbrev pub json_of : List ℕ → Option Data
+json_of bytes = if is_utf8 bytes then read bytes else None
+
+abbrev pub parsed : Option Data → Result World WorldFault
+parsed None = Err NotJson
+parsed (Some d) = shaped (document_of d)
+
+abbrev pub world_reading : List ℕ → Result World WorldFault
+world_reading bytes = parsed (json_of bytes)
+
+-- a stop that names the fault of a reading; want of memory names none
+abbrev pub IsFaultOf : Result World WorldFault → WorldStop → Type 0
+IsFaultOf reading (Fault fault) = reading ≡ Err fault
+IsFaultOf reading NoMemory = Unit {0}

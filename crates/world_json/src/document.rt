@@ -1,0 +1,27 @@
+//! A document whose parts have their types, before any rule is tried.
+
+use ldv_value::{Files, List, Names, RowList, Utf8, Words};
+use sql_model::Columns;
+
+/// The parts of a document: the start words, the seed, the files rising by path and the tables rising
+/// by name.
+#[derive(Drop)]
+pub(crate) struct Document {
+    pub start: Words,
+    pub seed: u64,
+    pub files: Files,
+    pub tables: Drafts,
+}
+
+/// The parts of a table: its key is a list of names, and its rows have one value for each column.
+#[derive(Drop)]
+pub(crate) struct Draft {
+    pub name: Utf8,
+    pub columns: Columns,
+    pub key: Names,
+    pub rows: RowList,
+    pub next: u64,
+}
+
+/// Tables.
+pub(crate) type Drafts = List<Draft>;

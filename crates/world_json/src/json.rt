@@ -1,0 +1,31 @@
+//! From bytes to a JSON value.
+
+ghost use Rattle.std.specs.Prelude.{◌≡◌, IfOk, None, Some};
+ghost use Rattle.serde_json.specs.View.{view};
+ghost use Rattle.world_json.specs.Reading.{json_of, world_reading};
+
+use serde_json::{Category, Value};
+use std::alloc::Global;
+
+/// Why bytes gave no JSON value.
+#[derive(Clone, Copy, Debug, PartialEq, Eq)]
+pub(crate) enum JsonStop {
+    /// The bytes are no JSON text.
+    NotJson,
+    /// Want of memory.
+    NoMemory,
+}
+
+/// The JSON value of some bytes. NotJson where they have none.
+pub(crate) fn read_json(alloc: Global, bytes: &[u8]) -> Result<Value, JsonStop>
+    ensures ok { IfOk result (λ value. json_of bytes.now ≡ Some (view value)) }
+    ensures not_json { result ≡ Err JsonStop.NotJson → json_of bytes.now ≡ None }
+{
+    match Value::from_slice(alloc, bytes) {
+        Ok(value) => Ok(value),
+        Err(error) => match error.classify() {
+            Category::Memory => Err(JsonStop::NoMemory),
+            _ => Err(JsonStop::NotJson),
+        },
+    }
+}

@@ -1,0 +1,232 @@
+//! Tables and whole documents of a JSON value.
+
+ghost use Rattle.std.specs.Prelude.{◌≡◌, ℕ, List, Some, None, IfOk, length, codes, option_map, [], ◌^◌, ◌<◌};
+ghost use Rattle.serde_json.specs.Find.{get_member, as_str};
+ghost use Rattle.serde_json.specs.View.{view, members_view};
+ghost use Rattle.world_json.specs.Shape.{array_of, object_of, required, optional, whole_of, cell_of, column_of, file_of, is_width, table_from, table_in, table_of, document_from, document_in, document_of};
+
+use crate::document::{Document, Draft, Drafts};
+use crate::members::{has_only, take_member};
+use crate::shape::{FromItem, FromMember, ShapeStop, read_array, read_object};
+use ldv_value::{Files, List, Names, RowList, Utf8};
+use serde_json::{Map, Value};
+use sql_model::Columns;
+use std::alloc::Global;
+
+// The members of a table.
+struct TableParts {
+    columns: Option<Value>,
+    key: Option<Value>,
+    rows: Option<Value>,
+    next: Option<Value>,
+}
+
+// The members of a document.
+struct DocumentParts {
+    start: Option<Value>,
+    seed: Option<Value>,
+    files: Option<Value>,
+    tables: Option<Value>,
+}
+
+// An array that has to be there.
+fn read_required<X: FromItem>(alloc: Global, value: Option<Value>) -> Result<List<X>, ShapeStop>
+    ensures ok { IfOk result (λ xs. required (array_of X.of_item) (option_map view value) ≡ Some xs) }
+    ensures shape { result ≡ Err ShapeStop.Shape → required (array_of X.of_item) (option_map view value) ≡ None }
+{
+    match value {
+        Some(array) => read_array(alloc, array),
+        None => Err(ShapeStop::Shape),
+    }
+}
+
+// An array that is empty where it is missing.
+fn read_optional<X: FromItem>(alloc: Global, value: Option<Value>) -> Result<List<X>, ShapeStop>
+    ensures ok { IfOk result (λ xs. optional (array_of X.of_item) [] (option_map view value) ≡ Some xs) }
+    ensures shape { result ≡ Err ShapeStop.Shape → optional (array_of X.of_item) [] (option_map view value) ≡ None }
+{
+    match value {
+        Some(array) => read_array(alloc, array),
+        None => Ok(List::new(alloc)),
+    }
+}
+
+// A whole number from 0 to 2^64 - 1, with what it is where it is missing.
+fn read_whole(value: Option<Value>, missing: u64) -> Result<u64, ShapeStop>
+    ensures ok { IfOk result (λ number. optional whole_of missing (option_map view value) ≡ Some number) }
+    ensures shape { result ≡ Err ShapeStop.Shape → optional whole_of missing (option_map view value) ≡ None }
+{
+    match value {
+        Some(number) => read_number(&number),
+        None => Ok(missing),
+    }
+}
+
+fn read_number(value: &Value) -> Result<u64, ShapeStop>
+    ensures ok { IfOk result (λ number. whole_of (view value.now) ≡ Some number) }
+    ensures shape { result ≡ Err ShapeStop.Shape → whole_of (view value.now) ≡ None }
+{
+    match value {
+        Value::Number(number) => match number.as_u64() {
+            Some(whole) => Ok(whole),
+            None => Err(ShapeStop::Shape),
+        },
+        _ => Err(ShapeStop::Shape),
+    }
+}
+
+fn has_width(rows: &RowList, width: usize) -> bool
+    ensures { result ≡ is_width width rows.now }
+{
+    rows.items().iter().all(|row| row.len() == width)
+}
+
+impl FromMember for Draft {
+    ghost use Rattle.world_json.specs.Shape.{table_of};
+
+    ghost of_member = { table_of };
+
+    fn from_member(alloc: Global, name: Utf8, value: Value) -> Result<Self, ShapeStop> {
+        match value {
+            Value::Object(members) => read_table(alloc, name, members),
+            _ => Err(ShapeStop::Shape),
+        }
+    }
+}
+
+fn read_table(alloc: Global, name: Utf8, members: Map<String, Value>) -> Result<Draft, ShapeStop>
+    ensures ok { IfOk result (λ draft. table_in name (members_view members.entries) ≡ Some draft) }
+    ensures shape { result ≡ Err ShapeStop.Shape → table_in name (members_view members.entries) ≡ None }
+{
+    if !has_only(&members, &["columns", "key", "rows", "next"]) {
+        return Err(ShapeStop::Shape);
+    }
+    table_of_parts(alloc, name, table_parts(members))
+}
+
+fn table_parts(mut members: Map<String, Value>) -> TableParts
+    ensures columns { option_map view result.columns ≡ get_member (codes "columns") (members_view members.entries) }
+    ensures key { option_map view result.key ≡ get_member (codes "key") (members_view members.entries) }
+    ensures rows { option_map view result.rows ≡ get_member (codes "rows") (members_view members.entries) }
+    ensures next { option_map view result.next ≡ get_member (codes "next") (members_view members.entries) }
+{
+    let columns = take_member(&mut members, "columns");
+    let key = take_member(&mut members, "key");
+    let rows = take_member(&mut members, "rows");
+    let next = take_member(&mut members, "next");
+    TableParts {
+        columns,
+        key,
+        rows,
+        next,
+    }
+}
+
+fn table_of_parts(alloc: Global, name: Utf8, parts: TableParts) -> Result<Draft, ShapeStop>
+    ensures ok { IfOk result (λ draft. table_from name (option_map view parts.columns) (option_map view parts.key) (option_map view parts.rows) (option_map view parts.next) ≡ Some draft) }
+    ensures shape { result ≡ Err ShapeStop.Shape
+        → table_from name (option_map view parts.columns) (option_map view parts.key) (option_map view parts.rows) (option_map view parts.next) ≡ None }
+{
+    let TableParts {
+        columns,
+        key,
+        rows,
+        next,
+    } = parts;
+    let columns: Columns = read_required(alloc, columns)?;
+    let key: Names = read_optional(alloc, key)?;
+    let rows: RowList = read_optional(alloc, rows)?;
+    let next = read_whole(next, rows.len() as u64)?;
+    if !has_width(&rows, columns.len()) {
+        return Err(ShapeStop::Shape);
+    }
+    Ok(Draft {
+        name,
+        columns,
+        key,
+        rows,
+        next,
+    })
+}
+
+/// The parts of a document, of their types.
+pub(crate) fn read_document(alloc: Global, value: Value) -> Result<Document, ShapeStop>
+    ensures ok { IfOk result (λ document. document_of (view value) ≡ Some document) }
+    ensures shape { result ≡ Err ShapeStop.Shape → document_of (view value) ≡ None }
+{
+    match value {
+        Value::Object(members) => read_whole_document(alloc, members),
+        _ => Err(ShapeStop::Shape),
+    }
+}
+
+fn read_whole_document(alloc: Global, members: Map<String, Value>) -> Result<Document, ShapeStop>
+    ensures ok { IfOk result (λ document. document_in (members_view members.entries) ≡ Some document) }
+    ensures shape { result ≡ Err ShapeStop.Shape → document_in (members_view members.entries) ≡ None }
+{
+    if !has_only(&members, &["start", "seed", "files", "tables"]) {
+        return Err(ShapeStop::Shape);
+    }
+    document_of_parts(alloc, document_parts(members))
+}
+
+fn document_parts(mut members: Map<String, Value>) -> DocumentParts
+    ensures start { option_map view result.start ≡ get_member (codes "start") (members_view members.entries) }
+    ensures seed { option_map view result.seed ≡ get_member (codes "seed") (members_view members.entries) }
+    ensures files { option_map view result.files ≡ get_member (codes "files") (members_view members.entries) }
+    ensures tables { option_map view result.tables ≡ get_member (codes "tables") (members_view members.entries) }
+{
+    let start = take_member(&mut members, "start");
+    let seed = take_member(&mut members, "seed");
+    let files = take_member(&mut members, "files");
+    let tables = take_member(&mut members, "tables");
+    DocumentParts {
+        start,
+        seed,
+        files,
+        tables,
+    }
+}
+
+fn document_of_parts(alloc: Global, parts: DocumentParts) -> Result<Document, ShapeStop>
+    ensures ok { IfOk result (λ document. document_from (option_map view parts.start) (option_map view parts.seed) (option_map view parts.files) (option_map view parts.tables) ≡ Some document) }
+    ensures shape { result ≡ Err ShapeStop.Shape
+        → document_from (option_map view parts.start) (option_map view parts.seed) (option_map view parts.files) (option_map view parts.tables) ≡ None }
+{
+    let DocumentParts {
+        start,
+        seed,
+        files,
+        tables,
+    } = parts;
+    let start: Names = read_required(alloc, start)?;
+    let seed = read_whole(seed, 0)?;
+    let files = read_files(alloc, files)?;
+    let tables = read_tables(alloc, tables)?;
+    Ok(Document {
+        start,
+        seed,
+        files,
+        tables,
+    })
+}
+
+fn read_files(alloc: Global, value: Option<Value>) -> Result<Files, ShapeStop>
+    ensures ok { IfOk result (λ files. required (object_of file_of) (option_map view value) ≡ Some files) }
+    ensures shape { result ≡ Err ShapeStop.Shape → required (object_of file_of) (option_map view value) ≡ None }
+{
+    match value {
+        Some(object) => read_object(alloc, object),
+        None => Err(ShapeStop::Shape),
+    }
+}
+
+fn read_tables(alloc: Global, value: Option<Value>) -> Result<Drafts, ShapeStop>
+    ensures ok { IfOk result (λ tables. optional (object_of table_of) [] (option_map view value) ≡ Some tables) }
+    ensures shape { result ≡ Err ShapeStop.Shape → optional (object_of table_of) [] (option_map view value) ≡ None }
+{
+    match value {
+        Some(object) => read_object(alloc, object),
+        None => Ok(List::new(alloc)),
+    }
+}

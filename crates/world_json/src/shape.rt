@@ -1,0 +1,106 @@
+//! Arrays and objects of a document, read item by item and member by member. Each call takes its value
+//! and lets it go as it reads.
+
+ghost use Rattle.std.specs.Prelude.{◌≡◌, ◌&&◌, Option, Some, None, IfOk, List, ℕ, Bool, true, false, option_map, codes, bytes_eq, string_bytes};
+ghost use Rattle.std.specs.List.{list_any};
+ghost use Rattle.serde_json.specs.Data.{Data};
+ghost use Rattle.serde_json.specs.Find.{get_member};
+ghost use Rattle.serde_json.specs.View.{view, items_view, members_view};
+ghost use Rattle.world_json.specs.Shape.{each, array_of, each_member, object_of, only, required, optional, whole_of};
+
+use ldv_value::{List, Utf8};
+use serde_json::{Map, Value};
+use std::alloc::{AllocError, AllocFailed, Global};
+
+/// Why a value has no reading.
+#[derive(Clone, Copy, Debug, PartialEq, Eq)]
+pub(crate) enum ShapeStop {
+    /// It has another shape.
+    Shape,
+    /// Want of memory.
+    NoMemory,
+}
+
+impl From<AllocError> for ShapeStop {
+    ghost use Rattle.std.specs.Prelude.{◌≡◌};
+    ghost use Rattle.world_json.specs.declared.shape.ShapeStop.TheVariants.{NoMemory};
+
+    ghost from_gives = { λ _ stop. stop ≡ NoMemory };
+
+    fn from(_refused: AllocError) -> ShapeStop {
+        ShapeStop::NoMemory
+    }
+}
+
+/// What an item of an array may be.
+pub(crate) trait FromItem: Drop + Sized {
+    ghost of_item: { Data → Option Self };
+
+    fn from_item(alloc: Global, value: Value) -> Result<Self, ShapeStop>
+        ensures ok { IfOk result (λ x. of_item (view value) ≡ Some x) }
+        ensures shape { result ≡ Err ShapeStop.Shape → of_item (view value) ≡ None };
+}
+
+/// What a member of an object may be.
+pub(crate) trait FromMember: Drop + Sized {
+    ghost of_member: { List ℕ → Data → Option Self };
+
+    fn from_member(alloc: Global, name: Utf8, value: Value) -> Result<Self, ShapeStop>
+        ensures ok { IfOk result (λ x. of_member name (view value) ≡ Some x) }
+        ensures shape { result ≡ Err ShapeStop.Shape → of_member name (view value) ≡ None };
+}
+
+/// The items of an array.
+pub(crate) fn read_items<X: FromItem>(alloc: Global, items: Vec<Value>) -> Result<List<X>, ShapeStop>
+    ensures ok { IfOk result (λ xs. each X.of_item (items_view items.items) ≡ Some xs) }
+    ensures shape { result ≡ Err ShapeStop.Shape → each X.of_item (items_view items.items) ≡ None }
+{
+    let mut found = List::new(alloc);
+    for value in items {
+        match X::from_item(alloc, value) {
+            Ok(item) => found.push(item)?,
+            Err(stop) => return Err(stop),
+        }
+    }
+    Ok(found)
+}
+
+/// An array.
+pub(crate) fn read_array<X: FromItem>(alloc: Global, value: Value) -> Result<List<X>, ShapeStop>
+    ensures ok { IfOk result (λ xs. array_of X.of_item (view value) ≡ Some xs) }
+    ensures shape { result ≡ Err ShapeStop.Shape → array_of X.of_item (view value) ≡ None }
+{
+    match value {
+        Value::Array(items) => read_items(alloc, items),
+        _ => Err(ShapeStop::Shape),
+    }
+}
+
+/// The members of an object.
+pub(crate) fn read_members<X: FromMember>(
+    alloc: Global,
+    members: Map<String, Value>,
+) -> Result<List<X>, ShapeStop>
+    ensures ok { IfOk result (λ xs. each_member X.of_member (members_view members.entries) ≡ Some xs) }
+    ensures shape { result ≡ Err ShapeStop.Shape → each_member X.of_member (members_view members.entries) ≡ None }
+{
+    let mut found = List::new(alloc);
+    for (name, value) in members {
+        match X::from_member(alloc, Utf8::of_string(name), value) {
+            Ok(member) => found.push(member)?,
+            Err(stop) => return Err(stop),
+        }
+    }
+    Ok(found)
+}
+
+/// An object.
+pub(crate) fn read_object<X: FromMember>(alloc: Global, value: Value) -> Result<List<X>, ShapeStop>
+    ensures ok { IfOk result (λ xs. object_of X.of_member (view value) ≡ Some xs) }
+    ensures shape { result ≡ Err ShapeStop.Shape → object_of X.of_member (view value) ≡ None }
+{
+    match value {
+        Value::Object(members) => read_members(alloc, members),
+        _ => Err(ShapeStop::Shape),
+    }
+}

@@ -1,0 +1,150 @@
+//! The world of a document.
+
+ghost use Rattle.std.specs.Prelude.{◌≡◌, ◌≤◌, ◌<◌, ◌^◌, IfOk, IfErr, Ok, Some, length, map, true};
+ghost use Rattle.std.specs.List.{list_all};
+ghost use Rattle.serde_json.specs.View.{view};
+ghost use Rattle.world_json.specs.Faults.{is_within, is_table_within, key_places};
+ghost use Rattle.world_json.specs.Reading.{world_reading, parsed, reading_of, world_as, table_as, numbered_from, IsFaultOf};
+
+use crate::document::{Document, Draft, Drafts};
+use crate::fault::{WorldFault, WorldStop};
+use crate::json::{JsonStop, read_json};
+use crate::keys::{meets_keys, place_of_column};
+use crate::kinds::{meets_kinds, meets_not_null};
+use crate::limits::meets_limits;
+use crate::names::meets_names;
+use crate::parts::read_document;
+use crate::shape::ShapeStop;
+use crate::start::find_start_fault;
+use ldv_value::{List, Names, Places, RowList};
+use run_model::World;
+use serde_json::Value;
+use sql_model::{Columns, Schema, Table, TableRow, TableRows, Tables};
+use std::alloc::{AllocError, Global};
+
+/// The world that a document is. The faults are tried in the order of `WorldFault`, each over the whole
+/// document, and the first one that holds is the answer; want of memory may come in its place.
+pub fn world_of(alloc: Global, bytes: &[u8]) -> Result<World, WorldStop>
+    requires { length bytes.now < 2 ^ 32 }
+    ensures world { IfOk result (λ world. world_reading bytes.now ≡ Ok world) }
+    ensures fault { IfErr result (IsFaultOf (world_reading bytes.now)) }
+{
+    match read_json(alloc, bytes) {
+        Ok(value) => world_of_value(alloc, value),
+        Err(JsonStop::NotJson) => Err(WorldStop::Fault(WorldFault::NotJson)),
+        Err(JsonStop::NoMemory) => Err(WorldStop::NoMemory),
+    }
+}
+
+fn world_of_value(alloc: Global, value: Value) -> Result<World, WorldStop>
+    ensures world { IfOk result (λ world. parsed (Some (view value)) ≡ Ok world) }
+    ensures fault { IfErr result (IsFaultOf (parsed (Some (view value)))) }
+{
+    match read_document(alloc, value) {
+        Ok(document) => world_of_document(alloc, document),
+        Err(ShapeStop::Shape) => Err(WorldStop::Fault(WorldFault::Shape)),
+        Err(ShapeStop::NoMemory) => Err(WorldStop::NoMemory),
+    }
+}
+
+fn world_of_document(alloc: Global, document: Document) -> Result<World, WorldStop>
+    ensures world { IfOk result (λ world. reading_of document ≡ Ok world) }
+    ensures fault { IfErr result (IsFaultOf (reading_of document)) }
+{
+    if !meets_names(alloc, &document)? {
+        return Err(WorldStop::Fault(WorldFault::Name));
+    }
+    if !meets_limits(&document) {
+        return Err(WorldStop::Fault(WorldFault::Limit));
+    }
+    if !meets_kinds(&document) {
+        return Err(WorldStop::Fault(WorldFault::RowType));
+    }
+    if !meets_not_null(&document) {
+        return Err(WorldStop::Fault(WorldFault::NotNull));
+    }
+    if !meets_keys(alloc, &document)? {
+        return Err(WorldStop::Fault(WorldFault::Key));
+    }
+    if let Some(fault) = find_start_fault(&document) {
+        return Err(WorldStop::Fault(fault));
+    }
+    Ok(to_world(alloc, document)?)
+}
+
+fn to_world(alloc: Global, document: Document) -> Result<World, AllocError>
+    requires { is_within document ≡ true }
+    ensures { IfOk result (λ world. world ≡ world_as document) }
+{
+    let Document {
+        start,
+        seed,
+        files,
+        tables,
+    } = document;
+    let tables = to_tables(alloc, tables)?;
+    Ok(World {
+        start,
+        seed,
+        files,
+        tables,
+    })
+}
+
+fn to_tables(alloc: Global, drafts: Drafts) -> Result<Tables, AllocError>
+    requires { list_all is_table_within drafts ≡ true }
+    ensures { IfOk result (λ tables. tables ≡ map table_as drafts) }
+{
+    let mut tables = List::new(alloc);
+    for draft in drafts.into_vec() {
+        tables.push(to_table(alloc, draft)?)?;
+    }
+    Ok(tables)
+}
+
+fn to_table(alloc: Global, draft: Draft) -> Result<Table, AllocError>
+    requires { is_table_within draft ≡ true }
+    ensures { IfOk result (λ table. table ≡ table_as draft) }
+{
+    let Draft {
+        name,
+        columns,
+        key,
+        rows,
+        next,
+    } = draft;
+    let key = to_places(alloc, &columns, &key)?;
+    let rows = to_rows(alloc, rows)?;
+    let next = next as u32;
+    Ok(Table {
+        name,
+        schema: Schema { columns, key },
+        rows,
+        next,
+    })
+}
+
+fn to_places(alloc: Global, columns: &Columns, key: &Names) -> Result<Places, AllocError>
+    requires { length columns.now ≤ 64 }
+    ensures { IfOk result (λ places. places ≡ key_places columns.now key.now) }
+{
+    let mut places = List::new(alloc);
+    for name in key.items() {
+        places.push(place_of_column(columns, name) as u32)?;
+    }
+    Ok(places)
+}
+
+// The rows, numbered from 0.
+fn to_rows(alloc: Global, rows: RowList) -> Result<TableRows, AllocError>
+    requires { length rows ≤ 1000000 }
+    ensures { IfOk result (λ numbered. numbered ≡ numbered_from 0 rows) }
+{
+    let mut numbered = List::new(alloc);
+    let mut number = 0u32;
+    for values in rows.into_vec() {
+        numbered.push(TableRow { number, values })?;
+        number += 1;
+    }
+    Ok(numbered)
+}
