@@ -1,4 +1,5 @@
 pub mod Cuts
+pub mod Due
 pub mod Exits
 pub mod Plain
 pub mod Replies

@@ -2,6 +2,8 @@
 #![tactic(auto)]
 
 mod answer;
+mod answers;
+mod command;
 mod exit;
 mod finish;
 mod lines;
