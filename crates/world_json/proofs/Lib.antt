@@ -1,5 +1,6 @@
 pub mod Columns
 pub mod Each
+pub mod Found
 pub mod JsonText
 pub mod Lookups
 pub mod Seen

@@ -5,6 +5,8 @@ use Rattle.serde_json.specs.Data.{Data}
 use Rattle.serde_json.specs.Read.{read}
 use Rattle.ldv_value.specs.declared.file.File.{File}
 use Rattle.ldv_value.specs.declared.value.Value.{Value}
+use Rattle.script_parse.specs.Script.{script_of, first_bad_line}
+use Rattle.script_parse.specs.declared.script.Instr.{Instr}
 use Rattle.sql_model.specs.declared.table.Schema.{Schema}
 use Rattle.sql_model.specs.declared.table.Table.{Table}
 use Rattle.sql_model.specs.declared.table.TableRow.{TableRow}
@@ -38,10 +40,15 @@ world_as doc = record { start = doc.start; seed = doc.seed; files = doc.files; t
 
 -- ---- the faults in their order, each over the whole document
 
+-- BadScript, where bytes are no script
+abbrev pub script_fault : List ℕ → Option (List Instr) → Option WorldFault
+script_fault bytes None = Some (BadScript (first_bad_line bytes))
+script_fault bytes (Some instructions) = None
+
 -- NoStart, where the first start word is no file
 abbrev pub start_fault_of : Option File → Option WorldFault
 start_fault_of None = Some NoStart
-start_fault_of (Some file) = None
+start_fault_of (Some file) = script_fault file.content (script_of file.content)
 
 abbrev pub start_fault : Document → Option WorldFault
 start_fault doc = start_fault_of (start_file doc)
@@ -54,12 +61,12 @@ abbrev pub reading_of : Document → Result World WorldFault
 reading_of doc =
     if is_named doc
     then (if is_within doc
-        then (if is_typed doc
-            then (if is_filled doc
-                then (if is_keyed doc then ending doc (start_fault doc) else Err Key)
-                else Err NotNull)
-            else Err RowType)
-        else Err Limit)
+    then (if is_typed doc
+    then (if is_filled doc
+    then (if is_keyed doc then ending doc (start_fault doc) else Err Key)
+    else Err NotNull)
+    else Err RowType)
+    else Err Limit)
     else Err Name
 
 abbrev pub shaped : Option Document → Result World WorldFault

@@ -98,7 +98,11 @@ fn new_column(name: &Utf8, text: bool, not_null: bool) -> Result<Column, ShapeSt
     ensures shape { result ≢ Err ShapeStop.Shape }
 {
     match name.copy() {
-        Ok(name) => Ok(Column { name, text, not_null }),
+        Ok(name) => Ok(Column {
+            name,
+            text,
+            not_null,
+        }),
         Err(_) => Err(ShapeStop::NoMemory),
     }
 }

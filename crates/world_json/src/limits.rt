@@ -9,9 +9,13 @@ use ldv_value::{FILE_LIMIT, Files, RowList, TEXT_LIMIT, Value, Values, Words};
 
 // How many there may be at most.
 const FILES: usize = 65_536;
+
 const WORDS: usize = 256;
+
 const TABLES: usize = 256;
+
 const COLUMNS: usize = 64;
+
 const ROWS: usize = 1_000_000;
 
 /// Whether every limit is kept.

@@ -51,7 +51,10 @@ pub(crate) trait FromMember: Drop + Sized {
 }
 
 /// The items of an array.
-pub(crate) fn read_items<X: FromItem>(alloc: Global, items: Vec<Value>) -> Result<List<X>, ShapeStop>
+pub(crate) fn read_items<X: FromItem>(
+    alloc: Global,
+    items: Vec<Value>,
+) -> Result<List<X>, ShapeStop>
     ensures ok { IfOk result (λ xs. each X.of_item (items_view items.items) ≡ Some xs) }
     ensures shape { result ≡ Err ShapeStop.Shape → each X.of_item (items_view items.items) ≡ None }
 {

@@ -1,31 +1,60 @@
 //! The faults NoStart and BadScript: the file of the first start word.
 
-ghost use Rattle.std.specs.Prelude.{◌≡◌, IfOk, List, find, bytes_eq};
+ghost use Rattle.std.specs.Prelude.{◌≡◌, ◌≤◌, ◌<◌, ◌^◌, IfOk, IfSome, List, length, find, bytes_eq, true};
 ghost use Rattle.std.specs.Option.{option_map};
-ghost use Rattle.world_json.specs.Faults.{start_file};
-ghost use Rattle.world_json.specs.Reading.{start_fault};
+ghost use Rattle.script_parse.specs.Script.{script_of};
+ghost use Rattle.world_json.specs.Faults.{start_file, is_within, are_files_within};
+ghost use Rattle.world_json.specs.Reading.{start_fault, script_fault};
 
 use crate::document::Document;
 use crate::fault::WorldFault;
 use ldv_value::{File, Files, Utf8};
+use script_parse::{ScriptStop, parse_script};
+use std::alloc::{AllocError, Global};
 
-/// The fault of the file of the first start word, if it has one.
-pub(crate) fn find_start_fault(document: &Document) -> Option<WorldFault>
-    ensures { result ≡ start_fault document.now }
+/// The fault of the file of the first start word, if it has one. `AllocError` means want of memory
+/// alone.
+pub(crate) fn find_start_fault(
+    alloc: Global,
+    document: &Document,
+) -> Result<Option<WorldFault>, AllocError>
+    requires { is_within document.now ≡ true }
+    ensures { IfOk result (λ fault. fault ≡ start_fault document.now) }
 {
     match find_start(document) {
-        None => Some(WorldFault::NoStart),
-        Some(_) => None,
+        None => Ok(Some(WorldFault::NoStart)),
+        Some(file) => find_script_fault(alloc, file.content.as_slice()),
+    }
+}
+
+fn find_script_fault(alloc: Global, bytes: &[u8]) -> Result<Option<WorldFault>, AllocError>
+    requires { length bytes.now < 2 ^ 32 }
+    ensures { IfOk result (λ fault. fault ≡ script_fault bytes.now (script_of bytes.now)) }
+{
+    match parse_script(alloc, bytes) {
+        Ok(_script) => Ok(None),
+        Err(ScriptStop::Line(number)) => Ok(Some(WorldFault::BadScript(number))),
+        Err(ScriptStop::NoMemory) => Err(AllocError),
     }
 }
 
 fn find_start(document: &Document) -> Option<&File>
-    ensures { option_map (λ file. file.now) result ≡ start_file document.now }
+    requires { is_within document.now ≡ true }
+    ensures file { option_map (λ file. file.now) result ≡ start_file document.now }
+    ensures short { IfSome result (λ file. length file.now.content ≤ 16777216) }
 {
     match document.start.get(0) {
         None => None,
-        Some(word) => find_file(&document.files, word),
+        Some(word) => find_short_file(&document.files, word),
     }
+}
+
+fn find_short_file<'a>(files: &'a Files, path: &Utf8) -> Option<&'a File>
+    requires { are_files_within files.now ≡ true }
+    ensures file { option_map (λ file. file.now) result ≡ find (λ file. bytes_eq path.now file.path) files.now }
+    ensures short { IfSome result (λ file. length file.now.content ≤ 16777216) }
+{
+    find_file(files, path)
 }
 
 fn find_file<'a>(files: &'a Files, path: &Utf8) -> Option<&'a File>

@@ -66,7 +66,7 @@ fn world_of_document(alloc: Global, document: Document) -> Result<World, WorldSt
     if !meets_keys(alloc, &document)? {
         return Err(WorldStop::Fault(WorldFault::Key));
     }
-    if let Some(fault) = find_start_fault(&document) {
+    if let Some(fault) = find_start_fault(alloc, &document)? {
         return Err(WorldStop::Fault(fault));
     }
     Ok(to_world(alloc, document)?)
