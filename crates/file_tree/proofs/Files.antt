@@ -1,5 +1,5 @@
 -- A list of files as a map.
-use Rattle.std.proofs.Common.{◌≡◌, ◌∙◌, ap, refl, ℕ, List, [], ◌∷◌, ◌++◌, map}
+use Rattle.std.proofs.Common.{◌≡◌, ap, refl, List, [], ◌∷◌, ◌++◌}
 use Rattle.std.specs.FinMap.{insert}
 use Rattle.ldv_value.specs.declared.file.File.{File}
 use Rattle.file_tree.specs.State.{FileMap, files_of}

@@ -1,15 +1,15 @@
 -- What each change of a tree keeps.
-use Rattle.std.proofs.Common.{◌≡◌, ◌∙◌, sym, ap, subst, refl, ℕ, suc, ◌≤◌, ◌<◌, List, [], ◌∷◌, cond, Option, Some, None, is_some, IsTrue, IfSome, All, true, false, length, slice_index_or, unwrap_or, arith}
+use Rattle.std.proofs.Common.{◌≡◌, ◌∙◌, sym, subst, refl, ℕ, suc, List, [], ◌∷◌, cond, Option, Some, None, is_some, IsTrue, IfSome, All, unwrap_or, arith}
 use Rattle.std.specs.declared.cmp.Ordering.{Ordering}
 use Rattle.std.specs.declared.cmp.Ordering.TheVariants.{Less, Equal, Greater}
-use Rattle.std.specs.Ordering.{nat_cmp, is_eq, eq_by_cmp}
+use Rattle.std.specs.Ordering.{nat_cmp, is_eq}
 use Rattle.std.specs.Cmp.{eq_by_cmp_equiv}
 use Rattle.std.specs.Cmp.Lexicographic.{slice_cmp, nat_list_cmp_total}
-use Rattle.std.specs.FinMap.{FinMap, empty, get, insert, remove, keys, contains_key, contains_key-keys, get-empty, get-insert, get-remove, slice_cmp-IsAntisymmetric, nat_cmp-IsAntisymmetric}
+use Rattle.std.specs.FinMap.{FinMap, empty, get, insert, remove, contains_key-keys, get-empty, get-insert, get-remove, slice_cmp-IsAntisymmetric, nat_cmp-IsAntisymmetric}
 use Rattle.std.proofs.lemmas.Map.Views.{All-from_any}
 use Rattle.ldv_value.specs.Names.{path_test}
 use Rattle.ldv_value.specs.declared.file.File.{File}
-use Rattle.file_tree.specs.State.{FileMap, PathSet, FileState, content_at, is_there, bytes_at, is_touched, touched_paths, IsFile, IsTree, files_of, untouched, put, touch, removed}
+use Rattle.file_tree.specs.State.{FileMap, PathSet, FileState, content_at, is_there, bytes_at, touched_paths, IsFile, IsTree, files_of, untouched, put, touch, removed}
 use Rattle.file_tree.proofs.Views.{put_back}
 
 -- each entry of a map meets P

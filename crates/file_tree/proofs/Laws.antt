@@ -1,5 +1,5 @@
 -- Laws of the states of a tree, for layers that reason by them.
-use Rattle.std.proofs.Common.{◌≡◌, ◌≢◌, ◌∙◌, sym, ap, subst, refl, ℕ, Bool, true, false, cond, ◌&&◌, List, [], ◌∷◌, ◌++◌, map, T, Option, Some, None, is_some, unwrap_or, append_assoc, inl, inr}
+use Rattle.std.proofs.Common.{◌≡◌, ◌≢◌, ◌∙◌, sym, ap, subst, refl, ℕ, Bool, true, false, cond, List, [], ◌∷◌, ◌++◌, map, T, Option, Some, None, is_some, unwrap_or, append_assoc}
 use Rattle.std.specs.declared.cmp.Ordering.{Ordering}
 use Rattle.std.specs.declared.cmp.Ordering.TheVariants.{Less, Equal, Greater}
 use Rattle.std.specs.Ordering.{nat_cmp, is_eq, is_lt, eq_by_cmp}
@@ -7,13 +7,13 @@ use Rattle.std.specs.Cmp.{tied_itself}
 use Rattle.std.specs.Cmp.Lexicographic.{slice_cmp, nat_list_cmp_total}
 use Rattle.std.specs.List.{AllByRecursion, list_any}
 use Rattle.std.specs.List.Sorted.{IsStrictlySortedBy}
-use Rattle.std.specs.FinMap.{FinMap, empty, get, insert, remove, keys, entries, entries_sorted, find, is_sorted, contains_key-keys, get-insert, get-remove, get-from_entries, slice_cmp-IsAntisymmetric, nat_cmp-IsAntisymmetric}
+use Rattle.std.specs.FinMap.{FinMap, get, insert, remove, entries, entries_sorted, find, is_sorted, contains_key-keys, get-insert, get-remove, get-from_entries, slice_cmp-IsAntisymmetric, nat_cmp-IsAntisymmetric}
 use Rattle.std.specs.FinMap.Entries.{below_all}
 use Rattle.ldv_value.specs.declared.file.File.{File}
 use Rattle.ldv_value.specs.declared.file.OpenMode.{OpenMode}
 use Rattle.ldv_value.specs.declared.file.OpenMode.TheVariants.{Read, Write, Append, New}
-use Rattle.file_tree.specs.State.{FileMap, PathSet, FileState, content_at, is_there, bytes_at, is_touched, touched_paths, files_of, untouched, put, touch, open_refusal, opened, removed, appended}
-use Rattle.file_tree.proofs.Views.{same, listed}
+use Rattle.file_tree.specs.State.{FileMap, FileState, content_at, bytes_at, is_touched, touched_paths, files_of, untouched, put, touch, opened, removed, appended}
+use Rattle.file_tree.proofs.Views.{same, listed, first, second, less, both}
 
 -- ---- whether two paths are the same, by their order
 
@@ -69,7 +69,6 @@ content-opened_other Read s p q apart = refl
 content-opened_other Write s p q apart = content-put_other s p [] q apart
 content-opened_other Append s p q apart = content-put_other s p (bytes_at s p) q apart
 content-opened_other New s p q apart = content-put_other s p [] q apart
-
 
 -- ---- the touched marks after each change. A put and an append leave them by definition
 
@@ -138,17 +137,34 @@ appended_twice s p more next =
 
 -- ---- the lists of a state
 
-below_of : (p : List ℕ) (es : List (List ℕ × Unit {0})) → T (below_all (slice_cmp nat_cmp) p es) → AllByRecursion (λ q. slice_cmp nat_cmp p q ≡ Less) (map (λ e. e.0) es)
-below_of p [] h = tt
-below_of p (e ∷ es) h = (less _ (first _ _ h), below_of p es (second _ _ h))
-  where
-    first : (a b : Bool) → T (a && b) → T a
-    first true b h = tt
-    first false b h = h
-    second : (a b : Bool) → T (a && b) → T b
-    second true b h = h
-    second false b h = absurd h
-    less : (r : Ordering) → T (is_lt r) → r ≡ Less
-    less Less h = refl
-    less Equal h = absurd h
-    less Greater h = absurd h
+module _ {X : Type 0} where
+  below_of : (p : List ℕ) (es : List (List ℕ × X)) → T (below_all (slice_cmp nat_cmp) p es) → AllByRecursion (λ q. slice_cmp nat_cmp p q ≡ Less) (map (λ e. e.0) es)
+  below_of p [] h = tt
+  below_of p (e ∷ es) h = (less _ (first _ _ h), below_of p es (second _ _ h))
+
+  rise_of : (es : List (List ℕ × X)) → T (is_sorted (slice_cmp nat_cmp) es) → IsStrictlySortedBy (slice_cmp nat_cmp) (map (λ e. e.0) es)
+  unfolding IsStrictlySortedBy
+  rise_of [] h = tt
+  rise_of (e ∷ es) h = (below_of e.0 es (first _ _ h), rise_of es (second _ _ h))
+
+pub touched_rise : (s : FileState) → IsStrictlySortedBy (slice_cmp nat_cmp) (touched_paths s)
+touched_rise s = rise_of (entries s.touched) (entries_sorted s.touched)
+
+pub touched_listed : (s : FileState) (q : List ℕ) → list_any (eq_by_cmp (slice_cmp nat_cmp) q) (touched_paths s) ≡ is_touched s q
+touched_listed s q = sym (contains_key-keys s.touched q)
+
+pub content-untouched : (files : List File) (q : List ℕ) → content_at (untouched files) q ≡ find (slice_cmp nat_cmp) q (map (λ f. (f.path, f.content)) files)
+content-untouched files q = get-from_entries nat_list_cmp_total (map (λ f. (f.path, f.content)) files) q
+
+files_below : (p : List ℕ) (files : List File) → AllByRecursion (λ q. slice_cmp nat_cmp p q ≡ Less) (map (λ f. f.path) files) → T (below_all (slice_cmp nat_cmp) p (map (λ f. (f.path, f.content)) files))
+files_below p [] h = tt
+files_below p (f ∷ fs) h = both _ _ (subst (λ r. T (is_lt r)) (sym h.0) tt) (files_below p fs h.1)
+
+files_sorted : (files : List File) → IsStrictlySortedBy (slice_cmp nat_cmp) (map (λ f. f.path) files) → T (is_sorted (slice_cmp nat_cmp) (map (λ f. (f.path, f.content)) files))
+unfolding IsStrictlySortedBy
+files_sorted [] h = tt
+files_sorted (f ∷ fs) h = both _ _ (files_below f.path fs h.0) (files_sorted fs h.1)
+
+-- the map of files that rise by path has just these, in this order
+pub files_listed : (files : List File) → IsStrictlySortedBy (slice_cmp nat_cmp) (map (λ f. f.path) files) → entries (files_of files) ≡ map (λ f. (f.path, f.content)) files
+files_listed files h = listed (map (λ f. (f.path, f.content)) files) (files_sorted files h)

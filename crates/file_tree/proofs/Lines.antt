@@ -1,12 +1,11 @@
 -- Where a line ends, and whether it is text.
-use Rattle.std.proofs.Common.{◌≡◌, ◌∙◌, sym, ap, refl, ℕ, zero, suc, ◌+◌, ◌≤◌, min, Bool, true, false, cond, not, List, [], ◌∷◌, length, take, Option, Some, None, arith, inl, inr}
+use Rattle.std.proofs.Common.{◌≡◌, ap, refl, ℕ, zero, suc, ◌+◌, ◌≤◌, min, Bool, true, false, cond, not, List, [], ◌∷◌, length, take, Some, None, arith, inl, inr}
 use Rattle.std.proofs.lemmas.Bool.{cases_Bool}
 use Rattle.std.specs.Prelude.{position, nat_lt}
 use Rattle.std.specs.List.{position_or_len}
 use borrow.Author.Tests.{ltb-false}
 use Rattle.std.specs.Str.{IsUtf8, is_utf8}
 use Rattle.std.proofs.lemmas.Str.{IsUtf8-from_is_utf8, is_utf8-from_IsUtf8}
-use Rattle.file_tree.specs.declared.line.LineRead.{LineRead}
 use Rattle.file_tree.specs.declared.line.LineRead.TheVariants.{Line, NotText}
 use Rattle.file_tree.specs.Line.{is_line_feed, line_length, text_read}
 
@@ -24,15 +23,15 @@ module _ {X : Type 0} (p : X → Bool) where
 -- the place of the first LF, if there is one
 pub place_some : (xs : List ℕ) (i : ℕ) → position is_line_feed xs ≡ Some i → i ≡ line_length xs
 place_some xs i is = elim (cases_Bool (nat_lt (line_length xs) (length xs))) [
-    | inl below ↦ let e : Some (line_length xs) ≡ Some i = rw below at is in cc
-    | inr above ↦ let e : None ≡ Some i = rw above at is in cc
-  ]
+  | inl below ↦ let e : Some (line_length xs) ≡ Some i = rw below at is in cc
+  | inr above ↦ let e : None ≡ Some i = rw above at is in cc
+]
 
 pub place_none : (xs : List ℕ) → position is_line_feed xs ≡ None → length xs ≡ line_length xs
 place_none xs is = elim (cases_Bool (nat_lt (line_length xs) (length xs))) [
-    | inl below ↦ let e : Some (line_length xs) ≡ None = rw below at is in cc
-    | inr above ↦ let le : length xs ≤ line_length xs = ltb-false _ _ above in omega (arith, first_within is_line_feed xs)
-  ]
+  | inl below ↦ let e : Some (line_length xs) ≡ None = rw below at is in cc
+  | inr above ↦ let le : length xs ≤ line_length xs = ltb-false _ _ above in omega (arith, first_within is_line_feed xs)
+]
 
 pub length_within : (xs : List ℕ) → line_length xs ≤ length xs
 length_within xs = first_within is_line_feed xs

@@ -101,15 +101,15 @@ put_back m k v is = same _ _ (λ q. get-insert nat_list_cmp_total m k v q ∙ ke
 
 -- ---- the entries of a list that rises
 
-first : (a b : Bool) → T (a && b) → T a
+pub first : (a b : Bool) → T (a && b) → T a
 first true b h = tt
 first false b h = h
 
-second : (a b : Bool) → T (a && b) → T b
+pub second : (a b : Bool) → T (a && b) → T b
 second true b h = h
 second false b h = absurd h
 
-less : (r : Ordering) → T (is_lt r) → r ≡ Less
+pub less : (r : Ordering) → T (is_lt r) → r ≡ Less
 less Less h = refl
 less Equal h = absurd h
 less Greater h = absurd h
@@ -137,7 +137,7 @@ marks_keys : (ks : List (String Global)) → map (λ e. e.0) (marks ks) ≡ map 
 marks_keys [] = refl
 marks_keys (k ∷ ks) = ap (λ l. string_bytes k ∷ l) (marks_keys ks)
 
-both : (a b : Bool) → T a → T b → T (a && b)
+pub both : (a b : Bool) → T a → T b → T (a && b)
 both true b h g = g
 both false b h g = h
 

@@ -1,5 +1,5 @@
 -- The files of a run with the touched paths, and what each call of a tree answers and leaves.
-use Rattle.std.specs.Prelude.{◌≡◌, ℕ, ◌+◌, ◌≤◌, List, [], ◌∷◌, ◌++◌, length, drop, map, Bool, true, false, IsTrue, Option, Some, None, is_some, IfSome, unwrap_or, refl}
+use Rattle.std.specs.Prelude.{ℕ, ◌+◌, ◌≤◌, List, [], ◌++◌, length, drop, map, Bool, true, false, IsTrue, Option, Some, None, is_some, IfSome, unwrap_or, refl}
 use Rattle.std.specs.Coded.{Coded, code_by, coded×, coded_list, coded_ℕ}
 use base.Stored.{coded_unit}
 use Rattle.std.specs.Ordering.{nat_cmp}

@@ -74,7 +74,11 @@ fn searched_length(rest: &[u8], most: usize) -> usize
 fn front(bytes: &[u8], most: usize) -> &[u8]
     ensures { result.now ≡ take most bytes.now }
 {
-    if bytes.len() > most { &bytes[..most] } else { bytes }
+    if bytes.len() > most {
+        &bytes[..most]
+    } else {
+        bytes
+    }
 }
 
 // How many bytes stand before the first LF, or to the end.

@@ -244,7 +244,12 @@ impl Tree {
 }
 
 // Puts bytes at a path, and marks it.
-fn put_marked(files: &mut Contents, touched: &mut Marks, path: &str, bytes: Bytes) -> Result<(), AllocError>
+fn put_marked(
+    files: &mut Contents,
+    touched: &mut Marks,
+    path: &str,
+    bytes: Bytes,
+) -> Result<(), AllocError>
     ensures files { OnOk result (files.new ≡ finmap.insert files.old path.now bytes) }
     ensures touched { OnOk result (touched.new ≡ finmap.insert touched.old path.now tt) }
     ensures files_err { OnErr result (files.new ≡ files.old) }
@@ -275,11 +280,7 @@ fn refusal(mode: OpenMode, found: bool) -> Option<TreeStop>
 fn rest_of(bytes: &[u8], at: usize) -> &[u8]
     ensures { result.now ≡ drop at bytes.now }
 {
-    if at < bytes.len() {
-        &bytes[at..]
-    } else {
-        &[]
-    }
+    if at < bytes.len() { &bytes[at..] } else { &[] }
 }
 
 // Files by path. They are put in from the last to the first, so that of two at one path the first stands.

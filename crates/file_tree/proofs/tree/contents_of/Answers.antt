@@ -1,4 +1,4 @@
-use Rattle.std.proofs.Common.{◌≡◌, ◌∙◌, sym, ap}
+use Rattle.std.proofs.Common.{◌∙◌, sym, ap}
 use Rattle.std.specs.FinMap.{insert}
 use Rattle.file_tree.proofs.Files.{files_onto, files_onto_push, files_onto_empty}
 use Rattle.file_tree.proofs.tree.contents_of.Goals as goal

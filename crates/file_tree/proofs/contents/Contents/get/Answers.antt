@@ -1,4 +1,4 @@
-use Rattle.std.proofs.Common.{◌≡◌, ◌∙◌, sym, ap, Some}
+use Rattle.std.proofs.Common.{◌∙◌, sym, ap, Some}
 use Rattle.std.specs.FinMap.{get}
 use Rattle.file_tree.proofs.Views.{get_text}
 use Rattle.file_tree.proofs.contents.Contents.get.Goals as goal

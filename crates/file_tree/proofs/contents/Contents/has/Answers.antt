@@ -1,4 +1,4 @@
-use Rattle.std.proofs.Common.{◌≡◌, ◌∙◌, sym, ap, is_some}
+use Rattle.std.proofs.Common.{◌∙◌, sym, ap, is_some}
 use Rattle.std.specs.FinMap.{get}
 use Rattle.file_tree.proofs.Views.{get_text}
 use Rattle.file_tree.proofs.contents.Contents.has.Goals as goal

@@ -1,4 +1,4 @@
-use Rattle.std.proofs.Common.{◌≡◌, ◌∙◌, ap, Some, string_bytes}
+use Rattle.std.proofs.Common.{◌∙◌, ap, Some, string_bytes}
 use Rattle.std.specs.FinMap.{insert}
 use Rattle.std.proofs.lemmas.Map.Text.{btree_map_updates_text}
 use Rattle.file_tree.proofs.Views.{put_text}

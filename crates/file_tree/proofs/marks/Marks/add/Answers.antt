@@ -1,4 +1,4 @@
-use Rattle.std.proofs.Common.{◌≡◌, ◌∙◌, sym, ap, true, not, string_bytes}
+use Rattle.std.proofs.Common.{◌∙◌, sym, ap, true, not, string_bytes}
 use Rattle.std.specs.FinMap.{insert, contains_key}
 use Rattle.std.proofs.lemmas.Map.Text.{btree_set_updates_text}
 use Rattle.file_tree.specs.Views.{set_by_bytes}

@@ -1,4 +1,4 @@
-use Rattle.std.proofs.Common.{◌≡◌, ◌∙◌, sym, ap, map, string_bytes}
+use Rattle.std.proofs.Common.{◌∙◌, sym, ap, map, string_bytes}
 use Rattle.std.specs.FinMap.{keys}
 use Rattle.std.specs.Map.Iter.{deref}
 use Rattle.std.proofs.lemmas.Map.Iter.{iter_end}

@@ -1,4 +1,4 @@
-use Rattle.std.proofs.Common.{◌≡◌, ◌∙◌, sym}
+use Rattle.std.proofs.Common.{◌∙◌, sym}
 use Rattle.file_tree.proofs.Views.{undone_new, undone_old}
 use Rattle.file_tree.proofs.marks.Marks.take_back.Goals as goal
 

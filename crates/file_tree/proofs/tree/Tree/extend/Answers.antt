@@ -1,4 +1,4 @@
-use Rattle.std.proofs.Common.{◌≡◌, sym, subst, refl, ◌+◌, ◌≤◌, ◌++◌, length, length-append, arith}
+use Rattle.std.proofs.Common.{sym, subst, refl, ◌+◌, ◌≤◌, ◌++◌, length, length-append, arith}
 use Rattle.file_tree.specs.State.{FileState, bytes_at, put}
 use Rattle.file_tree.proofs.Holds.{holds_put, tree_is}
 use Rattle.file_tree.proofs.tree.Tree.extend.Goals as goal

@@ -1,5 +1,5 @@
-use Rattle.std.proofs.Common.{◌≡◌, ◌∙◌, sym, ap, refl, IsTrue}
-use Rattle.file_tree.specs.State.{FileState, bytes_at, is_there, put, touch}
+use Rattle.std.proofs.Common.{◌∙◌, sym, ap, refl, IsTrue}
+use Rattle.file_tree.specs.State.{FileState, is_there, touch}
 use Rattle.file_tree.proofs.Holds.{holds_touch, put_same, tree_is}
 use Rattle.file_tree.proofs.tree.Tree.keep.Goals as goal
 

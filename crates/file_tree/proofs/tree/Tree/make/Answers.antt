@@ -1,4 +1,4 @@
-use Rattle.std.proofs.Common.{◌≡◌, ◌≤◌, ap, [], length, ◌∙◌, arith}
+use Rattle.std.proofs.Common.{ap, [], ◌∙◌, arith}
 use Rattle.std.specs.FinMap.{insert}
 use Rattle.file_tree.specs.State.{FileState, put, touch}
 use Rattle.file_tree.proofs.Holds.{holds_put, holds_touch, tree_is}

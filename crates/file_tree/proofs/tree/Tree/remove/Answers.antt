@@ -1,4 +1,4 @@
-use Rattle.std.proofs.Common.{◌≡◌, ◌∙◌, sym, ap, subst, refl, IsTrue}
+use Rattle.std.proofs.Common.{◌∙◌, sym, subst, IsTrue}
 use Rattle.file_tree.specs.State.{FileState, is_there, removed}
 use Rattle.file_tree.proofs.Holds.{holds_removed, tree_is}
 use Rattle.file_tree.proofs.tree.Tree.remove.Goals as goal
