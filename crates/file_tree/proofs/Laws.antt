@@ -12,8 +12,8 @@ use Rattle.std.specs.FinMap.Entries.{below_all}
 use Rattle.ldv_value.specs.declared.file.File.{File}
 use Rattle.ldv_value.specs.declared.file.OpenMode.{OpenMode}
 use Rattle.ldv_value.specs.declared.file.OpenMode.TheVariants.{Read, Write, Append, New}
-use Rattle.file_tree.specs.State.{FileMap, FileState, content_at, bytes_at, is_touched, touched_paths, files_of, untouched, put, touch, opened, removed, appended}
-use Rattle.file_tree.proofs.Views.{same, listed, first, second, less, both}
+use Rattle.file_tree.specs.State.{FileMap, FileState, content_at, is_there, bytes_at, is_touched, touched_paths, files_of, untouched, put, touch, open_refusal, opened, removed, appended}
+use Rattle.file_tree.proofs.Views.{same, listed, first, second, less, both, entries-empty}
 
 -- ---- whether two paths are the same, by their order
 
@@ -70,6 +70,26 @@ content-opened_other Write s p q apart = content-put_other s p [] q apart
 content-opened_other Append s p q apart = content-put_other s p (bytes_at s p) q apart
 content-opened_other New s p q apart = content-put_other s p [] q apart
 
+pub content-opened_empty : (s : FileState) (p : List ℕ) → content_at (opened Write s p) p ≡ Some []
+content-opened_empty s p = content-put_same s p []
+
+pub content-opened_new : (s : FileState) (p : List ℕ) → content_at (opened New s p) p ≡ Some []
+content-opened_new s p = content-put_same s p []
+
+pub content-opened_kept : (s : FileState) (p : List ℕ) → content_at (opened Append s p) p ≡ Some (bytes_at s p)
+content-opened_kept s p = content-put_same s p (bytes_at s p)
+
+found_to_read : (found : Bool) → open_refusal Read found ≡ None → found ≡ true
+found_to_read true allowed = refl
+found_to_read false allowed = cc
+
+-- after an open there is a file
+pub there-opened : (mode : OpenMode) (s : FileState) (p : List ℕ) → open_refusal mode (is_there s p) ≡ None → is_there (opened mode s p) p ≡ true
+there-opened Read s p allowed = found_to_read (is_there s p) allowed
+there-opened Write s p allowed = ap is_some (content-opened_empty s p)
+there-opened Append s p allowed = ap is_some (content-opened_kept s p)
+there-opened New s p allowed = ap is_some (content-opened_new s p)
+
 -- ---- the touched marks after each change. A put and an append leave them by definition
 
 pub touched-touch_same : (s : FileState) (p : List ℕ) → is_touched (touch s p) p ≡ true
@@ -98,6 +118,9 @@ touched-removed_other s p q apart = ap is_some (get-insert_other s.touched p q t
 
 pub touched-untouched : (files : List File) (q : List ℕ) → is_touched (untouched files) q ≡ false
 touched-untouched files q = ap is_some (get-from_entries {X = Unit {0}} nat_list_cmp_total [] q)
+
+pub touched_paths-untouched : (files : List File) → touched_paths (untouched files) ≡ []
+touched_paths-untouched files = ap (map (λ e. e.0)) (entries-empty {X = Unit {0}})
 
 -- ---- states as wholes
 
