@@ -1,0 +1,5 @@
+pub mod Files
+pub mod Holds
+pub mod Laws
+pub mod Lines
+pub mod Views

@@ -1,0 +1,3 @@
+pub mod Line
+pub mod State
+pub mod Views
