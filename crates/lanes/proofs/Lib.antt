@@ -1,2 +1,6 @@
 pub mod MergeSteps
 pub mod SetLaws
+pub mod CountLaws
+pub mod NextLaws
+pub mod SelectLaws
+pub mod MaskLaws

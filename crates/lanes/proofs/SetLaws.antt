@@ -7,7 +7,7 @@ use Rattle.std.proofs.lemmas.Nat.Bits.{bit_at-lt, bit_at-zero, bit_at_and, bit_a
 use Rattle.lanes.specs.Sets.{member, IsUnion, IsIntersection, IsDifference}
 use Rattle.lanes.specs.Merged.{IsMergedTo, without}
 
-two : (p : ℕ) → p < 2 → (p ≡ 0) ⊎ (p ≡ 1)
+pub two : (p : ℕ) → p < 2 → (p ≡ 0) ⊎ (p ≡ 1)
 two zero small = inl refl
 two (suc zero) small = inr refl
 two (suc (suc p)) small = absurd (omega arith)

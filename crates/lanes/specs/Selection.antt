@@ -1,5 +1,6 @@
 -- The places of a column at which a comparison holds.
-use Rattle.std.specs.Prelude.{◌≡◌, ℕ, ℤ, Bool, false, List, slice_get}
+use Rattle.std.specs.Prelude.{◌≡◌, ◌*◌, ◌<◌, ℕ, ℤ, Bool, false, List, map, slice_get, slice_index}
+use Rattle.std.specs.Simd.Lanes.{chunk, mask_l}
 use Rattle.std.specs.Ordering.{int_cmp}
 use Rattle.std.specs.Option.{option_map_or}
 use Rattle.ldv_value.specs.declared.value.Cmp.{Cmp}
@@ -17,3 +18,7 @@ holds_at op column constant place = option_map_or (passes op constant) (slice_ge
 -- a set has exactly the places at which the comparison holds
 abbrev pub IsSelection : Cmp → List ℤ → ℤ → List ℕ → Type 0
 IsSelection op column constant mask = (n : ℕ) → member mask n ≡ holds_at op column constant n
+
+-- the words below a place have the bits of their 64 places each
+abbrev pub IsSelectedTo : Cmp → List ℤ → ℤ → List ℕ → ℕ → Type 0
+IsSelectedTo op column constant mask place = (k : ℕ) → k < place → slice_index mask k ≡ mask_l (map (passes op constant) (chunk (k * 64) 64 column))

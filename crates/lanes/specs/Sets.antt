@@ -25,3 +25,8 @@ size words = count_by (member words) (range_with_len 0 (64 * length words))
 abbrev pub IsNext : List ℕ → ℕ → Option ℕ → Type 0
 IsNext words from None = (n : ℕ) → from ≤ n → member words n ≡ false
 IsNext words from (Some least) = (from ≤ least) × (member words least ≡ true) × ((n : ℕ) → from ≤ n → n < least → member words n ≡ false)
+
+-- the lowest bit of a word that is set, from a bit on, or none where no such bit is
+abbrev pub IsLowest : ℕ → ℕ → Option ℕ → Type 0
+IsLowest word from None = (i : ℕ) → from ≤ i → i < 64 → bit_at word i ≡ 0
+IsLowest word from (Some lowest) = (from ≤ lowest) × (lowest < 64) × (bit_at word lowest ≡ 1) × ((i : ℕ) → from ≤ i → i < lowest → bit_at word i ≡ 0)
