@@ -1,12 +1,14 @@
 -- The members of a set are the ones of its words.
-use Rattle.std.proofs.Common.{◌≡◌, ◌==◌, ℕ, zero, suc, ◌+◌, ◌-◌, ◌*◌, ◌/◌, ◌%◌, ◌^◌, ◌<◌, ◌≤◌, ◌⊎◌, inl, inr, Bool, true, false, cond, List, [], ◌∷◌, ◌++◌, length, get_or, refl, ap, sym, subst, ◌∙◌, arith, add-one, add-zero, zero-add, add_assoc, take, Fits, w64}
+use Rattle.std.proofs.Common.{◌≡◌, ◌==◌, ℕ, zero, suc, ◌+◌, ◌*◌, ◌/◌, ◌%◌, ◌^◌, ◌<◌, ◌≤◌, inl, inr, Bool, true, false, cond, List, [], ◌∷◌, length, get_or, refl, ap, sym, subst, ◌∙◌, arith, add-one, add-zero, zero-add, add_assoc, take, Fits, w64}
 use Rattle.std.specs.Prelude.{count_by, sum_by, count_ones, slice_index}
 use Rattle.std.specs.List.{range_with_len}
 use Rattle.std.specs.Int.{bit_at}
 use lib.Count.{ones_step}
 use Rattle.std.proofs.lemmas.Nat.{ones-le, shr_below}
 use Rattle.std.proofs.lemmas.Nat.Bits.{bit_at_lowest, bit_at-suc}
-use Rattle.std.proofs.lemmas.List.Sums.{sum_by-cons, sum_by-append}
+use Rattle.std.proofs.lemmas.List.Sums.{sum_by-cons, sum_by-append, count_by-le-length}
+use Rattle.std.proofs.lemmas.List.FromFn.{length-range_with_len}
+use mir.Val.{bool_byte}
 use Rattle.std.proofs.Math.Seq.{take-add}
 use lib.Lanes.{chunk}
 use Rattle.lanes.specs.Sets.{member, size}
@@ -21,7 +23,7 @@ count_moved p q a b zero same = refl
 count_moved p q a b (suc n) same =
     let first : p a ≡ q b = subst (λ (k : ℕ). p k ≡ q b) (omega arith) (subst (λ (k : ℕ). p (a + 0) ≡ q k) (omega arith) (same 0 (omega arith))) in
     let rest : count_by p (range_with_len (a + 1) n) ≡ count_by q (range_with_len (b + 1) n) = count_moved p q (a + 1) (b + 1) n (λ i below.
-        subst (λ (k : ℕ). p k ≡ q (b + 1 + i)) (omega arith) (subst (λ (k : ℕ). p (a + suc i) ≡ q k) (omega arith) (same (suc i) (omega arith)))) in
+    subst (λ (k : ℕ). p k ≡ q (b + 1 + i)) (omega arith) (subst (λ (k : ℕ). p (a + suc i) ≡ q k) (omega arith) (same (suc i) (omega arith)))) in
     count_cons p a (range_with_len (a + 1) n) ∙ ap (λ (b : Bool). cond b 1 0 + count_by p (range_with_len (a + 1) n)) first ∙ ap (λ (k : ℕ). cond (q b) 1 0 + k) rest ∙ sym (count_cons q b (range_with_len (b + 1) n))
 
 suc_sum : (m n : ℕ) → suc m + n ≡ suc (m + n)
@@ -62,7 +64,7 @@ ones_are (suc k) word small =
     let less : half < 2 ^ k = shr_below word k 1 (rw add-one small) in
     let test : ℕ → Bool = λ (i : ℕ). bit_at word i == 1 in
     let rest : count_ones half ≡ count_by test (range_with_len 1 k) =
-        ones_are k half less ∙ count_moved (λ (i : ℕ). bit_at half i == 1) test 0 1 k (λ i below. higher_bit word i) in
+    ones_are k half less ∙ count_moved (λ (i : ℕ). bit_at half i == 1) test 0 1 k (λ i below. higher_bit word i) in
     ones_step word ∙ ap (λ (n : ℕ). n + count_ones half) (lowest_one word) ∙ ap (λ (n : ℕ). cond (test 0) 1 0 + n) rest ∙ sym (count_cons test 0 (range_with_len 1 k))
 
 member_here : (word : ℕ) (words : List ℕ) (i : ℕ) → i < 64 → member (word ∷ words) (0 + i) ≡ (bit_at word (0 + i) == 1)
@@ -83,9 +85,9 @@ size_is (word ∷ words) fit =
     let test : ℕ → Bool = member (word ∷ words) in
     let long : 64 * length (word ∷ words) ≡ 64 + 64 * length words = omega arith in
     let here : count_by test (range_with_len 0 64) ≡ count_ones word =
-        count_moved test (λ (i : ℕ). bit_at word i == 1) 0 0 64 (member_here word words) ∙ sym (ones_are 64 word (fit 0).fits) in
+    count_moved test (λ (i : ℕ). bit_at word i == 1) 0 0 64 (member_here word words) ∙ sym (ones_are 64 word (fit 0).fits) in
     let later : count_by test (range_with_len 64 (64 * length words)) ≡ sum_by count_ones words =
-        count_moved test (member words) 64 0 (64 * length words) (λ i below. member_later word words i) ∙ size_is words (λ k. fit (suc k)) in
+    count_moved test (member words) 64 0 (64 * length words) (λ i below. member_later word words i) ∙ size_is words (λ k. fit (suc k)) in
     ap (λ (k : ℕ). count_by test (range_with_len 0 k)) long ∙ count_split test 0 64 (64 * length words)
     ∙ ap (λ (n : ℕ). n + count_by test (range_with_len 64 (64 * length words))) here ∙ ap (λ (n : ℕ). count_ones word + n) later
     ∙ sym (sum_by-cons count_ones word words)
@@ -98,3 +100,16 @@ ones_bound (word ∷ words) fit = omega (arith, sum_by-cons count_ones word word
 -- eight words further on
 pub ones_eight : (words : List ℕ) (at : ℕ) → sum_by count_ones (take at words) + sum_by count_ones (chunk at 8 words) ≡ sum_by count_ones (take (at + 8) words)
 ones_eight words at = sym (ap (sum_by count_ones) (take-add at 8 words) ∙ sum_by-append count_ones (take at words) (chunk at 8 words))
+
+-- one number further on
+pub count_next : (p : ℕ → Bool) (n : ℕ) → count_by p (range_with_len 0 (n + 1)) ≡ count_by p (range_with_len 0 n) + cond (p n) 1 0
+count_next p n =
+    let from : 0 + n ≡ n = omega arith in
+    count_split p 0 n 1 ∙ ap (λ (k : ℕ). count_by p (range_with_len 0 n) + count_by p (range_with_len k 1)) from ∙ ap (λ (k : ℕ). count_by p (range_with_len 0 n) + k) (zero-add (cond (p n) 1 0))
+
+pub count_bound : (p : ℕ → Bool) (n : ℕ) → count_by p (range_with_len 0 n) ≤ n
+count_bound p n = omega (arith, count_by-le-length p (range_with_len 0 n), length-range_with_len 0 n)
+
+pub byte_is : (b : Bool) → bool_byte b ≡ cond b 1 0
+byte_is true = refl
+byte_is false = refl

@@ -4,3 +4,4 @@ pub mod CountLaws
 pub mod NextLaws
 pub mod SelectLaws
 pub mod MaskLaws
+pub mod PlainLaws

@@ -1,5 +1,5 @@
 -- Masks of a column, word by word.
-use Rattle.std.proofs.Common.{◌≡◌, ◌==◌, ℕ, zero, suc, ◌+◌, ◌-◌, ◌*◌, ◌/◌, ◌%◌, ◌^◌, ◌<◌, ◌≤◌, ◌⊎◌, inl, inr, Bool, true, false, cond, List, [], ◌∷◌, ◌++◌, map, length, get_or, refl, ap, sym, subst, ◌∙◌, arith, take, drop, drop-cons, add-one, length-drop, zero-add}
+use Rattle.std.proofs.Common.{◌≡◌, ◌==◌, ℕ, zero, suc, ◌+◌, ◌-◌, ◌*◌, ◌/◌, ◌%◌, ◌^◌, ◌<◌, ◌≤◌, inl, inr, Bool, true, false, cond, List, [], ◌∷◌, ◌++◌, map, length, get_or, refl, ap, sym, subst, ◌∙◌, arith, take, drop, drop-cons, add-one, length-drop, zero-add}
 use Rattle.std.specs.Prelude.{ℤ, pos, slice_get, Option}
 use Rattle.std.specs.Option.{option_map_or}
 use Rattle.std.specs.Int.{bit_at}
@@ -12,7 +12,6 @@ use Rattle.std.proofs.lemmas.Option.{slice_get_past}
 use Rattle.std.proofs.Math.Pow.{pow_mono}
 use Rattle.std.proofs.Math.Nat.{pow-suc}
 use Rattle.ldv_value.specs.declared.value.Cmp.{Cmp}
-use Rattle.lanes.specs.Sets.{member}
 use Rattle.lanes.specs.Selection.{passes, holds_at, IsSelection, IsSelectedTo}
 use Rattle.lanes.proofs.SetLaws.{no_member}
 
@@ -43,7 +42,7 @@ mask_eight p part place next is room =
     let back : List ℤ = drop next part in
     let long : length (map p front) ≡ 8 = length-map front p ∙ length-chunk place 8 part (omega arith) in
     let all : mask_l (map p (drop place part)) ≡ mask_l (map p front) + mask_l (map p back) * 2 ^ length (map p front) =
-        ap (λ (l : List ℤ). mask_l (map p l)) (chunk-drop place 8 part ∙ ap (λ (n : ℕ). front ++ drop n part) (sym is)) ∙ ap mask_l (map-append p front back) ∙ mask_append (map p front) (map p back) in
+    ap (λ (l : List ℤ). mask_l (map p l)) (chunk-drop place 8 part ∙ ap (λ (n : ℕ). front ++ drop n part) (sym is)) ∙ ap mask_l (map-append p front back) ∙ mask_append (map p front) (map p back) in
     all ∙ omega (arith, ap (λ (n : ℕ). mask_l (map p back) * 2 ^ n) long)
 
 pub byte_of_test : (b : Bool) → bool_byte b ≤ 1
@@ -83,9 +82,9 @@ pub selection_is : (op : Cmp) (column : List ℤ) (constant : ℤ) (mask : List 
     → IsSelectedTo op column constant mask (length mask) → IsSelection op column constant mask
 selection_is op column constant mask long done n = elim (cases_lt (n / 64) (length mask)) [
   | inl within ↦
-    let whole : n / 64 * 64 + n % 64 ≡ n = omega arith in
-    ap (λ (word : ℕ). bit_at word (n % 64) == 1) (done (n / 64) within) ∙ word_bit op column constant (n / 64) (n % 64) (omega arith) ∙ ap (holds_at op column constant) whole
+      let whole : n / 64 * 64 + n % 64 ≡ n = omega arith in
+      ap (λ (word : ℕ). bit_at word (n % 64) == 1) (done (n / 64) within) ∙ word_bit op column constant (n / 64) (n % 64) (omega arith) ∙ ap (holds_at op column constant) whole
   | inr past ↦
-    let beyond : length column ≤ n = omega arith in
-    no_member mask n past ∙ sym (ap (λ (o : Option ℤ). option_map_or (passes op constant) o false) (slice_get_past column n beyond))
+      let beyond : length column ≤ n = omega arith in
+      no_member mask n past ∙ sym (ap (λ (o : Option ℤ). option_map_or (passes op constant) o false) (slice_get_past column n beyond))
 ]

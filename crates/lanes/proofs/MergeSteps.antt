@@ -1,6 +1,5 @@
 -- How a walk over the words of two sets goes on.
-use Rattle.std.proofs.Common.{◌≡◌, ℕ, zero, suc, ◌+◌, ◌-◌, ◌<◌, ◌≤◌, ◌≢◌, ◌⊎◌, inl, inr, List, [], ◌∷◌, length, get_or, set, take, drop, refl, ap, sym, subst, ◌∙◌, arith, get_or-set_same, get_or-set_other, below_more, map, w64, bit_and}
-use Rattle.std.specs.Prelude.{slice_index}
+use Rattle.std.proofs.Common.{◌≡◌, ℕ, ◌+◌, ◌-◌, ◌<◌, ◌≤◌, ◌≢◌, inl, inr, List, [], ◌∷◌, length, get_or, set, refl, ap, sym, subst, ◌∙◌, arith, get_or-set_same, get_or-set_other, below_more, map, w64, bit_and}
 use Rattle.std.specs.Int.{bit_not}
 use lib.Lanes.{zip2, chunk, put_chunk}
 use Rattle.std.proofs.lemmas.Simd.{length-zip2, length-chunk, get_or-chunk, get_or-put_chunk_below, get_or-put_chunk_at, get_or-put_chunk_above, get_or-zip2}
@@ -8,7 +7,7 @@ use Rattle.std.proofs.lemmas.Bool.{cases_lt}
 use Rattle.lanes.specs.Merged.{IsMergedTo, without}
 
 pub none_merged : (merge : ℕ → ℕ → ℕ) (old other : List ℕ) → IsMergedTo merge old other old 0
-none_merged merge old other = record { merged = λ k below. absurd (omega arith); kept = λ k from. refl; }
+none_merged merge old other = record { merged = λ k below. absurd (omega arith); kept = λ k from. refl }
 
 module _ (merge : ℕ → ℕ → ℕ) (old other now : List ℕ) (at : ℕ) (far : IsMergedTo merge old other now at) where
   abbrev eight : List ℕ
@@ -30,8 +29,8 @@ module _ (merge : ℕ → ℕ → ℕ) (old other now : List ℕ) (at : ℕ) (fa
     merged = λ k below. elim (cases_lt k at) [
       | inl early ↦ get_or-put_chunk_below at now eight k 0 early ∙ far.merged k early
       | inr late ↦
-        let is : at + (k - at) ≡ k = omega arith in
-        subst (λ (n : ℕ). get_or (put_chunk at now eight) n 0 ≡ merge (get_or old n 0) (get_or other n 0)) is (eight_at room more (k - at) (omega arith))
+          let is : at + (k - at) ≡ k = omega arith in
+          subst (λ (n : ℕ). get_or (put_chunk at now eight) n 0 ≡ merge (get_or old n 0) (get_or other n 0)) is (eight_at room more (k - at) (omega arith))
     ];
     kept = λ k from. get_or-put_chunk_above at now eight k 0 (omega (arith, eight_long room more)) ∙ far.kept k (omega arith);
   }

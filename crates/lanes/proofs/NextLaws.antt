@@ -1,11 +1,10 @@
 -- Which member comes next.
-use Rattle.std.proofs.Common.{◌≡◌, ◌==◌, ℕ, zero, suc, ◌+◌, ◌-◌, ◌*◌, ◌/◌, ◌%◌, ◌^◌, ◌<◌, ◌≤◌, ◌⊎◌, inl, inr, Bool, true, false, not, Some, None, List, length, get_or, min, refl, ap, sym, subst, ◌∙◌, arith, bit_and, Fits, w64, eqb}
+use Rattle.std.proofs.Common.{◌≡◌, ◌==◌, ℕ, ◌+◌, ◌-◌, ◌*◌, ◌/◌, ◌%◌, ◌^◌, ◌<◌, ◌≤◌, inl, inr, false, Some, None, List, length, get_or, min, ap, sym, ◌∙◌, arith, bit_and, w64}
 use Rattle.std.specs.Int.{bit_at, trailing_zeros}
 use Rattle.std.proofs.lemmas.Bool.{cases_lt}
-use Rattle.std.proofs.lemmas.Nat.Bits.{bit_at-lt, bit_at-zero, bit_at_and, ones_shl, bit_at_mask_inside, bit_at_mask_below, bit_at-trailing_zeros}
-use lib.Bits.{and_le_l}
+use Rattle.std.proofs.lemmas.Nat.Bits.{bit_at-lt, bit_at-zero, bit_at_and, bit_at_mask_inside, bit_at_mask_below, bit_at-trailing_zeros}
 use Rattle.lanes.specs.Sets.{member, IsLowest, IsNext}
-use Rattle.lanes.proofs.SetLaws.{two, no_member}
+use Rattle.lanes.proofs.SetLaws.{no_member}
 
 high_ones : ℕ → ℕ
 high_ones from = 2 ^ 64 - 2 ^ from
@@ -62,12 +61,13 @@ found_after words place next onward empty positive fits =
     let t : ℕ = trailing_zeros w64 word in
     let found : (t < 64) × (bit_at word t ≡ 1) × ((i : ℕ) → i < t → bit_at word i ≡ 0) = bit_at-trailing_zeros w64 word positive fits in
     let at : (next * 64 + t) / 64 ≡ next = omega (arith, found.0) in
-    let bit : (next * 64 + t) % 64 ≡ t = omega (arith, found.0) in
-    (omega arith,
-     ap (λ (k : ℕ). bit_at (get_or words k 0) ((next * 64 + t) % 64) == 1) at ∙ ap (λ (k : ℕ). bit_at word k == 1) bit ∙ ap (λ (p : ℕ). p == 1) found.1,
-     λ n on below. elim (cases_lt (n / 64) next) [
-       | inl early ↦ no_bit words n (empty (n / 64) (omega arith) early)
-       | inr late ↦
-         let here : n / 64 ≡ next = omega (arith, found.0) in
-         ap (λ (k : ℕ). bit_at (get_or words k 0) (n % 64) == 1) here ∙ ap (λ (p : ℕ). p == 1) (found.2 (n % 64) (omega arith))
-     ])
+    let bit : (next * 64 + t) % 64 ≡ t = omega (arith, found.0) in (
+      omega arith,
+      ap (λ (k : ℕ). bit_at (get_or words k 0) ((next * 64 + t) % 64) == 1) at ∙ ap (λ (k : ℕ). bit_at word k == 1) bit ∙ ap (λ (p : ℕ). p == 1) found.1,
+      λ n on below. elim (cases_lt (n / 64) next) [
+        | inl early ↦ no_bit words n (empty (n / 64) (omega arith) early)
+        | inr late ↦
+            let here : n / 64 ≡ next = omega (arith, found.0) in
+            ap (λ (k : ℕ). bit_at (get_or words k 0) (n % 64) == 1) here ∙ ap (λ (p : ℕ). p == 1) (found.2 (n % 64) (omega arith))
+      ],
+    )

@@ -1,15 +1,15 @@
 -- What lanes make of a comparison.
-use Rattle.std.proofs.Common.{◌≡◌, ◌==◌, ℕ, zero, suc, ◌+◌, ◌-◌, ◌*◌, ◌/◌, ◌%◌, ◌^◌, ◌<◌, ◌≤◌, ◌⊎◌, inl, inr, Bool, true, false, not, cond, List, [], ◌∷◌, map, length, get_or, refl, ap, sym, subst, ◌∙◌, arith, w64, eqb, ltb, leb, rules, take, drop, drop-cons, add-one}
-use Rattle.std.specs.Prelude.{ℤ, pos, negsuc, int_lt, int_le}
-use Rattle.std.specs.Ordering.{int_cmp, int_eq}
+use Rattle.std.proofs.Common.{◌≡◌, ℕ, suc, ◌+◌, ◌-◌, ◌*◌, ◌%◌, ◌^◌, ◌<◌, ◌≤◌, Bool, true, false, not, cond, List, [], ◌∷◌, map, length, get_or, refl, ap, sym, ◌∙◌, arith, w64, eqb, rules, drop-cons, add-one}
+use Rattle.std.specs.Prelude.{ℤ, pos, int_lt, int_le}
+use Rattle.std.specs.Ordering.{int_eq}
 use mir.Syntax.{mask, eq, ne, lt, le, signed}
-use mir.Val.{of_z, to_z, SFits, hbits}
+use mir.Val.{of_z, to_z, SFits}
 use Rattle.std.proofs.lemmas.Int.{to_z-of_z}
 use Rattle.std.proofs.lemmas.Bool.Decides.{same_from_decides, Decides-like, Decides-eqb, Decides-int_eq}
 use borrow.Rule.Simd.Lanes.{act2}
 use borrow.Table.Row.{s_int}
-use lib.Lanes.{zip2, mask_l, top, Each1, chunk}
-use Rattle.std.proofs.lemmas.Simd.{mask_l-mod, zip2_splat, zip2_splat_left}
+use lib.Lanes.{mask_l, top, Each1, chunk}
+use Rattle.std.proofs.lemmas.Simd.{mask_l-mod}
 use Rattle.ldv_value.specs.declared.value.Cmp.{Cmp}
 use Rattle.ldv_value.specs.declared.value.Cmp.TheVariants.{Eq, Ne, Lt, Le, Gt, Ge}
 use Rattle.lanes.specs.Selection.{passes}
@@ -70,7 +70,7 @@ ge_lane x c fit known = le_top (of_z w64 c) (of_z w64 x) ∙ simp to_z-of_z (ge_
 same_bits : (x c : ℤ) → SFits w64 x → SFits w64 c → eqb (of_z w64 x) (of_z w64 c) ≡ int_eq x c
 same_bits x c fit known =
     same_from_decides (eqb (of_z w64 x) (of_z w64 c)) (int_eq x c)
-    (Decides-like (eqb (of_z w64 x) (of_z w64 c)) (λ same. let e : to_z w64 (of_z w64 x) ≡ to_z w64 (of_z w64 c) = ap (to_z w64) same in simp to_z-of_z at e) (ap (of_z w64)) (Decides-eqb (of_z w64 x) (of_z w64 c)))
+    (Decides-like (eqb (of_z w64 x) (of_z w64 c)) (λ same. sym (to_z-of_z w64 x fit) ∙ ap (to_z w64) same ∙ to_z-of_z w64 c known) (ap (of_z w64)) (Decides-eqb (of_z w64 x) (of_z w64 c)))
     (Decides-int_eq x c)
 
 pub eq_lane : (x c : ℤ) → SFits w64 x → SFits w64 c → top 63 (lanes_eq (of_z w64 x) (of_z w64 c)) ≡ passes Eq c x

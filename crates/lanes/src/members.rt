@@ -117,9 +117,9 @@ fn next_word(a: &[u64], from: usize) -> usize
     ensures empty { (k : ℕ) → from ≤ k → k < result → slice_index a.now k ≡ 0 }
     ensures found { result < length a.now → 0 < slice_index a.now result }
 {
-    for place in from..a.len() {
-        if a[place] != 0 {
-            return place;
+    for next in from..a.len() {
+        if a[next] != 0 {
+            return next;
         }
     }
     a.len()

@@ -1,4 +1,4 @@
-use Rattle.std.proofs.Common.{arith, sym, ◌∙◌, ap, ◌+◌, ℕ, sum_by, count_ones, ◌≡◌, take}
+use Rattle.std.proofs.Common.{arith, ◌+◌, count_ones}
 use Rattle.std.proofs.lemmas.List.Sums.{sum_by-take-le, sum_by-take-drop}
 use Rattle.lanes.proofs.CountLaws.{size_is, ones_bound, ones_eight}
 use Rattle.lanes.proofs.members.count.Goals as goal
