@@ -71,8 +71,8 @@ pub(crate) fn merge_into<M: Merge>(a: &mut [u64], b: &[u64])
     merge_rest::<M>(a, b, from);
 }
 
-#[tactic(auto, using(crate::proofs::MergeSteps::none_merged, crate::proofs::MergeSteps::more_by_eight))]
 // Merges eight words at a time, as long as there are eight, and gives the place that it reached.
+#[tactic(auto, using(crate::proofs::MergeSteps::none_merged, crate::proofs::MergeSteps::more_by_eight))]
 fn merge_blocks<M: Merge>(a: &mut [u64], b: &[u64]) -> usize
     requires { length a.old ≡ length b.now }
     ensures within { result ≤ length a.old }
@@ -97,8 +97,8 @@ fn merge_block<M: Merge>(a: &mut [u64], b: &[u64], at: usize)
     M::lanes(left, right).copy_to_slice(&mut a[at..]);
 }
 
-#[tactic(auto, using(crate::proofs::MergeSteps::more_by_one))]
 // Merges the words from a place on, one by one.
+#[tactic(auto, using(crate::proofs::MergeSteps::more_by_one))]
 fn merge_rest<M: Merge>(a: &mut [u64], b: &[u64], from: usize)
     requires lengths { length a.old ≡ length b.now }
     requires within { from ≤ length a.old }
