@@ -1,3 +1,4 @@
+pub mod AnswerLaws
 pub mod CutLemmas
 pub mod ReplyLaw
 pub mod RunLaw

@@ -4,3 +4,4 @@ pub mod Found
 pub mod JsonText
 pub mod Lookups
 pub mod Seen
+pub mod WorldFiles
