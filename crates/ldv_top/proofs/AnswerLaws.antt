@@ -40,8 +40,8 @@ pub start_small : (w : World) (file : File) → has_small_files w ≡ true → s
 start_small w file small is = elim (cases_option (slice_get w.start 0)) [
   | inl none ↦ let never : None ≡ Some file = rw none at is in cc
   | inr word ↦
-    let found : file_at word.0 w.files ≡ Some file = rw word.1 at is in
-    at_most (length file.content) (found_passes (λ f. bytes_eq word.0 f.path) (λ f. nat_le (length f.content) 16777216) w.files file small found)
+      let found : file_at word.0 w.files ≡ Some file = rw word.1 at is in
+      at_most (length file.content) (found_passes (λ f. bytes_eq word.0 f.path) (λ f. nat_le (length f.content) 16777216) w.files file small found)
 ]
 
 -- ---- the run of a plain script

@@ -9,3 +9,9 @@ mod finish;
 mod lines;
 mod plain;
 mod selection;
+mod top;
+
+pub use command::Command;
+pub use exit::{Exit, status};
+pub use lines::exit_line;
+pub use top::{ldv, ldv_main};
