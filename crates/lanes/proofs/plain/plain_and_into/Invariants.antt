@@ -1,0 +1,6 @@
+use Rattle.std.proofs.Common.{bit_and}
+use Rattle.lanes.specs.Merged.{IsMergedTo}
+use Rattle.lanes.proofs.plain.plain_and_into.Given as goal
+
+abbrev pub invariant-loop-place : goal.invariant-loop-place
+invariant-loop-place l = IsMergedTo bit_and l.fn.a l.b l.a l.place
