@@ -9,6 +9,8 @@ mod finish;
 mod lines;
 mod plain;
 mod selection;
+#[cfg(test)]
+mod tests;
 mod top;
 
 pub use command::Command;
