@@ -2,6 +2,7 @@ pub mod Colon
 pub mod Cut
 pub mod Each
 pub mod LabelMap
+pub mod LinesLaw
 pub mod LookUp
 pub mod Magnitude
 pub mod Options
