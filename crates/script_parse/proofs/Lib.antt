@@ -5,6 +5,8 @@ pub mod LabelMap
 pub mod LinesLaw
 pub mod LookUp
 pub mod Magnitude
+pub mod NumberLaw
 pub mod Options
 pub mod TokensFrom
+pub mod TokensLaw
 pub mod Utf8

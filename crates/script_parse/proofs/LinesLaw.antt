@@ -37,7 +37,7 @@ grow_lines b bs (line ∷ lines) ne other (free, inr (rest, inl (e, plain), more
     ((ne, free), inr (rest, inl (ap (λ (l : List ℕ). b ∷ l) e, λ h. more_return b bs line rest other e plain h.0 h.1), more))
 grow_lines b bs (line ∷ lines) ne other (free, inr (rest, inr e, more)) = ((ne, free), inr (rest, inr (ap (λ (l : List ℕ). b ∷ l) e), more))
 
-eqb_ne : (a b : ℕ) → (a == b) ≡ false → a ≢ b
+pub eqb_ne : (a b : ℕ) → (a == b) ≡ false → a ≢ b
 eqb_ne a b miss e = false≢true (sym miss ∙ eq-eqb a b e)
 
 -- a line that an LF ends at once
