@@ -10,3 +10,4 @@ pub mod Options
 pub mod TokensFrom
 pub mod TokensLaw
 pub mod Utf8
+pub mod Utf8Law
