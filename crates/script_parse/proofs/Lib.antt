@@ -9,5 +9,6 @@ pub mod NumberLaw
 pub mod Options
 pub mod TokensFrom
 pub mod TokensLaw
+pub mod TokensRead
 pub mod Utf8
 pub mod Utf8Law

@@ -23,15 +23,15 @@ NoBlanks = AllByRecursion (λ b. ¬ IsTrue (is_blank b))
 false_not : (b : Bool) → b ≡ false → ¬ IsTrue b
 false_not b h is = false≢true (sym h ∙ is)
 
-not_false : (b : Bool) → ¬ IsTrue b → b ≡ false
+pub not_false : (b : Bool) → ¬ IsTrue b → b ≡ false
 not_false true h = absurd (h refl)
 not_false false h = refl
 
-append_nil : (xs : List ℕ) → xs ++ [] ≡ xs
+pub append_nil : (xs : List ℕ) → xs ++ [] ≡ xs
 append_nil [] = refl
 append_nil (x ∷ xs) = ap (λ (l : List ℕ). x ∷ l) (append_nil xs)
 
-before_nil : (o : Option (List Token)) → before [] o ≡ o
+pub before_nil : (o : Option (List Token)) → before [] o ≡ o
 before_nil None = refl
 before_nil (Some ts) = refl
 
@@ -59,7 +59,7 @@ escape_sound letter b h = elim (cases_Bool (letter == 110)) [
       ]
 ]
 
-escape_complete : (letter b : ℕ) → Escapes letter b → escape_of letter ≡ Some b
+pub escape_complete : (letter b : ℕ) → Escapes letter b → escape_of letter ≡ Some b
 escape_complete letter b (inl (e, is)) = ap escape_of e ∙ ap Some (sym is)
 escape_complete letter b (inr (inl (e, is))) = ap escape_of e ∙ ap Some (sym is)
 escape_complete letter b (inr (inr (inl (e, is)))) = ap escape_of e ∙ ap Some (sym is)

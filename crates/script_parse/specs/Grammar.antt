@@ -77,7 +77,7 @@ EndsToken (b ∷ rest) = IsTrue (is_blank b)
 abbrev pub AreTokens : List ℕ → List Token → Type 0
 AreTokens line [] = AreBlanks line
 AreTokens line (t ∷ ts) = (front : List ℕ) × (piece : List ℕ) × (rest : List ℕ)
-    × (line ≡ front ++ piece ++ rest) × AreBlanks front × IsToken piece t × EndsToken rest × AreTokens rest ts
+    × (line ≡ front ++ (piece ++ rest)) × AreBlanks front × IsToken piece t × EndsToken rest × AreTokens rest ts
 
 -- INSTRUCTIONS
 
