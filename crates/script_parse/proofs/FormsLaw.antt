@@ -36,7 +36,7 @@ IsForm (Label l) ts = IsName l × (ts ≡ Word (l ++ codes ":") ∷ [])
 IsForm (Plain i) ts = (place_of i ≡ None) × HasForm i × (ts ≡ tokens_for i [])
 IsForm (Jumping i l) ts = (place_of i ≡ Some 0) × HasForm i × IsName l × (ts ≡ tokens_for i l)
 
-text_is : (a b : List ℕ) → is_text a b ≡ true → a ≡ b
+pub text_is : (a b : List ℕ) → is_text a b ≡ true → a ≡ b
 text_is a b h = (bytes_eq-Decides a b).0 h
 
 name_in_sound : (w x : List ℕ) → name_in w ≡ Some x → (w ≡ x) × IsName x

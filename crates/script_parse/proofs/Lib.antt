@@ -2,6 +2,7 @@ pub mod Colon
 pub mod Cut
 pub mod Each
 pub mod FormsLaw
+pub mod FormsRead
 pub mod LabelMap
 pub mod LinesLaw
 pub mod LookUp
