@@ -1,5 +1,5 @@
 -- What the grammar says of the tokens of a line is what is read.
-use Rattle.std.proofs.Common.{◌≡◌, ◌≢◌, ℕ, zero, suc, ◌+◌, ◌<◌, ◌≤◌, List, [], ◌∷◌, ◌++◌, length, map, take, drop, refl, sym, ap, ◌∙◌, subst, cond, ◌&&◌, not, ltb, Bool, true, false, inl, inr, ◌⊎◌, Some, None, leb, arith, ℤ}
+use Rattle.std.proofs.Common.{◌≡◌, ◌≢◌, ℕ, zero, suc, ◌+◌, ◌<◌, ◌≤◌, List, [], ◌∷◌, ◌++◌, length, map, take, drop, length-append, add-one, refl, sym, ap, ◌∙◌, subst, cond, ◌&&◌, not, ltb, Bool, true, false, inl, inr, ◌⊎◌, Some, None, leb, arith, ℤ}
 use Rattle.std.specs.Prelude.{IsTrue, Option, codes, find, position}
 use Rattle.std.specs.List.{AllByRecursion, prefix_len}
 use Rattle.std.proofs.lemmas.Bool.{cases_Bool, eqb-true, eq-eqb, false≢true, leb-true, le-leb, ltb-true, lt-ltb}
@@ -12,6 +12,7 @@ use Rattle.ldv_value.specs.declared.file.OpenMode.{OpenMode}
 use Rattle.ldv_value.specs.declared.file.OpenMode.TheVariants as mode
 use Rattle.script_parse.specs.declared.script.Operand.{Operand}
 use Rattle.script_parse.specs.declared.script.Operand.TheVariants.{Constant, Variable}
+use Rattle.script_parse.specs.declared.script.CalcOp.TheVariants.{Add, Subtract, Multiply}
 use Rattle.script_parse.specs.declared.script.Instr.{Instr}
 use Rattle.script_parse.specs.declared.script.Instr.TheVariants as instr
 use Rattle.script_parse.specs.declared.token.Token.{Token}
@@ -199,3 +200,152 @@ fetch_complete : (a : List ℕ) (b : List (List ℕ)) (label : List ℕ) → IsN
 fetch_complete a b label ha hb =
     ap (λ o. o >>= λ a′. (names_from_one (map Word b) >>= λ b′. Some (Jumping (instr.Fetch a′ b′ 0) label))) (name_made a ha)
     ∙ ap (λ o. o >>= λ b′. Some (Jumping (instr.Fetch a b′ 0) label)) (names_one_made b hb)
+signed_complete : (x : List ℕ) (v w : Operand) (s : Sign) → IsName x → IsOperand v → IsOperand w
+    → let_of (Word x ∷ word "=" ∷ written v ∷ Word (sign_text s) ∷ written w ∷ []) ≡ Some (Plain (signed x v w s))
+signed_complete x v w s hx hv hw =
+    ap (λ o. o >>= λ a. (let_value a (written v ∷ Word (sign_text s) ∷ written w ∷ []) >>= λ b. only_if (is_word (codes "=") (word "=")) (Some (Plain b)))) (name_made x hx)
+    ∙ ap (λ o. (o >>= λ a. (sign_in (Word (sign_text s)) >>= λ b. (operand_of (written w) >>= λ d. Some (signed x a d b)))) >>= λ b. only_if (is_word (codes "=") (word "=")) (Some (Plain b))) (operand_made v hv)
+    ∙ ap (λ o. (o >>= λ b. (operand_of (written w) >>= λ d. Some (signed x v d b))) >>= λ b. only_if (is_word (codes "=") (word "=")) (Some (Plain b))) (sign_made s)
+    ∙ ap (λ o. (o >>= λ d. Some (signed x v d s)) >>= λ b. only_if (is_word (codes "=") (word "=")) (Some (Plain b))) (operand_made w hw)
+
+let_complete : (x : List ℕ) (v : Operand) → IsName x → IsOperand v → let_of (Word x ∷ word "=" ∷ written v ∷ []) ≡ Some (Plain (instr.Let x v))
+let_complete x v hx hv =
+    ap (λ o. o >>= λ a. (let_value a (written v ∷ []) >>= λ b. only_if (is_word (codes "=") (word "=")) (Some (Plain b)))) (name_made x hx)
+    ∙ ap (λ o. (o >>= λ a. Some (instr.Let x a)) >>= λ b. only_if (is_word (codes "=") (word "=")) (Some (Plain b))) (operand_made v hv)
+
+int_complete : (x : List ℕ) (v : Operand) → IsName x → IsOperand v → let_of (Word x ∷ word "=" ∷ word "int" ∷ written v ∷ []) ≡ Some (Plain (instr.ToInt x v))
+int_complete x v hx hv =
+    ap (λ o. o >>= λ a. (let_value a (word "int" ∷ written v ∷ []) >>= λ b. only_if (is_word (codes "=") (word "=")) (Some (Plain b)))) (name_made x hx)
+    ∙ ap (λ o. (o >>= λ a. only_if (is_word (codes "int") (word "int")) (Some (instr.ToInt x a))) >>= λ b. only_if (is_word (codes "=") (word "=")) (Some (Plain b))) (operand_made v hv)
+
+-- `else L` at the end
+abbrev NoElse : List Token → Type 0
+NoElse = AllByRecursion (λ t. is_word (codes "else") t ≡ false)
+
+prefix_complete : {A : Type 0} (q : A → Bool) (front : List A) (x : A) (rest : List A) → AllByRecursion (λ y. q y ≡ true) front → q x ≡ false → prefix_len q (front ++ x ∷ rest) ≡ length front
+prefix_complete q [] x rest h miss = rw miss refl
+prefix_complete q (y ∷ front) x rest h miss = let hit : q y ≡ true = h.0 in rw hit (omega (arith, prefix_complete q front x rest h.1 miss))
+
+no_else_test : (front : List Token) → NoElse front → AllByRecursion (λ t. not (is_word (codes "else") t) ≡ true) front
+no_else_test [] h = tt
+no_else_test (t ∷ ts) h = (ap not h.0, no_else_test ts h.1)
+
+take_front : {A : Type 0} (xs ys : List A) → take (length xs) (xs ++ ys) ≡ xs
+take_front [] ys = refl
+take_front (x ∷ xs) ys = ap (λ l. x ∷ l) (take_front xs ys)
+
+drop_front : {A : Type 0} (xs : List A) (y : A) (ys : List A) → drop (suc (length xs)) (xs ++ y ∷ ys) ≡ ys
+drop_front [] y ys = refl
+drop_front (x ∷ xs) y ys = drop_front xs y ys
+
+abbrev with_label : List Token → Option (List ℕ) → Option (List Token × List ℕ)
+with_label front o = o >>= λ l. Some (front, l)
+
+else_complete : (front : List Token) (l : List ℕ) → NoElse front → IsName l → else_of (front ++ word "else" ∷ Word l ∷ []) ≡ Some (front, l)
+else_complete front l none ok =
+    let ts : List Token = front ++ word "else" ∷ Word l ∷ [] in
+    let q : Token → Bool = λ t. not (is_word (codes "else") t) in
+    let at : prefix_len q ts ≡ length front = prefix_complete q front (word "else") (Word l ∷ []) (no_else_test front none) refl in
+    let inside : ltb (prefix_len q ts) (length ts) ≡ true = lt-ltb _ _ (omega (arith, length-append front (word "else" ∷ Word l ∷ []))) in
+    let place : position (is_word (codes "else")) ts ≡ Some (length front) = ap (λ b. cond b (Some (prefix_len q ts)) None) inside ∙ ap Some at in
+    let behind : drop (length front + 1) ts ≡ Word l ∷ [] = ap (λ n. drop n ts) (add-one (length front)) ∙ drop_front front (word "else") (Word l ∷ []) in
+    ap (λ o. o >>= else_at ts) place
+    ∙ ap (with_label (take (length front) ts)) (ap last_label behind ∙ name_made l ok)
+    ∙ ap (λ f. with_label f (Some l)) (take_front front (word "else" ∷ Word l ∷ []))
+
+form_complete : (form : List Token → List ℕ → Option Line) (front : List Token) (l : List ℕ) → NoElse front → IsName l → with_else form (front ++ word "else" ∷ Word l ∷ []) ≡ form front l
+form_complete form front l none ok = ap (λ o. o >>= λ e. form e.0 e.1) (else_complete front l none ok)
+
+name_no_else : (x : List ℕ) → IsName x → is_word (codes "else") (Word x) ≡ false
+name_no_else x h = not_name x (codes "else") h refl
+
+operand_no_else : (v : Operand) → IsOperand v → is_word (codes "else") (written v) ≡ false
+operand_no_else (Constant value.Null) h = refl
+operand_no_else (Constant (value.Int z)) h = refl
+operand_no_else (Constant (value.Text t)) h = refl
+operand_no_else (Variable x) h = name_no_else x h
+
+mode_no_else : (m : OpenMode) → is_word (codes "else") (Word (mode_text m)) ≡ false
+mode_no_else mode.Read = refl
+mode_no_else mode.Write = refl
+mode_no_else mode.Append = refl
+mode_no_else mode.New = refl
+
+operands_no_else : (vs : List Operand) → AllByRecursion IsOperand vs → NoElse (map written vs)
+operands_no_else [] h = tt
+operands_no_else (v ∷ vs) h = (operand_no_else v h.0, operands_no_else vs h.1)
+
+names_no_else : (xs : List (List ℕ)) → AllByRecursion IsName xs → NoElse (map Word xs)
+names_no_else [] h = tt
+names_no_else (x ∷ xs) h = (name_no_else x h.0, names_no_else xs h.1)
+
+plain_complete : (i : Instr) → place_of i ≡ None → HasForm i → form_of (tokens_for i []) ≡ Some (Plain i)
+plain_complete (instr.Let x v) p h = let_complete x v h.0 h.1
+plain_complete (instr.Calc x Add v w) p h = signed_complete x v w Plus h.0 h.1 h.2
+plain_complete (instr.Calc x Subtract v w) p h = signed_complete x v w Minus h.0 h.1 h.2
+plain_complete (instr.Calc x Multiply v w) p h = signed_complete x v w Times h.0 h.1 h.2
+plain_complete (instr.Glue x v w) p h = signed_complete x v w Join h.0 h.1 h.2
+plain_complete (instr.ToInt x v) p h = int_complete x v h.0 h.1
+plain_complete (instr.Cut x y v) p h = cut_complete x y v h.0 h.1 h.3 h.2
+plain_complete (instr.Jump place) p h = cc
+plain_complete (instr.JumpIf op v w place) p h = cc
+plain_complete (instr.Print []) p h = absurd (h.0 refl)
+plain_complete (instr.Print (v ∷ vs)) p h = print_complete (v ∷ vs) h
+plain_complete (instr.Exit v) p h = exit_complete v h
+plain_complete (instr.OpenPath f m v place) p h = cc
+plain_complete (instr.ReadLine x f place) p h = cc
+plain_complete (instr.WriteLine f vs) p h = write_complete f vs h.0 (h.1, h.2)
+plain_complete (instr.CopyRest f g) p h = copy_complete f g h.0 h.1
+plain_complete (instr.Close f) p h = close_complete f h
+plain_complete (instr.Remove v place) p h = cc
+plain_complete (instr.Exists x v) p h = exists_complete x v h.0 h.1
+plain_complete (instr.Spawn c v vs place) p h = cc
+plain_complete (instr.Wait x c) p h = wait_complete x c h.0 h.1
+plain_complete (instr.Sql c v vs) p h = sql_complete c v vs h.0 h.1 h.2
+plain_complete (instr.Fetch c xs place) p h = cc
+plain_complete (instr.Count x c) p h = count_complete x c h.0 h.1
+plain_complete (instr.Status x c) p h = status_complete x c h.0 h.1
+
+same_place : (a b : ℕ) → Some a ≡ Some b → b ≡ a
+same_place a b h = cc
+
+jumping_complete : (i : Instr) (l : List ℕ) → place_of i ≡ Some 0 → HasForm i → IsName l → form_of (tokens_for i l) ≡ Some (Jumping i l)
+jumping_complete (instr.Jump place) l p h ok = goto_complete l ok ∙ ap (λ q. Some (Jumping (instr.Jump q) l)) (same_place place 0 p)
+jumping_complete (instr.JumpIf op v w place) l p h ok = if_complete v op w l h.0 h.1 ok ∙ ap (λ q. Some (Jumping (instr.JumpIf op v w q) l)) (same_place place 0 p)
+jumping_complete (instr.OpenPath f m v place) l p h ok =
+    form_complete open_of (Word f ∷ Word (mode_text m) ∷ written v ∷ []) l (name_no_else f h.0, (mode_no_else m, (operand_no_else v h.1, tt))) ok
+    ∙ open_complete f m v l h.0 h.1 ∙ ap (λ q. Some (Jumping (instr.OpenPath f m v q) l)) (same_place place 0 p)
+jumping_complete (instr.ReadLine x f place) l p h ok =
+    form_complete readline_of (Word x ∷ Word f ∷ []) l (name_no_else x h.0, (name_no_else f h.1, tt)) ok
+    ∙ readline_complete x f l h.0 h.1 ∙ ap (λ q. Some (Jumping (instr.ReadLine x f q) l)) (same_place place 0 p)
+jumping_complete (instr.Remove v place) l p h ok =
+    form_complete remove_of (written v ∷ []) l (operand_no_else v h, tt) ok ∙ remove_complete v l h ∙ ap (λ q. Some (Jumping (instr.Remove v q) l)) (same_place place 0 p)
+jumping_complete (instr.Spawn c v vs place) l p h ok =
+    form_complete spawn_of (Word c ∷ written v ∷ map written vs) l (name_no_else c h.0, (operand_no_else v h.1, operands_no_else vs h.2.1)) ok
+    ∙ spawn_complete c v vs l h.0 h.1 h.2 ∙ ap (λ q. Some (Jumping (instr.Spawn c v vs q) l)) (same_place place 0 p)
+jumping_complete (instr.Fetch c xs place) l p h ok =
+    form_complete fetch_of (Word c ∷ map Word xs) l (name_no_else c h.0, names_no_else xs h.2.1) ok
+    ∙ fetch_complete c xs l h.0 (h.1, h.2) ∙ ap (λ q. Some (Jumping (instr.Fetch c xs q) l)) (same_place place 0 p)
+jumping_complete (instr.Let x v) l p h ok = cc
+jumping_complete (instr.Calc x op v w) l p h ok = cc
+jumping_complete (instr.Glue x v w) l p h ok = cc
+jumping_complete (instr.ToInt x v) l p h ok = cc
+jumping_complete (instr.Cut x y v) l p h ok = cc
+jumping_complete (instr.Print vs) l p h ok = cc
+jumping_complete (instr.Exit v) l p h ok = cc
+jumping_complete (instr.WriteLine f vs) l p h ok = cc
+jumping_complete (instr.CopyRest f g) l p h ok = cc
+jumping_complete (instr.Close f) l p h ok = cc
+jumping_complete (instr.Exists x v) l p h ok = cc
+jumping_complete (instr.Wait x c) l p h ok = cc
+jumping_complete (instr.Sql c v vs) l p h ok = cc
+jumping_complete (instr.Count x c) l p h ok = cc
+jumping_complete (instr.Status x c) l p h ok = cc
+
+pub forms_complete : (line : Line) (ts : List Token) → IsForm line ts → form_of ts ≡ Some line
+forms_complete Quiet ts h = ap form_of h
+forms_complete (Label l) ts h =
+    ap form_of h.1 ∙ ap (λ o. o >>= λ front. (name_in front >>= λ name. Some (Label name))) (colon_found l)
+    ∙ ap (λ o. o >>= λ name. Some (Label name)) (name_made l h.0)
+forms_complete (Plain i) ts h = ap form_of h.2 ∙ plain_complete i h.0 h.1
+forms_complete (Jumping i l) ts h = ap form_of h.3 ∙ jumping_complete i l h.0 h.1 h.2
