@@ -33,7 +33,7 @@ use Rattle.script_parse.proofs.Options.{bind_some, only_if_some, cases_Option}
 use Rattle.script_parse.proofs.Colon.{colon_found}
 use Rattle.script_parse.proofs.FormsLaw.{IsForm, text_is}
 
-is_false : (b : Bool) → (b ≡ true → ⊥) → b ≡ false
+pub is_false : (b : Bool) → (b ≡ true → ⊥) → b ≡ false
 is_false true h = absurd (h refl)
 is_false false h = refl
 

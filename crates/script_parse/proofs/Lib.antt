@@ -3,12 +3,14 @@ pub mod Cut
 pub mod Each
 pub mod FormsLaw
 pub mod FormsRead
+pub mod KindsLaw
 pub mod LabelMap
 pub mod LinesLaw
 pub mod LookUp
 pub mod Magnitude
 pub mod NumberLaw
 pub mod Options
+pub mod ScriptLaw
 pub mod TokensFrom
 pub mod TokensLaw
 pub mod TokensRead

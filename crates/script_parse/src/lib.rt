@@ -5,6 +5,7 @@ mod form;
 mod forms;
 mod keyword;
 mod labels;
+mod law;
 mod line;
 mod number;
 mod operand;
@@ -15,6 +16,7 @@ mod script;
 mod split;
 mod token;
 
+pub use law::reading_law;
 pub use number::read_number;
 pub use parse::{ScriptStop, parse_script};
 pub use script::{CalcOp, Instr, Instrs, Operand, Operands, Script};
