@@ -101,7 +101,7 @@ operands_sound (t ∷ ts) vs h =
     let one = operand_sound t p.0 p.1 in
     let more = operands_sound ts q.0 q.1 in
     subst (λ vs. (t ∷ ts ≡ map written vs) × AllByRecursion IsOperand vs × (length vs ≡ length (t ∷ ts))) e
-      (ap (λ x. x ∷ ts) one.0 ∙ ap (λ l. written p.0 ∷ l) more.0, (one.1, more.1), ap suc more.2)
+    (ap (λ x. x ∷ ts) one.0 ∙ ap (λ l. written p.0 ∷ l) more.0, (one.1, more.1), ap suc more.2)
 
 names_sound : (ts : List Token) (xs : List (List ℕ)) → each name_of ts ≡ Some xs → (ts ≡ map Word xs) × AllByRecursion IsName xs × (length xs ≡ length ts)
 names_sound [] xs h = let e : [] ≡ xs = cc (h) in subst (λ xs. ([] ≡ map Word xs) × AllByRecursion IsName xs × (length xs ≡ length {A = Token} [])) e (refl, tt, refl)
@@ -112,7 +112,7 @@ names_sound (t ∷ ts) xs h =
     let one = name_sound t p.0 p.1 in
     let more = names_sound ts q.0 q.1 in
     subst (λ xs. (t ∷ ts ≡ map Word xs) × AllByRecursion IsName xs × (length xs ≡ length (t ∷ ts))) e
-      (ap (λ x. x ∷ ts) one.0 ∙ ap (λ l. Word p.0 ∷ l) more.0, (one.1, more.1), ap suc more.2)
+    (ap (λ x. x ∷ ts) one.0 ∙ ap (λ l. Word p.0 ∷ l) more.0, (one.1, more.1), ap suc more.2)
 
 operands_one_sound : (ts : List Token) (vs : List Operand) → operands_from_one ts ≡ Some vs → (ts ≡ map written vs) × (vs ≢ []) × AreOperands 256 vs
 operands_one_sound [] vs h = cc
@@ -386,7 +386,7 @@ value_sound x (v ∷ s ∷ w ∷ []) i ok h =
     let e : signed x s0.0 s2.0 s1.0 ≡ i = cc (s2.2) in
     let made = signed_sound x s0.0 s2.0 s1.0 ok k0.1 k2.1 in
     subst (λ (made : Instr). IsForm (Plain made) (word "let" ∷ Word x ∷ word "=" ∷ v ∷ s ∷ w ∷ [])) e
-      (made.0, made.1, ((λ j. word "let" ∷ Word x ∷ word "=" ∷ (k0.0 j) ∷ (k1 j) ∷ (k2.0 j) ∷ []) ∙ made.2))
+    (made.0, made.1, ((λ j. word "let" ∷ Word x ∷ word "=" ∷ (k0.0 j) ∷ (k1 j) ∷ (k2.0 j) ∷ []) ∙ made.2))
 value_sound x (a ∷ b ∷ c ∷ d ∷ more) i ok h = cc
 
 let_sound : (ts : List Token) (line : Line) → let_of ts ≡ Some line → IsForm line (word "let" ∷ ts)

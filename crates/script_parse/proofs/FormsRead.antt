@@ -200,6 +200,7 @@ fetch_complete : (a : List ℕ) (b : List (List ℕ)) (label : List ℕ) → IsN
 fetch_complete a b label ha hb =
     ap (λ o. o >>= λ a′. (names_from_one (map Word b) >>= λ b′. Some (Jumping (instr.Fetch a′ b′ 0) label))) (name_made a ha)
     ∙ ap (λ o. o >>= λ b′. Some (Jumping (instr.Fetch a b′ 0) label)) (names_one_made b hb)
+
 signed_complete : (x : List ℕ) (v w : Operand) (s : Sign) → IsName x → IsOperand v → IsOperand w
     → let_of (Word x ∷ word "=" ∷ written v ∷ Word (sign_text s) ∷ written w ∷ []) ≡ Some (Plain (signed x v w s))
 signed_complete x v w s hx hv hw =

@@ -155,6 +155,7 @@ later_one look l n m (Label x) k ks first less fits rest =
     subst (λ k. AllByRecursion (λ other. l ≢ other) (labels (k ∷ ks))) (sym fits.1) (differ, rest)
 later_one look l n m (Plain i) k ks first less fits rest = subst (λ k. AllByRecursion (λ other. l ≢ other) (labels (k ∷ ks))) (sym fits) rest
 later_one look l n m (Jumping i x) k ks first less (d, found, is) rest = subst (λ k. AllByRecursion (λ other. l ≢ other) (labels (k ∷ ks))) (sym is) rest
+
 later_differ : (look : List ℕ → Option Definition) (l : List ℕ) (n m : ℕ) (ls : List (List ℕ)) (ks : List Kind) → is_first n (look l) ≡ true → n < m → Reads look m ls ks → AllByRecursion (λ other. l ≢ other) (labels ks)
 later_differ look l n m [] [] first less h = tt
 later_differ look l n m [] (k ∷ ks) first less h = absurd h

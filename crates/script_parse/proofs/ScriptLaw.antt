@@ -212,26 +212,32 @@ said_sound At look at line ts are (Plain i) form n k fits =
     subst (IsKind At line) (sym fits) (ts, are, (form.1, subst (IsAtPlace At i ts) (sym form.0) form.2))
 said_sound At look at line ts are (Jumping i l) form n k (d, found, is) =
     let placed : Instr = with_place d.place i in
-    subst (IsKind At line) (sym is)
-      (ts, are, (subst (λ (X : Type 0). X) (sym (has_form_place i d.place)) form.1,
-       subst (IsAtPlace At placed ts) (sym (place_placed i d.place 0 form.0)) (l, form.2, at l d found, form.3 ∙ sym (tokens_place i d.place l))))
+    subst (IsKind At line) (sym is) (
+      ts,
+      are,
+      (
+        subst (λ (X : Type 0). X) (sym (has_form_place i d.place)) form.1,
+        subst (IsAtPlace At placed ts) (sym (place_placed i d.place 0 form.0)) (l, form.2, at l d found, form.3 ∙ sym (tokens_place i d.place l)),
+      ),
+    )
 
 line_sound : (At : List ℕ → ℕ → Type 0) (look : List ℕ → Option Definition) → ((l : List ℕ) (d : Definition) → look l ≡ Some d → At l d.place)
     → (line : List ℕ) (s : Line) → line_of line ≡ Some s → (n : ℕ) (k : Kind) → Fits look n s k → IsLine At line k
 line_sound At look at line s h n k fits =
-    let text = only_if_some (is_utf8 line) (cond (is_comment line) (Some Quiet) (tokens_of line >>= form_of)) s h in
-    (IsUtf8-from_is_utf8 line text.0,
-     elim (cases_Bool (is_comment line)) [
-       | inl comment ↦
-           let quiet : Some Quiet ≡ Some s = sym (ap (λ b. cond b (Some Quiet) (tokens_of line >>= form_of)) comment) ∙ text.1 in
-           let e : Quiet ≡ s = cc (quiet) in
-           let blank : Fits look n Quiet k = subst (λ s. Fits look n s k) (sym e) fits in
-           subst (IsKind At line) (sym blank) (inr (comment_sound line comment))
-       | inr other ↦
-           let said : (tokens_of line >>= form_of) ≡ Some s = sym (ap (λ b. cond b (Some Quiet) (tokens_of line >>= form_of)) other) ∙ text.1 in
-           let r = bind_some (tokens_of line) form_of s said in
-           said_sound At look at line r.0 (tokens_sound line Between r.0 r.1) s (forms_sound r.0 s r.2) n k fits
-     ])
+    let text = only_if_some (is_utf8 line) (cond (is_comment line) (Some Quiet) (tokens_of line >>= form_of)) s h in (
+      IsUtf8-from_is_utf8 line text.0,
+      elim (cases_Bool (is_comment line)) [
+        | inl comment ↦
+            let quiet : Some Quiet ≡ Some s = sym (ap (λ b. cond b (Some Quiet) (tokens_of line >>= form_of)) comment) ∙ text.1 in
+            let e : Quiet ≡ s = cc (quiet) in
+            let blank : Fits look n Quiet k = subst (λ s. Fits look n s k) (sym e) fits in
+            subst (IsKind At line) (sym blank) (inr (comment_sound line comment))
+        | inr other ↦
+            let said : (tokens_of line >>= form_of) ≡ Some s = sym (ap (λ b. cond b (Some Quiet) (tokens_of line >>= form_of)) other) ∙ text.1 in
+            let r = bind_some (tokens_of line) form_of s said in
+            said_sound At look at line r.0 (tokens_sound line Between r.0 r.1) s (forms_sound r.0 s r.2) n k fits
+      ],
+    )
 
 lines_kinds : (At : List ℕ → ℕ → Type 0) (look : List ℕ → Option Definition) → ((l : List ℕ) (d : Definition) → look l ≡ Some d → At l d.place)
     → (n : ℕ) (ls : List (List ℕ)) (ks : List Kind) → Reads look n ls ks → AllZip (IsLine At) ls ks
@@ -247,8 +253,8 @@ script_sound bytes is h =
     let r = reads_sound look 1 ls is h in
     let same : look ≡ definition_of (labelled 0 1 r.0) = ap definition_of (labels_are look 0 1 ls r.0 r.1) in
     let at : (l : List ℕ) (d : Definition) → look l ≡ Some d → IsAt r.0 l d.place = λ l d found.
-        let a = at_sound 0 1 r.0 l d (sym (ap (λ (f : List ℕ → Option Definition). f l) same) ∙ found) in
-        (a.0, a.1, a.2, omega (arith, a.3)) in
+    let a = at_sound 0 1 r.0 l d (sym (ap (λ (f : List ℕ → Option Definition). f l) same) ∙ found) in
+    (a.0, a.1, a.2, omega (arith, a.3)) in
     (ls, r.0, lines_sound bytes, lines_kinds (IsAt r.0) look at 1 ls r.0 r.1, labels_differ look 1 ls r.0 r.1, r.2)
 
 -- FROM THE GRAMMAR
@@ -271,20 +277,22 @@ placed_line : (At : List ℕ → ℕ → Type 0) (line : List ℕ) (ts : List To
 placed_line At line ts i None none u are form at =
     (Plain i, made_line line ts (Plain i) u are (no_comment ts line are (subst BeginsPlain (sym at) (begins i []))) (none, form, at), refl)
 placed_line At line ts i (Some p) some u are form (l, name, at, e) =
-    let bare : Instr = with_place 0 i in
-    (Jumping bare l,
-     made_line line ts (Jumping bare l) u are (no_comment ts line are (subst BeginsPlain (sym e) (begins i l)))
-       (place_placed i 0 p some, subst (λ (X : Type 0). X) (sym (has_form_place i 0)) form, name, e ∙ sym (tokens_place i 0 l)),
-     (p, at, ap Does (sym (placed_again i p some))))
+    let bare : Instr = with_place 0 i in (
+      Jumping bare l,
+      made_line line ts (Jumping bare l) u are (no_comment ts line are (subst BeginsPlain (sym e) (begins i l)))
+          (place_placed i 0 p some, subst (λ (X : Type 0). X) (sym (has_form_place i 0)) form, name, e ∙ sym (tokens_place i 0 l)),
+      (p, at, ap Does (sym (placed_again i p some))),
+    )
 
 line_complete : (At : List ℕ → ℕ → Type 0) (line : List ℕ) (k : Kind) → IsLine At line k → (s : Line) × (line_of line ≡ Some s) × Says At s k
 line_complete At line Blank (u, inl blanks) = (Quiet, made_line line [] Quiet u blanks (only_blanks line blanks) refl, refl)
 line_complete At line Blank (u, inr (blanks, rest, are, e)) =
-    let comment : is_comment line ≡ true = ap is_comment e ∙ blanks_before blanks (35 ∷ rest) are in
-    (Quiet,
-     ap (λ b. only_if b (cond (is_comment line) (Some Quiet) (tokens_of line >>= form_of))) (is_utf8-from_IsUtf8 line u)
-     ∙ ap (λ b. cond b (Some Quiet) (tokens_of line >>= form_of)) comment,
-     refl)
+    let comment : is_comment line ≡ true = ap is_comment e ∙ blanks_before blanks (35 ∷ rest) are in (
+      Quiet,
+      ap (λ b. only_if b (cond (is_comment line) (Some Quiet) (tokens_of line >>= form_of))) (is_utf8-from_IsUtf8 line u)
+          ∙ ap (λ b. cond b (Some Quiet) (tokens_of line >>= form_of)) comment,
+      refl,
+    )
 line_complete At line (Names l) (u, (name, are)) =
     (Label l, made_line line (Word (l ++ codes ":") ∷ []) (Label l) u are (no_comment (Word (l ++ codes ":") ∷ []) line are (name_plain l name)) (name, refl), refl)
 line_complete At line (Does i) (u, (ts, are, (form, at))) = placed_line At line ts i (place_of i) refl u are form at
@@ -295,12 +303,12 @@ fits_of all differ before k after e Quiet says = says
 fits_of all differ before k after e (Label l) says =
     let e2 : all ≡ before ++ Names l ∷ after = e ∙ ap (λ k. before ++ k ∷ after) says in
     let found : definition_of (labelled 0 1 all) l ≡ Some (define (1 + length before) (0 + length (steps before))) =
-        ap (λ ks. definition_of (labelled 0 1 ks) l) e2 ∙ at_complete 0 1 before l after (subst (λ ks. AllDiffer (labels ks)) e2 differ) in
+    ap (λ ks. definition_of (labelled 0 1 ks) l) e2 ∙ at_complete 0 1 before l after (subst (λ ks. AllDiffer (labels ks)) e2 differ) in
     (ap (is_first (1 + length before)) found ∙ eq-eqb (1 + length before) (1 + length before) refl, says)
 fits_of all differ before k after e (Plain i) says = says
 fits_of all differ before k after e (Jumping i l) (p, (front, back, split, place), says) =
     let found : definition_of (labelled 0 1 all) l ≡ Some (define (1 + length front) (0 + length (steps front))) =
-        ap (λ ks. definition_of (labelled 0 1 ks) l) split ∙ at_complete 0 1 front l back (subst (λ ks. AllDiffer (labels ks)) split differ) in
+    ap (λ ks. definition_of (labelled 0 1 ks) l) split ∙ at_complete 0 1 front l back (subst (λ ks. AllDiffer (labels ks)) split differ) in
     let same : p ≡ 0 + length (steps front) = omega (arith, place) in
     (define (1 + length front) (0 + length (steps front)), found, says ∙ ap (λ q. Does (with_place q i)) same)
 
@@ -315,9 +323,12 @@ all_read all differ before [] (k ∷ ks) e h = absurd h
 all_read all differ before (l ∷ ls) [] e h = absurd h
 all_read all differ before (l ∷ ls) (k ∷ ks) e h =
     let one = line_complete (IsAt all) l k h.0 in
-    let e2 : all ≡ (before ++ k ∷ []) ++ ks = e ∙ sym (append_assoc before (k ∷ []) ks) in
-    (one.0, one.1, fits_of all differ before k ks e one.0 one.2,
-     subst (λ n. Reads (definition_of (labelled 0 1 all)) n ls ks) (length_push before k) (all_read all differ (before ++ k ∷ []) ls ks e2 h.1))
+    let e2 : all ≡ (before ++ k ∷ []) ++ ks = e ∙ sym (append_assoc before (k ∷ []) ks) in (
+      one.0,
+      one.1,
+      fits_of all differ before k ks e one.0 one.2,
+      subst (λ n. Reads (definition_of (labelled 0 1 all)) n ls ks) (length_push before k) (all_read all differ (before ++ k ∷ []) ls ks e2 h.1),
+    )
 
 pub script_complete : (bytes : List ℕ) (is : List Instr) → IsScript bytes is → script_of bytes ≡ Some is
 script_complete bytes is (ls, ks, are, lines, differ, instructions) =

@@ -43,7 +43,7 @@ before_some k o ts h = let p = bind_some o (λ more. Some (k ∷ more)) ts h in 
 escape_sound : (letter b : ℕ) → escape_of letter ≡ Some b → Escapes letter b
 escape_sound letter b h = elim (cases_Bool (letter == 110)) [
   | inl n ↦ let e : 10 ≡ b = cc (sym (ap (λ t. cond t (Some 10) (cond (letter == 116) (Some 9) (cond (letter == 34) (Some 34) (cond (letter == 92) (Some 92) None)))) n) ∙ h) in inl (eqb-true letter 110 n, sym e)
-  | inr not_n ↦ 
+  | inr not_n ↦
       let h1 : cond (letter == 116) (Some 9) (cond (letter == 34) (Some 34) (cond (letter == 92) (Some 92) None)) ≡ Some b = rw not_n at h in
       elim (cases_Bool (letter == 116)) [
         | inl t ↦ let h2 : Some 9 ≡ Some b = rw t at h1 in let e : 9 ≡ b = cc (h2) in inr (inl (eqb-true letter 116 t, sym e))
@@ -132,7 +132,7 @@ word_start b bs ts visible other (piece, rest, k, more, e, none, ends, is, are, 
 text_start : (bs : List ℕ) (ts : List Token) → TextMeans [] bs ts → AreTokens (34 ∷ bs) ts
 text_start bs ts (text, body, rest, k, more, e, spells, ends, is, are, tokens) =
     subst (AreTokens (34 ∷ bs)) (sym are)
-      ([], 34 ∷ body ++ 34 ∷ [], rest, ap (λ (l : List ℕ). 34 ∷ l) (e ∙ sym (append_assoc body (34 ∷ []) rest)), tt, quoted_sound body text k is spells, ends, tokens)
+    ([], 34 ∷ body ++ 34 ∷ [], rest, ap (λ (l : List ℕ). 34 ∷ l) (e ∙ sym (append_assoc body (34 ∷ []) rest)), tt, quoted_sound body text k is spells, ends, tokens)
 
 word_more : (w : List ℕ) (b : ℕ) (bs : List ℕ) (ts : List Token) → ¬ IsTrue (is_blank b) → WordMeans (w ++ b ∷ []) bs ts → WordMeans w (b ∷ bs) ts
 word_more w b bs ts visible (piece, rest, k, more, e, none, ends, is, are, tokens) =
@@ -143,9 +143,19 @@ text_more t b bs ts quote slash (text, body, rest, k, more, e, spells, ends, is,
     (b ∷ text, b ∷ body, rest, k, more, ap (λ (l : List ℕ). b ∷ l) e, (body, spells, inl (refl, quote, slash)), ends, ap text_token (sym (append_assoc t (b ∷ []) text)) ∙ is, are, tokens)
 
 text_escape : (t bs : List ℕ) (ts : List Token) → EscapedMeans t bs ts → TextMeans t (92 ∷ bs) ts
-text_escape t bs ts (letter, c, after, from, escape, (text, body, rest, k, more, e, spells, ends, is, are, tokens)) =
-    (c ∷ text, 92 ∷ letter ∷ body, rest, k, more, ap (λ (l : List ℕ). 92 ∷ l) (from ∙ ap (λ (l : List ℕ). letter ∷ l) e),
-     (body, spells, inr (letter, refl, escape_sound letter c escape)), ends, ap text_token (sym (append_assoc t (c ∷ []) text)) ∙ is, are, tokens)
+text_escape t bs ts (letter, c, after, from, escape, (text, body, rest, k, more, e, spells, ends, is, are, tokens)) = (
+  c ∷ text,
+  92 ∷ letter ∷ body,
+  rest,
+  k,
+  more,
+  ap (λ (l : List ℕ). 92 ∷ l) (from ∙ ap (λ (l : List ℕ). letter ∷ l) e),
+  (body, spells, inr (letter, refl, escape_sound letter c escape)),
+  ends,
+  ap text_token (sym (append_assoc t (c ∷ []) text)) ∙ is,
+  are,
+  tokens,
+)
 
 text_end : (t bs : List ℕ) (k : Token) (ts : List Token) → text_token t ≡ Some k → ClosedMeans k bs ts → TextMeans t (34 ∷ bs) ts
 text_end t bs k ts is (more, ends, are, tokens) = ([], [], bs, k, more, refl, refl, ends, ap text_token (append_nil t) ∙ is, are, tokens)

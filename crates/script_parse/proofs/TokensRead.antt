@@ -87,7 +87,7 @@ text_run (b ∷ text) body t rest k (after, spells, inl (e, quote, slash)) ends 
 text_run (b ∷ text) body t rest k (after, spells, inr (letter, e, escape)) ends is =
     let more : List ℕ = after ++ 34 ∷ rest in
     let inside : tokens_from (letter ∷ more) (Escaped t) ≡ before [] (tokens_from more (InText (t ++ b ∷ []))) =
-        ap (λ o. on more (at_letter t o)) (escape_complete letter b escape) in
+    ap (λ o. on more (at_letter t o)) (escape_complete letter b escape) in
     ap (λ (l : List ℕ). tokens_from (l ++ 34 ∷ rest) (InText t)) e
     ∙ before_nil (tokens_from (letter ∷ more) (Escaped t)) ∙ inside ∙ before_nil (tokens_from more (InText (t ++ b ∷ [])))
     ∙ text_run text after (t ++ b ∷ []) rest k spells ends (ap text_token (append_assoc t (b ∷ []) text) ∙ is)
@@ -102,12 +102,13 @@ bare_run (b ∷ piece) rest k bare ends is =
 
 -- a number is no text in quotes, and has no blank
 digit_bare : (b : ℕ) → IsTrue (is_digit b) → (¬ IsTrue (is_blank b)) × (b ≢ 34)
-digit_bare b h =
-    (λ blank. elim (cases_Bool (b == 32)) [
-      | inl space ↦ false≢true (ap is_digit (sym (eqb-true b 32 space)) ∙ h)
-      | inr other ↦ let tab : (b == 9) ≡ true = rw other at blank in false≢true (ap is_digit (sym (eqb-true b 9 tab)) ∙ h)
-    ],
-     λ e. false≢true (ap is_digit (sym e) ∙ h))
+digit_bare b h = (
+  λ blank. elim (cases_Bool (b == 32)) [
+    | inl space ↦ false≢true (ap is_digit (sym (eqb-true b 32 space)) ∙ h)
+    | inr other ↦ let tab : (b == 9) ≡ true = rw other at blank in false≢true (ap is_digit (sym (eqb-true b 9 tab)) ∙ h)
+  ],
+  λ e. false≢true (ap is_digit (sym e) ∙ h),
+)
 
 digits_none : (ds : List ℕ) → AllByRecursion (λ b. IsTrue (is_digit b)) ds → NoBlanks ds
 digits_none [] h = tt

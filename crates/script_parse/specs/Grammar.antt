@@ -44,7 +44,7 @@ AreDigits ds = (ds ≢ []) × AllByRecursion (λ b. IsTrue (is_digit b)) ds
 abbrev pub IsNumber : List ℕ → ℤ → Type 0
 IsNumber piece z = (ds : List ℕ) × AreDigits ds
     × (((piece ≡ ds) × (z ≡ pos (digits_from 0 ds)) × (digits_from 0 ds < 2 ^ 63))
-       ⊎ ((piece ≡ 45 ∷ ds) × (z ≡ neg_ℤ (pos (digits_from 0 ds))) × (digits_from 0 ds ≤ 2 ^ 63)))
+    ⊎ ((piece ≡ 45 ∷ ds) × (z ≡ neg_ℤ (pos (digits_from 0 ds))) × (digits_from 0 ds ≤ 2 ^ 63)))
 
 -- The letter behind a backslash: `n` for LF, `t` for a tab, the quote and the backslash for themselves.
 abbrev pub Escapes : ℕ → ℕ → Type 0

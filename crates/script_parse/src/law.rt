@@ -10,5 +10,4 @@ ghost use Rattle.script_parse.specs.Grammar.{IsScript};
 pub fn reading_law()
     ensures same { (bytes : List ℕ) (instructions : List Instr) → (script_of bytes ≡ Some instructions) ↔ IsScript bytes instructions }
     ensures one { (bytes : List ℕ) (a b : List Instr) → IsScript bytes a → IsScript bytes b → a ≡ b }
-{
-}
+{}
