@@ -3,4 +3,5 @@ pub mod Each
 pub mod Found
 pub mod JsonText
 pub mod Lookups
+pub mod Rises
 pub mod Seen
