@@ -4,15 +4,16 @@ ghost use Rattle.std.specs.Prelude.{◌≡◌, ◌≤◌, ◌<◌, ◌^◌, IfOk
 ghost use Rattle.std.specs.List.{list_all};
 ghost use Rattle.serde_json.specs.View.{view};
 ghost use Rattle.world_json.specs.Faults.{is_within, is_table_within, key_places};
+ghost use Rattle.world_json.specs.Rising.{is_rising};
 ghost use Rattle.world_json.specs.Reading.{world_reading, parsed, reading_of, world_as, table_as, numbered_from, IsFaultOf};
 
 use crate::document::{Document, Draft, Drafts};
 use crate::fault::{WorldFault, WorldStop};
-use crate::json::{JsonStop, read_json};
 use crate::keys::{meets_keys, place_of_column};
 use crate::kinds::{meets_kinds, meets_not_null};
 use crate::limits::meets_limits;
 use crate::names::meets_names;
+use crate::parse::{JsonStop, read_json};
 use crate::parts::read_document;
 use crate::shape::ShapeStop;
 use crate::start::find_start_fault;
@@ -23,11 +24,13 @@ use sql_model::{Columns, Schema, Table, TableRow, TableRows, Tables};
 use std::alloc::{AllocError, Global};
 
 /// The world that a document is. The faults are tried in the order of `WorldFault`, each over the whole
-/// document, and the first one that holds is the answer; want of memory may come in its place.
+/// document, and the first one that holds is the answer; want of memory may come in its place. The files
+/// rise by path, the tables by name.
 pub fn world_of(alloc: Global, bytes: &[u8]) -> Result<World, WorldStop>
     requires { length bytes.now < 2 ^ 32 }
     ensures world { IfOk result (λ world. world_reading bytes.now ≡ Ok world) }
     ensures fault { IfErr result (IsFaultOf (world_reading bytes.now)) }
+    ensures rising { IfOk result (λ world. is_rising world ≡ true) }
 {
     match read_json(alloc, bytes) {
         Ok(value) => world_of_value(alloc, value),
