@@ -53,7 +53,8 @@ fn push_picked(
     place: usize,
     constant: &Value,
 ) -> Result<(), AllocError>
-    ensures { OnOk result (rows.new ≡ (if is_picked place constant.now row.now then rows.old ++ row.now.values ∷ [] else rows.old)) }
+    ensures { OnOk result (rows.new
+        ≡ (if is_picked place constant.now row.now then rows.old ++ row.now.values ∷ [] else rows.old)) }
 {
     if is_row_picked(row, place, constant) {
         rows.push(row.values.copy()?)
@@ -68,7 +69,8 @@ fn pick_rows(
     place: usize,
     constant: &Value,
 ) -> Result<RowList, AllocError>
-    ensures { IfOk result (λ copies. copies ≡ map row_values (filter (is_picked place constant.now) rows.now)) }
+    ensures { IfOk result (λ copies. copies
+        ≡ map row_values (filter (is_picked place constant.now) rows.now)) }
 {
     let mut copies = RowList::new(alloc);
     for row in rows {

@@ -62,7 +62,8 @@ fn start_script_of(alloc: Global, world: &World) -> Result<Option<Script>, Alloc
 }
 
 fn answer_steps(alloc: Global, world: &World, steps: &PlainSteps) -> Result<Answer, AllocError>
-    ensures { IfOk result (λ answer. answer_due answer ≡ due_outcome (Some (outcome_from (finish_of world.now.tables steps.now)))) }
+    ensures { IfOk result (λ answer. answer_due answer ≡ due_outcome (Some
+        (outcome_from (finish_of world.now.tables steps.now)))) }
 {
     let end = run_steps(alloc, steps, world.tables.items())?;
     let outcome = outcome_of(alloc, end)?;
@@ -71,7 +72,8 @@ fn answer_steps(alloc: Global, world: &World, steps: &PlainSteps) -> Result<Answ
 
 #[tactic(auto, using(crate::proofs::AnswerLaws::plain_due))]
 fn answer_script(alloc: Global, world: &World, script: &Script) -> Result<Answer, AllocError>
-    ensures { IfOk result (λ answer. answer_due answer ≡ due_plain (plain_script script.now.instructions) world.now script.now.instructions) }
+    ensures { IfOk result (λ answer. answer_due answer
+        ≡ due_plain (plain_script script.now.instructions) world.now script.now.instructions) }
 {
     match plain_of(alloc, script)? {
         None => Ok(Answer::NotBuilt),

@@ -76,7 +76,8 @@ impl Shown {
         selection: &Selection,
         tables: &[Table],
     ) -> Result<(), AllocError>
-        ensures replies { OnOk result (self.new.replies ≡ self.old.replies ++ selection_reply selection.now tables.now ∷ []) }
+        ensures replies { OnOk result (self.new.replies
+            ≡ self.old.replies ++ selection_reply selection.now tables.now ∷ []) }
         ensures printed { OnOk result (self.new.printed ≡ self.old.printed) }
     {
         self.replies.push(reply_to(alloc, selection, tables)?)

@@ -59,7 +59,8 @@ fn write_numbered<K: Sink>(
     number: u32,
     tail: &[u8],
 ) -> Result<(), WriteStop>
-    ensures written { Wrote (K.taken sink.old) (K.taken sink.new) (head.now ++ decimal number ++ tail.now) result }
+    ensures written { Wrote (K.taken sink.old)
+        (K.taken sink.new) (head.now ++ decimal number ++ tail.now) result }
     ensures later { K.faults sink.old ≤ K.faults sink.new }
     ensures fault { OnErr result (Rose (K.faults sink.old) (K.faults sink.new)) }
 {
@@ -69,7 +70,8 @@ fn write_numbered<K: Sink>(
 
 // A point and a number before each of the parts.
 fn write_parts<K: Sink>(sink: &mut K, parts: &[u32]) -> Result<(), WriteStop>
-    ensures written { Wrote (K.taken sink.old) (K.taken sink.new) (flat_map (λ part. 46 ∷ decimal part) parts.now) result }
+    ensures written { Wrote (K.taken sink.old) (K.taken sink.new) (flat_map
+        (λ part. 46 ∷ decimal part) parts.now) result }
     ensures later { K.faults sink.old ≤ K.faults sink.new }
     ensures fault { OnErr result (Rose (K.faults sink.old) (K.faults sink.new)) }
 {
@@ -84,7 +86,8 @@ fn write_parts<K: Sink>(sink: &mut K, parts: &[u32]) -> Result<(), WriteStop>
 
 #[tactic(auto, using(crate::proofs::WriteLemmas::write_steps))]
 fn write_first_parts<K: Sink>(sink: &mut K, first: u32, rest: &[u32]) -> Result<(), WriteStop>
-    ensures written { Wrote (K.taken sink.old) (K.taken sink.new) (decimal first ++ flat_map (λ part. 46 ∷ decimal part) rest.now) result }
+    ensures written { Wrote (K.taken sink.old) (K.taken sink.new) (decimal first ++ flat_map
+        (λ part. 46 ∷ decimal part) rest.now) result }
     ensures later { K.faults sink.old ≤ K.faults sink.new }
     ensures fault { OnErr result (Rose (K.faults sink.old) (K.faults sink.new)) }
 {
@@ -105,7 +108,8 @@ fn write_name<K: Sink>(sink: &mut K, parts: &[u32]) -> Result<(), WriteStop>
 
 #[tactic(auto, using(crate::proofs::WriteLemmas::write_steps))]
 fn write_named<K: Sink>(sink: &mut K, head: &[u8], parts: &[u32]) -> Result<(), WriteStop>
-    ensures written { Wrote (K.taken sink.old) (K.taken sink.new) (head.now ++ name_text parts.now) result }
+    ensures written { Wrote (K.taken sink.old)
+        (K.taken sink.new) (head.now ++ name_text parts.now) result }
     ensures later { K.faults sink.old ≤ K.faults sink.new }
     ensures fault { OnErr result (Rose (K.faults sink.old) (K.faults sink.new)) }
 {
@@ -121,7 +125,8 @@ fn write_located<K: Sink>(
     middle: &[u8],
     number: u32,
 ) -> Result<(), WriteStop>
-    ensures written { Wrote (K.taken sink.old) (K.taken sink.new) (located head.now parts.now middle.now number (10 ∷ [])) result }
+    ensures written { Wrote (K.taken sink.old)
+        (K.taken sink.new) (located head.now parts.now middle.now number (10 ∷ [])) result }
     ensures later { K.faults sink.old ≤ K.faults sink.new }
     ensures fault { OnErr result (Rose (K.faults sink.old) (K.faults sink.new)) }
 {

@@ -156,7 +156,8 @@ fn read_equality(alloc: Global, column: &str, rest: &str) -> Result<Option<Equal
 }
 
 fn read_equal(alloc: Global, column: &str, text: &str) -> Result<Option<Equality>, AllocError>
-    ensures { IfOk result (λ e. e ≡ option_map (λ v. record { column = column.now; constant = v }) (constant_of text.now)) }
+    ensures { IfOk result (λ e. e ≡ option_map
+        (λ v. record { column = column.now; constant = v }) (constant_of text.now)) }
 {
     match read_constant(alloc, text)? {
         None => Ok(None),
@@ -214,7 +215,8 @@ fn picked_table(alloc: Global, table: &str, rest: &str) -> Result<Option<Selecti
 }
 
 fn read_source(alloc: Global, text: &str) -> Result<Option<Selection>, AllocError>
-    ensures { IfOk result (λ s. s ≡ option_map selection_from (source_in (cut_at_blank text.now) text.now)) }
+    ensures { IfOk result (λ s. s
+        ≡ option_map selection_from (source_in (cut_at_blank text.now) text.now)) }
 {
     match cut(text) {
         None => whole_table(alloc, text),

@@ -60,7 +60,8 @@ fn run_input<K: Sink>(alloc: Global, input: &Bytes, sink: &mut K) -> Exit
 fn run<S: Source, K: Sink>(alloc: Global, source: &mut S, sink: &mut K) -> Exit
     ensures read_fault { result ≡ Exit.ReadFault → Rose (S.faults source.old) (S.faults source.new) }
     ensures write_fault { result ≡ Exit.WriteFault → Rose (K.faults sink.old) (K.faults sink.new) }
-    ensures due { (input : List ℕ) → S.left source.old ≡ Some input → Comes (due_run input) result (K.taken sink.old) (K.taken sink.new) }
+    ensures due { (input : List ℕ) → S.left source.old ≡ Some input
+        → Comes (due_run input) result (K.taken sink.old) (K.taken sink.new) }
     ensures unwritten { IsQuiet result → sink.new ≡ sink.old }
     ensures all_read { result ≡ Exit.Done → IsAtEnd (S.left source.new) }
     ensures not_usage { result ≢ Exit.Usage }
@@ -89,13 +90,17 @@ pub fn ldv<S: Source, K: Sink>(
     ensures read_fault { result ≡ Exit.ReadFault → Rose (S.faults source.old) (S.faults source.new) }
     ensures write_fault { result ≡ Exit.WriteFault → Rose (K.faults sink.old) (K.faults sink.new) }
     // Every other exit is the one that is due, and Done gives its bytes.
-    ensures due { (input : List ℕ) → IsInput (reads (command_of (map string_bytes words.now))) (S.left source.old) input
+    ensures due { (input : List ℕ)
+        → IsInput (reads (command_of (map string_bytes words.now))) (S.left source.old) input
         → Comes (due (map string_bytes words.now) input) result (K.taken sink.old) (K.taken sink.new) }
     ensures unwritten { IsQuiet result → sink.new ≡ sink.old }
-    ensures all_read { result ≡ Exit.Done → reads (command_of (map string_bytes words.now)) ≡ true → IsAtEnd (S.left source.new) }
+    ensures all_read { result ≡ Exit.Done → reads (command_of (map string_bytes words.now))
+        ≡ true → IsAtEnd (S.left source.new) }
     // Completeness: what is due to be done is done, where nothing fails.
-    ensures complete { (input : List ℕ) → S.left source.old ≡ Some input → (due (map string_bytes words.now) input).exit ≡ Exit.Done
-        → (¬ Rose (S.faults source.old) (S.faults source.new)) → (¬ Rose (K.faults sink.old) (K.faults sink.new))
+    ensures complete { (input : List ℕ) → S.left source.old ≡ Some input
+        → (due (map string_bytes words.now) input).exit ≡ Exit.Done
+        → (¬ Rose (S.faults source.old) (S.faults source.new))
+        → (¬ Rose (K.faults sink.old) (K.faults sink.new))
         → (result ≡ Exit.Done) ⊎ (result ≡ Exit.NoMemory) }
 {
     match read_words(words) {
@@ -121,9 +126,12 @@ pub fn ldv_main<S: Source, K: Sink, E: Sink>(
         × ((input : List ℕ) → IsInput (reads (command_of (map string_bytes words.now))) (S.left source.old) input
         → Comes (due (map string_bytes words.now) input) exit (K.taken sink.old) (K.taken sink.new))
         × (IsQuiet exit → sink.new ≡ sink.old)
-        × (exit ≡ Exit.Done → reads (command_of (map string_bytes words.now)) ≡ true → IsAtEnd (S.left source.new))
-        × ((input : List ℕ) → S.left source.old ≡ Some input → (due (map string_bytes words.now) input).exit ≡ Exit.Done
-        → (¬ Rose (S.faults source.old) (S.faults source.new)) → (¬ Rose (K.faults sink.old) (K.faults sink.new))
+        × (exit ≡ Exit.Done → reads (command_of (map string_bytes words.now)) ≡ true
+        → IsAtEnd (S.left source.new))
+        × ((input : List ℕ) → S.left source.old ≡ Some input
+        → (due (map string_bytes words.now) input).exit ≡ Exit.Done
+        → (¬ Rose (S.faults source.old) (S.faults source.new))
+        → (¬ Rose (K.faults sink.old) (K.faults sink.new))
         → (exit ≡ Exit.Done) ⊎ (exit ≡ Exit.NoMemory))
         × Tells (E.faults errors.old) (E.faults errors.new) (E.taken errors.old) (E.taken errors.new) (line_of exit) }
 {
