@@ -1,5 +1,5 @@
 -- A colon at the end of a word.
-use Rattle.std.proofs.Common.{◌≡◌, ◌≢◌, ℕ, ◌+◌, List, [], ◌∷◌, ◌++◌, refl, Some, None, cond, eqb, ap, ◌∙◌, sym, subst, inl, inr, true, false}
+use Rattle.std.proofs.Common.{◌≡◌, ◌≢◌, ℕ, List, [], ◌∷◌, ◌++◌, refl, Some, None, ap, ◌∙◌, sym, inl, inr}
 use Rattle.std.specs.Prelude.{Option, option_map, MatchOption, ◌==◌}
 use Rattle.std.proofs.lemmas.Bool.{eqb-true}
 use Rattle.std.proofs.lemmas.Option.{cond_some}

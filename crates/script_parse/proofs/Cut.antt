@@ -1,7 +1,7 @@
 -- The first line of bytes.
-use Rattle.std.proofs.Common.{◌≡◌, ◌≢◌, ℕ, zero, suc, ◌+◌, ◌-◌, ◌<◌, ◌≤◌, List, [], ◌∷◌, ◌++◌, length, take, drop, get_or, refl, cond, eqb, ◌&&◌, ap, ◌∙◌, sym, subst, inl, inr, true, false, arith, add-one, length-take, length-drop, take_all, Bool}
-use Rattle.std.specs.Prelude.{◌==◌, slice_get, if◌then◌else◌}
-use Rattle.std.proofs.lemmas.Bool.{cases_Bool, eqb-true, eq-eqb}
+use Rattle.std.proofs.Common.{◌≡◌, ℕ, suc, ◌+◌, ◌-◌, ◌<◌, ◌≤◌, List, [], ◌∷◌, length, take, drop, refl, ◌&&◌, ap, ◌∙◌, sym, inl, inr, true, false, arith, add-one, length-take, length-drop, take_all, Bool}
+use Rattle.std.specs.Prelude.{◌==◌, slice_get}
+use Rattle.std.proofs.lemmas.Bool.{cases_Bool}
 use Rattle.script_parse.specs.Lines.{lines_of, feed_place, without_return, grow, starts_with_feed, ends_with_return, is_return}
 
 return_more : (b : ℕ) (xs : List ℕ) → 0 < length xs → without_return (b ∷ xs) ≡ b ∷ without_return xs

@@ -1,5 +1,5 @@
 -- A list item by item.
-use Rattle.std.proofs.Common.{◌≡◌, ℕ, zero, suc, ◌+◌, ◌<◌, List, [], ◌∷◌, ◌++◌, refl, length, get_or, drop, drop-cons, append_assoc, add-one, ap, ◌∙◌, sym, Some, None}
+use Rattle.std.proofs.Common.{◌≡◌, ℕ, ◌+◌, ◌<◌, List, [], ◌∷◌, ◌++◌, refl, length, get_or, drop, drop-cons, append_assoc, add-one, ap, ◌∙◌, sym, Some, None}
 use Rattle.std.specs.Prelude.{Option}
 use Rattle.script_parse.specs.declared.refused.Refused.{Refused}
 use Rattle.script_parse.specs.declared.refused.Refused.TheVariants.{Bad, NoMemory}

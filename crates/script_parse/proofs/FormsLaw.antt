@@ -1,8 +1,8 @@
 -- What the tokens of a line say is what the grammar says.
-use Rattle.std.proofs.Common.{◌≡◌, ◌≢◌, ℕ, zero, suc, ◌+◌, ◌<◌, ◌≤◌, List, [], ◌∷◌, ◌++◌, length, map, take, drop, refl, sym, ap, ◌∙◌, subst, cond, ◌&&◌, not, ltb, Bool, true, false, inl, inr, ◌⊎◌, Some, None, leb, arith, ℤ}
-use Rattle.std.specs.Prelude.{IsTrue, Option, codes, find, position}
+use Rattle.std.proofs.Common.{◌≡◌, ◌≢◌, ℕ, suc, ◌+◌, ◌<◌, ◌≤◌, List, [], ◌∷◌, ◌++◌, length, map, take, drop, refl, sym, ap, ◌∙◌, subst, cond, not, ltb, Bool, true, false, inl, inr, Some, None, leb, arith}
+use Rattle.std.specs.Prelude.{Option, codes, find, position}
 use Rattle.std.specs.List.{AllByRecursion, prefix_len}
-use Rattle.std.proofs.lemmas.Bool.{cases_Bool, eqb-true, eq-eqb, false≢true, leb-true, le-leb, ltb-true, lt-ltb}
+use Rattle.std.proofs.lemmas.Bool.{cases_Bool, false≢true, leb-true, ltb-true}
 use Rattle.std.proofs.lemmas.Option.{cond_some}
 use Rattle.std.proofs.lemmas.Slice.Eq.{bytes_eq-Decides}
 use Rattle.ldv_value.specs.declared.value.Value.TheVariants as value
@@ -23,11 +23,11 @@ use Rattle.script_parse.specs.declared.line.Line.TheVariants.{Quiet, Label, Plai
 use Rattle.script_parse.specs.Gives.{◌>>=◌}
 use Rattle.script_parse.specs.Names.{is_text, name_test}
 use Rattle.script_parse.specs.Keywords.{keyword_text, sign_text, comparison_text, mode_text, keywords, signs, comparisons, modes, keyword_of, sign_of, comparison_of, mode_of}
-use Rattle.script_parse.specs.Forms.{each, word_of, is_word, only_if, name_in, name_of, word_operand, operand_of, operands_of, operands_from_one, names_from_one, sign_in, comparison_in, mode_in, signed, let_value, let_of, cut_of, goto_of, if_of, print_of, exit_of, write_of, copy_of, close_of, exists_of, wait_of, sql_of, count_of, status_of, last_label, else_at, else_of, open_of, readline_of, remove_of, spawn_of, fetch_of, with_else, instruction_of}
-use Rattle.script_parse.specs.Lines.{before_colon, label_in, worded, form_of}
-use Rattle.script_parse.specs.Grammar.{IsName, written, IsOperand, AreOperands, AreNames, word, calc_text, tokens_for, HasForm, place_of}
-use Rattle.script_parse.proofs.Options.{bind_some, only_if_some, cases_Option}
-use Rattle.script_parse.proofs.Colon.{colon_found, colon_split}
+use Rattle.script_parse.specs.Forms.{each, word_of, is_word, only_if, name_in, name_of, operand_of, operands_of, operands_from_one, names_from_one, sign_in, comparison_in, mode_in, signed, let_value, let_of, cut_of, goto_of, if_of, print_of, exit_of, write_of, copy_of, close_of, exists_of, wait_of, sql_of, count_of, status_of, last_label, else_at, else_of, open_of, readline_of, remove_of, spawn_of, fetch_of, with_else, instruction_of}
+use Rattle.script_parse.specs.Lines.{before_colon, worded, form_of}
+use Rattle.script_parse.specs.Grammar.{IsName, written, IsOperand, AreOperands, AreNames, word, tokens_for, HasForm, place_of}
+use Rattle.script_parse.proofs.Options.{bind_some, only_if_some}
+use Rattle.script_parse.proofs.Colon.{colon_split}
 
 -- what a line is, before labels have places
 abbrev pub IsForm : Line → List Token → Type 0

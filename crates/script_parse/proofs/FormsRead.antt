@@ -1,10 +1,8 @@
 -- What the grammar says of the tokens of a line is what is read.
-use Rattle.std.proofs.Common.{◌≡◌, ◌≢◌, ℕ, zero, suc, ◌+◌, ◌<◌, ◌≤◌, List, [], ◌∷◌, ◌++◌, length, map, take, drop, length-append, add-one, refl, sym, ap, ◌∙◌, subst, cond, ◌&&◌, not, ltb, Bool, true, false, inl, inr, ◌⊎◌, Some, None, leb, arith, ℤ}
-use Rattle.std.specs.Prelude.{IsTrue, Option, codes, find, position}
+use Rattle.std.proofs.Common.{◌≡◌, ◌≢◌, ℕ, suc, ◌+◌, ◌≤◌, List, [], ◌∷◌, ◌++◌, length, map, take, drop, length-append, add-one, refl, sym, ap, ◌∙◌, cond, not, ltb, Bool, true, false, Some, None, leb, arith}
+use Rattle.std.specs.Prelude.{Option, codes, position}
 use Rattle.std.specs.List.{AllByRecursion, prefix_len}
-use Rattle.std.proofs.lemmas.Bool.{cases_Bool, eqb-true, eq-eqb, false≢true, leb-true, le-leb, ltb-true, lt-ltb}
-use Rattle.std.proofs.lemmas.Option.{cond_some}
-use Rattle.std.proofs.lemmas.Slice.Eq.{bytes_eq-Decides}
+use Rattle.std.proofs.lemmas.Bool.{false≢true, le-leb, lt-ltb}
 use Rattle.ldv_value.specs.declared.value.Value.TheVariants as value
 use Rattle.ldv_value.specs.declared.value.Cmp.{Cmp}
 use Rattle.ldv_value.specs.declared.value.Cmp.TheVariants as cmp
@@ -16,20 +14,17 @@ use Rattle.script_parse.specs.declared.script.CalcOp.TheVariants.{Add, Subtract,
 use Rattle.script_parse.specs.declared.script.Instr.{Instr}
 use Rattle.script_parse.specs.declared.script.Instr.TheVariants as instr
 use Rattle.script_parse.specs.declared.token.Token.{Token}
-use Rattle.script_parse.specs.declared.token.Token.TheVariants.{Word, Number, Quoted}
-use Rattle.script_parse.specs.declared.keyword.Keyword.{Keyword}
-use Rattle.script_parse.specs.declared.keyword.Keyword.TheVariants.{Let, Cut, Goto, If, Print, Exit, Open, ReadLine, Write, Copy, Close, Remove, Exists, Spawn, Wait, Sql, Fetch, Count, Status}
+use Rattle.script_parse.specs.declared.token.Token.TheVariants.{Word}
 use Rattle.script_parse.specs.declared.keyword.Sign.{Sign}
 use Rattle.script_parse.specs.declared.keyword.Sign.TheVariants.{Plus, Minus, Times, Join}
 use Rattle.script_parse.specs.declared.line.Line.{Line}
 use Rattle.script_parse.specs.declared.line.Line.TheVariants.{Quiet, Label, Plain, Jumping}
 use Rattle.script_parse.specs.Gives.{◌>>=◌}
 use Rattle.script_parse.specs.Names.{is_text, name_test}
-use Rattle.script_parse.specs.Keywords.{keyword_text, sign_text, comparison_text, mode_text, keywords, signs, comparisons, modes, keyword_of, sign_of, comparison_of, mode_of}
-use Rattle.script_parse.specs.Forms.{each, word_of, is_word, only_if, name_in, name_of, word_operand, operand_of, operands_of, operands_from_one, names_from_one, sign_in, comparison_in, mode_in, signed, let_value, let_of, cut_of, goto_of, if_of, print_of, exit_of, write_of, copy_of, close_of, exists_of, wait_of, sql_of, count_of, status_of, last_label, else_at, else_of, open_of, readline_of, remove_of, spawn_of, fetch_of, with_else, instruction_of}
-use Rattle.script_parse.specs.Lines.{before_colon, label_in, worded, form_of}
-use Rattle.script_parse.specs.Grammar.{IsName, written, IsOperand, AreOperands, AreNames, word, calc_text, tokens_for, HasForm, place_of}
-use Rattle.script_parse.proofs.Options.{bind_some, only_if_some, cases_Option}
+use Rattle.script_parse.specs.Keywords.{sign_text, comparison_text, mode_text}
+use Rattle.script_parse.specs.Forms.{each, is_word, only_if, name_in, name_of, operand_of, operands_of, operands_from_one, names_from_one, sign_in, comparison_in, mode_in, signed, let_value, let_of, cut_of, goto_of, if_of, print_of, exit_of, write_of, copy_of, close_of, exists_of, wait_of, sql_of, count_of, status_of, last_label, else_at, else_of, open_of, readline_of, remove_of, spawn_of, fetch_of, with_else}
+use Rattle.script_parse.specs.Lines.{form_of}
+use Rattle.script_parse.specs.Grammar.{IsName, written, IsOperand, AreOperands, AreNames, word, tokens_for, HasForm, place_of}
 use Rattle.script_parse.proofs.Colon.{colon_found}
 use Rattle.script_parse.proofs.FormsLaw.{IsForm, text_is}
 

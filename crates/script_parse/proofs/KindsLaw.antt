@@ -1,8 +1,8 @@
 -- What is read line by line, and the labels among the lines.
-use Rattle.std.proofs.Common.{◌≡◌, ◌≢◌, ℕ, zero, suc, ◌+◌, ◌<◌, ◌≤◌, List, [], ◌∷◌, ◌++◌, length, refl, sym, ap, ◌∙◌, subst, cond, Bool, true, false, inl, inr, ◌⊎◌, Some, None, eqb, arith, add-zero}
-use Rattle.std.specs.Prelude.{Option, option_to_list, ◌==◌}
+use Rattle.std.proofs.Common.{◌≡◌, ◌≢◌, ℕ, suc, ◌+◌, ◌<◌, List, [], ◌∷◌, ◌++◌, length, refl, sym, ap, ◌∙◌, subst, cond, true, false, inl, inr, Some, None, arith, add-zero}
+use Rattle.std.specs.Prelude.{Option, option_to_list}
 use Rattle.std.specs.List.{AllByRecursion}
-use Rattle.std.proofs.lemmas.Bool.{cases_Bool, eqb-true, eq-eqb, false≢true}
+use Rattle.std.proofs.lemmas.Bool.{cases_Bool, eqb-true, false≢true}
 use Rattle.std.proofs.lemmas.Slice.Eq.{bytes_eq-Decides}
 use Rattle.script_parse.specs.declared.script.Instr.{Instr}
 use Rattle.script_parse.specs.declared.line.Line.{Line}
@@ -13,8 +13,8 @@ use Rattle.script_parse.specs.Gives.{◌>>=◌}
 use Rattle.script_parse.specs.Forms.{only_if}
 use Rattle.script_parse.specs.Names.{is_text}
 use Rattle.script_parse.specs.Lines.{line_of}
-use Rattle.script_parse.specs.Script.{entry_of, entries_from, Labelled, labels_in, instructions_in, labels_from, definition_of, with_place, is_first, resolve, resolve_line, instructions_of}
-use Rattle.script_parse.specs.Grammar.{Kind, Blank, Names, Does, steps, labels, AllDiffer, IsAt}
+use Rattle.script_parse.specs.Script.{entry_of, entries_from, Labelled, labels_from, definition_of, with_place, is_first, instructions_of}
+use Rattle.script_parse.specs.Grammar.{Kind, Blank, Names, Does, steps, labels, AllDiffer}
 use Rattle.script_parse.proofs.Options.{bind_some, only_if_some, cases_Option}
 use Rattle.script_parse.proofs.FormsLaw.{text_is}
 use Rattle.script_parse.proofs.FormsRead.{is_false}

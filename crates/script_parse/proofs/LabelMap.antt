@@ -1,5 +1,5 @@
 -- The map of labels, step by step.
-use Rattle.std.proofs.Common.{◌≡◌, ◌≤◌, ◌<◌, ℕ, suc, ◌+◌, List, [], ◌∷◌, ◌++◌, length, drop, get_or, drop-cons, add-one, Bool, true, false, cond, refl, sym, ap, ◌∙◌, subst, inl, inr, Some, None, if◌then◌else◌}
+use Rattle.std.proofs.Common.{◌≡◌, ℕ, List, false, cond, refl, sym, ap, ◌∙◌, inl, inr, Some, None, if◌then◌else◌}
 use Rattle.std.specs.Prelude.{Option, String, string_bytes, string_cmp, is_some}
 use Rattle.std.specs.BTreeMap.{BTreeMap, get_by_text, UpdatesBy}
 use Rattle.std.specs.Cmp.Lexicographic.{slice_cmp}
@@ -7,10 +7,9 @@ use Rattle.std.specs.Ordering.{nat_cmp}
 use Rattle.std.proofs.lemmas.Bool.{cases_Bool, false≢true}
 use Rattle.std.proofs.lemmas.Slice.Eq.{bytes_eq-Decides}
 use Rattle.std.proofs.lemmas.Map.Text.{btree_map_updates_text}
-use Rattle.script_parse.specs.declared.line.Entry.{Entry}
 use Rattle.script_parse.specs.declared.line.Definition.{Definition}
 use Rattle.script_parse.specs.Names.{is_text}
-use Rattle.script_parse.specs.Script.{Labelled, first_of, definition_of, labels_from, labels_in, instructions_in}
+use Rattle.script_parse.specs.Script.{first_of}
 
 first_of_none : {A : Type 0} (o : Option A) → first_of o None ≡ o
 first_of_none None = refl

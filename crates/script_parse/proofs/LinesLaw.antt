@@ -1,10 +1,9 @@
 -- The lines that are cut are the lines of the grammar.
-use Rattle.std.proofs.Common.{◌≡◌, ◌≢◌, ℕ, zero, suc, ◌+◌, List, [], ◌∷◌, ◌++◌, refl, sym, ap, ◌∙◌, subst, cond, ◌&&◌, Bool, true, false, inl, inr, ◌⊎◌}
+use Rattle.std.proofs.Common.{◌≡◌, ◌≢◌, ℕ, List, [], ◌∷◌, ◌++◌, refl, sym, ap, ◌∙◌, subst, true, false, inl, inr, ◌⊎◌}
 use Rattle.std.specs.Prelude.{◌==◌}
-use Rattle.std.specs.List.{AllByRecursion}
 use Rattle.std.proofs.lemmas.Bool.{cases_Bool, eqb-true, eq-eqb, false≢true}
 use Rattle.script_parse.specs.Lines.{lines_of, grow, starts_with_feed}
-use Rattle.script_parse.specs.Grammar.{HasNoFeed, EndsInReturn, IsEnded, AreLines}
+use Rattle.script_parse.specs.Grammar.{HasNoFeed, EndsInReturn, AreLines}
 use Rattle.script_parse.proofs.Cut.{cut_more}
 
 pub ne_eqb : (a b : ℕ) → a ≢ b → (a == b) ≡ false

@@ -1,6 +1,5 @@
 -- A number digit by digit.
-use Rattle.std.proofs.Common.{◌≡◌, ℕ, zero, suc, ◌+◌, ◌-◌, ◌*◌, ◌^◌, ◌<◌, ◌≤◌, List, [], ◌∷◌, refl, Bool, true, false, cond, ◌&&◌, ltb, leb, length, get_or, drop, drop-cons, arith, ap, ◌∙◌, sym, Some, None, inl, inr, ◌⊎◌}
-use Rattle.std.specs.Prelude.{nat_le, Option}
+use Rattle.std.proofs.Common.{◌≡◌, ℕ, suc, ◌+◌, ◌-◌, ◌*◌, ◌^◌, ◌<◌, ◌≤◌, List, [], ◌∷◌, refl, false, leb, length, get_or, drop, drop-cons, arith, ap, ◌∙◌, None, inl, inr}
 use Rattle.std.specs.List.{list_all}
 use Rattle.std.proofs.lemmas.Bool.{cases_Bool, leb-false, lt-leb}
 use Rattle.script_parse.specs.Gives.{◌>>=◌}

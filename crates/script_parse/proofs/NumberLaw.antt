@@ -1,11 +1,11 @@
 -- The numbers that are read are those of the grammar.
-use Rattle.std.proofs.Common.{◌≡◌, ◌≢◌, ℕ, zero, suc, ◌+◌, ◌^◌, ◌<◌, ◌≤◌, List, [], ◌∷◌, ◌++◌, refl, sym, ap, ◌∙◌, subst, cond, ◌&&◌, Bool, true, false, inl, inr, ◌⊎◌, Some, None, ltb, leb, arith, pos, neg_ℤ, ℤ}
-use Rattle.std.specs.Prelude.{◌==◌, IsTrue, Option}
+use Rattle.std.proofs.Common.{◌≡◌, ◌≢◌, ℕ, ◌^◌, ◌<◌, ◌≤◌, List, [], ◌∷◌, refl, sym, ap, ◌∙◌, subst, cond, ◌&&◌, Bool, true, false, inl, inr, Some, None, ltb, leb, arith, pos, neg_ℤ, ℤ}
+use Rattle.std.specs.Prelude.{◌==◌, IsTrue}
 use Rattle.std.specs.List.{AllByRecursion, list_all}
-use Rattle.std.proofs.lemmas.Bool.{cases_Bool, eqb-true, eq-eqb, false≢true, leb-true, le-leb, ltb-true, lt-ltb}
+use Rattle.std.proofs.lemmas.Bool.{cases_Bool, eqb-true, false≢true, leb-true, le-leb, ltb-true, lt-ltb}
 use Rattle.std.proofs.lemmas.Option.{cond_some}
 use Rattle.script_parse.specs.Gives.{◌>>=◌}
-use Rattle.script_parse.specs.Number.{is_digit, digits_from, magnitude_from, magnitude_of, natural_of, negative_of, number_of}
+use Rattle.script_parse.specs.Number.{is_digit, digits_from, magnitude_of, natural_of, negative_of, number_of}
 use Rattle.script_parse.specs.Grammar.{AreDigits, IsNumber}
 use Rattle.script_parse.proofs.Options.{bind_some}
 

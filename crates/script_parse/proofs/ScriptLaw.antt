@@ -1,6 +1,6 @@
 -- The law of scripts: what is read is what the grammar says.
-use Rattle.std.proofs.Common.{◌≡◌, ◌≢◌, ℕ, zero, suc, ◌+◌, ◌<◌, ◌≤◌, List, [], ◌∷◌, ◌++◌, length, refl, sym, ap, ◌∙◌, subst, cond, ◌&&◌, ◌||◌, not, Bool, true, false, inl, inr, ◌⊎◌, Some, None, eqb, arith, append_assoc}
-use Rattle.std.specs.Prelude.{Option, option_to_list, ◌==◌, IsTrue, IsUtf8, find, codes}
+use Rattle.std.proofs.Common.{◌≡◌, ℕ, ◌+◌, List, [], ◌∷◌, ◌++◌, length, refl, sym, ap, ◌∙◌, subst, cond, not, true, false, inl, inr, Some, None, arith, append_assoc}
+use Rattle.std.specs.Prelude.{Option, ◌==◌, IsTrue, IsUtf8, codes}
 use Rattle.std.specs.List.{AllByRecursion, AllZip}
 use Rattle.std.specs.Str.{is_utf8}
 use Rattle.std.proofs.lemmas.Bool.{cases_Bool, eqb-true, eq-eqb, false≢true}
@@ -14,14 +14,14 @@ use Rattle.script_parse.specs.declared.line.Line.{Line}
 use Rattle.script_parse.specs.declared.line.Line.TheVariants.{Quiet, Label, Plain, Jumping}
 use Rattle.script_parse.specs.declared.line.Definition.{Definition}
 use Rattle.script_parse.specs.Gives.{◌>>=◌}
-use Rattle.script_parse.specs.Names.{is_text, name_test}
+use Rattle.script_parse.specs.Names.{name_test}
 use Rattle.script_parse.specs.Forms.{only_if}
 use Rattle.script_parse.specs.Tokens.{is_blank, tokens_of}
 use Rattle.script_parse.specs.Lines.{lines_of, form_of, first_shown, is_comment, is_comment_start, line_of}
-use Rattle.script_parse.specs.Script.{entries_from, labels_from, definition_of, with_place, is_first, instructions_of, look_up, script_of}
-use Rattle.script_parse.specs.Grammar.{Kind, Blank, Names, Does, steps, labels, AllDiffer, AreBlanks, AreLines, AreTokens, EndsToken, IsToken, IsName, HasForm, tokens_for, place_of, IsAtPlace, IsInstruction, IsComment, IsKind, IsLine, IsAt, IsScript}
+use Rattle.script_parse.specs.Script.{entries_from, definition_of, with_place, is_first, instructions_of, look_up, script_of}
+use Rattle.script_parse.specs.Grammar.{Kind, Blank, Names, Does, steps, labels, AllDiffer, AreBlanks, AreTokens, IsName, HasForm, tokens_for, place_of, IsAtPlace, IsComment, IsKind, IsLine, IsAt, IsScript}
 use Rattle.script_parse.proofs.Options.{bind_some, only_if_some}
-use Rattle.script_parse.proofs.LinesLaw.{lines_sound, lines_complete, ne_eqb, eqb_ne}
+use Rattle.script_parse.proofs.LinesLaw.{lines_sound, lines_complete}
 use Rattle.script_parse.proofs.TokensLaw.{tokens_sound, not_false}
 use Rattle.script_parse.proofs.TokensRead.{tokens_complete}
 use Rattle.script_parse.proofs.FormsLaw.{IsForm, forms_sound}

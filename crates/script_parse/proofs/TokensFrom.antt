@@ -1,12 +1,12 @@
 -- The tokens of a line byte by byte.
-use Rattle.std.proofs.Common.{◌≡◌, ℕ, zero, suc, ◌+◌, ◌<◌, List, [], ◌∷◌, ◌++◌, refl, length, get_or, drop, drop-cons, append_assoc, add-one, ap, ◌∙◌, sym, Some, None}
+use Rattle.std.proofs.Common.{◌≡◌, ℕ, ◌+◌, ◌<◌, List, ◌++◌, refl, length, get_or, drop, drop-cons, append_assoc, add-one, ap, ◌∙◌, sym, Some, None}
 use Rattle.std.specs.Prelude.{Option, option_to_list}
 use Rattle.script_parse.specs.declared.refused.Refused.{Refused}
 use Rattle.script_parse.specs.declared.refused.Refused.TheVariants.{Bad, NoMemory}
 use Rattle.script_parse.specs.declared.token.Token.{Token}
 use Rattle.script_parse.specs.declared.scan.Place.{Place}
 use Rattle.script_parse.specs.Gives.{◌>>=◌, Fails}
-use Rattle.script_parse.specs.Tokens.{step, before, tokens_from, finish}
+use Rattle.script_parse.specs.Tokens.{step, before, tokens_from}
 
 pub tokens_at : (place : Place) (bs : List ℕ) (i : ℕ) → i < length bs → tokens_from (drop i bs) place ≡ (step place (get_or bs i 0) >>= λ s. before (option_to_list s.1) (tokens_from (drop (i + 1) bs) s.0))
 tokens_at place bs i h = rw (add-one, drop-cons bs i 0 h) refl

@@ -1,9 +1,9 @@
 -- The tokens that are read are those of the grammar.
-use Rattle.std.proofs.Common.{◌≡◌, ◌≢◌, ℕ, zero, suc, ◌+◌, ◌^◌, ◌<◌, ◌≤◌, List, [], ◌∷◌, ◌++◌, length, refl, sym, ap, ◌∙◌, subst, cond, ◌&&◌, ◌||◌, Bool, true, false, inl, inr, ◌⊎◌, Some, None, leb, arith, append_assoc, ℤ}
+use Rattle.std.proofs.Common.{◌≡◌, ◌≢◌, ℕ, List, [], ◌∷◌, ◌++◌, length, refl, sym, ap, ◌∙◌, subst, cond, Bool, true, false, inl, inr, Some, None, leb, append_assoc}
 use Rattle.std.specs.Prelude.{◌==◌, IsTrue, Option, option_to_list}
 use Rattle.std.specs.List.{AllByRecursion}
 use Rattle.std.specs.Str.{is_utf8}
-use Rattle.std.proofs.lemmas.Bool.{cases_Bool, eqb-true, eq-eqb, false≢true, leb-true, le-leb}
+use Rattle.std.proofs.lemmas.Bool.{cases_Bool, eqb-true, false≢true, leb-true}
 use Rattle.std.proofs.lemmas.Option.{cond_some}
 use Rattle.script_parse.specs.declared.token.Token.{Token}
 use Rattle.script_parse.specs.declared.token.Token.TheVariants.{Word, Number, Quoted}
@@ -11,10 +11,10 @@ use Rattle.script_parse.specs.declared.scan.Place.{Place}
 use Rattle.script_parse.specs.declared.scan.Place.TheVariants.{Between, InWord, InText, Escaped, Closed}
 use Rattle.script_parse.specs.Gives.{◌>>=◌}
 use Rattle.script_parse.specs.Number.{number_of}
-use Rattle.script_parse.specs.Tokens.{is_blank, escape_of, text_of, word_or_number, word_token, text_token, step, step_between, step_in_word, step_in_text, step_escaped, step_closed, finish, before, tokens_from, tokens_of}
-use Rattle.script_parse.specs.Grammar.{IsNumber, Escapes, Spells, IsBare, IsToken, AreBlanks, EndsToken, AreTokens}
+use Rattle.script_parse.specs.Tokens.{is_blank, escape_of, text_of, word_or_number, word_token, text_token, finish, before, tokens_from}
+use Rattle.script_parse.specs.Grammar.{Escapes, Spells, IsBare, IsToken, EndsToken, AreTokens}
 use Rattle.script_parse.proofs.Options.{bind_some, cases_Option}
-use Rattle.script_parse.proofs.LinesLaw.{ne_eqb, eqb_ne}
+use Rattle.script_parse.proofs.LinesLaw.{eqb_ne}
 use Rattle.script_parse.proofs.NumberLaw.{number_sound, number_complete}
 
 abbrev pub NoBlanks : List ℕ → Type 0

@@ -1,9 +1,8 @@
 -- The tokens of the grammar are those that are read.
-use Rattle.std.proofs.Common.{◌≡◌, ◌≢◌, ℕ, zero, suc, ◌+◌, ◌^◌, ◌<◌, ◌≤◌, List, [], ◌∷◌, ◌++◌, length, refl, sym, ap, ◌∙◌, subst, cond, ◌&&◌, ◌||◌, Bool, true, false, inl, inr, ◌⊎◌, Some, None, leb, arith, append_assoc, ℤ}
+use Rattle.std.proofs.Common.{◌≡◌, ◌≢◌, ℕ, ◌<◌, ◌≤◌, List, [], ◌∷◌, ◌++◌, length, refl, sym, ap, ◌∙◌, subst, cond, true, false, inl, inr, Some, None, leb, arith, append_assoc, ℤ}
 use Rattle.std.specs.Prelude.{◌==◌, IsTrue, IsUtf8, Option, option_to_list}
 use Rattle.std.specs.List.{AllByRecursion}
-use Rattle.std.specs.Str.{is_utf8}
-use Rattle.std.proofs.lemmas.Bool.{cases_Bool, eqb-true, eq-eqb, false≢true, leb-true, le-leb}
+use Rattle.std.proofs.lemmas.Bool.{cases_Bool, eqb-true, eq-eqb, false≢true, le-leb}
 use Rattle.std.proofs.lemmas.Str.{is_utf8-from_IsUtf8, IsUtf8-nil}
 use Rattle.script_parse.specs.declared.token.Token.{Token}
 use Rattle.script_parse.specs.declared.token.Token.TheVariants.{Word, Number, Quoted}
@@ -11,10 +10,10 @@ use Rattle.script_parse.specs.declared.scan.Place.{Place}
 use Rattle.script_parse.specs.declared.scan.Place.TheVariants.{Between, InWord, InText, Escaped, Closed}
 use Rattle.script_parse.specs.Gives.{◌>>=◌}
 use Rattle.script_parse.specs.Number.{is_digit, number_of}
-use Rattle.script_parse.specs.Tokens.{is_blank, escape_of, text_of, word_or_number, word_token, text_token, step, finish, before, tokens_from, tokens_of}
-use Rattle.script_parse.specs.Grammar.{AreDigits, IsNumber, Escapes, Spells, IsBare, IsToken, AreBlanks, EndsToken, AreTokens}
+use Rattle.script_parse.specs.Tokens.{is_blank, text_of, word_or_number, word_token, text_token, before, tokens_from, tokens_of}
+use Rattle.script_parse.specs.Grammar.{AreDigits, IsNumber, Spells, IsBare, IsToken, AreBlanks, EndsToken, AreTokens}
 use Rattle.script_parse.proofs.Options.{cases_Option}
-use Rattle.script_parse.proofs.LinesLaw.{ne_eqb, eqb_ne}
+use Rattle.script_parse.proofs.LinesLaw.{ne_eqb}
 use Rattle.script_parse.proofs.NumberLaw.{number_sound, number_complete}
 use Rattle.script_parse.proofs.TokensLaw.{NoBlanks, not_false, append_nil, before_nil, escape_complete}
 use Rattle.script_parse.proofs.Utf8Law.{utf8_behind, utf8_cut, spells_utf8}

@@ -1,5 +1,5 @@
 -- Bytes that are UTF-8, by the test.
-use Rattle.std.proofs.Common.{◌≡◌, ℕ, List, Bool, true, false, cond, refl, inl, inr, subst, Some}
+use Rattle.std.proofs.Common.{◌≡◌, ℕ, List, false, refl, inl, inr, subst, Some}
 use Rattle.std.specs.Prelude.{IsUtf8, String, string_bytes}
 use Rattle.std.specs.Str.{is_utf8}
 use Rattle.std.proofs.lemmas.Bool.{cases_Bool}

@@ -1,11 +1,10 @@
 -- From the tokens of a line to what the line says.
-use Rattle.std.specs.Prelude.{ℕ, ◌+◌, List, [], ◌∷◌, length, take, drop, Bool, true, false, not, ◌&&◌, ◌==◌, nat_le, if◌then◌else◌, Option, Some, None, position, codes}
+use Rattle.std.specs.Prelude.{ℕ, ◌+◌, List, [], ◌∷◌, length, take, drop, Bool, false, not, nat_le, if◌then◌else◌, Option, Some, None, position, codes}
 use Rattle.ldv_value.specs.declared.value.Value.TheVariants as value
 use Rattle.ldv_value.specs.declared.value.Cmp.{Cmp}
 use Rattle.ldv_value.specs.declared.file.OpenMode.{OpenMode}
 use Rattle.script_parse.specs.declared.script.Operand.{Operand}
 use Rattle.script_parse.specs.declared.script.Operand.TheVariants.{Constant, Variable}
-use Rattle.script_parse.specs.declared.script.CalcOp.{CalcOp}
 use Rattle.script_parse.specs.declared.script.CalcOp.TheVariants.{Add, Subtract, Multiply}
 use Rattle.script_parse.specs.declared.script.Instr.{Instr}
 use Rattle.script_parse.specs.declared.script.Instr.TheVariants as instr
@@ -16,9 +15,9 @@ use Rattle.script_parse.specs.declared.keyword.Keyword.TheVariants.{Let, Cut, Go
 use Rattle.script_parse.specs.declared.keyword.Sign.{Sign}
 use Rattle.script_parse.specs.declared.keyword.Sign.TheVariants.{Plus, Minus, Times, Join}
 use Rattle.script_parse.specs.declared.line.Line.{Line}
-use Rattle.script_parse.specs.declared.line.Line.TheVariants.{Quiet, Label, Plain, Jumping}
+use Rattle.script_parse.specs.declared.line.Line.TheVariants.{Plain, Jumping}
 use Rattle.script_parse.specs.Gives.{◌>>=◌}
-use Rattle.script_parse.specs.Keywords.{keyword_of, sign_of, comparison_of, mode_of}
+use Rattle.script_parse.specs.Keywords.{sign_of, comparison_of, mode_of}
 use Rattle.script_parse.specs.Names.{is_text, name_test}
 
 -- what each of the items gives, in order, where each gives something

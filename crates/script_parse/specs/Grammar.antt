@@ -1,6 +1,6 @@
 -- The grammar of scripts, as a relation between bytes and instructions. It says how each thing is written, from
 -- the instructions to the bytes; no place in it says how they are read.
-use Rattle.std.specs.Prelude.{◌≡◌, ◌≢◌, ◌⊎◌, ℕ, zero, suc, ◌+◌, ◌*◌, ◌^◌, ◌<◌, ◌≤◌, List, [], ◌∷◌, ◌++◌, length, map, IsTrue, IsUtf8, ℤ, pos, neg_ℤ, codes, Option, Some, None}
+use Rattle.std.specs.Prelude.{◌≡◌, ◌≢◌, ◌⊎◌, ℕ, ◌^◌, ◌<◌, ◌≤◌, List, [], ◌∷◌, ◌++◌, length, map, IsTrue, IsUtf8, ℤ, pos, neg_ℤ, codes, Option, Some, None}
 use Rattle.std.specs.List.{AllZip, AllByRecursion}
 use Prim.Native.String.{String}
 use Rattle.ldv_value.specs.declared.value.Value.TheVariants as value

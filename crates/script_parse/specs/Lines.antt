@@ -1,9 +1,9 @@
 -- The lines of a script, and what each says.
-use Rattle.std.specs.Prelude.{ℕ, ◌+◌, List, [], ◌∷◌, Bool, true, false, not, ◌&&◌, ◌==◌, if◌then◌else◌, Option, Some, None, find}
+use Rattle.std.specs.Prelude.{ℕ, ◌+◌, List, [], ◌∷◌, Bool, false, not, ◌&&◌, ◌==◌, if◌then◌else◌, Option, Some, None, find}
 use Rattle.std.specs.Str.{is_utf8}
 use Rattle.script_parse.specs.declared.token.Token.{Token}
 use Rattle.script_parse.specs.declared.line.Line.{Line}
-use Rattle.script_parse.specs.declared.line.Line.TheVariants.{Quiet, Label, Plain, Jumping}
+use Rattle.script_parse.specs.declared.line.Line.TheVariants.{Quiet, Label}
 use Rattle.script_parse.specs.Forms.{only_if, word_of, name_in, instruction_of}
 use Rattle.script_parse.specs.Gives.{◌>>=◌}
 use Rattle.script_parse.specs.Keywords.{keyword_of}

@@ -1,5 +1,5 @@
 -- The tokens of a line.
-use Rattle.std.specs.Prelude.{ℕ, ◌+◌, ◌++◌, List, [], ◌∷◌, length, Bool, true, false, ◌&&◌, ◌||◌, ◌==◌, nat_le, if◌then◌else◌, Option, Some, None, option_map, option_to_list, ℤ}
+use Rattle.std.specs.Prelude.{ℕ, ◌++◌, List, [], ◌∷◌, length, Bool, ◌||◌, ◌==◌, nat_le, if◌then◌else◌, Option, Some, None, option_to_list, ℤ}
 use Rattle.std.specs.Str.{is_utf8}
 use Rattle.script_parse.specs.declared.token.Token.{Token}
 use Rattle.script_parse.specs.declared.token.Token.TheVariants.{Word, Number, Quoted}

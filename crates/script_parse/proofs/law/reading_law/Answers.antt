@@ -1,4 +1,4 @@
-use Rattle.std.proofs.Common.{◌≡◌, sym, ◌∙◌, Some, List, ℕ}
+use Rattle.std.proofs.Common.{◌≡◌, sym, ◌∙◌, Some, List}
 use Rattle.script_parse.specs.declared.script.Instr.{Instr}
 use Rattle.script_parse.proofs.ScriptLaw.{script_sound, script_complete}
 use Rattle.script_parse.proofs.law.reading_law.Goals as goal
