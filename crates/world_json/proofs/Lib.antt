@@ -3,5 +3,6 @@ pub mod Each
 pub mod Found
 pub mod JsonText
 pub mod Lookups
+pub mod Readings
 pub mod Rises
 pub mod Seen
