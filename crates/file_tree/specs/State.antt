@@ -34,6 +34,7 @@ state_code =
 abbrev pub content_at : FileState → List ℕ → Option (List ℕ)
 content_at s path = finmap.get s.files path
 
+-- whether there is a file at a path
 abbrev pub is_there : FileState → List ℕ → Bool
 is_there s path = is_some (content_at s path)
 

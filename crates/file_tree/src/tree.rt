@@ -2,6 +2,9 @@
 
 ghost use Rattle.std.specs.Prelude.{◌≡◌, ◌≢◌, ◌+◌, ◌<◌, ◌≤◌, ◌↔◌, ◌^◌, false, [], drop, length, IfOk, IfSome, OnOk, OnErr, IsTrue};
 ghost use Rattle.std.specs.List.{All};
+ghost use Rattle.std.specs.List.Sorted.{IsStrictlySortedBy};
+ghost use Rattle.std.specs.Ordering.{nat_cmp};
+ghost use Rattle.std.specs.Cmp.Lexicographic.{slice_cmp};
 ghost use Rattle.std.specs.Option.{option_map};
 ghost use Rattle.std.specs.FinMap as finmap;
 ghost use Rattle.ldv_value.specs.Names.{path_test};
@@ -158,6 +161,7 @@ impl Tree {
     /// The touched paths, rising by their bytes. `AllocError` means want of memory alone.
     pub fn touched(&self) -> Result<Paths, AllocError>
         ensures paths { IfOk result (λ paths. paths ≡ touched_paths self.now) }
+        ensures rising { IfOk result (IsStrictlySortedBy (slice_cmp nat_cmp)) }
         ensures valid { IfOk result (All (λ path. IsTrue (path_test path))) }
     {
         self.touched.list()

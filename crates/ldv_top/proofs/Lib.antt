@@ -1,4 +1,6 @@
+pub mod AnswerLaws
 pub mod CutLemmas
 pub mod ReplyLaw
 pub mod RunLaw
+pub mod TopLaws
 pub mod WriteLemmas

@@ -1,7 +1,5 @@
 -- What is due for words and an input: an exit, and the bytes that are written where it is Done.
-use Rattle.std.specs.Prelude.{◌≡◌, ℕ, List, [], ◌∷◌, length, codes, Bool, true, false, nat_lt, nat_le, if◌then◌else◌, Option, Some, None, Result, Ok, Err, bytes_eq}
-use Rattle.std.specs.List.{list_all}
-use Rattle.ldv_value.specs.declared.file.File.{File}
+use Rattle.std.specs.Prelude.{◌≡◌, ℕ, List, [], ◌∷◌, length, codes, Bool, true, false, nat_lt, if◌then◌else◌, Option, Some, None, Result, Ok, Err, bytes_eq}
 use Rattle.script_parse.specs.declared.script.Instr.{Instr}
 use Rattle.run_model.specs.declared.outcome.Outcome.{Outcome}
 use Rattle.run_model.specs.declared.world.World.{World}
@@ -12,7 +10,7 @@ use Rattle.run_model.specs.State.{start_state}
 use Rattle.world_json.specs.Reading.{world_reading}
 use Rattle.world_json.specs.declared.fault.WorldFault.{WorldFault}
 use Rattle.ldv_top.specs.declared.answers.Answer.{Answer}
-use Rattle.ldv_top.specs.declared.answers.Answer.TheVariants.{Written, Refused}
+use Rattle.ldv_top.specs.declared.answers.Answer.TheVariants as answers
 use Rattle.ldv_top.specs.declared.command.Command.{Command}
 use Rattle.ldv_top.specs.declared.command.Command.TheVariants.{Run}
 use Rattle.ldv_top.specs.declared.exit.Exit.{Exit}
@@ -81,9 +79,6 @@ due words input = due_of (command_of words) input
 -- ---- an answer as what is due
 
 abbrev pub answer_due : Answer → Due
-answer_due (Written bytes) = done bytes
-answer_due (Refused exit) = refused exit
-
--- each file of the world is within its limit
-abbrev pub has_small_files : World → Bool
-has_small_files w = list_all (λ file. nat_le (length file.content) 16777216) w.files
+answer_due (answers.Written bytes) = done bytes
+answer_due (answers.NotWorld fault) = refused (NotWorld fault)
+answer_due answers.NotBuilt = refused NotBuilt

@@ -1,3 +1,4 @@
+pub mod Comes
 pub mod Cuts
 pub mod Due
 pub mod Exits

@@ -1,23 +1,28 @@
 //! From the input to what is written.
 
 ghost use Rattle.std.specs.Prelude.{◌≡◌, ◌<◌, ◌≤◌, ◌^◌, true, length, IfOk, IfErr, option_map, Some, Result};
-ghost use Rattle.run_model.specs.Start.{file_at, start_file, start_script};
+ghost use Rattle.run_model.specs.Start.{file_at, start_file, start_script, has_small_files};
 ghost use Rattle.script_parse.specs.Script.{script_of};
-ghost use Rattle.ldv_top.specs.Due.{answer_due, due_plain, due_script, due_world, due_run, has_small_files};
+ghost use Rattle.ldv_top.specs.Due.{answer_due, due_outcome, due_plain, due_script, due_world, due_run};
+ghost use Rattle.ldv_top.specs.Plain.{finish_of, outcome_from, plain_script};
 
-use crate::exit::Exit;
 use crate::finish::{outcome_of, run_steps};
-use crate::plain::plain_of;
+use crate::plain::{PlainSteps, plain_of};
 use ldv_value::{Bytes, File, Utf8};
 use run_model::{World, outcome_text};
 use script_parse::{Script, ScriptStop, parse_script};
 use std::alloc::{AllocError, Global};
+use world_json::{WorldFault, WorldStop, world_of};
 
 /// What a command comes to before anything is written: the bytes to write, or another exit.
 #[derive(Drop)]
 pub enum Answer {
+    /// These bytes are to be written.
     Written(Bytes),
-    Refused(Exit),
+    /// The input is no world.
+    NotWorld(WorldFault),
+    /// The world can't be run yet.
+    NotBuilt,
 }
 
 fn find_file<'a>(files: &'a [File], path: &Utf8) -> Option<&'a File>
@@ -43,5 +48,56 @@ fn script_in(alloc: Global, bytes: &[u8]) -> Result<Option<Script>, AllocError>
         Ok(script) => Ok(Some(script)),
         Err(ScriptStop::Line(_)) => Ok(None),
         Err(ScriptStop::NoMemory) => Err(AllocError),
+    }
+}
+
+fn start_script_of(alloc: Global, world: &World) -> Result<Option<Script>, AllocError>
+    requires { has_small_files world.now ≡ true }
+    ensures { IfOk result (λ script. option_map (λ s. s.instructions) script ≡ start_script world.now) }
+{
+    match start_of(world) {
+        None => Ok(None),
+        Some(file) => script_in(alloc, file.content.as_slice()),
+    }
+}
+
+fn answer_steps(alloc: Global, world: &World, steps: &PlainSteps) -> Result<Answer, AllocError>
+    ensures { IfOk result (λ answer. answer_due answer ≡ due_outcome (Some (outcome_from (finish_of world.now.tables steps.now)))) }
+{
+    let end = run_steps(alloc, steps, world.tables.items())?;
+    let outcome = outcome_of(alloc, end)?;
+    Ok(Answer::Written(outcome_text(alloc, &outcome)?))
+}
+
+#[tactic(auto, using(crate::proofs::AnswerLaws::plain_due))]
+fn answer_script(alloc: Global, world: &World, script: &Script) -> Result<Answer, AllocError>
+    ensures { IfOk result (λ answer. answer_due answer ≡ due_plain (plain_script script.now.instructions) world.now script.now.instructions) }
+{
+    match plain_of(alloc, script)? {
+        None => Ok(Answer::NotBuilt),
+        Some(steps) => answer_steps(alloc, world, &steps),
+    }
+}
+
+fn answer_world(alloc: Global, world: &World) -> Result<Answer, AllocError>
+    requires { has_small_files world.now ≡ true }
+    ensures { IfOk result (λ answer. answer_due answer ≡ due_world world.now) }
+{
+    match start_script_of(alloc, world)? {
+        None => Ok(Answer::NotBuilt),
+        Some(script) => answer_script(alloc, world, &script),
+    }
+}
+
+/// What `run` comes to for an input. `AllocError` means want of memory alone.
+#[tactic(auto, using(world_json::proofs::WorldFiles::small_files))]
+pub fn answer_run(alloc: Global, input: &Bytes) -> Result<Answer, AllocError>
+    requires { length input.now ≤ 67108864 }
+    ensures { IfOk result (λ answer. answer_due answer ≡ due_run input.now) }
+{
+    match world_of(alloc, input.as_slice()) {
+        Ok(world) => answer_world(alloc, &world),
+        Err(WorldStop::Fault(fault)) => Ok(Answer::NotWorld(fault)),
+        Err(WorldStop::NoMemory) => Err(AllocError),
     }
 }

@@ -23,5 +23,9 @@ pub fn read_words(words: &[String]) -> Option<Command>
 fn command_named(word: &str) -> Option<Command>
     ensures { result ≡ command_of (word.now ∷ []) }
 {
-    if word == "run" { Some(Command::Run) } else { None }
+    if word == "run" {
+        Some(Command::Run)
+    } else {
+        None
+    }
 }

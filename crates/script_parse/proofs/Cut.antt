@@ -29,7 +29,7 @@ cut_first b (c ∷ cs) miss first = elim (cases_Bool (b == 13)) [
 ]
 
 -- and before others
-cut_more : (b : ℕ) (bs : List ℕ) → (b == 10) ≡ false → starts_with_feed bs ≡ false → lines_of (b ∷ bs) ≡ grow b (lines_of bs)
+pub cut_more : (b : ℕ) (bs : List ℕ) → (b == 10) ≡ false → starts_with_feed bs ≡ false → lines_of (b ∷ bs) ≡ grow b (lines_of bs)
 cut_more b bs miss other = rw (miss, other, and_false (b == 13)) refl
 
 -- the lines of bytes that aren't all before an LF

@@ -1,5 +1,6 @@
 pub mod Forms
 pub mod Gives
+pub mod Grammar
 pub mod Keywords
 pub mod Lines
 pub mod Names

@@ -119,9 +119,24 @@ fn signed(to: Utf8, left: Operand, right: Operand, sign: Sign) -> Instr
     ensures { result ≡ signed to left right sign }
 {
     match sign {
-        Sign::Plus => Instr::Calc { to, op: CalcOp::Add, left, right },
-        Sign::Minus => Instr::Calc { to, op: CalcOp::Subtract, left, right },
-        Sign::Times => Instr::Calc { to, op: CalcOp::Multiply, left, right },
+        Sign::Plus => Instr::Calc {
+            to,
+            op: CalcOp::Add,
+            left,
+            right,
+        },
+        Sign::Minus => Instr::Calc {
+            to,
+            op: CalcOp::Subtract,
+            left,
+            right,
+        },
+        Sign::Times => Instr::Calc {
+            to,
+            op: CalcOp::Multiply,
+            left,
+            right,
+        },
         Sign::Join => Instr::Glue { to, left, right },
     }
 }
@@ -168,7 +183,12 @@ fn if_form(tokens: &[Token]) -> Result<Line, Refused>
         return Err(Refused::Bad);
     }
     Ok(Line::Jumping(
-        Instr::JumpIf { op, left, right, place: 0 },
+        Instr::JumpIf {
+            op,
+            left,
+            right,
+            place: 0,
+        },
         label,
     ))
 }
@@ -261,7 +281,11 @@ fn sql_form(alloc: Global, tokens: &[Token]) -> Result<Line, Refused>
     let cursor = name(c)?;
     let text = operand(v)?;
     let params = operands(alloc, rest)?;
-    Ok(Line::Plain(Instr::Sql { cursor, text, params }))
+    Ok(Line::Plain(Instr::Sql {
+        cursor,
+        text,
+        params,
+    }))
 }
 
 // `x c`
@@ -333,7 +357,12 @@ fn open_front(tokens: &[Token], label: Utf8) -> Result<Line, Refused>
     let mode = mode(m)?;
     let path = operand(v)?;
     Ok(Line::Jumping(
-        Instr::OpenPath { file, mode, path, place: 0 },
+        Instr::OpenPath {
+            file,
+            mode,
+            path,
+            place: 0,
+        },
         label,
     ))
 }
@@ -354,10 +383,7 @@ fn readline_front(tokens: &[Token], label: Utf8) -> Result<Line, Refused>
     };
     let to = name(x)?;
     let file = name(f)?;
-    Ok(Line::Jumping(
-        Instr::ReadLine { to, file, place: 0 },
-        label,
-    ))
+    Ok(Line::Jumping(Instr::ReadLine { to, file, place: 0 }, label))
 }
 
 // `v else L`
@@ -396,7 +422,12 @@ fn spawn_front(alloc: Global, tokens: &[Token], label: Utf8) -> Result<Line, Ref
     let path = operand(v)?;
     let arguments = operands(alloc, rest)?;
     Ok(Line::Jumping(
-        Instr::Spawn { child, path, arguments, place: 0 },
+        Instr::Spawn {
+            child,
+            path,
+            arguments,
+            place: 0,
+        },
         label,
     ))
 }
@@ -417,5 +448,12 @@ fn fetch_front(alloc: Global, tokens: &[Token], label: Utf8) -> Result<Line, Ref
     };
     let cursor = name(c)?;
     let to = names_from_one(alloc, rest)?;
-    Ok(Line::Jumping(Instr::Fetch { cursor, to, place: 0 }, label))
+    Ok(Line::Jumping(
+        Instr::Fetch {
+            cursor,
+            to,
+            place: 0,
+        },
+        label,
+    ))
 }

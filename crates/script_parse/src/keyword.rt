@@ -60,8 +60,11 @@ const KEYWORDS: [Keyword; 19] = [
     Keyword::Count,
     Keyword::Status,
 ];
+
 const SIGNS: [Sign; 4] = [Sign::Plus, Sign::Minus, Sign::Times, Sign::Join];
+
 const COMPARISONS: [Cmp; 6] = [Cmp::Eq, Cmp::Ne, Cmp::Lt, Cmp::Le, Cmp::Gt, Cmp::Ge];
+
 const MODES: [OpenMode; 4] = [
     OpenMode::Read,
     OpenMode::Write,
@@ -87,7 +90,10 @@ pub(crate) fn find_sign(word: &str) -> Option<Sign>
 pub(crate) fn find_comparison(word: &str) -> Option<Cmp>
     ensures { result ≡ comparison_of word.now }
 {
-    COMPARISONS.iter().copied().find(|c| word == comparison_text(*c))
+    COMPARISONS
+        .iter()
+        .copied()
+        .find(|c| word == comparison_text(*c))
 }
 
 /// The mode of opening that a word is.

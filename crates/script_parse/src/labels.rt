@@ -53,7 +53,15 @@ fn add_label(
     match &entry.line {
         None => Ok(()),
         Some(Line::Quiet) => Ok(()),
-        Some(Line::Label(name)) => define(alloc, labels, name, Definition { line: entry.number, place }),
+        Some(Line::Label(name)) => define(
+            alloc,
+            labels,
+            name,
+            Definition {
+                line: entry.number,
+                place,
+            },
+        ),
         Some(Line::Plain(_)) => Ok(()),
         Some(Line::Jumping(_, _)) => Ok(()),
     }

@@ -34,14 +34,22 @@ fn natural(digits: &[u8]) -> Option<i64>
     ensures { result ≡ natural_of digits.now }
 {
     let number = magnitude(digits)?;
-    if number < MAGNITUDE_LIMIT { Some(number as i64) } else { None }
+    if number < MAGNITUDE_LIMIT {
+        Some(number as i64)
+    } else {
+        None
+    }
 }
 
 fn negative(digits: &[u8]) -> Option<i64>
     ensures { result ≡ negative_of digits.now }
 {
     let number = magnitude(digits)?;
-    if number == MAGNITUDE_LIMIT { Some(i64::MIN) } else { Some(-(number as i64)) }
+    if number == MAGNITUDE_LIMIT {
+        Some(i64::MIN)
+    } else {
+        Some(-(number as i64))
+    }
 }
 
 fn magnitude(digits: &[u8]) -> Option<u64>
@@ -73,7 +81,11 @@ fn longer(number: u64, b: u8) -> Option<u64>
         return None;
     }
     let longer = 10 * number + (b - b'0') as u64;
-    if longer <= MAGNITUDE_LIMIT { Some(longer) } else { None }
+    if longer <= MAGNITUDE_LIMIT {
+        Some(longer)
+    } else {
+        None
+    }
 }
 
 fn digit(b: u8) -> bool

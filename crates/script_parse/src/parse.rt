@@ -121,14 +121,48 @@ fn with_place(instr: Instr, place: u32) -> Instr
 {
     match instr {
         Instr::Jump { place: _ } => Instr::Jump { place },
-        Instr::JumpIf { op, left, right, place: _ } => Instr::JumpIf { op, left, right, place },
-        Instr::OpenPath { file, mode, path, place: _ } => Instr::OpenPath { file, mode, path, place },
+        Instr::JumpIf {
+            op,
+            left,
+            right,
+            place: _,
+        } => Instr::JumpIf {
+            op,
+            left,
+            right,
+            place,
+        },
+        Instr::OpenPath {
+            file,
+            mode,
+            path,
+            place: _,
+        } => Instr::OpenPath {
+            file,
+            mode,
+            path,
+            place,
+        },
         Instr::ReadLine { to, file, place: _ } => Instr::ReadLine { to, file, place },
         Instr::Remove { path, place: _ } => Instr::Remove { path, place },
-        Instr::Spawn { child, path, arguments, place: _ } => {
-            Instr::Spawn { child, path, arguments, place }
+        Instr::Spawn {
+            child,
+            path,
+            arguments,
+            place: _,
+        } => {
+            Instr::Spawn {
+                child,
+                path,
+                arguments,
+                place,
+            }
         }
-        Instr::Fetch { cursor, to, place: _ } => Instr::Fetch { cursor, to, place },
+        Instr::Fetch {
+            cursor,
+            to,
+            place: _,
+        } => Instr::Fetch { cursor, to, place },
         other => other,
     }
 }

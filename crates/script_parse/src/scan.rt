@@ -113,7 +113,11 @@ fn escaped(mut text: Bytes, b: u8) -> Result<(Place, Option<Token>), Refused>
 fn closed(token: Token, b: u8) -> Result<(Place, Option<Token>), Refused>
     ensures { Gives result (step_closed token b) }
 {
-    if blank(b) { Ok((Place::Between, Some(token))) } else { Err(Refused::Bad) }
+    if blank(b) {
+        Ok((Place::Between, Some(token)))
+    } else {
+        Err(Refused::Bad)
+    }
 }
 
 fn finish(place: Place) -> Result<Option<Token>, Refused>

@@ -34,10 +34,19 @@ fn add(alloc: Global, entries: &mut Entries, number: u32, line: &[u8]) -> Result
 {
     match read_line(alloc, line) {
         Ok(Line::Quiet) => Ok(()),
-        Ok(Line::Label(name)) => entries.push(Entry { number, line: Some(Line::Label(name)) }),
-        Ok(Line::Plain(instr)) => entries.push(Entry { number, line: Some(Line::Plain(instr)) }),
+        Ok(Line::Label(name)) => entries.push(Entry {
+            number,
+            line: Some(Line::Label(name)),
+        }),
+        Ok(Line::Plain(instr)) => entries.push(Entry {
+            number,
+            line: Some(Line::Plain(instr)),
+        }),
         Ok(Line::Jumping(instr, label)) => {
-            entries.push(Entry { number, line: Some(Line::Jumping(instr, label)) })
+            entries.push(Entry {
+                number,
+                line: Some(Line::Jumping(instr, label)),
+            })
         }
         Err(Refused::Bad) => entries.push(Entry { number, line: None }),
         Err(Refused::NoMemory) => Err(AllocError),

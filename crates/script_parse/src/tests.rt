@@ -59,7 +59,12 @@ fn shown(alloc: Global, instr: &Instr) -> Result<String, AllocError> {
         Instr::Let { to, value } => {
             format!(in alloc; "Let {} {}", to.as_str(), operand(alloc, value)?)
         }
-        Instr::Calc { to, op, left, right } => {
+        Instr::Calc {
+            to,
+            op,
+            left,
+            right,
+        } => {
             let left = operand(alloc, left)?;
             let right = operand(alloc, right)?;
             format!(in alloc; "Calc {} {} {left} {right}", to.as_str(), calc_word(*op))
@@ -77,7 +82,12 @@ fn shown(alloc: Global, instr: &Instr) -> Result<String, AllocError> {
             format!(in alloc; "Cut {} {} {by}", before.as_str(), after.as_str())
         }
         Instr::Jump { place } => format!(in alloc; "Jump {place}"),
-        Instr::JumpIf { op, left, right, place } => {
+        Instr::JumpIf {
+            op,
+            left,
+            right,
+            place,
+        } => {
             let left = operand(alloc, left)?;
             let right = operand(alloc, right)?;
             format!(in alloc; "JumpIf {} {left} {right} {place}", comparison_word(*op))
@@ -90,9 +100,18 @@ fn shown(alloc: Global, instr: &Instr) -> Result<String, AllocError> {
 
 fn shown_more(alloc: Global, instr: &Instr) -> Result<String, AllocError> {
     match instr {
-        Instr::OpenPath { file, mode, path, place } => {
+        Instr::OpenPath {
+            file,
+            mode,
+            path,
+            place,
+        } => {
             let path = operand(alloc, path)?;
-            format!(in alloc; "OpenPath {} {} {path} {place}", file.as_str(), mode_word(*mode))
+            format!(in alloc;
+                "OpenPath {} {} {path} {place}",
+                file.as_str(),
+                mode_word(*mode)
+            )
         }
         Instr::ReadLine { to, file, place } => {
             format!(in alloc; "ReadLine {} {} {place}", to.as_str(), file.as_str())
@@ -110,13 +129,22 @@ fn shown_more(alloc: Global, instr: &Instr) -> Result<String, AllocError> {
         Instr::Exists { to, path } => {
             format!(in alloc; "Exists {} {}", to.as_str(), operand(alloc, path)?)
         }
-        Instr::Spawn { child, path, arguments, place } => {
+        Instr::Spawn {
+            child,
+            path,
+            arguments,
+            place,
+        } => {
             let path = operand(alloc, path)?;
             let arguments = operands(alloc, arguments)?;
             format!(in alloc; "Spawn {} {path} {arguments} {place}", child.as_str())
         }
         Instr::Wait { to, child } => format!(in alloc; "Wait {} {}", to.as_str(), child.as_str()),
-        Instr::Sql { cursor, text, params } => {
+        Instr::Sql {
+            cursor,
+            text,
+            params,
+        } => {
             let text = operand(alloc, text)?;
             let params = operands(alloc, params)?;
             format!(in alloc; "Sql {} {text} {params}", cursor.as_str())
@@ -165,7 +193,10 @@ fn reads_each_form(rt: HostRuntime) -> Result<(), Fail> {
         ("let x = 7", "Let x 7;"),
         ("let let = null\n", "Let let null;"),
         ("\t let  x\t= y \t\r\n", "Let x y;"),
-        ("let x = -0009223372036854775808", "Let x -9223372036854775808;"),
+        (
+            "let x = -0009223372036854775808",
+            "Let x -9223372036854775808;",
+        ),
         ("let x = 9223372036854775807", "Let x 9223372036854775807;"),
         ("let x = a + -1", "Calc x add a -1;"),
         ("let x = a - 1", "Calc x subtract a 1;"),
@@ -182,7 +213,10 @@ fn reads_each_form(rt: HostRuntime) -> Result<(), Fail> {
         ("if a > 1 goto l\nl:", "JumpIf gt a 1 1;"),
         ("if goto >= 1 goto goto\ngoto:", "JumpIf ge goto 1 1;"),
         ("print null", "Print [null,];"),
-        ("print a 1 \"# \t\\n\\t\\\"\\\\é\"", "Print [a,1,<# \t\n\t\"\\é>,];"),
+        (
+            "print a 1 \"# \t\\n\\t\\\"\\\\é\"",
+            "Print [a,1,<# \t\n\t\"\\é>,];",
+        ),
         ("exit 0", "Exit 0;"),
         ("l:\nopen f r \"p\" else l", "OpenPath f read <p> 0;"),
         ("l:\nopen f w p else l", "OpenPath f write p 0;"),
@@ -202,7 +236,10 @@ fn reads_each_form(rt: HostRuntime) -> Result<(), Fail> {
         ("l:\nfetch c x y else l", "Fetch c x,y, 0;"),
         ("count x c", "Count x c;"),
         ("status x c", "Status x c;"),
-        ("# \"not closed\n \t# as well\n\n  \n_9:\r\ngoto _9", "Jump 0;"),
+        (
+            "# \"not closed\n \t# as well\n\n  \n_9:\r\ngoto _9",
+            "Jump 0;",
+        ),
         ("# end\r", ""),
         ("exit \"\r\"", "Exit <\r>;"),
         ("print \"\x01\x7f\"", "Print [<\x01\x7f>,];"),
@@ -279,7 +316,13 @@ fn finds_the_first_bad_line(rt: HostRuntime) -> Result<(), Fail> {
 }
 
 // A line of a word and `count` more of a token.
-fn long(alloc: Global, word: &str, token: &str, count: usize, end: &str) -> Result<String, AllocError> {
+fn long(
+    alloc: Global,
+    word: &str,
+    token: &str,
+    count: usize,
+    end: &str,
+) -> Result<String, AllocError> {
     let mut line = String::from_str(alloc, word)?;
     for _ in 0..count {
         line.push_str(token)?;
@@ -353,11 +396,14 @@ bad:
 exit 1
 ",
     )?;
-    assert_eq!(rt; read.as_str(), "OpenPath f read <new.csv> 11;ReadLine line f 8;Cut id line <,>;Cut who line <,>;ToInt id id;ToInt who who;Sql q <INSERT INTO orders VALUES (?, ?, ?, 1)> [id,who,line,];Jump 1;Spawn p <report.ldv> [1,] 11;Wait s p;Exit s;Exit 1;");
+    assert_eq!(rt;
+        read.as_str(),
+        "OpenPath f read <new.csv> 11;ReadLine line f 8;Cut id line <,>;Cut who line <,>;ToInt id id;ToInt who who;Sql q <INSERT INTO orders VALUES (?, ?, ?, 1)> [id,who,line,];Jump 1;Spawn p <report.ldv> [1,] 11;Wait s p;Exit s;Exit 1;"
+    );
     let read = reading(
         alloc,
         b"open out w \"report.txt\" else end
-sql q \"SELECT 1 FROM t\" arg1
+sql q \"SELECT c.name, SUM(o.qty * i.price) FROM orders o JOIN customers c ON o.customer = c.id JOIN items i ON o.sku = i.sku GROUP BY c.name HAVING SUM(o.qty) > ?\" arg1
 row:
 fetch q name total else end
 write out name \" \" total
@@ -367,6 +413,9 @@ count n q
 print n
 ",
     )?;
-    assert_eq!(rt; read.as_str(), "OpenPath out write <report.txt> 5;Sql q <SELECT 1 FROM t> [arg1,];Fetch q name,total, 5;WriteLine out [name,< >,total,];Jump 2;Count n q;Print [n,];");
+    assert_eq!(rt;
+        read.as_str(),
+        "OpenPath out write <report.txt> 5;Sql q <SELECT c.name, SUM(o.qty * i.price) FROM orders o JOIN customers c ON o.customer = c.id JOIN items i ON o.sku = i.sku GROUP BY c.name HAVING SUM(o.qty) > ?> [arg1,];Fetch q name,total, 5;WriteLine out [name,< >,total,];Jump 2;Count n q;Print [n,];"
+    );
     Ok(())
 }

@@ -6,3 +6,4 @@ pub mod Lookups
 pub mod Readings
 pub mod Rises
 pub mod Seen
+pub mod WorldFiles

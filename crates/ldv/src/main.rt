@@ -1,0 +1,43 @@
+//! The program: it makes the streams of the process and calls `ldv_main`.
+//!
+//! Its few lines and the streams of `ldv_io` are the trusted edge: what standard input gave and what the
+//! system took is no clause.
+#![tactic(auto)]
+
+use ldv_io::{StdSink, StdSource, write_all};
+use ldv_top::ldv_main;
+use std::alloc::Global;
+use std::env;
+use std::io::ErrorKind;
+use std::process::ExitCode;
+
+/// Where the words of the command line weren't given.
+const NO_WORDS: u8 = 17;
+/// Where memory ran out before the words were read.
+const NO_MEMORY: u8 = 11;
+
+fn main(rt: HostRuntime) -> ExitCode {
+    let alloc: Global = rt.alloc();
+    let mut errors = StdSink::new(rt.stderr());
+    let words = match env::args(&rt) {
+        Ok(args) => args,
+        Err(error) => {
+            if error.kind() == ErrorKind::OutOfMemory {
+                let _ = write_all(&mut errors, b"ldv: out of memory\n");
+                return ExitCode::from(NO_MEMORY);
+            }
+            let _ = write_all(&mut errors, b"ldv: no words\n");
+            return ExitCode::from(NO_WORDS);
+        }
+    };
+    let mut all = Vec::new(alloc);
+    for word in words.skip(1) {
+        if all.push(word).is_err() {
+            let _ = write_all(&mut errors, b"ldv: out of memory\n");
+            return ExitCode::from(NO_MEMORY);
+        }
+    }
+    let mut source = StdSource::new(rt.stdin());
+    let mut sink = StdSink::new(rt.stdout());
+    ExitCode::from(ldv_main(alloc, &all, &mut source, &mut sink, &mut errors))
+}
