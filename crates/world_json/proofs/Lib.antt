@@ -3,6 +3,7 @@ pub mod Each
 pub mod Found
 pub mod JsonText
 pub mod Lookups
+pub mod Readings
 pub mod Rises
 pub mod Seen
 pub mod WorldFiles

@@ -1,19 +1,13 @@
 //! Whether the definitions say what is meant: each fault beside a document that just misses it, and a
 //! whole world.
 
-ghost use Rattle.std.specs.Prelude.{◌<◌, ◌^◌, length};
-
 use crate::{WorldFault, WorldStop, world_of};
 use ldv_value::Value;
 use std::alloc::{AllocError, Global};
 use std::test::Fail;
 
-const INPUT: usize = 67_108_864;
-
 // Why a text is no world; `None` where it is one.
-fn stop_of(alloc: Global, text: &str) -> Option<WorldStop>
-    requires { length text.now < 2 ^ 32 }
-{
+fn stop_of(alloc: Global, text: &str) -> Option<WorldStop> {
     match world_of(alloc, text.as_bytes()) {
         Ok(_world) => None,
         Err(stop) => Some(stop),
@@ -178,7 +172,6 @@ fn judges_documents(rt: HostRuntime) {
             fault(WorldFault::BadScript(1)),
         ),
     ] {
-        assert!(rt; text.len() <= INPUT);
         assert_eq!(rt; stop_of(rt.alloc(), text), want, "{text}");
     }
 }
@@ -322,7 +315,6 @@ fn judges_tables(rt: HostRuntime) -> Result<(), Fail> {
         ),
     ] {
         let text = with_table(rt.alloc(), table)?;
-        assert!(rt; text.len() <= INPUT);
         assert_eq!(rt; stop_of(rt.alloc(), text.as_str()), want, "{table}");
     }
     Ok(())
@@ -408,7 +400,6 @@ fn judges_long_documents(rt: HostRuntime) -> Result<(), Fail> {
         ),
     ] {
         let text = repeated(rt.alloc(), before, unit, count, after)?;
-        assert!(rt; text.len() <= INPUT);
         assert_eq!(rt;
             stop_of(rt.alloc(), text.as_str()),
             want,
@@ -426,7 +417,6 @@ fn nests_to_a_limit(rt: HostRuntime) -> Result<(), Fail> {
     ] {
         let front = repeated(rt.alloc(), "", "[", count, "")?;
         let text = repeated(rt.alloc(), front.as_str(), "]", count, "")?;
-        assert!(rt; text.len() <= INPUT);
         assert_eq!(rt; stop_of(rt.alloc(), text.as_str()), want, "{count}");
     }
     Ok(())

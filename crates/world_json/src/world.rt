@@ -1,6 +1,6 @@
 //! The world of a document.
 
-ghost use Rattle.std.specs.Prelude.{◌≡◌, ◌≤◌, ◌<◌, ◌^◌, IfOk, IfErr, Ok, Some, length, map, true};
+ghost use Rattle.std.specs.Prelude.{◌≡◌, ◌≤◌, IfOk, IfErr, Ok, Some, length, map, true};
 ghost use Rattle.std.specs.List.{list_all};
 ghost use Rattle.serde_json.specs.View.{view};
 ghost use Rattle.world_json.specs.Faults.{is_within, is_table_within, key_places};
@@ -27,7 +27,6 @@ use std::alloc::{AllocError, Global};
 /// document, and the first one that holds is the answer; want of memory may come in its place. The files
 /// rise by path, the tables by name.
 pub fn world_of(alloc: Global, bytes: &[u8]) -> Result<World, WorldStop>
-    requires { length bytes.now < 2 ^ 32 }
     ensures world { IfOk result (λ world. world_reading bytes.now ≡ Ok world) }
     ensures fault { IfErr result (IsFaultOf (world_reading bytes.now)) }
     ensures rising { IfOk result (λ world. is_rising world ≡ true) }
