@@ -2,10 +2,13 @@
 #![tactic(auto)]
 
 mod damage;
+mod file;
 mod left;
+mod log;
 mod spelled;
 mod number;
 mod stop;
+mod table;
 mod text;
 mod value;
 mod width;

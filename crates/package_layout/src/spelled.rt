@@ -1,7 +1,7 @@
 //! What is read and written alike: items of lists.
 
 ghost use Rattle.std.specs.Prelude.{◌≡◌, ◌++◌, ℕ, List, OnOk, IfOk};
-ghost use Rattle.std.specs.List.{AllByRecursion};
+ghost use Rattle.std.specs.List.{flat_map, AllByRecursion};
 ghost use Rattle.package_layout.specs.Fields.{Found, Gives, items_at, list_at, list_spelling};
 ghost use Rattle.package_layout.specs.Widths.{of_count};
 
@@ -36,16 +36,28 @@ pub(crate) trait Readable: Drop {
         ensures { Gives result left.new (reading left.old) };
 }
 
-/// Appends a list: the number of its items and the items.
-pub(crate) fn put_list<X: Spelled>(width: Width, items: &Listed<X>, to: &mut Bytes) -> Result<(), AllocError>
-    ensures bytes { OnOk result (to.new ≡ to.old ++ list_spelling (of_count width) X.spelling items.now) }
+/// Appends items.
+pub(crate) fn put_items<X: Spelled>(items: &Listed<X>, to: &mut Bytes) -> Result<(), AllocError>
+    ensures bytes { OnOk result (to.new ≡ to.old ++ flat_map X.spelling items.now) }
     ensures typed { OnOk result (AllByRecursion X.typed items.now) }
 {
-    put_count(width, items.len(), to)?;
     for item in items.items() {
         item.put(to)?;
     }
     Ok(())
+}
+
+/// Appends a list: the number of its items and the items.
+pub(crate) fn put_list<X: Spelled>(
+    width: Width,
+    items: &Listed<X>,
+    to: &mut Bytes,
+) -> Result<(), AllocError>
+    ensures bytes { OnOk result (to.new ≡ to.old ++ list_spelling (of_count width) X.spelling items.now) }
+    ensures typed { OnOk result (AllByRecursion X.typed items.now) }
+{
+    put_count(width, items.len(), to)?;
+    put_items(items, to)
 }
 
 /// Reads a list with the number of its items before it. The list grows with the items that are read, so
@@ -54,11 +66,11 @@ pub(crate) fn read_list<X: Readable>(alloc: Global, width: Width, left: &mut Lef
     ensures { Gives result left.new (list_at (of_count width) X.reading left.old) }
 {
     let count = read_count(width, left)?;
-    read_items(alloc, count, left)
+    read_items(alloc, count as usize, left)
 }
 
 /// Reads so many items.
-pub(crate) fn read_items<X: Readable>(alloc: Global, count: u32, left: &mut Left) -> Result<Listed<X>, Stop>
+pub(crate) fn read_items<X: Readable>(alloc: Global, count: usize, left: &mut Left) -> Result<Listed<X>, Stop>
     ensures { Gives result left.new (items_at X.reading count left.old) }
 {
     let mut items = Listed::new(alloc);
