@@ -1,4 +1,6 @@
 pub mod Laws
 pub mod Lists
 pub mod Numbers
+pub mod Tags
 pub mod Texts
+pub mod Values

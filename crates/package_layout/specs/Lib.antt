@@ -1,5 +1,6 @@
 pub mod Fields
 pub mod Reading
+pub mod Room
 pub mod Spelling
 pub mod Typed
 pub mod Widths
