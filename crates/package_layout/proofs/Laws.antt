@@ -70,11 +70,15 @@ pub list_all-always : {X : Type 0} (xs : List X) → list_all always xs ≡ true
 list_all-always [] = refl
 list_all-always (x ∷ xs) = list_all-always xs
 
--- the same test, said in other words
-pub refit : {X : Type 0} (spell : X → List ℕ) (typed : X → Type 0) (f g : X → Bool) (read : List ℕ → Found X) → IsField spell typed f read → ((x : X) → g x ≡ true → f x ≡ true) → ((x : X) → f x ≡ true → g x ≡ true) → IsField spell typed g read
-refit spell typed f g read field to from = record {
-  again = λ x rest t h len. field.again x rest t (to x h) len;
-  took = λ bytes x rest b e. let k = field.took bytes x rest b e in record { parts = k.parts; is_typed = k.is_typed; is_fit = from x k.is_fit };
+-- the same values, said in other words
+pub restate : {X : Type 0} (spell : X → List ℕ) (t u : X → Type 0) (f g : X → Bool) (read : List ℕ → Found X) → IsField spell t f read
+    → ((x : X) → u x → g x ≡ true → t x × (f x ≡ true)) → ((x : X) → t x → f x ≡ true → u x × (g x ≡ true)) → IsField spell u g read
+restate spell t u f g read field to from = record {
+  again = λ x rest h k len. let both = to x h k in field.again x rest both.0 both.1 len;
+  took = λ bytes x rest b e.
+    let k = field.took bytes x rest b e in
+    let both = from x k.is_typed k.is_fit in
+    record { parts = k.parts; is_typed = both.0; is_fit = both.1 };
 }
 
 -- the same spelling, said in other words
@@ -82,13 +86,6 @@ pub respell : {X : Type 0} (s z : X → List ℕ) (typed : X → Type 0) (fits :
 respell s z typed fits read field same = record {
   again = λ x rest t h len. ap (λ (l : List ℕ). read (l ++ rest)) (same x) ∙ field.again x rest t h (subst (λ (l : List ℕ). length l < 2 ^ 32) (same x) len);
   took = λ bytes x rest b e. let k = field.took bytes x rest b e in record { parts = k.parts ∙ ap (λ (l : List ℕ). l ++ rest) (sym (same x)); is_typed = k.is_typed; is_fit = k.is_fit };
-}
-
--- the same facts of memory, said in other words
-pub retype : {X : Type 0} (spell : X → List ℕ) (t u : X → Type 0) (fits : X → Bool) (read : List ℕ → Found X) → IsField spell t fits read → ((x : X) → u x → t x) → ((x : X) → t x → u x) → IsField spell u fits read
-retype spell t u fits read field to from = record {
-  again = λ x rest h f len. field.again x rest (to x h) f len;
-  took = λ bytes x rest b e. let k = field.took bytes x rest b e in record { parts = k.parts; is_typed = from x k.is_typed; is_fit = k.is_fit };
 }
 
 -- ---- one field after another

@@ -1,6 +1,7 @@
 pub mod Laws
 pub mod Lists
 pub mod Numbers
+pub mod Tables
 pub mod Tags
 pub mod Texts
 pub mod Values

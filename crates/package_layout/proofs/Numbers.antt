@@ -11,7 +11,7 @@ use Rattle.std.proofs.lemmas.Bool.{cases_lt, ltb-false, le-ltb, ltb-true, eqb-tr
 use Rattle.std.proofs.lemmas.List.{take_at, drop_at, take-append-drop, length-append, length-take, get_or-drop, get_or-take, get_or_past}
 use Rattle.std.proofs.lemmas.Nat.{be_bytes_2, be_bytes_4, be_bytes_8, from_be_bytes-to_be_bytes_2, from_be_bytes-to_be_bytes_4, from_be_bytes-to_be_bytes_8}
 use Rattle.package_layout.specs.Fields.{Found, ◌>>=◌, then_at, made_at, tagged_at, bytes_at, number_at, signed_at, items_at, list_at, list_spelling, text_spelling, sized_at, text_of, text_at}
-use Rattle.package_layout.proofs.Laws.{IsBytes, IsBytes-take, IsBytes-rest, bind_some, just, some_is, guard_some, both_true, and_true, Took, IsField, always, list_all-always, made_law, refit}
+use Rattle.package_layout.proofs.Laws.{IsBytes, IsBytes-take, IsBytes-rest, bind_some, just, some_is, guard_some, both_true, and_true, Took, IsField, always, list_all-always, made_law}
 
 -- ---- numbers
 
@@ -160,7 +160,7 @@ items_took {X = X} s t f r one (suc n) bytes xs rest h e =
     subst (λ (z : List X × List ℕ). TookItems s t f (suc n) bytes z.0 z.1) (some_is (x.0 ∷ y.0, y.1) (xs, rest) second.2)
     (record { parts = whole; is_typed = (k.is_typed, l.is_typed); is_fit = and_true (f x.0) (list_all f y.0) k.is_fit l.is_fit; count = ap suc l.count })
 
-eqb_from : (a b : ℕ) → a ≡ b → (a == b) ≡ true
+pub eqb_from : (a b : ℕ) → a ≡ b → (a == b) ≡ true
 eqb_from a b e = grind arith
 
 pub items_law : {X : Type 0} (s : X → List ℕ) (t : X → Type 0) (f : X → Bool) (r : List ℕ → Found X) → IsField s t f r → (n : ℕ) → IsField (flat_map s) (AllByRecursion t) (λ xs. (length xs == n) && list_all f xs) (items_at r n)
@@ -206,7 +206,7 @@ pub long_law : {X : Type 0} (s : X → List ℕ) (t : X → Type 0) (f : X → B
 long_law s t f r one filled = list_law w32 (2 ^ 32) wide32 s t f r one always
     (λ xs k len. omega (arith, few_items s filled xs, length-append (to_be_bytes w32 (length xs)) (flat_map s xs))) (λ xs lt. refl) (omega arith)
 
-ltb_from : (a b : ℕ) → a < b → nat_lt a b ≡ true
+pub ltb_from : (a b : ℕ) → a < b → nat_lt a b ≡ true
 ltb_from a b lt = grind arith
 
 pub byte_list_law : {X : Type 0} (s : X → List ℕ) (t : X → Type 0) (f : X → Bool) (r : List ℕ → Found X) → IsField s t f r

@@ -13,7 +13,7 @@ use Rattle.package_layout.specs.Spelling.{value_spelling, values_spelling, conte
 use Rattle.package_layout.specs.Typed.{TypedValue, TypedValues, TypedFile}
 use Rattle.package_layout.specs.Room.{some_thousands}
 use Rattle.package_layout.specs.Reading.{value_body, value_at, values_at, content_body, content_at, file_at}
-use Rattle.package_layout.proofs.Laws.{IsBytes, IsField, always, list_all-always, and_true, both_true, refit, then_law, struct_law}
+use Rattle.package_layout.proofs.Laws.{IsBytes, IsField, always, list_all-always, and_true, both_true, restate, then_law, struct_law}
 use Rattle.package_layout.proofs.Numbers.{signed_law, text_law, sized_law, short_list_law}
 use Rattle.package_layout.proofs.Tags.{TookTagged, IsTagged, tagged_law, bare_took, case_took, case_again}
 
@@ -54,8 +54,8 @@ pub value_law : IsField value_spelling TypedValue always value_at
 value_law = tagged_law value_spelling value_tag value_rest TypedValue always value_body (record { small = value_small; again = value_again; took = value_took }) value_same
 
 pub values_law : IsField values_spelling TypedValues some_thousands values_at
-values_law = refit values_spelling TypedValues (λ xs. some_thousands xs && list_all always xs) some_thousands values_at (short_list_law value_spelling TypedValue always value_at value_law)
-    (λ xs h. and_true (some_thousands xs) (list_all always xs) h (list_all-always xs)) (λ xs h. (both_true (some_thousands xs) (list_all always xs) h).0)
+values_law = restate values_spelling TypedValues TypedValues (λ xs. some_thousands xs && list_all always xs) some_thousands values_at (short_list_law value_spelling TypedValue always value_at value_law)
+    (λ xs t h. (t, and_true (some_thousands xs) (list_all always xs) h (list_all-always xs))) (λ xs t h. (t, (both_true (some_thousands xs) (list_all always xs) h).0))
 
 -- ---- files
 
@@ -91,7 +91,16 @@ content_same None = refl
 content_law : IsField content_spelling Anything always content_at
 content_law = tagged_law content_spelling content_tag content_rest Anything always content_body (record { small = content_small; again = content_again; took = content_took }) content_same
 
-pub file_law : IsField file_spelling (λ f. IsUtf8 f.path × Unit {0}) always file_at
-file_law = struct_law (λ (p : List ℕ × Option (List ℕ)). text_spelling p.0 ++ content_spelling p.1) (λ (p : List ℕ × Option (List ℕ)). IsUtf8 p.0 × Unit {0}) (λ p. true) (both_at text_at content_at) (λ (p : List ℕ × Option (List ℕ)). record { path = p.0; content = p.1 }) (λ (f : PackedFile). (f.path, f.content))
-    (then_law text_spelling IsUtf8 always text_at content_spelling Anything (λ a. always) (λ a. content_at) text_law (λ a. content_law))
-    (λ f. refl) (λ p. refl)
+abbrev FileParts : Type 0
+FileParts = List ℕ × Option (List ℕ)
+
+file_parts_law : IsField (λ (p : FileParts). text_spelling p.0 ++ content_spelling p.1) (λ (p : FileParts). IsUtf8 p.0 × Unit {0}) always (both_at text_at content_at)
+file_parts_law = then_law text_spelling IsUtf8 always text_at content_spelling Anything (λ a. always) (λ a. content_at) text_law (λ a. content_law)
+
+pub file_law : IsField file_spelling TypedFile always file_at
+file_law = restate file_spelling (λ f. IsUtf8 f.path × Unit {0}) TypedFile always always file_at
+    (struct_law (λ (p : FileParts). text_spelling p.0 ++ content_spelling p.1) (λ (p : FileParts). IsUtf8 p.0 × Unit {0}) always (both_at text_at content_at) (λ (p : FileParts). record { path = p.0; content = p.1 }) (λ (f : PackedFile). (f.path, f.content)) file_parts_law (λ f. refl) (λ p. refl))
+    (λ f t h. ((t, tt), h)) (λ f t h. (t.0, h))
+
+pub file_filled : (f : PackedFile) → 0 < length (file_spelling f)
+file_filled f = omega arith

@@ -7,6 +7,7 @@ use Rattle.ldv_value.specs.declared.value.Value.TheVariants.{Null, Int, Text}
 use Rattle.sql_model.specs.declared.need.Rule.{Rule}
 use Rattle.sql_model.specs.declared.need.Rule.TheVariants.{L, H, K}
 use Rattle.sql_model.specs.declared.table.Column.{Column}
+use Rattle.sql_model.specs.declared.table.Schema.{Schema}
 use Rattle.sql_model.specs.declared.reply.SqlRefusal.{SqlRefusal}
 use Rattle.sql_model.specs.declared.reply.SqlRefusal.TheVariants.{Syntax, NoTable, NoColumn, TypeClash, NotNull, KeyTaken, Full}
 use Rattle.sql_model.specs.declared.reply.Reply.{Reply}
@@ -60,13 +61,11 @@ rule_number K = 3
 abbrev pub row_spelling : PackedRow → List ℕ
 row_spelling r = to_be_bytes w32 r.number ++ (to_be_bytes w32 r.statement ++ (to_be_bytes w8 (rule_number r.rule) ++ flat_map value_spelling r.values))
 
+abbrev pub schema_spelling : Schema → List ℕ
+schema_spelling s = list_spelling w8 column_spelling s.columns ++ list_spelling w8 (to_be_bytes w8) s.key
+
 abbrev pub table_spelling : PackedTable → List ℕ
-table_spelling t =
-    text_spelling t.name
-    ++ (list_spelling w8 column_spelling t.schema.columns
-    ++ (list_spelling w8 (to_be_bytes w8) t.schema.key
-    ++ (to_be_bytes w32 t.next
-    ++ list_spelling w32 row_spelling t.rows)))
+table_spelling t = text_spelling t.name ++ (schema_spelling t.schema ++ (to_be_bytes w32 t.next ++ list_spelling w32 row_spelling t.rows))
 
 -- ---- logs
 

@@ -1,12 +1,12 @@
 //! Tables of a package.
 
 ghost use Rattle.std.specs.Prelude.{◌≡◌, ◌++◌, length, OnOk};
-ghost use Rattle.std.specs.Int.{w8, w32, to_be_bytes};
-ghost use Rattle.std.specs.List.{flat_map, AllByRecursion};
+ghost use Rattle.std.specs.Int.{w8, to_be_bytes};
+ghost use Rattle.std.specs.List.{AllByRecursion};
 ghost use Rattle.package_layout.specs.Fields.{Gives, Makes, number_at, items_at, list_spelling};
 ghost use Rattle.package_layout.specs.Reading.{kind_of, kind_at, rule_of, rule_at, key_at, row_at, rows_at, schema_at};
-ghost use Rattle.package_layout.specs.Spelling.{kind_number, rule_number, value_spelling};
-ghost use Rattle.package_layout.specs.Typed.{TypedValues};
+ghost use Rattle.package_layout.specs.Spelling.{kind_number, rule_number, schema_spelling};
+ghost use Rattle.package_layout.specs.Typed.{TypedColumn};
 
 use crate::left::Left;
 use crate::number::{put_count, put_u8, put_u32, read_count, read_u8, read_u32};
@@ -196,11 +196,18 @@ impl Spelled for PackedTable {
 
     fn put(&self, to: &mut Bytes) -> Result<(), AllocError> {
         put_text(&self.name, to)?;
-        put_list(Width::One, &self.schema.columns, to)?;
-        put_key(&self.schema.key, to)?;
+        put_schema(&self.schema, to)?;
         self.next.put(to)?;
         put_list(Width::Four, &self.rows, to)
     }
+}
+
+fn put_schema(schema: &Schema, to: &mut Bytes) -> Result<(), AllocError>
+    ensures bytes { OnOk result (to.new ≡ to.old ++ schema_spelling schema.now) }
+    ensures typed { OnOk result (AllByRecursion TypedColumn schema.now.columns) }
+{
+    put_list(Width::One, &schema.columns, to)?;
+    put_key(&schema.key, to)
 }
 
 fn read_schema(alloc: Global, left: &mut Left) -> Result<Schema, Stop>
