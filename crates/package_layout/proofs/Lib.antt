@@ -1,5 +1,6 @@
 pub mod Laws
 pub mod Lists
+pub mod Logs
 pub mod Numbers
 pub mod Tables
 pub mod Tags
