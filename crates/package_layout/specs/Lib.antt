@@ -1,4 +1,6 @@
 pub mod Fields
+pub mod Groups
+pub mod Parts
 pub mod Reading
 pub mod Room
 pub mod Spelling

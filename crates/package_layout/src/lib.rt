@@ -2,7 +2,9 @@
 #![tactic(auto)]
 
 mod damage;
+mod event;
 mod file;
+mod group;
 mod left;
 mod log;
 mod spelled;
