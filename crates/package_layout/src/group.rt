@@ -1,6 +1,6 @@
 //! Rows of a statement, which the format groups by their table.
 
-ghost use Rattle.std.specs.Prelude.{◌≡◌, ◌++◌, IfOk, OnOk, ℕ, List};
+ghost use Rattle.std.specs.Prelude.{◌≡◌, ◌++◌, [], IfOk, OnOk, ℕ, List};
 ghost use Rattle.std.specs.List.{flat_map, AllByRecursion};
 ghost use Rattle.std.specs.Int.{w16};
 ghost use Rattle.package_layout.specs.Fields.{Gives, Makes, list_spelling};
@@ -179,12 +179,13 @@ fn placed_of<P: Copy + Drop, X: Placed<P>>(
 fn is_apart<P>(groups: &Listed<Group<P>>) -> bool
     ensures { result ≡ is_apart [] groups.now }
 {
-    let mut before = "";
+    let mut before: &[u8] = &[];
     for group in groups.items() {
-        if group.table.is_text(before) {
+        let table = group.table.as_str().as_bytes();
+        if table == before {
             return false;
         }
-        before = group.table.as_str();
+        before = table;
     }
     true
 }
