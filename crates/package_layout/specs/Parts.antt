@@ -4,8 +4,8 @@ use Rattle.std.specs.Int.{w8, w32, to_be_bytes}
 use Rattle.sql_model.specs.declared.need.Rule.{Rule}
 use Rattle.sql_model.specs.declared.need.Member.{Member}
 use Rattle.sql_model.specs.declared.need.Need.{Need}
-use Rattle.package_layout.specs.declared.event.ReadPart.{ReadPart}
-use Rattle.package_layout.specs.declared.event.MadePart.{MadePart}
+use Rattle.package_layout.specs.declared.part.ReadPart.{ReadPart}
+use Rattle.package_layout.specs.declared.part.MadePart.{MadePart}
 use Rattle.package_layout.specs.Fields.{Found, both_at, made_at, number_at}
 use Rattle.package_layout.specs.Spelling.{rule_number}
 use Rattle.package_layout.specs.Typed.{IsU32}

@@ -9,6 +9,7 @@ mod left;
 mod log;
 mod spelled;
 mod number;
+mod part;
 mod stop;
 mod table;
 mod text;
