@@ -1,8 +1,10 @@
+pub mod Events
 pub mod Groups
 pub mod Laws
 pub mod Lists
 pub mod Logs
 pub mod Numbers
+pub mod Placed
 pub mod Tables
 pub mod Tags
 pub mod Texts
