@@ -105,7 +105,7 @@ pair_at = both_at text_at flag_at
 flagged_law : IsField pair_spelling TypedFlagged always pair_at
 flagged_law = then_law text_spelling IsUtf8 always text_at flag_spelling Anything (λ a. always) (λ a. flag_at) text_law (λ a. flag_law)
 
-names_law : IsField names_spelling (AllByRecursion IsUtf8) some_thousands names_at
+pub names_law : IsField names_spelling (AllByRecursion IsUtf8) some_thousands names_at
 names_law = restate names_spelling (AllByRecursion IsUtf8) (AllByRecursion IsUtf8) (λ ns. some_thousands ns && list_all always ns) some_thousands names_at (short_list_law text_spelling IsUtf8 always text_at text_law)
     (λ ns t h. (t, and_true (some_thousands ns) (list_all always ns) h (list_all-always ns))) (λ ns t h. (t, (both_true (some_thousands ns) (list_all always ns) h).0))
 

@@ -9,3 +9,4 @@ pub mod Tables
 pub mod Tags
 pub mod Texts
 pub mod Values
+pub mod Whole

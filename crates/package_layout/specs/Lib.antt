@@ -6,4 +6,5 @@ pub mod Reading
 pub mod Room
 pub mod Spelling
 pub mod Typed
+pub mod Whole
 pub mod Widths

@@ -6,6 +6,7 @@ ghost use Rattle.package_layout.specs.Fields.{bytes_at};
 use std::marker::Model;
 
 /// A place in bytes; contracts see the bytes from there on.
+#[derive(Drop)]
 pub(crate) struct Left<'a> {
     bytes: &'a [u8],
     at: usize,

@@ -7,6 +7,7 @@ mod file;
 mod group;
 mod left;
 mod log;
+mod sections;
 mod spelled;
 mod number;
 mod part;
