@@ -5,6 +5,7 @@ pub mod Lists
 pub mod Logs
 pub mod Numbers
 pub mod Placed
+pub mod Seen
 pub mod Tables
 pub mod Tags
 pub mod Texts
