@@ -4,6 +4,7 @@ pub mod Laws
 pub mod Lists
 pub mod Logs
 pub mod Numbers
+pub mod Package
 pub mod Placed
 pub mod Seen
 pub mod Tables

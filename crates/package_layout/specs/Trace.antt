@@ -1,5 +1,5 @@
 -- Traces: what the events of a run, one after another, meet.
-use Rattle.std.specs.Prelude.{◌≡◌, ℕ, ◌+◌, List, [], ◌∷◌, Bool, true, false, ◌&&◌, ◌==◌, nat_lt, nat_le, IsTrue, bytes_eq, count_by}
+use Rattle.std.specs.Prelude.{◌≡◌, ℕ, ◌+◌, List, [], ◌∷◌, Bool, true, false, ◌&&◌, ◌==◌, nat_lt, nat_le, IsTrue, bytes_eq}
 use Rattle.std.specs.List.{list_all}
 use Rattle.ldv_value.specs.Names.{path_test}
 use Rattle.sql_model.specs.SqlNames.{sql_name_test}
@@ -108,9 +108,13 @@ abbrev pub trace_test : List ℕ → ℕ → List Event → Bool
 trace_test path steps [] = false
 trace_test path steps (e ∷ es) = starts path e && follows steps at_start es
 
--- how many statements were asked
+-- how many statements were asked, after so many before
+abbrev pub asked_among : ℕ → List Event → ℕ
+asked_among asked [] = asked
+asked_among asked (e ∷ es) = asked_among (asked_after asked (is_asked e.act)) es
+
 abbrev pub asked_count : List Event → ℕ
-asked_count events = count_by (λ e. is_asked e.act) events
+asked_count events = asked_among 0 events
 
 -- the events of some run
 abbrev pub IsTrace : List Event → Type 0

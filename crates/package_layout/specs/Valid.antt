@@ -1,5 +1,5 @@
 -- What a valid package meets, a test for each rule.
-use Rattle.std.specs.Prelude.{◌≡◌, ℕ, List, [], ◌∷◌, length, map, Bool, true, false, not, ◌&&◌, ◌==◌, nat_lt, nat_le, Option, Some, None, IsTrue, bytes_eq, find, slice_get, slice_index_or}
+use Rattle.std.specs.Prelude.{◌≡◌, ◌≢◌, ◌≤◌, ◌-◌, ℕ, List, [], ◌∷◌, length, map, take, drop, if◌then◌else◌, Result, Ok, Err, Bool, true, false, not, ◌&&◌, ◌==◌, nat_lt, nat_le, Option, Some, None, IsTrue, bytes_eq, find, slice_get, slice_index_or}
 use Rattle.std.specs.Option.{is_some}
 use Rattle.std.specs.List.{list_all, zip}
 use Rattle.std.specs.Ordering.{is_eq}
@@ -27,7 +27,11 @@ use Rattle.run_model.specs.declared.package.Log.{Log}
 use Rattle.run_model.specs.declared.package.Package.{Package}
 use Rattle.package_layout.specs.Order.{rises, repeats, file_below, row_below, table_below, log_below}
 use Rattle.package_layout.specs.Trace.{trace_test, asked_count}
-use Rattle.package_layout.specs.Whole.{has_room}
+use Rattle.sha2.specs.Sha256.{sha256}
+use Rattle.package_layout.specs.declared.damage.DamageKind.{DamageKind}
+use Rattle.package_layout.specs.declared.damage.DamageKind.TheVariants.{Magic, Digest, Form}
+use Rattle.package_layout.specs.Fields.{◌>>=◌}
+use Rattle.package_layout.specs.Whole.{magic, spelling, IsTyped, has_room, all_of}
 
 -- ---- start words: 1 to 256, each of at most 65,536 bytes, the first a path
 
@@ -52,9 +56,12 @@ files_rule files = nat_le (length files) 65536 && list_all file_rule files && ri
 
 -- ---- tables: at most 256, rising by name
 
+abbrev pub has_same_name : Column → Column → Bool
+has_same_name a b = bytes_eq a.name b.name
+
 -- 1 to 64 columns with names, none twice
 abbrev pub columns_rule : List Column → Bool
-columns_rule columns = nat_le 1 (length columns) && nat_le (length columns) 64 && list_all (λ column. sql_name_test column.name) columns && not (repeats bytes_eq (map (λ column. column.name) columns))
+columns_rule columns = nat_le 1 (length columns) && nat_le (length columns) 64 && list_all (λ column. sql_name_test column.name) columns && not (repeats has_same_name columns)
 
 abbrev pub is_not_null : Option Column → Bool
 is_not_null None = false
@@ -150,9 +157,10 @@ steps_rule steps = nat_le 1 steps && nat_le steps 10000000
 
 -- ---- the first start word is a whole file that is a script
 
+-- no file is longer than its limit
 abbrev pub is_script : Option (List ℕ) → Bool
 is_script None = false
-is_script (Some bytes) = is_some (script_of bytes)
+is_script (Some bytes) = nat_le (length bytes) 16777216 && is_some (script_of bytes)
 
 abbrev pub is_script_file : Option PackedFile → Bool
 is_script_file None = false
@@ -189,3 +197,49 @@ valid_test p = has_room p && rules p
 
 abbrev pub Valid : Package → Type 0
 Valid p = IsTrue (valid_test p)
+
+-- ---- bytes and the packages that they spell
+
+abbrev pub HasMagic : List ℕ → Type 0
+HasMagic bytes = take 8 bytes ≡ magic
+
+-- all but the digest
+abbrev pub before_digest : List ℕ → List ℕ
+before_digest bytes = take (length bytes - 32) bytes
+
+-- the last 32 bytes are the SHA-256 of those before
+pub record HasDigest (bytes : List ℕ) : Type 0 where
+  pub long : 40 ≤ length bytes
+  pub same : drop (length bytes - 32) bytes ≡ sha256 (before_digest bytes)
+
+-- the bytes spell no valid package
+abbrev pub IsNoSpelling : List ℕ → Type 0
+IsNoSpelling bytes = (p : Package) → IsTyped p → Valid p → spelling p ≢ bytes
+
+-- the bytes between the magic and the digest
+abbrev pub middle : List ℕ → List ℕ
+middle bytes = drop 8 (before_digest bytes)
+
+abbrev pub kept_if : Bool → Package → Option Package
+kept_if true p = Some p
+kept_if false p = None
+
+-- the valid package whose sections these bytes are
+abbrev pub package_in : List ℕ → Option Package
+package_in bytes = do
+  p ← all_of bytes
+  kept_if (rules p) p
+
+abbrev pub has_magic : List ℕ → Bool
+has_magic bytes = bytes_eq (take 8 bytes) magic
+
+abbrev pub has_digest : List ℕ → Bool
+has_digest bytes = nat_le 40 (length bytes) && bytes_eq (drop (length bytes - 32) bytes) (sha256 (before_digest bytes))
+
+abbrev pub form_of : Option Package → Result Package DamageKind
+form_of (Some p) = Ok p
+form_of None = Err Form
+
+-- the package that bytes spell, or how they are damaged
+abbrev pub reading : List ℕ → Result Package DamageKind
+reading bytes = if has_magic bytes then (if has_digest bytes then form_of (package_in (middle bytes)) else Err Digest) else Err Magic

@@ -6,6 +6,7 @@ mod event;
 mod file;
 mod group;
 mod keys;
+mod layout;
 mod left;
 mod log;
 mod number;
@@ -19,7 +20,9 @@ mod stop;
 mod table;
 mod text;
 mod trace;
+mod validity;
 mod value;
 mod width;
 
 pub use damage::DamageKind;
+pub use layout::{PackageStop, SpellStop, read_package, round_trip_law, spell};

@@ -1,11 +1,10 @@
 //! The rules for start words, files, tables and logs.
 
-ghost use Rattle.std.specs.Prelude.{◌≡◌, IfOk, List, ◌==◌, map, bytes_eq, slice_get, find, Some, None};
-ghost use Rattle.std.specs.Option.{option_map};
+ghost use Rattle.std.specs.Prelude.{◌≡◌, ◌==◌, slice_get};
 ghost use Rattle.std.specs.List.{list_all, list_any, zip};
 ghost use Rattle.sql_model.specs.SqlNames.{sql_name_test};
 ghost use Rattle.package_layout.specs.Order.{repeats};
-ghost use Rattle.package_layout.specs.Valid.{is_short_text, start_rule, content_rule, file_rule, files_rule, columns_rule, is_not_null, key_rule, is_short, value_rule, values_rule, row_rule, table_rule, tables_rule, refusal_rule, reply_rule, entry_rule, is_of_first, log_rule, logs_rule};
+ghost use Rattle.package_layout.specs.Valid.{is_short_text, start_rule, content_rule, file_rule, files_rule, has_same_name, columns_rule, is_not_null, key_rule, is_short, value_rule, values_rule, row_rule, table_rule, tables_rule, refusal_rule, reply_rule, entry_rule, is_of_first, log_rule, logs_rule};
 
 use crate::order::rises;
 use ldv_value::{Bytes, Parts, Places, RowList, TEXT_LIMIT, FILE_LIMIT, Utf8, Value, Values, Words, is_path};
@@ -102,14 +101,14 @@ fn are_named(columns: &Columns) -> bool
 
 // There are 64 columns at most.
 fn has_name_twice(columns: &[Column]) -> bool
-    ensures { result ≡ repeats bytes_eq (map (λ column. column.name) columns.now) }
+    ensures { result ≡ repeats has_same_name columns.now }
 {
     let mut left = columns;
     loop {
         match left {
             [] => return false,
             [first, rest @ ..] => {
-                if has_name(&first.name, rest) {
+                if has_same_name(first, rest) {
                     return true;
                 }
                 left = rest;
@@ -118,10 +117,10 @@ fn has_name_twice(columns: &[Column]) -> bool
     }
 }
 
-fn has_name(name: &Utf8, columns: &[Column]) -> bool
-    ensures { result ≡ list_any (bytes_eq name.now) (map (λ column. column.name) columns.now) }
+fn has_same_name(column: &Column, columns: &[Column]) -> bool
+    ensures { result ≡ list_any (has_same_name column.now) columns.now }
 {
-    columns.iter().any(|column| name.is_same(&column.name))
+    columns.iter().any(|other| column.name.is_same(&other.name))
 }
 
 fn meets_key(schema: &Schema) -> bool

@@ -1,6 +1,6 @@
 //! Traces.
 
-ghost use Rattle.std.specs.Prelude.{◌≡◌, ◌<◌, ◌≤◌, ◌^◌, ◌+◌, IsTrue, count_by, [], ◌∷◌};
+ghost use Rattle.std.specs.Prelude.{◌≡◌, ◌<◌, ◌≤◌, ◌^◌, ◌+◌, [], ◌∷◌};
 ghost use Rattle.std.specs.List.{list_all};
 ghost use Rattle.sql_model.specs.SqlNames.{sql_name_test};
 ghost use Rattle.package_layout.specs.Order.{rises, is_below, need_below, member_below};
@@ -111,8 +111,8 @@ fn are_names(names: &Names) -> bool
 }
 
 fn progress_after(before: Progress, event: &Event) -> Progress
-    requires made { before.made < 2 ^ 32 - 1 }
-    requires asked { before.asked < 2 ^ 64 - 1 }
+    requires made { before.made ≤ 65535 }
+    requires asked { before.asked + 1 < 2 ^ 64 }
     ensures { result ≡ progress_after before event.now }
 {
     Progress {
@@ -123,7 +123,7 @@ fn progress_after(before: Progress, event: &Event) -> Progress
 }
 
 fn made_after(made: u32, act: &Act) -> u32
-    requires { made < 2 ^ 32 - 1 }
+    requires { made ≤ 65535 }
     ensures { result ≡ made_after made act.now }
 {
     match act {
@@ -133,7 +133,7 @@ fn made_after(made: u32, act: &Act) -> u32
 }
 
 fn asked_after(asked: u64, one_more: bool) -> u64
-    requires { asked < 2 ^ 64 - 1 }
+    requires { asked + 1 < 2 ^ 64 }
     ensures { result ≡ asked_after asked one_more }
 {
     if one_more { asked + 1 } else { asked }
@@ -154,12 +154,12 @@ fn is_asked(act: &Act) -> bool
 }
 
 /// How many statements were asked.
-pub(crate) fn asked_count(events: &Events) -> usize
+pub(crate) fn asked_count(events: &Events) -> u64
     ensures { result ≡ asked_count events.now }
 {
-    events
-        .items()
-        .iter()
-        .filter(|event| is_asked(&event.act))
-        .count()
+    let mut asked = 0;
+    for event in events.items() {
+        asked = asked_after(asked, is_asked(&event.act));
+    }
+    asked
 }

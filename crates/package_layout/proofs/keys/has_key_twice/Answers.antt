@@ -6,7 +6,7 @@ use Rattle.package_layout.specs.Valid.{is_same_key, values_at, has_two_of_a_key}
 use Rattle.package_layout.specs.KeyOrder.{key_order}
 use Rattle.package_layout.specs.declared.keys.RowKey.{RowKey}
 use Rattle.run_model.specs.declared.package.PackedRow.{PackedRow}
-use Rattle.std.proofs.lemmas.List.{map-map}
+use Rattle.std.proofs.lemmas.Simd.{map-map}
 use Rattle.package_layout.proofs.Seen.{repeats_map, some_twice}
 use Rattle.package_layout.proofs.keys.has_key_twice.Goals as goal
 
