@@ -66,6 +66,13 @@ spelled_magic p =
 spelled_middle : (p : Package) → middle (spelling p) ≡ sections p
 spelled_middle p = ap (drop 8) (body_before p) ∙ drop_at magic (sections p) 8 refl
 
+-- how long a spelling is
+pub too_long_is : (p : Package) (b : List ℕ) (n : ℕ) → b ≡ body p → n ≡ length b → 67108832 < n → 67108864 < length (spelling p)
+too_long_is p b n e len lt = omega (arith, spelling_length p, ap length e)
+
+pub within_limit : (b d : List ℕ) (n : ℕ) → n ≡ length b → n ≤ 67108832 → d ≡ b ++ sha256 b → length d ≤ 67108864
+within_limit b d n len le e = omega (arith, ap length e, length-append b (sha256 b), length-sha256 b)
+
 -- ---- what is spelled is read
 
 kept : (b : Bool) (p : Package) → b ≡ true → kept_if b p ≡ Some p
