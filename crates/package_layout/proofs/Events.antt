@@ -48,6 +48,7 @@ flag_law = made_law (to_be_bytes w8) (λ n. n < 256) always (number_at w8) Anyth
 
 abbrev ReadEnd : Type 0
 ReadEnd = ℕ × Rule
+
 abbrev ReadParts : Type 0
 ReadParts = ℕ × ReadEnd
 
@@ -57,8 +58,8 @@ read_end_law = then_law (to_be_bytes w32) IsU32 always (number_at w32) (λ r. to
 read_part_law : IsField read_part_spelling TypedReadPart always read_part_at
 read_part_law = restate read_part_spelling (λ p. IsU32 p.row × (IsU32 p.version × Unit {0})) TypedReadPart always always read_part_at
     (struct_law (λ (p : ReadParts). to_be_bytes w32 p.0 ++ (to_be_bytes w32 p.1.0 ++ to_be_bytes w8 (rule_number p.1.1))) (λ (p : ReadParts). IsU32 p.0 × (IsU32 p.1.0 × Unit {0})) always (both_at (number_at w32) (both_at (number_at w32) rule_at))
-      (λ (p : ReadParts). record { row = p.0; version = p.1.0; rule = p.1.1 }) (λ (r : ReadPart). (r.row, (r.version, r.rule)))
-      (then_law (to_be_bytes w32) IsU32 always (number_at w32) (λ (p : ReadEnd). to_be_bytes w32 p.0 ++ to_be_bytes w8 (rule_number p.1)) (λ (p : ReadEnd). IsU32 p.0 × Unit {0}) (λ a. always) (λ a. both_at (number_at w32) rule_at) u32_law (λ a. read_end_law)) (λ r. refl) (λ p. refl))
+    (λ (p : ReadParts). record { row = p.0; version = p.1.0; rule = p.1.1 }) (λ (r : ReadPart). (r.row, (r.version, r.rule)))
+    (then_law (to_be_bytes w32) IsU32 always (number_at w32) (λ (p : ReadEnd). to_be_bytes w32 p.0 ++ to_be_bytes w8 (rule_number p.1)) (λ (p : ReadEnd). IsU32 p.0 × Unit {0}) (λ a. always) (λ a. both_at (number_at w32) rule_at) u32_law (λ a. read_end_law)) (λ r. refl) (λ p. refl))
     (λ p t h. ((t.0, (t.1, tt)), h)) (λ p t h. ((t.0, t.1.0), h))
 
 abbrev MadeParts : Type 0
@@ -111,36 +112,46 @@ names_law = restate names_spelling (AllByRecursion IsUtf8) (AllByRecursion IsUtf
 
 abbrev AskedEnd : Type 0
 AskedEnd = List Need × List Member
+
 abbrev AskedTail : Type 0
 AskedTail = List (List ℕ) × AskedEnd
+
 abbrev AskedParts : Type 0
 AskedParts = ℕ × AskedTail
 
 abbrev end_spelling : AskedEnd → List ℕ
 end_spelling p = needs_spelling p.0 ++ members_spelling p.1
+
 abbrev tail_spelling : AskedTail → List ℕ
 tail_spelling p = names_spelling p.0 ++ end_spelling p.1
+
 abbrev asked_spelling : AskedParts → List ℕ
 asked_spelling p = to_be_bytes w32 p.0 ++ tail_spelling p.1
 
 abbrev TypedEnd : AskedEnd → Type 0
 TypedEnd p = AllByRecursion TypedNeed p.0 × AllByRecursion TypedMember p.1
+
 abbrev TypedTail : AskedTail → Type 0
 TypedTail p = AllByRecursion IsUtf8 p.0 × TypedEnd p.1
+
 abbrev TypedAsked : AskedParts → Type 0
 TypedAsked p = IsU32 p.0 × TypedTail p.1
 
 abbrev end_room : AskedEnd → Bool
 end_room p = needs_room p.0 && members_room p.1
+
 abbrev tail_room : AskedTail → Bool
 tail_room p = some_thousands p.0 && end_room p.1
+
 abbrev asked_room : AskedParts → Bool
 asked_room p = tail_room p.1
 
 abbrev end_at : List ℕ → Found AskedEnd
 end_at = both_at needs_at members_at
+
 abbrev tail_at : List ℕ → Found AskedTail
 tail_at = both_at names_at end_at
+
 abbrev asked_at : List ℕ → Found AskedParts
 asked_at = both_at (number_at w32) tail_at
 
@@ -269,6 +280,7 @@ act_law = tagged_law act_spelling act_tag act_rest TypedAct act_room act_body (r
 
 abbrev EventTail : Type 0
 EventTail = ℕ × Act
+
 abbrev EventParts : Type 0
 EventParts = ℕ × EventTail
 

@@ -76,9 +76,9 @@ pub restate : {X : Type 0} (spell : X → List ℕ) (t u : X → Type 0) (f g : 
 restate spell t u f g read field to from = record {
   again = λ x rest h k len. let both = to x h k in field.again x rest both.0 both.1 len;
   took = λ bytes x rest b e.
-    let k = field.took bytes x rest b e in
-    let both = from x k.is_typed k.is_fit in
-    record { parts = k.parts; is_typed = both.0; is_fit = both.1 };
+      let k = field.took bytes x rest b e in
+      let both = from x k.is_typed k.is_fit in
+      record { parts = k.parts; is_typed = both.0; is_fit = both.1 };
 }
 
 -- the same spelling, said in other words
@@ -141,10 +141,10 @@ pub made_law : {A B : Type 0} (sa : A → List ℕ) (ta : A → Type 0) (fa : A 
     → IsField (λ b. sa (back b)) tb fb (made_at make ra)
 made_law sa ta fa ra tb fb make back one forth reverse = record {
   again = λ x rest t f len.
-    let k = forth x t f in
-    let first : ra (sa (back x) ++ rest) ≡ Some (back x, rest) = one.again (back x) rest k.0 k.1 len in
-    let second : make (back x) ≡ Some x = k.2 in
-    rw (first, second) refl;
+      let k = forth x t f in
+      let first : ra (sa (back x) ++ rest) ≡ Some (back x, rest) = one.again (back x) rest k.0 k.1 len in
+      let second : make (back x) ≡ Some x = k.2 in
+      rw (first, second) refl;
   took = made_took sa ta fa ra tb fb make back one reverse;
 }
 
@@ -155,6 +155,6 @@ pub struct_law : {A B : Type 0} (sa : A → List ℕ) (ta : A → Type 0) (fa : 
 struct_law sa ta fa ra make back one there here = made_law sa ta fa ra (λ b. ta (back b)) (λ b. fa (back b)) (λ a. Some (make a)) back one
     (λ b t f. (t, f, ap just (there b)))
     (λ a b t f e.
-      let is : make a ≡ b = some_is (make a) b e in
-      let same : a ≡ back b = sym (here a) ∙ ap back is in
-      (same, subst ta same t, ap fa (sym same) ∙ f))
+    let is : make a ≡ b = some_is (make a) b e in
+    let same : a ≡ back b = sym (here a) ∙ ap back is in
+    (same, subst ta same t, ap fa (sym same) ∙ f))

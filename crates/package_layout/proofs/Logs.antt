@@ -161,6 +161,7 @@ reply_law = tagged_law reply_spelling reply_tag reply_rest TypedReply reply_room
 
 abbrev EntryTail : Type 0
 EntryTail = List Value × Reply
+
 abbrev EntryParts : Type 0
 EntryParts = List ℕ × EntryTail
 

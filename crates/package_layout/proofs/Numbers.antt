@@ -82,8 +82,8 @@ number_took w limit wide bytes n rest h e =
 pub number_law : (w : Width) (limit : ℕ) → IsWide w limit → IsField (to_be_bytes w) (λ n. n < limit) always (number_at w)
 number_law w limit wide = record {
   again = λ n rest lt f len.
-    let first : bytes_at (byte_len w) (to_be_bytes w n ++ rest) ≡ Some (to_be_bytes w n, rest) = bytes_again (to_be_bytes w n) rest (byte_len w) (wide.len n) in
-    rw (first, wide.again n lt) refl;
+      let first : bytes_at (byte_len w) (to_be_bytes w n ++ rest) ≡ Some (to_be_bytes w n, rest) = bytes_again (to_be_bytes w n) rest (byte_len w) (wide.len n) in
+      rw (first, wide.again n lt) refl;
   took = number_took w limit wide;
 }
 
@@ -112,9 +112,9 @@ sized_took bytes x rest h e =
 pub sized_law : IsField text_spelling (λ _. Unit {0}) always sized_at
 sized_law = record {
   again = λ x rest t f len.
-    let small : length x < 2 ^ 32 = omega (arith, length-append (to_be_bytes w32 (length x)) x) in
-    let first : number_at w32 (to_be_bytes w32 (length x) ++ (x ++ rest)) ≡ Some (length x, x ++ rest) = (number_law w32 (2 ^ 32) wide32).again (length x) (x ++ rest) small refl (omega arith) in
-    ap sized_at (append_assoc (to_be_bytes w32 (length x)) x rest) ∙ rw (first, bytes_again x rest (length x) refl) refl;
+      let small : length x < 2 ^ 32 = omega (arith, length-append (to_be_bytes w32 (length x)) x) in
+      let first : number_at w32 (to_be_bytes w32 (length x) ++ (x ++ rest)) ≡ Some (length x, x ++ rest) = (number_law w32 (2 ^ 32) wide32).again (length x) (x ++ rest) small refl (omega arith) in
+      ap sized_at (append_assoc (to_be_bytes w32 (length x)) x rest) ∙ rw (first, bytes_again x rest (length x) refl) refl;
   took = sized_took;
 }
 
@@ -166,8 +166,8 @@ eqb_from a b e = grind arith
 pub items_law : {X : Type 0} (s : X → List ℕ) (t : X → Type 0) (f : X → Bool) (r : List ℕ → Found X) → IsField s t f r → (n : ℕ) → IsField (flat_map s) (AllByRecursion t) (λ xs. (length xs == n) && list_all f xs) (items_at r n)
 items_law s t f r one n = record {
   again = λ xs rest h k len.
-    let both = both_true (length xs == n) (list_all f xs) k in
-    subst (λ (m : ℕ). items_at r m (flat_map s xs ++ rest) ≡ Some (xs, rest)) (eqb-true _ _ both.0) (items_again s t f r one xs rest h both.1 len);
+      let both = both_true (length xs == n) (list_all f xs) k in
+      subst (λ (m : ℕ). items_at r m (flat_map s xs ++ rest) ≡ Some (xs, rest)) (eqb-true _ _ both.0) (items_again s t f r one xs rest h both.1 len);
   took = λ bytes xs rest h e. let k = items_took s t f r one n bytes xs rest h e in record { parts = k.parts; is_typed = k.is_typed; is_fit = and_true (length xs == n) (list_all f xs) (eqb_from _ _ k.count) k.is_fit };
 }
 
@@ -178,22 +178,22 @@ list_law : {X : Type 0} (w : Width) (limit : ℕ) → IsWide w limit → (s : X 
     → IsField (list_spelling w s) (AllByRecursion t) (λ xs. room xs && list_all f xs) (list_at w r)
 list_law {X = X} w limit wide s t f r one room small roomy narrow = record {
   again = λ xs rest h k len.
-    let both = both_true (room xs) (list_all f xs) k in
-    let lt : length xs < limit = small xs both.0 len in
-    let short = length-append (to_be_bytes w (length xs)) (flat_map s xs) in
-    let first : number_at w (to_be_bytes w (length xs) ++ (flat_map s xs ++ rest)) ≡ Some (length xs, flat_map s xs ++ rest) = (number_law w limit wide).again (length xs) (flat_map s xs ++ rest) lt refl (omega (arith, wide.len (length xs))) in
-    ap (list_at w r) (append_assoc (to_be_bytes w (length xs)) (flat_map s xs) rest) ∙ rw (first, items_again s t f r one xs rest h both.1 (omega (arith, short))) refl;
+      let both = both_true (room xs) (list_all f xs) k in
+      let lt : length xs < limit = small xs both.0 len in
+      let short = length-append (to_be_bytes w (length xs)) (flat_map s xs) in
+      let first : number_at w (to_be_bytes w (length xs) ++ (flat_map s xs ++ rest)) ≡ Some (length xs, flat_map s xs ++ rest) = (number_law w limit wide).again (length xs) (flat_map s xs ++ rest) lt refl (omega (arith, wide.len (length xs))) in
+      ap (list_at w r) (append_assoc (to_be_bytes w (length xs)) (flat_map s xs) rest) ∙ rw (first, items_again s t f r one xs rest h both.1 (omega (arith, short))) refl;
   took = λ bytes xs rest h e.
-    let first = bind_some (number_at w bytes) (λ n. items_at r n.0 n.1) (xs, rest) e in
-    let n = first.0 in
-    let k = (number_law w limit wide).took bytes n.0 n.1 h first.1 in
-    let l = items_took s t f r one n.0 n.1 xs rest (IsBytes-rest (to_be_bytes w n.0) n.1 (subst IsBytes k.parts h)) first.2 in
-    let whole : bytes ≡ (to_be_bytes w n.0 ++ flat_map s xs) ++ rest = k.parts ∙ ap (λ (z : List ℕ). to_be_bytes w n.0 ++ z) l.parts ∙ sym (append_assoc (to_be_bytes w n.0) (flat_map s xs) rest) in
-    record {
-      parts = subst (λ (m : ℕ). bytes ≡ (to_be_bytes w m ++ flat_map s xs) ++ rest) (sym l.count) whole;
-      is_typed = l.is_typed;
-      is_fit = and_true (room xs) (list_all f xs) (roomy xs (subst (λ (m : ℕ). m < limit) (sym l.count) k.is_typed)) l.is_fit;
-    };
+      let first = bind_some (number_at w bytes) (λ n. items_at r n.0 n.1) (xs, rest) e in
+      let n = first.0 in
+      let k = (number_law w limit wide).took bytes n.0 n.1 h first.1 in
+      let l = items_took s t f r one n.0 n.1 xs rest (IsBytes-rest (to_be_bytes w n.0) n.1 (subst IsBytes k.parts h)) first.2 in
+      let whole : bytes ≡ (to_be_bytes w n.0 ++ flat_map s xs) ++ rest = k.parts ∙ ap (λ (z : List ℕ). to_be_bytes w n.0 ++ z) l.parts ∙ sym (append_assoc (to_be_bytes w n.0) (flat_map s xs) rest) in
+      record {
+        parts = subst (λ (m : ℕ). bytes ≡ (to_be_bytes w m ++ flat_map s xs) ++ rest) (sym l.count) whole;
+        is_typed = l.is_typed;
+        is_fit = and_true (room xs) (list_all f xs) (roomy xs (subst (λ (m : ℕ). m < limit) (sym l.count) k.is_typed)) l.is_fit;
+      };
 }
 
 -- each item has a byte at least, so that a list whose spelling is short has few items

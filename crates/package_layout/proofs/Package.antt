@@ -159,12 +159,14 @@ found bytes (Err stop) h e = tt
 
 no_form : (bytes : List ℕ) → length bytes ≤ 67108864 → reading bytes ≡ Err Form → HasMagic bytes × HasDigest bytes × IsNoSpelling bytes
 no_form bytes len e =
-    let tests = form_tests (has_magic bytes) (has_digest bytes) (package_in (middle bytes)) e in
-    (magic_fact bytes tests.0, digest_fact bytes tests.1,
-     λ p t v is.
-       let short : length (spelling p) ≤ 67108864 = subst (λ (l : List ℕ). length l ≤ 67108864) (sym is) len in
-       let no : read_as p ≡ Err Form = sym (read_again p t v short) ∙ ap reading is ∙ e in
-       cc)
+    let tests = form_tests (has_magic bytes) (has_digest bytes) (package_in (middle bytes)) e in (
+      magic_fact bytes tests.0,
+      digest_fact bytes tests.1,
+      λ p t v is.
+          let short : length (spelling p) ≤ 67108864 = subst (λ (l : List ℕ). length l ≤ 67108864) (sym is) len in
+          let no : read_as p ≡ Err Form = sym (read_again p t v short) ∙ ap reading is ∙ e in
+          cc,
+    )
 
 abbrev damaged : DamageKind → Result Package PackageStop
 damaged kind = Err (Damaged kind)
@@ -195,13 +197,15 @@ at_once_digest : (bytes : List ℕ) (r : Result Package PackageStop) → has_mag
 at_once_digest bytes r m d a = rw (m, d) at a
 
 pub magic_is : (bytes : List ℕ) (r : Result Package PackageStop) → Answers r (reading bytes) → IfSome (damage_before bytes) (λ kind. r ≡ damaged kind) → (r ≡ damaged Magic) ↔ (¬ HasMagic bytes)
-magic_is bytes r a once =
-    (λ e h. true_not_false (has_magic bytes) (magic_test bytes h) (magic_seen (has_magic bytes) (has_digest bytes) (package_in (middle bytes)) (subst (λ z. Answers z (reading bytes)) e a)),
-     λ no. at_once_magic bytes r (not_true (has_magic bytes) (λ m. no (magic_fact bytes m))) once)
+magic_is bytes r a once = (
+  λ e h. true_not_false (has_magic bytes) (magic_test bytes h) (magic_seen (has_magic bytes) (has_digest bytes) (package_in (middle bytes)) (subst (λ z. Answers z (reading bytes)) e a)),
+  λ no. at_once_magic bytes r (not_true (has_magic bytes) (λ m. no (magic_fact bytes m))) once,
+)
 
 pub digest_is : (bytes : List ℕ) (r : Result Package PackageStop) → Answers r (reading bytes) → IfSome (damage_before bytes) (λ kind. r ≡ damaged kind) → (r ≡ damaged Digest) ↔ (HasMagic bytes × (¬ HasDigest bytes))
-digest_is bytes r a once =
-    (λ e.
-       let seen = digest_seen (has_magic bytes) (has_digest bytes) (package_in (middle bytes)) (subst (λ z. Answers z (reading bytes)) e a) in
-       (magic_fact bytes seen.0, λ h. true_not_false (has_digest bytes) (digest_test bytes h) seen.1),
-     λ no. at_once_digest bytes r (magic_test bytes no.0) (not_true (has_digest bytes) (λ d. no.1 (digest_fact bytes d))) once)
+digest_is bytes r a once = (
+  λ e.
+      let seen = digest_seen (has_magic bytes) (has_digest bytes) (package_in (middle bytes)) (subst (λ z. Answers z (reading bytes)) e a) in
+      (magic_fact bytes seen.0, λ h. true_not_false (has_digest bytes) (digest_test bytes h) seen.1),
+  λ no. at_once_digest bytes r (magic_test bytes no.0) (not_true (has_digest bytes) (λ d. no.1 (digest_fact bytes d))) once,
+)

@@ -93,10 +93,11 @@ module _ {X P : Type 0} (table_of : X → List ℕ) (part_of : X → P) (place :
       → AllByRecursion (TypedGroup good) (groups table_of part_of xs) × ((some_thousands (groups table_of part_of xs) && list_all ok (groups table_of part_of xs)) ≡ true) × (placed_of place (groups table_of part_of xs) ≡ Some xs)
   forth xs t h =
       let both = both_true (some_thousands (groups table_of part_of xs)) (is_named xs) h in
-      let apart : is_apart [] (groups table_of part_of xs) ≡ true = add_all_apart table_of part_of [] xs refl both.1 in
-      (add_all_typed table_of part_of good [] xs tt t,
-       and_true (some_thousands (groups table_of part_of xs)) (list_all ok (groups table_of part_of xs)) both.0 (add_all_fits table_of part_of [] xs refl both.1),
-       rw apart (ap just (groups_spread table_of part_of place back xs)))
+      let apart : is_apart [] (groups table_of part_of xs) ≡ true = add_all_apart table_of part_of [] xs refl both.1 in (
+        add_all_typed table_of part_of good [] xs tt t,
+        and_true (some_thousands (groups table_of part_of xs)) (list_all ok (groups table_of part_of xs)) both.0 (add_all_fits table_of part_of [] xs refl both.1),
+        rw apart (ap just (groups_spread table_of part_of place back xs)),
+      )
 
   from_apart : (gs : List (Group P)) (xs : List X) (b : Bool) → is_apart [] gs ≡ b → AllByRecursion (TypedGroup good) gs → (some_thousands gs && list_all ok gs) ≡ true → cond b (Some (flat_map (spread place) gs)) None ≡ Some xs
       → (gs ≡ groups table_of part_of xs) × AllByRecursion Typed xs × (room xs ≡ true)
@@ -104,9 +105,11 @@ module _ {X P : Type 0} (table_of : X → List ℕ) (part_of : X → P) (place :
       let both = both_true (some_thousands gs) (list_all ok gs) h in
       let same : groups table_of part_of (flat_map (spread place) gs) ≡ gs = spread_groups table_of part_of place table_is part_is gs e both.1 in
       let few : some_thousands (groups table_of part_of (flat_map (spread place) gs)) ≡ true = ap (λ (l : List (Group P)). some_thousands l) same ∙ both.0 in
-      subst (λ (l : List X). (gs ≡ groups table_of part_of l) × AllByRecursion Typed l × (room l ≡ true)) (some_is (flat_map (spread place) gs) xs k)
-      (sym same, spread_typed table_of part_of place good table_is part_is gs t,
-       and_true (some_thousands (groups table_of part_of (flat_map (spread place) gs))) (is_named (flat_map (spread place) gs)) few (spread_named table_of part_of place good table_is part_is gs both.1))
+      subst (λ (l : List X). (gs ≡ groups table_of part_of l) × AllByRecursion Typed l × (room l ≡ true)) (some_is (flat_map (spread place) gs) xs k) (
+        sym same,
+        spread_typed table_of part_of place good table_is part_is gs t,
+        and_true (some_thousands (groups table_of part_of (flat_map (spread place) gs))) (is_named (flat_map (spread place) gs)) few (spread_named table_of part_of place good table_is part_is gs both.1),
+      )
   from_apart gs xs false e t h k = absurd cc
 
   pub placed_law : IsField (λ xs. list_spelling w16 (group_spelling spell) (groups table_of part_of xs)) (AllByRecursion Typed) room (placed_at place read)

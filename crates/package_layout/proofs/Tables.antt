@@ -60,7 +60,7 @@ ColumnParts = List ℕ × Kind
 column_law : IsField column_spelling TypedColumn always column_at
 column_law = restate column_spelling (λ c. IsUtf8 c.name × Unit {0}) TypedColumn always always column_at
     (struct_law (λ (p : ColumnParts). text_spelling p.0 ++ to_be_bytes w8 (kind_number p.1.0 p.1.1)) (λ (p : ColumnParts). IsUtf8 p.0 × Unit {0}) always (both_at text_at kind_at) (λ (p : ColumnParts). record { name = p.0; text = p.1.0; not_null = p.1.1 }) (λ (c : Column). (c.name, (c.text, c.not_null)))
-      (then_law text_spelling IsUtf8 always text_at (λ (p : Kind). to_be_bytes w8 (kind_number p.0 p.1)) Anything (λ a. always) (λ a. kind_at) text_law (λ a. kind_law)) (λ c. refl) (λ p. refl))
+    (then_law text_spelling IsUtf8 always text_at (λ (p : Kind). to_be_bytes w8 (kind_number p.0 p.1)) Anything (λ a. always) (λ a. kind_at) text_law (λ a. kind_law)) (λ c. refl) (λ p. refl))
     (λ c t h. ((t, tt), h)) (λ c t h. (t.0, h))
 
 -- ---- rows
@@ -86,8 +86,10 @@ rule_law = made_law (to_be_bytes w8) (λ n. n < 256) always (number_at w8) Anyth
 
 abbrev RowTail : Type 0
 RowTail = Rule × List Value
+
 abbrev RowEnd : Type 0
 RowEnd = ℕ × RowTail
+
 abbrev RowParts : Type 0
 RowParts = ℕ × RowEnd
 
@@ -106,7 +108,7 @@ parts_law columns = then_law (to_be_bytes w32) IsU32 always (number_at w32) (λ 
 row_law : (columns : ℕ) → IsField row_spelling TypedRow (row_room columns) (row_at columns)
 row_law columns = restate row_spelling (λ r. IsU32 r.number × (IsU32 r.statement × (Unit {0} × TypedValues r.values))) TypedRow (λ r. so_many columns r.values) (row_room columns) (row_at columns)
     (struct_law (λ (p : RowParts). to_be_bytes w32 p.0 ++ (to_be_bytes w32 p.1.0 ++ (to_be_bytes w8 (rule_number p.1.1.0) ++ flat_map value_spelling p.1.1.1))) (λ (p : RowParts). IsU32 p.0 × (IsU32 p.1.0 × (Unit {0} × TypedValues p.1.1.1))) (λ (p : RowParts). so_many columns p.1.1.1) (both_at (number_at w32) (both_at (number_at w32) (both_at rule_at (items_at value_at columns))))
-      (λ (p : RowParts). record { number = p.0; statement = p.1.0; rule = p.1.1.0; values = p.1.1.1 }) (λ (r : PackedRow). (r.number, (r.statement, (r.rule, r.values)))) (parts_law columns) (λ r. refl) (λ p. refl))
+    (λ (p : RowParts). record { number = p.0; statement = p.1.0; rule = p.1.1.0; values = p.1.1.1 }) (λ (r : PackedRow). (r.number, (r.statement, (r.rule, r.values)))) (parts_law columns) (λ r. refl) (λ p. refl))
     (λ r t h. ((t.0, (t.1.0, (tt, t.1.1))), and_true (length r.values == columns) (list_all always r.values) h (list_all-always r.values)))
     (λ r t h. ((t.0, (t.1.0, t.1.1.1)), (both_true (length r.values == columns) (list_all always r.values) h).0))
 
@@ -140,20 +142,22 @@ schema_room s = few s.columns && key_room s.key
 schema_law : IsField schema_spelling (λ s. AllByRecursion TypedColumn s.columns) schema_room schema_at
 schema_law = restate schema_spelling (λ s. AllByRecursion TypedColumn s.columns × Unit {0}) (λ s. AllByRecursion TypedColumn s.columns) (λ s. (few s.columns && list_all always s.columns) && key_room s.key) schema_room schema_at
     (struct_law (λ (p : SchemaParts). list_spelling w8 column_spelling p.0 ++ list_spelling w8 (to_be_bytes w8) p.1) (λ (p : SchemaParts). AllByRecursion TypedColumn p.0 × Unit {0}) (λ (p : SchemaParts). (few p.0 && list_all always p.0) && key_room p.1) (both_at (list_at w8 column_at) key_at)
-      (λ (p : SchemaParts). record { columns = p.0; key = p.1 }) (λ (s : Schema). (s.columns, s.key))
-      (then_law (list_spelling w8 column_spelling) (AllByRecursion TypedColumn) (λ cs. few cs && list_all always cs) (list_at w8 column_at) (list_spelling w8 (to_be_bytes w8)) Anything (λ a. key_room) (λ a. key_at) (byte_list_law column_spelling TypedColumn always column_at column_law) (λ a. key_law))
-      (λ s. refl) (λ p. refl))
+    (λ (p : SchemaParts). record { columns = p.0; key = p.1 }) (λ (s : Schema). (s.columns, s.key))
+    (then_law (list_spelling w8 column_spelling) (AllByRecursion TypedColumn) (λ cs. few cs && list_all always cs) (list_at w8 column_at) (list_spelling w8 (to_be_bytes w8)) Anything (λ a. key_room) (λ a. key_at) (byte_list_law column_spelling TypedColumn always column_at column_law) (λ a. key_law))
+    (λ s. refl) (λ p. refl))
     (λ s t h.
-      let both = both_true (few s.columns) (key_room s.key) h in
-      ((t, tt), and_true (few s.columns && list_all always s.columns) (key_room s.key) (and_true (few s.columns) (list_all always s.columns) both.0 (list_all-always s.columns)) both.1))
+    let both = both_true (few s.columns) (key_room s.key) h in
+    ((t, tt), and_true (few s.columns && list_all always s.columns) (key_room s.key) (and_true (few s.columns) (list_all always s.columns) both.0 (list_all-always s.columns)) both.1))
     (λ s t h.
-      let both = both_true (few s.columns && list_all always s.columns) (key_room s.key) h in
-      (t.0, and_true (few s.columns) (key_room s.key) (both_true (few s.columns) (list_all always s.columns) both.0).0 both.1))
+    let both = both_true (few s.columns && list_all always s.columns) (key_room s.key) h in
+    (t.0, and_true (few s.columns) (key_room s.key) (both_true (few s.columns) (list_all always s.columns) both.0).0 both.1))
 
 abbrev TableEnd : Type 0
 TableEnd = ℕ × List PackedRow
+
 abbrev TableTail : Type 0
 TableTail = Schema × TableEnd
+
 abbrev TableParts : Type 0
 TableParts = List ℕ × TableTail
 
@@ -179,16 +183,16 @@ table_tail_law = then_law schema_spelling (λ s. AllByRecursion TypedColumn s.co
 pub table_law : IsField table_spelling TypedTable table_room table_at
 table_law = restate table_spelling TypedTable TypedTable (λ t. tail_room (t.schema, (t.next, t.rows))) table_room table_at
     (struct_law (λ (p : TableParts). text_spelling p.0 ++ tail_spelling p.1) (λ (p : TableParts). IsUtf8 p.0 × TypedTail p.1) (λ (p : TableParts). tail_room p.1) (both_at text_at tail_at)
-      (λ (p : TableParts). record { name = p.0; schema = p.1.0; next = p.1.1.0; rows = p.1.1.1 }) (λ (t : PackedTable). (t.name, (t.schema, (t.next, t.rows))))
-      (then_law text_spelling IsUtf8 always text_at tail_spelling TypedTail (λ a. tail_room) (λ a. tail_at) text_law (λ a. table_tail_law)) (λ t. refl) (λ p. refl))
+    (λ (p : TableParts). record { name = p.0; schema = p.1.0; next = p.1.1.0; rows = p.1.1.1 }) (λ (t : PackedTable). (t.name, (t.schema, (t.next, t.rows))))
+    (then_law text_spelling IsUtf8 always text_at tail_spelling TypedTail (λ a. tail_room) (λ a. tail_at) text_law (λ a. table_tail_law)) (λ t. refl) (λ p. refl))
     (λ t h k.
-      let a = both_true (few t.schema.columns) (key_room t.schema.key && list_all (row_room (length t.schema.columns)) t.rows) k in
-      let b = both_true (key_room t.schema.key) (list_all (row_room (length t.schema.columns)) t.rows) a.1 in
-      (h, and_true (schema_room t.schema) (list_all (row_room (length t.schema.columns)) t.rows) (and_true (few t.schema.columns) (key_room t.schema.key) a.0 b.0) b.1))
+    let a = both_true (few t.schema.columns) (key_room t.schema.key && list_all (row_room (length t.schema.columns)) t.rows) k in
+    let b = both_true (key_room t.schema.key) (list_all (row_room (length t.schema.columns)) t.rows) a.1 in
+    (h, and_true (schema_room t.schema) (list_all (row_room (length t.schema.columns)) t.rows) (and_true (few t.schema.columns) (key_room t.schema.key) a.0 b.0) b.1))
     (λ t h k.
-      let a = both_true (schema_room t.schema) (list_all (row_room (length t.schema.columns)) t.rows) k in
-      let b = both_true (few t.schema.columns) (key_room t.schema.key) a.0 in
-      (h, and_true (few t.schema.columns) (key_room t.schema.key && list_all (row_room (length t.schema.columns)) t.rows) b.0 (and_true (key_room t.schema.key) (list_all (row_room (length t.schema.columns)) t.rows) b.1 a.1)))
+    let a = both_true (schema_room t.schema) (list_all (row_room (length t.schema.columns)) t.rows) k in
+    let b = both_true (few t.schema.columns) (key_room t.schema.key) a.0 in
+    (h, and_true (few t.schema.columns) (key_room t.schema.key && list_all (row_room (length t.schema.columns)) t.rows) b.0 (and_true (key_room t.schema.key) (list_all (row_room (length t.schema.columns)) t.rows) b.1 a.1)))
 
 pub table_filled : (t : PackedTable) → 0 < length (table_spelling t)
 table_filled t = omega arith

@@ -18,15 +18,15 @@ pub record IsTagged {X : Type 0} (tag : X → ℕ) (body : X → List ℕ) (type
 plain_law : {X : Type 0} (tag : X → ℕ) (body : X → List ℕ) (typed : X → Type 0) (fits : X → Bool) (read : ℕ → List ℕ → Found X) → IsTagged tag body typed fits read → IsField (λ x. to_be_bytes w8 (tag x) ++ body x) typed fits (tagged_at read)
 plain_law tag body typed fits read law = record {
   again = λ x rest t f len.
-    let first : number_at w8 (to_be_bytes w8 (tag x) ++ (body x ++ rest)) ≡ Some (tag x, body x ++ rest) = (number_law w8 256 wide8).again (tag x) (body x ++ rest) (law.small x) refl (omega arith) in
-    ap (tagged_at read) (append_assoc (to_be_bytes w8 (tag x)) (body x) rest) ∙ rw (first, law.again x rest t f (omega (arith, length-append (to_be_bytes w8 (tag x)) (body x)))) refl;
+      let first : number_at w8 (to_be_bytes w8 (tag x) ++ (body x ++ rest)) ≡ Some (tag x, body x ++ rest) = (number_law w8 256 wide8).again (tag x) (body x ++ rest) (law.small x) refl (omega arith) in
+      ap (tagged_at read) (append_assoc (to_be_bytes w8 (tag x)) (body x) rest) ∙ rw (first, law.again x rest t f (omega (arith, length-append (to_be_bytes w8 (tag x)) (body x)))) refl;
   took = λ bytes x rest h e.
-    let first = bind_some (number_at w8 bytes) (λ t. read t.0 t.1) (x, rest) e in
-    let t = first.0 in
-    let k = (number_law w8 256 wide8).took bytes t.0 t.1 h first.1 in
-    let l = law.took t.0 t.1 x rest (IsBytes-rest (to_be_bytes w8 t.0) t.1 (subst IsBytes k.parts h)) first.2 in
-    let whole : bytes ≡ (to_be_bytes w8 t.0 ++ body x) ++ rest = k.parts ∙ ap (λ (z : List ℕ). to_be_bytes w8 t.0 ++ z) l.took.parts ∙ sym (append_assoc (to_be_bytes w8 t.0) (body x) rest) in
-    record { parts = subst (λ (m : ℕ). bytes ≡ (to_be_bytes w8 m ++ body x) ++ rest) (sym l.tag_is) whole; is_typed = l.took.is_typed; is_fit = l.took.is_fit };
+      let first = bind_some (number_at w8 bytes) (λ t. read t.0 t.1) (x, rest) e in
+      let t = first.0 in
+      let k = (number_law w8 256 wide8).took bytes t.0 t.1 h first.1 in
+      let l = law.took t.0 t.1 x rest (IsBytes-rest (to_be_bytes w8 t.0) t.1 (subst IsBytes k.parts h)) first.2 in
+      let whole : bytes ≡ (to_be_bytes w8 t.0 ++ body x) ++ rest = k.parts ∙ ap (λ (z : List ℕ). to_be_bytes w8 t.0 ++ z) l.took.parts ∙ sym (append_assoc (to_be_bytes w8 t.0) (body x) rest) in
+      record { parts = subst (λ (m : ℕ). bytes ≡ (to_be_bytes w8 m ++ body x) ++ rest) (sym l.tag_is) whole; is_typed = l.took.is_typed; is_fit = l.took.is_fit };
 }
 
 pub tagged_law : {X : Type 0} (spell : X → List ℕ) (tag : X → ℕ) (body : X → List ℕ) (typed : X → Type 0) (fits : X → Bool) (read : ℕ → List ℕ → Found X) → IsTagged tag body typed fits read → ((x : X) → spell x ≡ to_be_bytes w8 (tag x) ++ body x) → IsField spell typed fits (tagged_at read)

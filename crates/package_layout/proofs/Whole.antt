@@ -64,91 +64,127 @@ events_law = long_law event_spelling TypedEvent event_room event_at event_law ev
 
 abbrev P7 : Type 0
 P7 = List Log × List Event
+
 abbrev P6 : Type 0
 P6 = List PackedTable × P7
+
 abbrev P5 : Type 0
 P5 = List PackedFile × P6
+
 abbrev P4 : Type 0
 P4 = ℕ × P5
+
 abbrev P3 : Type 0
 P3 = ℕ × P4
+
 abbrev P2 : Type 0
 P2 = List (List ℕ) × P3
+
 abbrev P1 : Type 0
 P1 = Mode × P2
 
 abbrev s7 : P7 → List ℕ
 s7 p = list_spelling w32 log_spelling p.0 ++ list_spelling w32 event_spelling p.1
+
 abbrev s6 : P6 → List ℕ
 s6 p = list_spelling w16 table_spelling p.0 ++ s7 p.1
+
 abbrev s5 : P5 → List ℕ
 s5 p = list_spelling w32 file_spelling p.0 ++ s6 p.1
+
 abbrev s4 : P4 → List ℕ
 s4 p = to_be_bytes w32 p.0 ++ s5 p.1
+
 abbrev s3 : P3 → List ℕ
 s3 p = to_be_bytes w64 p.0 ++ s4 p.1
+
 abbrev s2 : P2 → List ℕ
 s2 p = names_spelling p.0 ++ s3 p.1
+
 abbrev s1 : P1 → List ℕ
 s1 p = mode_spelling p.0 ++ s2 p.1
 
 abbrev t7 : P7 → Type 0
 t7 p = AllByRecursion TypedLog p.0 × AllByRecursion TypedEvent p.1
+
 abbrev t6 : P6 → Type 0
 t6 p = AllByRecursion TypedTable p.0 × t7 p.1
+
 abbrev t5 : P5 → Type 0
 t5 p = AllByRecursion TypedFile p.0 × t6 p.1
+
 abbrev t4 : P4 → Type 0
 t4 p = IsU32 p.0 × t5 p.1
+
 abbrev t3 : P3 → Type 0
 t3 p = (p.0 < 2 ^ 64) × t4 p.1
+
 abbrev t2 : P2 → Type 0
 t2 p = AllByRecursion IsUtf8 p.0 × t3 p.1
+
 abbrev t1 : P1 → Type 0
 t1 p = Unit {0} × t2 p.1
 
 abbrev f7 : P7 → Bool
 f7 p = list_all log_room p.0 && list_all event_room p.1
+
 abbrev f6 : P6 → Bool
 f6 p = tables_fit p.0 && f7 p.1
+
 abbrev f5 : P5 → Bool
 f5 p = f6 p.1
+
 abbrev f4 : P4 → Bool
 f4 p = f5 p.1
+
 abbrev f3 : P3 → Bool
 f3 p = f4 p.1
+
 abbrev f2 : P2 → Bool
 f2 p = some_thousands p.0 && f3 p.1
+
 abbrev f1 : P1 → Bool
 f1 p = f2 p.1
 
 abbrev r7 : List ℕ → Found P7
 r7 = both_at (list_at w32 log_at) (list_at w32 event_at)
+
 abbrev r6 : List ℕ → Found P6
 r6 = both_at (list_at w16 table_at) r7
+
 abbrev r5 : List ℕ → Found P5
 r5 = both_at (list_at w32 file_at) r6
+
 abbrev r4 : List ℕ → Found P4
 r4 = both_at (number_at w32) r5
+
 abbrev r3 : List ℕ → Found P3
 r3 = both_at (number_at w64) r4
+
 abbrev r2 : List ℕ → Found P2
 r2 = both_at names_at r3
+
 abbrev r1 : List ℕ → Found P1
 r1 = both_at mode_at r2
 
 l7 : IsField s7 t7 f7 r7
 l7 = then_law (list_spelling w32 log_spelling) (AllByRecursion TypedLog) (list_all log_room) (list_at w32 log_at) (list_spelling w32 event_spelling) (AllByRecursion TypedEvent) (λ a. list_all event_room) (λ a. list_at w32 event_at) logs_law (λ a. events_law)
+
 l6 : IsField s6 t6 f6 r6
 l6 = then_law (list_spelling w16 table_spelling) (AllByRecursion TypedTable) tables_fit (list_at w16 table_at) s7 t7 (λ a. f7) (λ a. r7) tables_law (λ a. l7)
+
 l5 : IsField s5 t5 f5 r5
 l5 = then_law (list_spelling w32 file_spelling) (AllByRecursion TypedFile) always (list_at w32 file_at) s6 t6 (λ a. f6) (λ a. r6) files_law (λ a. l6)
+
 l4 : IsField s4 t4 f4 r4
 l4 = then_law (to_be_bytes w32) IsU32 always (number_at w32) s5 t5 (λ a. f5) (λ a. r5) u32_law (λ a. l5)
+
 l3 : IsField s3 t3 f3 r3
 l3 = then_law (to_be_bytes w64) (λ n. n < 2 ^ 64) always (number_at w64) s4 t4 (λ a. f4) (λ a. r4) (number_law w64 (2 ^ 64) wide64) (λ a. l4)
+
 l2 : IsField s2 t2 f2 r2
 l2 = then_law names_spelling (AllByRecursion IsUtf8) some_thousands names_at s3 t3 (λ a. f3) (λ a. r3) names_law (λ a. l3)
+
 l1 : IsField s1 t1 f1 r1
 l1 = then_law mode_spelling Anything always mode_at s2 t2 (λ a. f2) (λ a. r2) mode_law (λ a. l2)
 

@@ -18,6 +18,7 @@ use sha2::{Digest, Sha256};
 use std::alloc::{AllocError, Global};
 
 const MAGIC: &[u8; 8] = b"LDVPACK1";
+
 const DIGEST_LENGTH: usize = 32;
 
 /// Why a package isn't spelled.
@@ -191,5 +192,4 @@ fn package_in(alloc: Global, middle: &[u8]) -> Result<Package, Stop>
 pub fn round_trip_law()
     ensures unique { (p q : Package) → IsTyped p → IsTyped q → Valid p → Valid q → length (spelling p) ≤ 67108864 → spelling p ≡ spelling q → p ≡ q }
     ensures again { (p : Package) → IsTyped p → Valid p → length (spelling p) ≤ 67108864 → reading (spelling p) ≡ Ok p }
-{
-}
+{}

@@ -7,7 +7,9 @@ ghost use Rattle.package_layout.specs.Order.{repeats};
 ghost use Rattle.package_layout.specs.Valid.{is_short_text, start_rule, content_rule, file_rule, files_rule, has_same_name, columns_rule, is_not_null, key_rule, is_short, value_rule, values_rule, row_rule, table_rule, tables_rule, refusal_rule, reply_rule, entry_rule, is_of_first, log_rule, logs_rule};
 
 use crate::order::rises;
-use ldv_value::{Bytes, Parts, Places, RowList, TEXT_LIMIT, FILE_LIMIT, Utf8, Value, Values, Words, is_path};
+use ldv_value::{
+    Bytes, FILE_LIMIT, Parts, Places, RowList, TEXT_LIMIT, Utf8, Value, Values, Words, is_path,
+};
 use run_model::{Entry, Log, Logs, PackedFile, PackedFiles, PackedRow, PackedTable, PackedTables};
 use sql_model::{Column, Columns, Reply, Schema, SqlRefusal, is_sql_name};
 
@@ -16,7 +18,9 @@ pub(crate) fn meets_start(words: &Words) -> bool
 {
     match words.items() {
         [] => false,
-        [word, rest @ ..] => is_path(word.as_str()) && rest.len() <= 255 && are_short(words.items()),
+        [word, rest @ ..] => is_path(word.as_str())
+            && rest.len() <= 255
+            && are_short(words.items()),
     }
 }
 

@@ -62,7 +62,11 @@ pub(crate) fn put_list<X: Spelled>(
 
 /// Reads a list with the number of its items before it. The list grows with the items that are read, so
 /// a count that lies takes no memory.
-pub(crate) fn read_list<X: Readable>(alloc: Global, width: Width, left: &mut Left) -> Result<Listed<X>, Stop>
+pub(crate) fn read_list<X: Readable>(
+    alloc: Global,
+    width: Width,
+    left: &mut Left,
+) -> Result<Listed<X>, Stop>
     ensures { Gives result left.new (list_at (of_count width) X.reading left.old) }
 {
     let count = read_count(width, left)?;
@@ -70,7 +74,11 @@ pub(crate) fn read_list<X: Readable>(alloc: Global, width: Width, left: &mut Lef
 }
 
 /// Reads so many items.
-pub(crate) fn read_items<X: Readable>(alloc: Global, count: usize, left: &mut Left) -> Result<Listed<X>, Stop>
+pub(crate) fn read_items<X: Readable>(
+    alloc: Global,
+    count: usize,
+    left: &mut Left,
+) -> Result<Listed<X>, Stop>
     ensures { Gives result left.new (items_at X.reading count left.old) }
 {
     let mut items = Listed::new(alloc);

@@ -146,7 +146,12 @@ fn read_rows(alloc: Global, columns: &Columns, left: &mut Left) -> Result<Packed
     read_some_rows(alloc, columns.len(), count, left)
 }
 
-fn read_some_rows(alloc: Global, columns: usize, count: u32, left: &mut Left) -> Result<PackedRows, Stop>
+fn read_some_rows(
+    alloc: Global,
+    columns: usize,
+    count: u32,
+    left: &mut Left,
+) -> Result<PackedRows, Stop>
     ensures { Gives result left.new (items_at (row_at columns) count left.old) }
 {
     let mut rows = List::new(alloc);

@@ -6,8 +6,8 @@ ghost use Rattle.package_layout.specs.Fields.{Gives, Makes, sized_at, text_at, t
 
 use crate::left::Left;
 use crate::number::{put_count, read_u32};
-use crate::width::Width;
 use crate::stop::Stop;
+use crate::width::Width;
 use ldv_value::{Bytes, Utf8};
 use std::alloc::{AllocError, Global};
 
