@@ -1,9 +1,8 @@
 -- Events: what is spelled is read, and what is read was spelled so.
-use Rattle.std.proofs.Common.{◌≡◌, ℕ, zero, suc, ◌+◌, ◌^◌, ◌<◌, Bool, true, false, List, [], ◌∷◌, ◌++◌, length, Option, Some, None, refl, sym, ap, subst, ◌∙◌, arith, ◌&&◌}
-use Rattle.std.specs.List.{flat_map, list_all, AllByRecursion}
+use Rattle.std.proofs.Common.{◌≡◌, ℕ, zero, suc, ◌^◌, ◌<◌, Bool, true, false, List, ◌++◌, length, Some, refl, subst, arith, ◌&&◌}
+use Rattle.std.specs.List.{list_all, AllByRecursion}
 use Rattle.std.specs.Str.{IsUtf8}
-use Rattle.std.specs.Int.{w8, w16, w32, to_be_bytes}
-use Rattle.sql_model.specs.SqlNames.{sql_name_test}
+use Rattle.std.specs.Int.{w8, w32, to_be_bytes}
 use Rattle.sql_model.specs.declared.need.Rule.{Rule}
 use Rattle.sql_model.specs.declared.need.Member.{Member}
 use Rattle.sql_model.specs.declared.need.Need.{Need}
@@ -12,17 +11,17 @@ use Rattle.run_model.specs.declared.event.Act.TheVariants as acts
 use Rattle.run_model.specs.declared.event.Event.{Event}
 use Rattle.package_layout.specs.declared.part.ReadPart.{ReadPart}
 use Rattle.package_layout.specs.declared.part.MadePart.{MadePart}
-use Rattle.package_layout.specs.Fields.{Found, both_at, made_at, tagged_at, number_at, list_at, text_at, text_spelling, list_spelling}
+use Rattle.package_layout.specs.Fields.{Found, both_at, number_at, text_at, text_spelling}
 use Rattle.package_layout.specs.Spelling.{rule_number}
 use Rattle.package_layout.specs.Typed.{IsU32}
 use Rattle.package_layout.specs.Room.{some_thousands}
 use Rattle.package_layout.specs.Reading.{rule_at}
-use Rattle.package_layout.specs.Groups.{TypedGroup, groups, group_spelling}
+use Rattle.package_layout.specs.Groups.{TypedGroup}
 use Rattle.package_layout.specs.Parts.{read_part_spelling, made_part_spelling, TypedReadPart, TypedMadePart, read_part_at, made_part_at, need_table, need_part, need_of, member_table, member_part, member_of}
 use Rattle.package_layout.specs.Events.{flag_number, flag_spelling, flag_of, flag_at, need_groups, member_groups, needs_spelling, members_spelling, names_spelling, flagged_spelling, act_spelling, event_spelling, TypedNeed, TypedMember, TypedAct, TypedEvent, needs_room, members_room, act_room, event_room, names_at, needs_at, members_at, act_body, act_at, event_at}
 use Rattle.package_layout.proofs.Laws.{IsBytes, IsField, just, some_is, always, list_all-always, and_true, both_true, restate, made_law, then_law, struct_law}
 use Rattle.package_layout.proofs.Numbers.{wide8, number_law, text_law, short_list_law}
-use Rattle.package_layout.proofs.Tags.{TookTagged, IsTagged, tagged_law, case_took, case_again}
+use Rattle.package_layout.proofs.Tags.{TookTagged, tagged_law, case_took, case_again}
 use Rattle.package_layout.proofs.Tables.{Anything, u32_law, rule_law}
 use Rattle.package_layout.proofs.Placed.{placed_law, placed_typed}
 

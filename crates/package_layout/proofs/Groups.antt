@@ -1,15 +1,15 @@
 -- Rows in groups and out of them.
-use Rattle.std.proofs.Common.{◌≡◌, ℕ, zero, suc, ◌+◌, ◌<◌, Bool, true, false, cond, not, List, [], ◌∷◌, ◌++◌, length, map, take, get_or, Option, Some, None, refl, sym, ap, subst, ◌∙◌, append_assoc, arith, ◌&&◌, inl, inr}
+use Rattle.std.proofs.Common.{◌≡◌, ℕ, ◌+◌, ◌<◌, Bool, true, false, not, List, [], ◌∷◌, ◌++◌, length, map, take, get_or, refl, sym, ap, ◌∙◌, append_assoc, arith, ◌&&◌}
 use Rattle.std.specs.Prelude.{bytes_eq, ◌==◌}
 use Rattle.std.specs.List.{flat_map, list_all, AllByRecursion}
 use Rattle.std.specs.Str.{IsUtf8}
-use Rattle.std.proofs.lemmas.Bool.{cases_Bool, not-true, not_from_false}
+use Rattle.std.proofs.lemmas.Bool.{not-true, not_from_false}
 use Rattle.std.proofs.lemmas.Bool.Decides.{same_from_decides, Decides-like}
 use Rattle.std.proofs.lemmas.Slice.Eq.{bytes_eq-Decides}
 use Rattle.std.proofs.lemmas.List.{map-append, append-nil, take_more, length-append}
 use Rattle.sql_model.specs.SqlNames.{sql_name_test}
 use Rattle.package_layout.specs.declared.group.Group.{Group}
-use Rattle.package_layout.specs.Groups.{TypedGroup, single, with_part, after, add, add_all, groups, is_group, group_of, is_apart, spread, placed_of}
+use Rattle.package_layout.specs.Groups.{TypedGroup, single, with_part, after, add, add_all, groups, is_group, is_apart, spread}
 use Rattle.package_layout.proofs.Laws.{both_true, and_true}
 
 pub same_text : (a b : List ℕ) → bytes_eq a b ≡ true → a ≡ b

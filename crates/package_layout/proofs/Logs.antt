@@ -1,6 +1,6 @@
 -- Logs: what is spelled is read, and what is read was spelled so.
-use Rattle.std.proofs.Common.{◌≡◌, ℕ, zero, suc, ◌+◌, ◌^◌, ◌<◌, Bool, true, false, List, [], ◌∷◌, ◌++◌, length, Option, Some, None, refl, sym, ap, subst, ◌∙◌, arith, ◌&&◌}
-use Rattle.std.specs.List.{flat_map, list_all, AllByRecursion}
+use Rattle.std.proofs.Common.{◌≡◌, ℕ, zero, suc, ◌^◌, ◌<◌, Bool, true, List, [], ◌++◌, length, Some, refl, arith, ◌&&◌}
+use Rattle.std.specs.List.{list_all, AllByRecursion}
 use Rattle.std.specs.Str.{IsUtf8}
 use Rattle.std.specs.Int.{w8, w16, w32, w64, to_be_bytes}
 use Rattle.ldv_value.specs.declared.value.Value.{Value}
@@ -11,14 +11,14 @@ use Rattle.sql_model.specs.declared.reply.Reply.TheVariants.{Rows, Changed, Refu
 use Rattle.run_model.specs.declared.name.ProcName.{ProcName}
 use Rattle.run_model.specs.declared.package.Entry.{Entry}
 use Rattle.run_model.specs.declared.package.Log.{Log}
-use Rattle.package_layout.specs.Fields.{Found, ◌>>=◌, both_at, made_at, number_at, text_spelling, list_spelling, list_at, text_at}
+use Rattle.package_layout.specs.Fields.{Found, both_at, number_at, text_spelling, list_spelling, list_at, text_at}
 use Rattle.package_layout.specs.Spelling.{value_spelling, values_spelling, refusal_spelling, reply_spelling, entry_spelling, parts_spelling, log_spelling}
 use Rattle.package_layout.specs.Typed.{IsU32, TypedValue, TypedValues, TypedRefusal, TypedReply, TypedEntry, TypedLog}
 use Rattle.package_layout.specs.Room.{few, some_thousands, refusal_room, reply_room, entry_room, log_room}
 use Rattle.package_layout.specs.Reading.{value_at, values_at, refusal_body, refusal_at, reply_body, reply_at, entry_at, name_at, log_at}
 use Rattle.package_layout.proofs.Laws.{IsBytes, IsField, just, always, list_all-always, and_true, both_true, restate, then_law, struct_law}
 use Rattle.package_layout.proofs.Numbers.{wide64, number_law, text_law, byte_list_law, short_list_law, long_law}
-use Rattle.package_layout.proofs.Tags.{TookTagged, IsTagged, tagged_law, bare_took, case_took, case_again}
+use Rattle.package_layout.proofs.Tags.{TookTagged, tagged_law, bare_took, case_took, case_again}
 use Rattle.package_layout.proofs.Values.{value_law, values_law}
 use Rattle.package_layout.proofs.Tables.{u32_law}
 

@@ -1,5 +1,5 @@
 -- Numbers, texts and lists: what is spelled is read, and what is read was spelled so.
-use Rattle.std.proofs.Common.{◌≡◌, ℕ, ℤ, zero, suc, ◌+◌, ◌-◌, ◌*◌, ◌/◌, ◌%◌, ◌^◌, ◌<◌, ◌≤◌, Bool, true, false, cond, ltb, eqb, List, [], ◌∷◌, ◌++◌, length, get_or, take, drop, Option, Some, None, refl, sym, ap, subst, ◌∙◌, append_assoc, arith, rules, inl, inr, ◌&&◌}
+use Rattle.std.proofs.Common.{◌≡◌, ℕ, ℤ, zero, suc, ◌%◌, ◌^◌, ◌<◌, ◌≤◌, Bool, true, false, cond, ltb, List, [], ◌∷◌, ◌++◌, length, take, drop, Some, None, refl, sym, ap, subst, ◌∙◌, append_assoc, arith, rules, ◌&&◌}
 use Rattle.std.specs.Prelude.{nat_lt, ◌==◌}
 use Rattle.std.specs.List.{flat_map, list_all, AllByRecursion}
 use Rattle.std.specs.Str.{IsUtf8, is_utf8}
@@ -7,11 +7,11 @@ use Rattle.std.specs.Int.{Width, w8, w16, w32, w64, byte_len, to_be_bytes, from_
 use Rattle.std.specs.Int.RustNames.{FitsSigned}
 use Rattle.std.proofs.lemmas.Int.{to_z-of_z, of_z-to_z, ints}
 use Rattle.std.proofs.lemmas.Str.{IsUtf8-from_is_utf8, is_utf8-from_IsUtf8}
-use Rattle.std.proofs.lemmas.Bool.{cases_lt, ltb-false, le-ltb, ltb-true, eqb-true}
-use Rattle.std.proofs.lemmas.List.{take_at, drop_at, take-append-drop, length-append, length-take, get_or-drop, get_or-take, get_or_past}
+use Rattle.std.proofs.lemmas.Bool.{ltb-false, le-ltb, ltb-true, eqb-true}
+use Rattle.std.proofs.lemmas.List.{take_at, drop_at, take-append-drop, length-append, length-take}
 use Rattle.std.proofs.lemmas.Nat.{be_bytes_2, be_bytes_4, be_bytes_8, from_be_bytes-to_be_bytes_2, from_be_bytes-to_be_bytes_4, from_be_bytes-to_be_bytes_8}
-use Rattle.package_layout.specs.Fields.{Found, ◌>>=◌, then_at, made_at, tagged_at, bytes_at, number_at, signed_at, items_at, list_at, list_spelling, text_spelling, sized_at, text_of, text_at}
-use Rattle.package_layout.proofs.Laws.{IsBytes, IsBytes-take, IsBytes-rest, bind_some, just, some_is, guard_some, both_true, and_true, Took, IsField, always, list_all-always, made_law}
+use Rattle.package_layout.specs.Fields.{Found, ◌>>=◌, bytes_at, number_at, signed_at, items_at, list_at, list_spelling, text_spelling, sized_at, text_of, text_at}
+use Rattle.package_layout.proofs.Laws.{IsBytes, IsBytes-take, IsBytes-rest, bind_some, just, some_is, guard_some, both_true, and_true, Took, IsField, always, made_law}
 
 -- ---- numbers
 

@@ -1,12 +1,12 @@
 -- Grouped rows: what is spelled is read, and what is read was spelled so.
-use Rattle.std.proofs.Common.{◌≡◌, ℕ, zero, suc, ◌+◌, ◌^◌, ◌<◌, Bool, true, false, cond, not, List, [], ◌∷◌, ◌++◌, length, map, Option, Some, None, refl, sym, ap, subst, ◌∙◌, arith, ◌&&◌}
+use Rattle.std.proofs.Common.{◌≡◌, ℕ, ◌<◌, Bool, true, false, cond, not, List, [], ◌∷◌, ◌++◌, length, map, Some, None, refl, sym, ap, subst, ◌∙◌, ◌&&◌}
 use Rattle.std.specs.Prelude.{◌==◌}
 use Rattle.std.specs.List.{flat_map, list_all, AllByRecursion}
 use Rattle.std.specs.Str.{IsUtf8}
 use Rattle.std.specs.Int.{w16, w32}
 use Rattle.sql_model.specs.SqlNames.{sql_name_test}
 use Rattle.package_layout.specs.declared.group.Group.{Group}
-use Rattle.package_layout.specs.Fields.{Found, both_at, made_at, list_at, text_at, text_spelling, list_spelling}
+use Rattle.package_layout.specs.Fields.{Found, both_at, list_at, text_at, text_spelling, list_spelling}
 use Rattle.package_layout.specs.Room.{some_thousands}
 use Rattle.package_layout.specs.Groups.{TypedGroup, groups, is_group, group_of, group_at, group_spelling, is_apart, spread, placed_of, placed_at}
 use Rattle.package_layout.proofs.Laws.{IsField, just, some_is, always, list_all-always, and_true, both_true, restate, made_law, then_law}

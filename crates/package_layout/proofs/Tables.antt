@@ -1,9 +1,9 @@
 -- Tables: what is spelled is read, and what is read was spelled so.
-use Rattle.std.proofs.Common.{◌≡◌, ℕ, zero, suc, ◌+◌, ◌^◌, ◌<◌, Bool, true, false, List, [], ◌∷◌, ◌++◌, length, Option, Some, None, refl, sym, ap, subst, ◌∙◌, arith, ◌&&◌}
+use Rattle.std.proofs.Common.{◌≡◌, ℕ, zero, suc, ◌^◌, ◌<◌, Bool, true, false, List, [], ◌∷◌, ◌++◌, length, Some, refl, subst, arith, ◌&&◌}
 use Rattle.std.specs.Prelude.{nat_lt, ◌==◌}
 use Rattle.std.specs.List.{flat_map, list_all, AllByRecursion}
 use Rattle.std.specs.Str.{IsUtf8}
-use Rattle.std.specs.Int.{w8, w16, w32, to_be_bytes}
+use Rattle.std.specs.Int.{w8, w32, to_be_bytes}
 use Rattle.std.proofs.lemmas.Bool.{ltb-true}
 use Rattle.ldv_value.specs.declared.value.Value.{Value}
 use Rattle.sql_model.specs.declared.need.Rule.{Rule}
@@ -12,12 +12,12 @@ use Rattle.sql_model.specs.declared.table.Column.{Column}
 use Rattle.sql_model.specs.declared.table.Schema.{Schema}
 use Rattle.run_model.specs.declared.package.PackedRow.{PackedRow}
 use Rattle.run_model.specs.declared.package.PackedTable.{PackedTable}
-use Rattle.package_layout.specs.Fields.{Found, ◌>>=◌, then_at, both_at, made_at, number_at, text_spelling, list_spelling, items_at, list_at, text_at}
+use Rattle.package_layout.specs.Fields.{Found, then_at, both_at, number_at, text_spelling, list_spelling, items_at, list_at, text_at}
 use Rattle.package_layout.specs.Spelling.{value_spelling, kind_number, rule_number, column_spelling, row_spelling, schema_spelling, table_spelling}
 use Rattle.package_layout.specs.Typed.{IsU32, TypedValue, TypedValues, TypedColumn, TypedRow, TypedTable}
 use Rattle.package_layout.specs.Room.{few, key_room, row_room, table_room}
 use Rattle.package_layout.specs.Reading.{value_at, kind_of, kind_at, column_at, rule_of, rule_at, row_at, rows_at, key_at, schema_at, table_at}
-use Rattle.package_layout.proofs.Laws.{IsBytes, IsField, just, some_is, always, list_all-always, and_true, both_true, restate, made_law, then_law, struct_law}
+use Rattle.package_layout.proofs.Laws.{IsField, just, some_is, always, list_all-always, and_true, both_true, restate, made_law, then_law, struct_law}
 use Rattle.package_layout.proofs.Numbers.{wide8, wide32, number_law, text_law, items_law, byte_list_law, long_law, ltb_from}
 use Rattle.package_layout.proofs.Values.{value_law}
 

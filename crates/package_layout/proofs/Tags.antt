@@ -1,9 +1,9 @@
 -- A tag of one byte and what stands behind it.
-use Rattle.std.proofs.Common.{◌≡◌, ℕ, zero, suc, ◌+◌, ◌-◌, ◌^◌, ◌<◌, ◌≤◌, Bool, true, false, cond, List, [], ◌∷◌, ◌++◌, length, Option, Some, None, refl, sym, ap, subst, ◌∙◌, append_assoc, arith, ◌&&◌}
+use Rattle.std.proofs.Common.{◌≡◌, ℕ, ◌^◌, ◌<◌, Bool, true, List, [], ◌++◌, length, Some, refl, sym, ap, subst, ◌∙◌, append_assoc, arith}
 use Rattle.std.specs.Int.{w8, to_be_bytes}
 use Rattle.std.proofs.lemmas.List.{length-append}
 use Rattle.package_layout.specs.Fields.{Found, ◌>>=◌, made_at, tagged_at, number_at}
-use Rattle.package_layout.proofs.Laws.{IsBytes, IsBytes-rest, bind_some, just, some_is, Took, IsField, always, respell}
+use Rattle.package_layout.proofs.Laws.{IsBytes, IsBytes-rest, bind_some, just, some_is, Took, IsField, respell}
 use Rattle.package_layout.proofs.Numbers.{number_law, wide8}
 
 pub record TookTagged {X : Type 0} (tag : X → ℕ) (body : X → List ℕ) (typed : X → Type 0) (fits : X → Bool) (t : ℕ) (bytes : List ℕ) (x : X) (rest : List ℕ) : Type 0 where

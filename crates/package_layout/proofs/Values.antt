@@ -1,21 +1,20 @@
 -- Values, files and tables: what is spelled is read, and what is read was spelled so.
-use Rattle.std.proofs.Common.{◌≡◌, ℕ, ℤ, zero, suc, ◌+◌, ◌^◌, ◌<◌, Bool, true, false, List, [], ◌∷◌, ◌++◌, length, Option, Some, None, refl, sym, ap, subst, ◌∙◌, arith, ◌&&◌}
-use Rattle.std.specs.List.{flat_map, list_all, AllByRecursion}
+use Rattle.std.proofs.Common.{◌≡◌, ℕ, zero, suc, ◌^◌, ◌<◌, true, List, [], ◌++◌, length, Option, Some, None, refl, arith, ◌&&◌}
+use Rattle.std.specs.List.{list_all}
 use Rattle.std.specs.Str.{IsUtf8}
-use Rattle.std.specs.Int.{w8, w16, w32, w64, to_be_bytes, cast_unsigned}
+use Rattle.std.specs.Int.{w8, w64, to_be_bytes, cast_unsigned}
 use Rattle.std.specs.Int.RustNames.{FitsSigned}
-use Rattle.std.proofs.lemmas.List.{length-append}
 use Rattle.ldv_value.specs.declared.value.Value.{Value}
 use Rattle.ldv_value.specs.declared.value.Value.TheVariants.{Null, Int, Text}
 use Rattle.run_model.specs.declared.package.PackedFile.{PackedFile}
-use Rattle.package_layout.specs.Fields.{Found, ◌>>=◌, both_at, made_at, tagged_at, number_at, signed_at, text_spelling, list_spelling, list_at, sized_at, text_at}
+use Rattle.package_layout.specs.Fields.{both_at, signed_at, text_spelling, sized_at, text_at}
 use Rattle.package_layout.specs.Spelling.{value_spelling, values_spelling, content_spelling, file_spelling}
 use Rattle.package_layout.specs.Typed.{TypedValue, TypedValues, TypedFile}
 use Rattle.package_layout.specs.Room.{some_thousands}
 use Rattle.package_layout.specs.Reading.{value_body, value_at, values_at, content_body, content_at, file_at}
 use Rattle.package_layout.proofs.Laws.{IsBytes, IsField, always, list_all-always, and_true, both_true, restate, then_law, struct_law}
 use Rattle.package_layout.proofs.Numbers.{signed_law, text_law, sized_law, short_list_law}
-use Rattle.package_layout.proofs.Tags.{TookTagged, IsTagged, tagged_law, bare_took, case_took, case_again}
+use Rattle.package_layout.proofs.Tags.{TookTagged, tagged_law, bare_took, case_took, case_again}
 
 -- ---- values
 

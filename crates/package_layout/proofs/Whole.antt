@@ -1,7 +1,7 @@
 -- The sections of a package: what is spelled is read, and what is read was spelled so.
-use Rattle.std.proofs.Common.{◌≡◌, ℕ, zero, suc, ◌+◌, ◌^◌, ◌<◌, ◌≤◌, Bool, true, false, cond, List, [], ◌∷◌, ◌++◌, length, Option, Some, None, refl, sym, ap, subst, ◌∙◌, arith, ◌&&◌}
+use Rattle.std.proofs.Common.{◌≡◌, ℕ, zero, suc, ◌^◌, ◌<◌, Bool, true, false, cond, List, [], ◌++◌, length, Option, Some, None, refl, sym, ap, subst, ◌∙◌, arith, ◌&&◌}
 use Rattle.std.specs.Prelude.{◌==◌}
-use Rattle.std.specs.List.{flat_map, list_all, AllByRecursion}
+use Rattle.std.specs.List.{list_all, AllByRecursion}
 use Rattle.std.specs.Str.{IsUtf8}
 use Rattle.std.specs.Int.{w8, w16, w32, w64, to_be_bytes}
 use Rattle.std.proofs.lemmas.Bool.{eqb-true}
@@ -13,16 +13,16 @@ use Rattle.run_model.specs.declared.package.PackedTable.{PackedTable}
 use Rattle.run_model.specs.declared.package.Log.{Log}
 use Rattle.run_model.specs.declared.event.Event.{Event}
 use Rattle.run_model.specs.declared.package.Package.{Package}
-use Rattle.package_layout.specs.Fields.{Found, ◌>>=◌, both_at, made_at, number_at, list_at, list_spelling}
+use Rattle.package_layout.specs.Fields.{Found, both_at, number_at, list_at, list_spelling}
 use Rattle.package_layout.specs.Spelling.{file_spelling, table_spelling, log_spelling}
 use Rattle.package_layout.specs.Typed.{IsU32, TypedFile, TypedTable, TypedLog}
 use Rattle.package_layout.specs.Room.{some_thousands, table_room, log_room}
 use Rattle.package_layout.specs.Reading.{file_at, table_at, log_at}
 use Rattle.package_layout.specs.Events.{names_spelling, names_at, event_spelling, TypedEvent, event_room, event_at}
-use Rattle.package_layout.specs.Whole.{mode_number, mode_spelling, mode_of, mode_at, sections, IsTyped, tables_room, has_room, sections_at, all_of}
-use Rattle.package_layout.proofs.Laws.{IsBytes, IsField, Took, bind_some, just, some_is, always, list_all-always, and_true, both_true, restate, made_law, then_law, struct_law}
+use Rattle.package_layout.specs.Whole.{mode_number, mode_spelling, mode_of, mode_at, sections, IsTyped, has_room, sections_at, all_of}
+use Rattle.package_layout.proofs.Laws.{IsBytes, IsField, bind_some, just, some_is, always, list_all-always, restate, made_law, then_law, struct_law}
 use Rattle.package_layout.proofs.Numbers.{wide8, wide64, number_law, short_list_law, long_law}
-use Rattle.package_layout.proofs.Tables.{Anything, u32_law, table_law, table_filled}
+use Rattle.package_layout.proofs.Tables.{Anything, u32_law, table_law}
 use Rattle.package_layout.proofs.Values.{file_law, file_filled}
 use Rattle.package_layout.proofs.Logs.{log_law, log_filled}
 use Rattle.package_layout.proofs.Events.{names_law, event_law, event_filled}

@@ -1,5 +1,5 @@
 -- What a reader of packages answers.
-use Rattle.std.specs.Prelude.{◌≡◌, ℕ, List, Bool, true, false, Option, Some, None, Result, Ok, Err, if◌then◌else◌}
+use Rattle.std.specs.Prelude.{◌≡◌, ℕ, List, Option, Some, None, Result, Ok, Err, if◌then◌else◌}
 use Rattle.run_model.specs.declared.package.Package.{Package}
 use Rattle.package_layout.specs.declared.damage.DamageKind.{DamageKind}
 use Rattle.package_layout.specs.declared.damage.DamageKind.TheVariants.{Magic, Digest}

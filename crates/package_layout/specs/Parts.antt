@@ -1,7 +1,6 @@
 -- What an event writes of a row that a statement read, and of one that it made.
-use Rattle.std.specs.Prelude.{ℕ, List, ◌++◌, Option, Some}
+use Rattle.std.specs.Prelude.{ℕ, List, ◌++◌, Some}
 use Rattle.std.specs.Int.{w8, w32, to_be_bytes}
-use Rattle.sql_model.specs.declared.need.Rule.{Rule}
 use Rattle.sql_model.specs.declared.need.Member.{Member}
 use Rattle.sql_model.specs.declared.need.Need.{Need}
 use Rattle.package_layout.specs.declared.part.ReadPart.{ReadPart}

@@ -1,5 +1,5 @@
 -- How the parts of a package are read from the front of bytes.
-use Rattle.std.specs.Prelude.{ℕ, zero, suc, ℤ, List, [], ◌∷◌, ◌++◌, length, Bool, true, false, Option, Some, None}
+use Rattle.std.specs.Prelude.{ℕ, zero, suc, List, length, Bool, true, false, Option, Some, None}
 use Rattle.std.specs.Int.{w8, w16, w32, w64}
 use Rattle.ldv_value.specs.declared.value.Value.{Value}
 use Rattle.ldv_value.specs.declared.value.Value.TheVariants.{Null, Int, Text}
@@ -17,7 +17,7 @@ use Rattle.run_model.specs.declared.package.PackedRow.{PackedRow}
 use Rattle.run_model.specs.declared.package.PackedTable.{PackedTable}
 use Rattle.run_model.specs.declared.package.Entry.{Entry}
 use Rattle.run_model.specs.declared.package.Log.{Log}
-use Rattle.package_layout.specs.Fields.{Found, ◌>>=◌, then_at, both_at, made_at, tagged_at, number_at, signed_at, sized_at, text_at, items_at, list_at}
+use Rattle.package_layout.specs.Fields.{Found, then_at, both_at, made_at, tagged_at, number_at, signed_at, sized_at, text_at, items_at, list_at}
 
 -- ---- values
 

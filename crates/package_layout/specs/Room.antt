@@ -1,9 +1,7 @@
 -- What the fields of the format have room for: counts within their fields, and in each row of a table
 -- one value for each column. A list with a count of four bytes that is too long for it is too long for a package.
-use Rattle.std.specs.Prelude.{ℕ, ◌^◌, List, [], ◌∷◌, length, Bool, true, false, ◌&&◌, ◌==◌, nat_lt}
+use Rattle.std.specs.Prelude.{ℕ, ◌^◌, List, length, Bool, true, ◌&&◌, ◌==◌, nat_lt}
 use Rattle.std.specs.List.{list_all}
-use Rattle.ldv_value.specs.declared.value.Value.{Value}
-use Rattle.sql_model.specs.declared.table.Schema.{Schema}
 use Rattle.sql_model.specs.declared.reply.SqlRefusal.{SqlRefusal}
 use Rattle.sql_model.specs.declared.reply.SqlRefusal.TheVariants.{Syntax, NoTable, NoColumn, TypeClash, NotNull, KeyTaken, Full}
 use Rattle.sql_model.specs.declared.reply.Reply.{Reply}

@@ -1,5 +1,5 @@
 -- Traces: what the events of a run, one after another, meet.
-use Rattle.std.specs.Prelude.{◌≡◌, ℕ, ◌+◌, List, [], ◌∷◌, Bool, true, false, ◌&&◌, ◌==◌, nat_lt, nat_le, IsTrue, bytes_eq}
+use Rattle.std.specs.Prelude.{ℕ, ◌+◌, List, [], ◌∷◌, Bool, true, false, ◌&&◌, ◌==◌, nat_lt, nat_le, IsTrue, bytes_eq}
 use Rattle.std.specs.List.{list_all}
 use Rattle.ldv_value.specs.Names.{path_test}
 use Rattle.sql_model.specs.SqlNames.{sql_name_test}

@@ -1,6 +1,6 @@
 -- What every value of the program's types meets: numbers are those of their fields, texts are UTF-8.
 -- Clauses range over all numbers and lists, so that these facts are said here.
-use Rattle.std.specs.Prelude.{ℕ, ℤ, ◌<◌, ◌^◌, List, [], ◌∷◌, Option, Some, None}
+use Rattle.std.specs.Prelude.{ℕ, ◌<◌, ◌^◌, List}
 use Rattle.std.specs.List.{AllByRecursion}
 use Rattle.std.specs.Str.{IsUtf8}
 use Rattle.std.specs.Int.{w64}

@@ -1,4 +1,3 @@
-use Rattle.std.proofs.Common.{◌≡◌, ◌++◌, ◌∷◌, [], arith, subst, sym}
 use Rattle.std.proofs.lemmas.Result.{err_from_is_err_and}
 use Rattle.package_layout.specs.Fields.{items_at}
 use Rattle.package_layout.proofs.Lists.{begins, goes_on, ends, is_done}
