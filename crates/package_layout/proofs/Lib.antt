@@ -1,0 +1,14 @@
+pub mod Events
+pub mod Groups
+pub mod Laws
+pub mod Lists
+pub mod Logs
+pub mod Numbers
+pub mod Package
+pub mod Placed
+pub mod Seen
+pub mod Tables
+pub mod Tags
+pub mod Texts
+pub mod Values
+pub mod Whole

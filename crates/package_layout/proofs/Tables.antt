@@ -1,0 +1,198 @@
+-- Tables: what is spelled is read, and what is read was spelled so.
+use Rattle.std.proofs.Common.{◌≡◌, ℕ, zero, suc, ◌^◌, ◌<◌, Bool, true, false, List, [], ◌∷◌, ◌++◌, length, Some, refl, subst, arith, ◌&&◌}
+use Rattle.std.specs.Prelude.{nat_lt, ◌==◌}
+use Rattle.std.specs.List.{flat_map, list_all, AllByRecursion}
+use Rattle.std.specs.Str.{IsUtf8}
+use Rattle.std.specs.Int.{w8, w32, to_be_bytes}
+use Rattle.std.proofs.lemmas.Bool.{ltb-true}
+use Rattle.ldv_value.specs.declared.value.Value.{Value}
+use Rattle.sql_model.specs.declared.need.Rule.{Rule}
+use Rattle.sql_model.specs.declared.need.Rule.TheVariants.{L, H, K}
+use Rattle.sql_model.specs.declared.table.Column.{Column}
+use Rattle.sql_model.specs.declared.table.Schema.{Schema}
+use Rattle.run_model.specs.declared.package.PackedRow.{PackedRow}
+use Rattle.run_model.specs.declared.package.PackedTable.{PackedTable}
+use Rattle.package_layout.specs.Fields.{Found, then_at, both_at, number_at, text_spelling, list_spelling, items_at, list_at, text_at}
+use Rattle.package_layout.specs.Spelling.{value_spelling, kind_number, rule_number, column_spelling, row_spelling, schema_spelling, table_spelling}
+use Rattle.package_layout.specs.Typed.{IsU32, TypedValue, TypedValues, TypedColumn, TypedRow, TypedTable}
+use Rattle.package_layout.specs.Room.{few, key_room, row_room, table_room}
+use Rattle.package_layout.specs.Reading.{value_at, kind_of, kind_at, column_at, rule_of, rule_at, row_at, rows_at, key_at, schema_at, table_at}
+use Rattle.package_layout.proofs.Laws.{IsField, just, some_is, always, list_all-always, and_true, both_true, restate, made_law, then_law, struct_law}
+use Rattle.package_layout.proofs.Numbers.{wide8, wide32, number_law, text_law, items_law, byte_list_law, long_law, ltb_from}
+use Rattle.package_layout.proofs.Values.{value_law}
+
+abbrev pub u32_law : IsField (to_be_bytes w32) IsU32 always (number_at w32)
+u32_law = number_law w32 (2 ^ 32) wide32
+
+-- any value is one of memory
+abbrev pub Anything : {X : Type 0} → X → Type 0
+Anything x = Unit {0}
+
+-- ---- columns
+
+kind_again : (text not_null : Bool) → (kind_number text not_null < 256) × (true ≡ true) × (kind_of (kind_number text not_null) ≡ Some (text, not_null))
+kind_again false false = (omega arith, refl, refl)
+kind_again true false = (omega arith, refl, refl)
+kind_again false true = (omega arith, refl, refl)
+kind_again true true = (omega arith, refl, refl)
+
+abbrev Kind : Type 0
+Kind = Bool × Bool
+
+kind_is : (n : ℕ) (k p : Kind) → n ≡ kind_number k.0 k.1 → just {A = Kind} k ≡ just {A = Kind} p → n ≡ kind_number p.0 p.1
+kind_is n k p i e = subst (λ (y : Kind). n ≡ kind_number y.0 y.1) (some_is k p e) i
+
+kind_back : (n : ℕ) (p : Kind) → kind_of n ≡ Some p → n ≡ kind_number p.0 p.1
+kind_back zero p e = absurd cc
+kind_back (suc zero) p e = kind_is 1 (false, false) p refl e
+kind_back (suc (suc zero)) p e = kind_is 2 (true, false) p refl e
+kind_back (suc (suc (suc zero))) p e = kind_is 3 (false, true) p refl e
+kind_back (suc (suc (suc (suc zero)))) p e = kind_is 4 (true, true) p refl e
+kind_back (suc (suc (suc (suc (suc n))))) p e = absurd cc
+
+kind_law : IsField (λ (p : Kind). to_be_bytes w8 (kind_number p.0 p.1)) Anything always kind_at
+kind_law = made_law (to_be_bytes w8) (λ n. n < 256) always (number_at w8) Anything always kind_of (λ (p : Kind). kind_number p.0 p.1) (number_law w8 256 wide8)
+    (λ p t f. kind_again p.0 p.1) (λ n p t f e. (kind_back n p e, tt, refl))
+
+abbrev ColumnParts : Type 0
+ColumnParts = List ℕ × Kind
+
+column_law : IsField column_spelling TypedColumn always column_at
+column_law = restate column_spelling (λ c. IsUtf8 c.name × Unit {0}) TypedColumn always always column_at
+    (struct_law (λ (p : ColumnParts). text_spelling p.0 ++ to_be_bytes w8 (kind_number p.1.0 p.1.1)) (λ (p : ColumnParts). IsUtf8 p.0 × Unit {0}) always (both_at text_at kind_at) (λ (p : ColumnParts). record { name = p.0; text = p.1.0; not_null = p.1.1 }) (λ (c : Column). (c.name, (c.text, c.not_null)))
+    (then_law text_spelling IsUtf8 always text_at (λ (p : Kind). to_be_bytes w8 (kind_number p.0 p.1)) Anything (λ a. always) (λ a. kind_at) text_law (λ a. kind_law)) (λ c. refl) (λ p. refl))
+    (λ c t h. ((t, tt), h)) (λ c t h. (t.0, h))
+
+-- ---- rows
+
+rule_again : (r : Rule) → (rule_number r < 256) × (true ≡ true) × (rule_of (rule_number r) ≡ Some r)
+rule_again L = (omega arith, refl, refl)
+rule_again H = (omega arith, refl, refl)
+rule_again K = (omega arith, refl, refl)
+
+rule_is : (n : ℕ) (k r : Rule) → n ≡ rule_number k → just k ≡ just r → n ≡ rule_number r
+rule_is n k r i e = subst (λ y. n ≡ rule_number y) (some_is k r e) i
+
+rule_back : (n : ℕ) (r : Rule) → rule_of n ≡ Some r → n ≡ rule_number r
+rule_back zero r e = absurd cc
+rule_back (suc zero) r e = rule_is 1 L r refl e
+rule_back (suc (suc zero)) r e = rule_is 2 H r refl e
+rule_back (suc (suc (suc zero))) r e = rule_is 3 K r refl e
+rule_back (suc (suc (suc (suc n)))) r e = absurd cc
+
+pub rule_law : IsField (λ r. to_be_bytes w8 (rule_number r)) Anything always rule_at
+rule_law = made_law (to_be_bytes w8) (λ n. n < 256) always (number_at w8) Anything always rule_of rule_number (number_law w8 256 wide8)
+    (λ r t f. rule_again r) (λ n r t f e. (rule_back n r e, tt, refl))
+
+abbrev RowTail : Type 0
+RowTail = Rule × List Value
+
+abbrev RowEnd : Type 0
+RowEnd = ℕ × RowTail
+
+abbrev RowParts : Type 0
+RowParts = ℕ × RowEnd
+
+abbrev so_many : ℕ → List Value → Bool
+so_many columns values = (length values == columns) && list_all always values
+
+tail_law : (columns : ℕ) → IsField (λ (p : RowTail). to_be_bytes w8 (rule_number p.0) ++ flat_map value_spelling p.1) (λ (p : RowTail). Unit {0} × TypedValues p.1) (λ (p : RowTail). so_many columns p.1) (both_at rule_at (items_at value_at columns))
+tail_law columns = then_law (λ r. to_be_bytes w8 (rule_number r)) Anything always rule_at (flat_map value_spelling) TypedValues (λ a. so_many columns) (λ a. items_at value_at columns) rule_law (λ a. items_law value_spelling TypedValue always value_at value_law columns)
+
+end_law : (columns : ℕ) → IsField (λ (p : RowEnd). to_be_bytes w32 p.0 ++ (to_be_bytes w8 (rule_number p.1.0) ++ flat_map value_spelling p.1.1)) (λ (p : RowEnd). IsU32 p.0 × (Unit {0} × TypedValues p.1.1)) (λ (p : RowEnd). so_many columns p.1.1) (both_at (number_at w32) (both_at rule_at (items_at value_at columns)))
+end_law columns = then_law (to_be_bytes w32) IsU32 always (number_at w32) (λ (p : RowTail). to_be_bytes w8 (rule_number p.0) ++ flat_map value_spelling p.1) (λ (p : RowTail). Unit {0} × TypedValues p.1) (λ a (p : RowTail). so_many columns p.1) (λ a. both_at rule_at (items_at value_at columns)) u32_law (λ a. tail_law columns)
+
+parts_law : (columns : ℕ) → IsField (λ (p : RowParts). to_be_bytes w32 p.0 ++ (to_be_bytes w32 p.1.0 ++ (to_be_bytes w8 (rule_number p.1.1.0) ++ flat_map value_spelling p.1.1.1))) (λ (p : RowParts). IsU32 p.0 × (IsU32 p.1.0 × (Unit {0} × TypedValues p.1.1.1))) (λ (p : RowParts). so_many columns p.1.1.1) (both_at (number_at w32) (both_at (number_at w32) (both_at rule_at (items_at value_at columns))))
+parts_law columns = then_law (to_be_bytes w32) IsU32 always (number_at w32) (λ (p : RowEnd). to_be_bytes w32 p.0 ++ (to_be_bytes w8 (rule_number p.1.0) ++ flat_map value_spelling p.1.1)) (λ (p : RowEnd). IsU32 p.0 × (Unit {0} × TypedValues p.1.1)) (λ a (p : RowEnd). so_many columns p.1.1) (λ a. both_at (number_at w32) (both_at rule_at (items_at value_at columns))) u32_law (λ a. end_law columns)
+
+row_law : (columns : ℕ) → IsField row_spelling TypedRow (row_room columns) (row_at columns)
+row_law columns = restate row_spelling (λ r. IsU32 r.number × (IsU32 r.statement × (Unit {0} × TypedValues r.values))) TypedRow (λ r. so_many columns r.values) (row_room columns) (row_at columns)
+    (struct_law (λ (p : RowParts). to_be_bytes w32 p.0 ++ (to_be_bytes w32 p.1.0 ++ (to_be_bytes w8 (rule_number p.1.1.0) ++ flat_map value_spelling p.1.1.1))) (λ (p : RowParts). IsU32 p.0 × (IsU32 p.1.0 × (Unit {0} × TypedValues p.1.1.1))) (λ (p : RowParts). so_many columns p.1.1.1) (both_at (number_at w32) (both_at (number_at w32) (both_at rule_at (items_at value_at columns))))
+    (λ (p : RowParts). record { number = p.0; statement = p.1.0; rule = p.1.1.0; values = p.1.1.1 }) (λ (r : PackedRow). (r.number, (r.statement, (r.rule, r.values)))) (parts_law columns) (λ r. refl) (λ p. refl))
+    (λ r t h. ((t.0, (t.1.0, (tt, t.1.1))), and_true (length r.values == columns) (list_all always r.values) h (list_all-always r.values)))
+    (λ r t h. ((t.0, (t.1.0, t.1.1.1)), (both_true (length r.values == columns) (list_all always r.values) h).0))
+
+row_filled : (r : PackedRow) → 0 < length (row_spelling r)
+row_filled r = omega arith
+
+rows_law : (columns : ℕ) → IsField (list_spelling w32 row_spelling) (AllByRecursion TypedRow) (list_all (row_room columns)) (rows_at columns)
+rows_law columns = long_law row_spelling TypedRow (row_room columns) (row_at columns) (row_law columns) row_filled
+
+-- ---- tables
+
+bytes_test : (key : List ℕ) → AllByRecursion (λ n. n < 256) key → list_all (λ place. nat_lt place 256) key ≡ true
+bytes_test [] h = refl
+bytes_test (k ∷ key) h = and_true (nat_lt k 256) (list_all (λ place. nat_lt place 256) key) (ltb_from k 256 h.0) (bytes_test key h.1)
+
+bytes_fact : (key : List ℕ) → list_all (λ place. nat_lt place 256) key ≡ true → AllByRecursion (λ n. n < 256) key
+bytes_fact [] h = tt
+bytes_fact (k ∷ key) h = let both = both_true (nat_lt k 256) (list_all (λ place. nat_lt place 256) key) h in (ltb-true k 256 both.0, bytes_fact key both.1)
+
+key_law : IsField (list_spelling w8 (to_be_bytes w8)) Anything key_room key_at
+key_law = restate (list_spelling w8 (to_be_bytes w8)) (AllByRecursion (λ n. n < 256)) Anything (λ key. few key && list_all always key) key_room key_at (byte_list_law (to_be_bytes w8) (λ n. n < 256) always (number_at w8) (number_law w8 256 wide8))
+    (λ key t h. let both = both_true (few key) (list_all (λ place. nat_lt place 256) key) h in (bytes_fact key both.1, and_true (few key) (list_all always key) both.0 (list_all-always key)))
+    (λ key t h. (tt, and_true (few key) (list_all (λ place. nat_lt place 256) key) (both_true (few key) (list_all always key) h).0 (bytes_test key t)))
+
+abbrev SchemaParts : Type 0
+SchemaParts = List Column × List ℕ
+
+abbrev schema_room : Schema → Bool
+schema_room s = few s.columns && key_room s.key
+
+schema_law : IsField schema_spelling (λ s. AllByRecursion TypedColumn s.columns) schema_room schema_at
+schema_law = restate schema_spelling (λ s. AllByRecursion TypedColumn s.columns × Unit {0}) (λ s. AllByRecursion TypedColumn s.columns) (λ s. (few s.columns && list_all always s.columns) && key_room s.key) schema_room schema_at
+    (struct_law (λ (p : SchemaParts). list_spelling w8 column_spelling p.0 ++ list_spelling w8 (to_be_bytes w8) p.1) (λ (p : SchemaParts). AllByRecursion TypedColumn p.0 × Unit {0}) (λ (p : SchemaParts). (few p.0 && list_all always p.0) && key_room p.1) (both_at (list_at w8 column_at) key_at)
+    (λ (p : SchemaParts). record { columns = p.0; key = p.1 }) (λ (s : Schema). (s.columns, s.key))
+    (then_law (list_spelling w8 column_spelling) (AllByRecursion TypedColumn) (λ cs. few cs && list_all always cs) (list_at w8 column_at) (list_spelling w8 (to_be_bytes w8)) Anything (λ a. key_room) (λ a. key_at) (byte_list_law column_spelling TypedColumn always column_at column_law) (λ a. key_law))
+    (λ s. refl) (λ p. refl))
+    (λ s t h.
+    let both = both_true (few s.columns) (key_room s.key) h in
+    ((t, tt), and_true (few s.columns && list_all always s.columns) (key_room s.key) (and_true (few s.columns) (list_all always s.columns) both.0 (list_all-always s.columns)) both.1))
+    (λ s t h.
+    let both = both_true (few s.columns && list_all always s.columns) (key_room s.key) h in
+    (t.0, and_true (few s.columns) (key_room s.key) (both_true (few s.columns) (list_all always s.columns) both.0).0 both.1))
+
+abbrev TableEnd : Type 0
+TableEnd = ℕ × List PackedRow
+
+abbrev TableTail : Type 0
+TableTail = Schema × TableEnd
+
+abbrev TableParts : Type 0
+TableParts = List ℕ × TableTail
+
+abbrev tail_spelling : TableTail → List ℕ
+tail_spelling p = schema_spelling p.0 ++ (to_be_bytes w32 p.1.0 ++ list_spelling w32 row_spelling p.1.1)
+
+abbrev TypedTail : TableTail → Type 0
+TypedTail p = AllByRecursion TypedColumn p.0.columns × (IsU32 p.1.0 × AllByRecursion TypedRow p.1.1)
+
+abbrev tail_room : TableTail → Bool
+tail_room p = schema_room p.0 && list_all (row_room (length p.0.columns)) p.1.1
+
+abbrev tail_at : List ℕ → Found TableTail
+tail_at = then_at schema_at (λ s. both_at (number_at w32) (rows_at (length s.columns)))
+
+table_end_law : (s : Schema) → IsField (λ (p : TableEnd). to_be_bytes w32 p.0 ++ list_spelling w32 row_spelling p.1) (λ (p : TableEnd). IsU32 p.0 × AllByRecursion TypedRow p.1) (λ (p : TableEnd). list_all (row_room (length s.columns)) p.1) (both_at (number_at w32) (rows_at (length s.columns)))
+table_end_law s = then_law (to_be_bytes w32) IsU32 always (number_at w32) (list_spelling w32 row_spelling) (AllByRecursion TypedRow) (λ a. list_all (row_room (length s.columns))) (λ a. rows_at (length s.columns)) u32_law (λ a. rows_law (length s.columns))
+
+table_tail_law : IsField tail_spelling TypedTail tail_room tail_at
+table_tail_law = then_law schema_spelling (λ s. AllByRecursion TypedColumn s.columns) schema_room schema_at (λ (p : TableEnd). to_be_bytes w32 p.0 ++ list_spelling w32 row_spelling p.1) (λ (p : TableEnd). IsU32 p.0 × AllByRecursion TypedRow p.1)
+    (λ s (p : TableEnd). list_all (row_room (length s.columns)) p.1) (λ s. both_at (number_at w32) (rows_at (length s.columns))) schema_law table_end_law
+
+pub table_law : IsField table_spelling TypedTable table_room table_at
+table_law = restate table_spelling TypedTable TypedTable (λ t. tail_room (t.schema, (t.next, t.rows))) table_room table_at
+    (struct_law (λ (p : TableParts). text_spelling p.0 ++ tail_spelling p.1) (λ (p : TableParts). IsUtf8 p.0 × TypedTail p.1) (λ (p : TableParts). tail_room p.1) (both_at text_at tail_at)
+    (λ (p : TableParts). record { name = p.0; schema = p.1.0; next = p.1.1.0; rows = p.1.1.1 }) (λ (t : PackedTable). (t.name, (t.schema, (t.next, t.rows))))
+    (then_law text_spelling IsUtf8 always text_at tail_spelling TypedTail (λ a. tail_room) (λ a. tail_at) text_law (λ a. table_tail_law)) (λ t. refl) (λ p. refl))
+    (λ t h k.
+    let a = both_true (few t.schema.columns) (key_room t.schema.key && list_all (row_room (length t.schema.columns)) t.rows) k in
+    let b = both_true (key_room t.schema.key) (list_all (row_room (length t.schema.columns)) t.rows) a.1 in
+    (h, and_true (schema_room t.schema) (list_all (row_room (length t.schema.columns)) t.rows) (and_true (few t.schema.columns) (key_room t.schema.key) a.0 b.0) b.1))
+    (λ t h k.
+    let a = both_true (schema_room t.schema) (list_all (row_room (length t.schema.columns)) t.rows) k in
+    let b = both_true (few t.schema.columns) (key_room t.schema.key) a.0 in
+    (h, and_true (few t.schema.columns) (key_room t.schema.key && list_all (row_room (length t.schema.columns)) t.rows) b.0 (and_true (key_room t.schema.key) (list_all (row_room (length t.schema.columns)) t.rows) b.1 a.1)))
+
+pub table_filled : (t : PackedTable) → 0 < length (table_spelling t)
+table_filled t = omega arith

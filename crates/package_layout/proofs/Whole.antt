@@ -1,0 +1,223 @@
+-- The sections of a package: what is spelled is read, and what is read was spelled so.
+use Rattle.std.proofs.Common.{◌≡◌, ℕ, zero, suc, ◌^◌, ◌<◌, Bool, true, false, cond, List, [], ◌++◌, length, Option, Some, None, refl, sym, ap, subst, ◌∙◌, arith, ◌&&◌}
+use Rattle.std.specs.Prelude.{◌==◌}
+use Rattle.std.specs.List.{list_all, AllByRecursion}
+use Rattle.std.specs.Str.{IsUtf8}
+use Rattle.std.specs.Int.{w8, w16, w32, w64, to_be_bytes}
+use Rattle.std.proofs.lemmas.Bool.{eqb-true}
+use Rattle.std.proofs.lemmas.List.{append-nil, nil_from_length}
+use Rattle.run_model.specs.declared.package.Mode.{Mode}
+use Rattle.run_model.specs.declared.package.Mode.TheVariants.{Included, Excluded}
+use Rattle.run_model.specs.declared.package.PackedFile.{PackedFile}
+use Rattle.run_model.specs.declared.package.PackedTable.{PackedTable}
+use Rattle.run_model.specs.declared.package.Log.{Log}
+use Rattle.run_model.specs.declared.event.Event.{Event}
+use Rattle.run_model.specs.declared.package.Package.{Package}
+use Rattle.package_layout.specs.Fields.{Found, both_at, number_at, list_at, list_spelling}
+use Rattle.package_layout.specs.Spelling.{file_spelling, table_spelling, log_spelling}
+use Rattle.package_layout.specs.Typed.{IsU32, TypedFile, TypedTable, TypedLog}
+use Rattle.package_layout.specs.Room.{some_thousands, table_room, log_room}
+use Rattle.package_layout.specs.Reading.{file_at, table_at, log_at}
+use Rattle.package_layout.specs.Events.{names_spelling, names_at, event_spelling, TypedEvent, event_room, event_at}
+use Rattle.package_layout.specs.Whole.{mode_number, mode_spelling, mode_of, mode_at, sections, IsTyped, has_room, sections_at, all_of}
+use Rattle.package_layout.proofs.Laws.{IsBytes, IsField, bind_some, just, some_is, always, list_all-always, restate, made_law, then_law, struct_law}
+use Rattle.package_layout.proofs.Numbers.{wide8, wide64, number_law, short_list_law, long_law}
+use Rattle.package_layout.proofs.Tables.{Anything, u32_law, table_law}
+use Rattle.package_layout.proofs.Values.{file_law, file_filled}
+use Rattle.package_layout.proofs.Logs.{log_law, log_filled}
+use Rattle.package_layout.proofs.Events.{names_law, event_law, event_filled}
+
+mode_again : (m : Mode) → (mode_number m < 256) × (true ≡ true) × (mode_of (mode_number m) ≡ Some m)
+mode_again Included = (omega arith, refl, refl)
+mode_again Excluded = (omega arith, refl, refl)
+
+mode_is : (n : ℕ) (k m : Mode) → n ≡ mode_number k → just k ≡ just m → n ≡ mode_number m
+mode_is n k m i e = subst (λ y. n ≡ mode_number y) (some_is k m e) i
+
+mode_back : (n : ℕ) (m : Mode) → mode_of n ≡ Some m → n ≡ mode_number m
+mode_back zero m e = absurd cc
+mode_back (suc zero) m e = mode_is 1 Included m refl e
+mode_back (suc (suc zero)) m e = mode_is 2 Excluded m refl e
+mode_back (suc (suc (suc n))) m e = absurd cc
+
+mode_law : IsField mode_spelling Anything always mode_at
+mode_law = made_law (to_be_bytes w8) (λ n. n < 256) always (number_at w8) Anything always mode_of mode_number (number_law w8 256 wide8)
+    (λ m t f. mode_again m) (λ n m t f e. (mode_back n m e, tt, refl))
+
+files_law : IsField (list_spelling w32 file_spelling) (AllByRecursion TypedFile) always (list_at w32 file_at)
+files_law = restate (list_spelling w32 file_spelling) (AllByRecursion TypedFile) (AllByRecursion TypedFile) (list_all always) always (list_at w32 file_at) (long_law file_spelling TypedFile always file_at file_law file_filled)
+    (λ fs t h. (t, list_all-always fs)) (λ fs t h. (t, refl))
+
+abbrev tables_fit : List PackedTable → Bool
+tables_fit ts = some_thousands ts && list_all table_room ts
+
+tables_law : IsField (list_spelling w16 table_spelling) (AllByRecursion TypedTable) tables_fit (list_at w16 table_at)
+tables_law = short_list_law table_spelling TypedTable table_room table_at table_law
+
+logs_law : IsField (list_spelling w32 log_spelling) (AllByRecursion TypedLog) (list_all log_room) (list_at w32 log_at)
+logs_law = long_law log_spelling TypedLog log_room log_at log_law log_filled
+
+events_law : IsField (list_spelling w32 event_spelling) (AllByRecursion TypedEvent) (list_all event_room) (list_at w32 event_at)
+events_law = long_law event_spelling TypedEvent event_room event_at event_law event_filled
+
+-- ---- the sections, from the last to the first
+
+abbrev P7 : Type 0
+P7 = List Log × List Event
+
+abbrev P6 : Type 0
+P6 = List PackedTable × P7
+
+abbrev P5 : Type 0
+P5 = List PackedFile × P6
+
+abbrev P4 : Type 0
+P4 = ℕ × P5
+
+abbrev P3 : Type 0
+P3 = ℕ × P4
+
+abbrev P2 : Type 0
+P2 = List (List ℕ) × P3
+
+abbrev P1 : Type 0
+P1 = Mode × P2
+
+abbrev s7 : P7 → List ℕ
+s7 p = list_spelling w32 log_spelling p.0 ++ list_spelling w32 event_spelling p.1
+
+abbrev s6 : P6 → List ℕ
+s6 p = list_spelling w16 table_spelling p.0 ++ s7 p.1
+
+abbrev s5 : P5 → List ℕ
+s5 p = list_spelling w32 file_spelling p.0 ++ s6 p.1
+
+abbrev s4 : P4 → List ℕ
+s4 p = to_be_bytes w32 p.0 ++ s5 p.1
+
+abbrev s3 : P3 → List ℕ
+s3 p = to_be_bytes w64 p.0 ++ s4 p.1
+
+abbrev s2 : P2 → List ℕ
+s2 p = names_spelling p.0 ++ s3 p.1
+
+abbrev s1 : P1 → List ℕ
+s1 p = mode_spelling p.0 ++ s2 p.1
+
+abbrev t7 : P7 → Type 0
+t7 p = AllByRecursion TypedLog p.0 × AllByRecursion TypedEvent p.1
+
+abbrev t6 : P6 → Type 0
+t6 p = AllByRecursion TypedTable p.0 × t7 p.1
+
+abbrev t5 : P5 → Type 0
+t5 p = AllByRecursion TypedFile p.0 × t6 p.1
+
+abbrev t4 : P4 → Type 0
+t4 p = IsU32 p.0 × t5 p.1
+
+abbrev t3 : P3 → Type 0
+t3 p = (p.0 < 2 ^ 64) × t4 p.1
+
+abbrev t2 : P2 → Type 0
+t2 p = AllByRecursion IsUtf8 p.0 × t3 p.1
+
+abbrev t1 : P1 → Type 0
+t1 p = Unit {0} × t2 p.1
+
+abbrev f7 : P7 → Bool
+f7 p = list_all log_room p.0 && list_all event_room p.1
+
+abbrev f6 : P6 → Bool
+f6 p = tables_fit p.0 && f7 p.1
+
+abbrev f5 : P5 → Bool
+f5 p = f6 p.1
+
+abbrev f4 : P4 → Bool
+f4 p = f5 p.1
+
+abbrev f3 : P3 → Bool
+f3 p = f4 p.1
+
+abbrev f2 : P2 → Bool
+f2 p = some_thousands p.0 && f3 p.1
+
+abbrev f1 : P1 → Bool
+f1 p = f2 p.1
+
+abbrev r7 : List ℕ → Found P7
+r7 = both_at (list_at w32 log_at) (list_at w32 event_at)
+
+abbrev r6 : List ℕ → Found P6
+r6 = both_at (list_at w16 table_at) r7
+
+abbrev r5 : List ℕ → Found P5
+r5 = both_at (list_at w32 file_at) r6
+
+abbrev r4 : List ℕ → Found P4
+r4 = both_at (number_at w32) r5
+
+abbrev r3 : List ℕ → Found P3
+r3 = both_at (number_at w64) r4
+
+abbrev r2 : List ℕ → Found P2
+r2 = both_at names_at r3
+
+abbrev r1 : List ℕ → Found P1
+r1 = both_at mode_at r2
+
+l7 : IsField s7 t7 f7 r7
+l7 = then_law (list_spelling w32 log_spelling) (AllByRecursion TypedLog) (list_all log_room) (list_at w32 log_at) (list_spelling w32 event_spelling) (AllByRecursion TypedEvent) (λ a. list_all event_room) (λ a. list_at w32 event_at) logs_law (λ a. events_law)
+
+l6 : IsField s6 t6 f6 r6
+l6 = then_law (list_spelling w16 table_spelling) (AllByRecursion TypedTable) tables_fit (list_at w16 table_at) s7 t7 (λ a. f7) (λ a. r7) tables_law (λ a. l7)
+
+l5 : IsField s5 t5 f5 r5
+l5 = then_law (list_spelling w32 file_spelling) (AllByRecursion TypedFile) always (list_at w32 file_at) s6 t6 (λ a. f6) (λ a. r6) files_law (λ a. l6)
+
+l4 : IsField s4 t4 f4 r4
+l4 = then_law (to_be_bytes w32) IsU32 always (number_at w32) s5 t5 (λ a. f5) (λ a. r5) u32_law (λ a. l5)
+
+l3 : IsField s3 t3 f3 r3
+l3 = then_law (to_be_bytes w64) (λ n. n < 2 ^ 64) always (number_at w64) s4 t4 (λ a. f4) (λ a. r4) (number_law w64 (2 ^ 64) wide64) (λ a. l4)
+
+l2 : IsField s2 t2 f2 r2
+l2 = then_law names_spelling (AllByRecursion IsUtf8) some_thousands names_at s3 t3 (λ a. f3) (λ a. r3) names_law (λ a. l3)
+
+l1 : IsField s1 t1 f1 r1
+l1 = then_law mode_spelling Anything always mode_at s2 t2 (λ a. f2) (λ a. r2) mode_law (λ a. l2)
+
+abbrev make : P1 → Package
+make p = record { mode = p.0; start = p.1.0; seed = p.1.1.0; steps = p.1.1.1.0; files = p.1.1.1.1.0; tables = p.1.1.1.1.1.0; logs = p.1.1.1.1.1.1.0; events = p.1.1.1.1.1.1.1 }
+
+abbrev back : Package → P1
+back p = (p.mode, (p.start, (p.seed, (p.steps, (p.files, (p.tables, (p.logs, p.events)))))))
+
+sections_law : IsField sections IsTyped has_room sections_at
+sections_law = restate sections (λ p. Unit {0} × IsTyped p) IsTyped has_room has_room sections_at (struct_law s1 t1 f1 r1 make back l1 (λ p. refl) (λ p. refl))
+    (λ p t h. ((tt, t), h)) (λ p t h. (t.1, h))
+
+-- ---- all of the bytes
+
+pub all_again : (p : Package) → IsTyped p → has_room p ≡ true → length (sections p) < 2 ^ 32 → all_of (sections p) ≡ Some p
+all_again p t h len =
+    let one : sections_at (sections p ++ []) ≡ Some (p, []) = sections_law.again p [] t h len in
+    let two : sections_at (sections p) ≡ Some (p, []) = ap sections_at (sym (append-nil (sections p))) ∙ one in
+    rw two refl
+
+abbrev ended : Package × List ℕ → Option Package
+ended x = cond (length x.1 == 0) (Some x.0) None
+
+ended_is : (x : Package × List ℕ) (p : Package) (b : Bool) → (length x.1 == 0) ≡ b → cond b (Some x.0) None ≡ Some p → (x.0 ≡ p) × (x.1 ≡ [])
+ended_is x p true e h = (some_is x.0 p h, nil_from_length x.1 (eqb-true _ _ e))
+ended_is x p false e h = absurd cc
+
+pub all_took : (bytes : List ℕ) (p : Package) → IsBytes bytes → all_of bytes ≡ Some p → (bytes ≡ sections p) × IsTyped p × (has_room p ≡ true)
+all_took bytes p h e =
+    let first = bind_some (sections_at bytes) ended p e in
+    let x = first.0 in
+    let k = sections_law.took bytes x.0 x.1 h first.1 in
+    let end = ended_is x p (length x.1 == 0) refl first.2 in
+    let parts : bytes ≡ sections x.0 = k.parts ∙ ap (λ (l : List ℕ). sections x.0 ++ l) end.1 ∙ append-nil (sections x.0) in
+    subst (λ (q : Package). (bytes ≡ sections q) × IsTyped q × (has_room q ≡ true)) end.0 (parts, k.is_typed, k.is_fit)

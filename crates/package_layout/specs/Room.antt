@@ -1,0 +1,52 @@
+-- What the fields of the format have room for: counts within their fields, and in each row of a table
+-- one value for each column. A list with a count of four bytes that is too long for it is too long for a package.
+use Rattle.std.specs.Prelude.{ℕ, ◌^◌, List, length, Bool, true, ◌&&◌, ◌==◌, nat_lt}
+use Rattle.std.specs.List.{list_all}
+use Rattle.sql_model.specs.declared.reply.SqlRefusal.{SqlRefusal}
+use Rattle.sql_model.specs.declared.reply.SqlRefusal.TheVariants.{Syntax, NoTable, NoColumn, TypeClash, NotNull, KeyTaken, Full}
+use Rattle.sql_model.specs.declared.reply.Reply.{Reply}
+use Rattle.sql_model.specs.declared.reply.Reply.TheVariants.{Rows, Changed, Refused}
+use Rattle.run_model.specs.declared.package.PackedRow.{PackedRow}
+use Rattle.run_model.specs.declared.package.PackedTable.{PackedTable}
+use Rattle.run_model.specs.declared.package.Entry.{Entry}
+use Rattle.run_model.specs.declared.package.Log.{Log}
+
+-- a count of one byte, and one of two
+abbrev pub few : {X : Type 0} → List X → Bool
+few xs = nat_lt (length xs) 256
+
+abbrev pub some_thousands : {X : Type 0} → List X → Bool
+some_thousands xs = nat_lt (length xs) (2 ^ 16)
+
+-- the places of a key have one byte each
+abbrev pub key_room : List ℕ → Bool
+key_room key = few key && list_all (λ place. nat_lt place 256) key
+
+abbrev pub row_room : ℕ → PackedRow → Bool
+row_room columns r = length r.values == columns
+
+abbrev pub table_room : PackedTable → Bool
+table_room t = few t.schema.columns && (key_room t.schema.key && list_all (row_room (length t.schema.columns)) t.rows)
+
+-- a refused key has at most 255 values
+abbrev pub refusal_room : SqlRefusal → Bool
+refusal_room Syntax = true
+refusal_room NoTable = true
+refusal_room NoColumn = true
+refusal_room TypeClash = true
+refusal_room NotNull = true
+refusal_room (KeyTaken table key) = few key
+refusal_room Full = true
+
+-- a row of a reply has at most 65,535 values
+abbrev pub reply_room : Reply → Bool
+reply_room (Rows rows) = list_all some_thousands rows
+reply_room (Changed n) = true
+reply_room (Refused refusal) = refusal_room refusal
+
+abbrev pub entry_room : Entry → Bool
+entry_room e = some_thousands e.params && reply_room e.reply
+
+-- a process name has at most 65,535 parts
+abbrev pub log_room : Log → Bool
+log_room l = some_thousands l.process.parts && list_all entry_room l.entries

@@ -1,0 +1,91 @@
+-- The bytes of each part of a package. Numbers stand with their highest byte first.
+use Rattle.std.specs.Prelude.{ℕ, List, [], ◌∷◌, ◌++◌, Bool, true, false, Option, Some, None}
+use Rattle.std.specs.List.{flat_map}
+use Rattle.std.specs.Int.{w8, w16, w32, w64, to_be_bytes, cast_unsigned}
+use Rattle.ldv_value.specs.declared.value.Value.{Value}
+use Rattle.ldv_value.specs.declared.value.Value.TheVariants.{Null, Int, Text}
+use Rattle.sql_model.specs.declared.need.Rule.{Rule}
+use Rattle.sql_model.specs.declared.need.Rule.TheVariants.{L, H, K}
+use Rattle.sql_model.specs.declared.table.Column.{Column}
+use Rattle.sql_model.specs.declared.table.Schema.{Schema}
+use Rattle.sql_model.specs.declared.reply.SqlRefusal.{SqlRefusal}
+use Rattle.sql_model.specs.declared.reply.SqlRefusal.TheVariants.{Syntax, NoTable, NoColumn, TypeClash, NotNull, KeyTaken, Full}
+use Rattle.sql_model.specs.declared.reply.Reply.{Reply}
+use Rattle.sql_model.specs.declared.reply.Reply.TheVariants.{Rows, Changed, Refused}
+use Rattle.run_model.specs.declared.package.PackedFile.{PackedFile}
+use Rattle.run_model.specs.declared.package.PackedRow.{PackedRow}
+use Rattle.run_model.specs.declared.package.PackedTable.{PackedTable}
+use Rattle.run_model.specs.declared.package.Entry.{Entry}
+use Rattle.run_model.specs.declared.package.Log.{Log}
+use Rattle.package_layout.specs.Fields.{text_spelling, list_spelling}
+
+-- ---- values
+
+abbrev pub value_spelling : Value → List ℕ
+value_spelling Null = 0 ∷ []
+value_spelling (Int z) = 1 ∷ to_be_bytes w64 (cast_unsigned w64 z)
+value_spelling (Text t) = 2 ∷ text_spelling t
+
+abbrev pub values_spelling : List Value → List ℕ
+values_spelling = list_spelling w16 value_spelling
+
+-- ---- files
+
+abbrev pub content_spelling : Option (List ℕ) → List ℕ
+content_spelling (Some bytes) = 1 ∷ text_spelling bytes
+content_spelling None = 2 ∷ []
+
+abbrev pub file_spelling : PackedFile → List ℕ
+file_spelling f = text_spelling f.path ++ content_spelling f.content
+
+-- ---- tables
+
+-- INT, TEXT, INT NOT NULL, TEXT NOT NULL
+abbrev pub kind_number : Bool → Bool → ℕ
+kind_number false false = 1
+kind_number true false = 2
+kind_number false true = 3
+kind_number true true = 4
+
+abbrev pub column_spelling : Column → List ℕ
+column_spelling c = text_spelling c.name ++ to_be_bytes w8 (kind_number c.text c.not_null)
+
+abbrev pub rule_number : Rule → ℕ
+rule_number L = 1
+rule_number H = 2
+rule_number K = 3
+
+-- a row has as many values as its table has columns, so their number isn't written
+abbrev pub row_spelling : PackedRow → List ℕ
+row_spelling r = to_be_bytes w32 r.number ++ (to_be_bytes w32 r.statement ++ (to_be_bytes w8 (rule_number r.rule) ++ flat_map value_spelling r.values))
+
+abbrev pub schema_spelling : Schema → List ℕ
+schema_spelling s = list_spelling w8 column_spelling s.columns ++ list_spelling w8 (to_be_bytes w8) s.key
+
+abbrev pub table_spelling : PackedTable → List ℕ
+table_spelling t = text_spelling t.name ++ (schema_spelling t.schema ++ (to_be_bytes w32 t.next ++ list_spelling w32 row_spelling t.rows))
+
+-- ---- logs
+
+abbrev pub refusal_spelling : SqlRefusal → List ℕ
+refusal_spelling Syntax = 1 ∷ []
+refusal_spelling NoTable = 2 ∷ []
+refusal_spelling NoColumn = 3 ∷ []
+refusal_spelling TypeClash = 4 ∷ []
+refusal_spelling NotNull = 5 ∷ []
+refusal_spelling (KeyTaken table key) = 6 ∷ (text_spelling table ++ list_spelling w8 value_spelling key)
+refusal_spelling Full = 7 ∷ []
+
+abbrev pub reply_spelling : Reply → List ℕ
+reply_spelling (Rows rows) = 1 ∷ list_spelling w32 values_spelling rows
+reply_spelling (Changed n) = 2 ∷ to_be_bytes w64 n
+reply_spelling (Refused refusal) = 3 ∷ refusal_spelling refusal
+
+abbrev pub entry_spelling : Entry → List ℕ
+entry_spelling e = text_spelling e.text ++ (values_spelling e.params ++ reply_spelling e.reply)
+
+abbrev pub parts_spelling : List ℕ → List ℕ
+parts_spelling = list_spelling w16 (to_be_bytes w32)
+
+abbrev pub log_spelling : Log → List ℕ
+log_spelling l = parts_spelling l.process.parts ++ list_spelling w32 entry_spelling l.entries

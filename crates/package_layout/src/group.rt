@@ -1,0 +1,217 @@
+//! Rows of a statement, which the format groups by their table.
+
+ghost use Rattle.std.specs.Prelude.{◌≡◌, ◌++◌, [], IfOk, OnOk, ℕ, List};
+ghost use Rattle.std.specs.List.{flat_map, AllByRecursion};
+ghost use Rattle.std.specs.Int.{w16};
+ghost use Rattle.package_layout.specs.Fields.{Gives, Makes, list_spelling};
+ghost use Rattle.package_layout.specs.Groups.{single, with_part, after, add, groups, group_spelling, TypedGroup, group_of, is_apart, spread, placed_of, placed_at};
+
+use crate::left::Left;
+use crate::spelled::{Readable, Spelled, put_list, read_list};
+use crate::stop::Stop;
+use crate::text::{put_text, read_text};
+use crate::width::Width;
+use ldv_value::{Bytes, List as Listed, Utf8};
+use sql_model::is_sql_name;
+use std::alloc::{AllocError, Global};
+
+/// A row that belongs to a table, and what the format writes of it behind the table's name.
+pub(crate) trait Placed<P>: Drop {
+    ghost table_of: { Self → List ℕ };
+
+    ghost part_of: { Self → P };
+
+    ghost place: { List ℕ → P → Self };
+
+    /// The table's name.
+    fn table(&self) -> &Utf8
+        ensures { result.now ≡ table_of self.now };
+
+    fn part(&self) -> P
+        ensures { result ≡ part_of self.now };
+
+    fn placed(table: Utf8, part: P) -> Self
+        ensures { result ≡ place table part };
+}
+
+/// The rows of one table.
+#[derive(Drop)]
+pub(crate) struct Group<P> {
+    pub(crate) table: Utf8,
+    pub(crate) parts: Listed<P>,
+}
+
+impl<P: Spelled> Spelled for Group<P> {
+    ghost spelling = { group_spelling P.spelling };
+
+    ghost typed = { TypedGroup P.typed };
+
+    fn put(&self, to: &mut Bytes) -> Result<(), AllocError> {
+        put_text(&self.table, to)?;
+        put_list(Width::Four, &self.parts, to)
+    }
+}
+
+impl<P: Readable> Readable for Group<P> {
+    ghost use Rattle.package_layout.specs.Groups.{group_at};
+
+    ghost reading = { group_at P.reading };
+
+    fn read(alloc: Global, left: &mut Left) -> Result<Group<P>, Stop> {
+        let table = read_text(alloc, left)?;
+        let parts = read_list(alloc, Width::Four, left)?;
+        group_of(table, parts)
+    }
+}
+
+// A group has a name and isn't empty.
+fn group_of<P: Drop>(table: Utf8, parts: Listed<P>) -> Result<Group<P>, Stop>
+    ensures { Makes result (group_of (record { 0 = table; 1 = parts })) }
+{
+    if is_sql_name(table.as_str()) && !parts.is_empty() {
+        Ok(Group { table, parts })
+    } else {
+        Err(Stop::NoForm)
+    }
+}
+
+/// Appends rows, group by group.
+pub(crate) fn put_placed<P: Spelled, X: Placed<P>>(
+    items: &Listed<X>,
+    to: &mut Bytes,
+) -> Result<(), AllocError>
+    ensures bytes { OnOk result (to.new ≡ to.old ++ list_spelling w16 (group_spelling P.spelling) (groups X.table_of X.part_of items.now)) }
+    ensures typed { OnOk result (AllByRecursion (TypedGroup P.typed) (groups X.table_of X.part_of items.now)) }
+{
+    let groups = groups_of(to.allocator(), items)?;
+    put_list(Width::Two, &groups, to)
+}
+
+fn groups_of<P: Drop, X: Placed<P>>(
+    alloc: Global,
+    items: &Listed<X>,
+) -> Result<Listed<Group<P>>, AllocError>
+    ensures { IfOk result (λ made. made ≡ groups X.table_of X.part_of items.now) }
+{
+    let mut found = Vec::new(alloc);
+    for item in items.items() {
+        add(alloc, &mut found, item)?;
+    }
+    Ok(Listed::of_vec(found))
+}
+
+// Adds a row to the last group where that is its table's, else in a group of its own.
+fn add<P: Drop, X: Placed<P>>(
+    alloc: Global,
+    found: &mut Vec<Group<P>>,
+    item: &X,
+) -> Result<(), AllocError>
+    ensures { OnOk result (found.new.items ≡ add X.table_of X.part_of found.old.items item.now) }
+{
+    match found.pop() {
+        None => {
+            found.push(single(alloc, item)?)?;
+            Ok(())
+        }
+        Some(last) => add_after(alloc, found, last, item),
+    }
+}
+
+fn add_after<P: Drop, X: Placed<P>>(
+    alloc: Global,
+    found: &mut Vec<Group<P>>,
+    last: Group<P>,
+    item: &X,
+) -> Result<(), AllocError>
+    ensures { OnOk result (found.new.items ≡ found.old.items ++ after X.table_of X.part_of last item.now) }
+{
+    if last.table.is_same(item.table()) {
+        found.push(with_part(last, item.part())?)?;
+        Ok(())
+    } else {
+        found.push(last)?;
+        found.push(single(alloc, item)?)?;
+        Ok(())
+    }
+}
+
+fn single<P: Drop, X: Placed<P>>(alloc: Global, item: &X) -> Result<Group<P>, AllocError>
+    ensures { IfOk result (λ made. made ≡ single X.table_of X.part_of item.now) }
+{
+    let table = item.table().copy()?;
+    let mut parts = Listed::new(alloc);
+    parts.push(item.part())?;
+    Ok(Group { table, parts })
+}
+
+fn with_part<P: Drop>(group: Group<P>, part: P) -> Result<Group<P>, AllocError>
+    ensures { IfOk result (λ made. made ≡ with_part group part) }
+{
+    let Group { table, mut parts } = group;
+    parts.push(part)?;
+    Ok(Group { table, parts })
+}
+
+/// Reads rows, group by group. Neighbouring groups have different tables.
+pub(crate) fn read_placed<P: Readable + Copy, X: Placed<P>>(
+    alloc: Global,
+    left: &mut Left,
+) -> Result<Listed<X>, Stop>
+    ensures { Gives result left.new (placed_at X.place P.reading left.old) }
+{
+    let groups = read_list(alloc, Width::Two, left)?;
+    placed_of(alloc, &groups)
+}
+
+fn placed_of<P: Copy + Drop, X: Placed<P>>(
+    alloc: Global,
+    groups: &Listed<Group<P>>,
+) -> Result<Listed<X>, Stop>
+    ensures { Makes result (placed_of X.place groups.now) }
+{
+    if is_apart(groups) {
+        Ok(spread_all(alloc, groups)?)
+    } else {
+        Err(Stop::NoForm)
+    }
+}
+
+fn is_apart<P>(groups: &Listed<Group<P>>) -> bool
+    ensures { result ≡ is_apart [] groups.now }
+{
+    let mut before: &[u8] = &[];
+    for group in groups.items() {
+        let table = group.table.as_str().as_bytes();
+        if table == before {
+            return false;
+        }
+        before = table;
+    }
+    true
+}
+
+fn spread_all<P: Copy + Drop, X: Placed<P>>(
+    alloc: Global,
+    groups: &Listed<Group<P>>,
+) -> Result<Listed<X>, AllocError>
+    ensures { IfOk result (λ made. made ≡ flat_map (spread X.place) groups.now) }
+{
+    let mut found = Listed::new(alloc);
+    for group in groups.items() {
+        spread(group, &mut found)?;
+    }
+    Ok(found)
+}
+
+fn spread<P: Copy + Drop, X: Placed<P>>(
+    group: &Group<P>,
+    found: &mut Listed<X>,
+) -> Result<(), AllocError>
+    ensures { OnOk result (found.new ≡ found.old ++ spread X.place group.now) }
+{
+    for part in group.parts.items() {
+        let table = group.table.copy()?;
+        found.push(X::placed(table, *part))?;
+    }
+    Ok(())
+}

@@ -1,0 +1,143 @@
+//! The rules for a whole package.
+
+ghost use Rattle.std.specs.Prelude.{◌≡◌, ◌≤◌, IfOk, bytes_eq, find, length, nat_lt};
+ghost use Rattle.std.specs.List.{list_all};
+ghost use Rattle.std.specs.Option.{option_map, is_some};
+ghost use Rattle.script_parse.specs.Script.{script_of};
+ghost use Rattle.package_layout.specs.Valid.{mode_rule, steps_rule, is_script, is_script_file, script_rule, trace_rule, reasons_rule, parts_rule, whole_rule, rules};
+
+use crate::keys::meets_keys;
+use crate::rules::{meets_files, meets_logs, meets_start, meets_tables};
+use crate::trace::{asked_count, is_trace};
+use ldv_value::{Bytes, FILE_LIMIT, Utf8, Words};
+use run_model::{Events, Logs, Mode, Package, PackedFile, PackedFiles, PackedTable, PackedTables};
+use script_parse::{ScriptStop, parse_script};
+use std::alloc::{AllocError, Global};
+
+/// Whether a package that was read meets the rules for valid packages. `AllocError` means want of memory
+/// alone.
+pub(crate) fn meets_rules(alloc: Global, package: &Package) -> Result<bool, AllocError>
+    ensures { IfOk result (λ holds. holds ≡ rules «package».now) }
+{
+    if !meets_parts(package) {
+        return Ok(false);
+    }
+    if !meets_whole(package) {
+        return Ok(false);
+    }
+    if !meets_keys(alloc, &package.tables)? {
+        return Ok(false);
+    }
+    starts_script(alloc, &package.start, &package.files)
+}
+
+fn meets_parts(package: &Package) -> bool
+    ensures { result ≡ parts_rule «package».now }
+{
+    meets_start(&package.start)
+        && meets_files(&package.files)
+        && meets_tables(&package.tables)
+        && meets_logs(&package.logs)
+}
+
+fn meets_whole(package: &Package) -> bool
+    ensures { result ≡ whole_rule «package».now }
+{
+    meets_mode(package.mode, &package.tables, &package.logs)
+        && meets_steps(package.steps)
+        && meets_trace(&package.start, package.steps, &package.events)
+        && meets_reasons(asked_count(&package.events), &package.tables)
+}
+
+fn meets_mode(mode: Mode, tables: &PackedTables, logs: &Logs) -> bool
+    ensures { result ≡ mode_rule mode tables.now logs.now }
+{
+    match mode {
+        Mode::Included => logs.is_empty(),
+        Mode::Excluded => tables.is_empty(),
+    }
+}
+
+fn meets_steps(steps: u32) -> bool
+    ensures { result ≡ steps_rule steps }
+{
+    1 <= steps && steps <= 10_000_000
+}
+
+fn meets_trace(words: &Words, steps: u32, events: &Events) -> bool
+    ensures { result ≡ trace_rule words.now steps events.now }
+{
+    match words.items() {
+        [] => false,
+        [word, ..] => is_trace(word, steps, events),
+    }
+}
+
+fn meets_reasons(asked: u64, tables: &PackedTables) -> bool
+    ensures { result ≡ reasons_rule asked tables.now }
+{
+    tables
+        .items()
+        .iter()
+        .all(|table| meets_table_reasons(asked, table))
+}
+
+fn meets_table_reasons(asked: u64, table: &PackedTable) -> bool
+    ensures { result ≡ list_all (λ row. nat_lt row.statement asked) table.now.rows }
+{
+    table
+        .rows
+        .items()
+        .iter()
+        .all(|row| u64::from(row.statement) < asked)
+}
+
+fn starts_script(alloc: Global, words: &Words, files: &PackedFiles) -> Result<bool, AllocError>
+    ensures { IfOk result (λ holds. holds ≡ script_rule words.now files.now) }
+{
+    match words.items() {
+        [] => Ok(false),
+        [word, ..] => file_is_script(alloc, word, files),
+    }
+}
+
+fn file_is_script(alloc: Global, word: &Utf8, files: &PackedFiles) -> Result<bool, AllocError>
+    ensures { IfOk result (λ holds. holds ≡ is_script_file (find (λ f. bytes_eq word.now f.path) files.now)) }
+{
+    match find_file(files, word) {
+        None => Ok(false),
+        Some(file) => is_script(alloc, &file.content),
+    }
+}
+
+fn find_file<'a>(files: &'a PackedFiles, path: &Utf8) -> Option<&'a PackedFile>
+    ensures { option_map (λ f. f.now) result ≡ find (λ f. bytes_eq path.now f.path) files.now }
+{
+    files.items().iter().find(|file| path.is_same(&file.path))
+}
+
+fn is_script(alloc: Global, content: &Option<Bytes>) -> Result<bool, AllocError>
+    ensures { IfOk result (λ holds. holds ≡ is_script content.now) }
+{
+    match content {
+        None => Ok(false),
+        Some(bytes) => {
+            if bytes.len() <= FILE_LIMIT {
+                parses(alloc, bytes.as_slice())
+            } else {
+                Ok(false)
+            }
+        }
+    }
+}
+
+fn parses(alloc: Global, bytes: &[u8]) -> Result<bool, AllocError>
+    requires { length bytes.now ≤ 16777216 }
+    ensures { IfOk result (λ holds. holds ≡ is_some (script_of bytes.now)) }
+{
+    match parse_script(alloc, bytes) {
+        Ok(_script) => Ok(true),
+        Err(ScriptStop::Line(_)) => Ok(false),
+        Err(ScriptStop::NoMemory) => Err(AllocError),
+    }
+}
