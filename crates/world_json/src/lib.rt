@@ -7,7 +7,7 @@
 //! - a fault is the first that holds, in the order of `WorldFault`, each tried over the whole document.
 //!
 //! The definitions: `specs/Shape.antt` has the members of a document and their types, `specs/Faults.antt`
-//! a test for each later fault, and `specs/Reading.antt` their order and the world. `docs/WORLDS.md` has
+//! a test for each later fault, and `specs/Reading.antt` their order and the world. `docs/FORMATS.md` has
 //! the format in plain words.
 #![tactic(auto)]
 
