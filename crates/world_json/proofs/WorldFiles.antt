@@ -53,4 +53,3 @@ small_files bytes w is = elim (cases_option (json_of bytes)) [
   | inl none ↦ let never : Err NotJson ≡ Ok w = sym (ap parsed none) ∙ is in cc
   | inr found ↦ shaped_small (document_of found.0) w (sym (ap parsed found.1) ∙ is)
 ]
-
