@@ -8,14 +8,16 @@
 set -eu
 
 here=$(CDPATH='' cd -- "$(dirname "$0")" && pwd -P)
-ldv=${LDV:-$here/../ldv}
+ldv=${LDV:-$here/../crates/ldv/out/ldv}
 sizes=${SIZES:-1000 10000 100000 1000000}
 work=$(mktemp -d)
 trap 'rm -rf "$work"' EXIT
 trap 'exit 1' HUP INT TERM
 
-# Builds the program, where it isn't built, before anything is measured.
-printf '{"start":["main"],"files":{"main":"exit 0"}}' | "$ldv" run >"$work/out"
+# Builds the program of this checkout, where it isn't built. It is measured without the script.
+if [ -z "${LDV:-}" ]; then
+    printf '{"start":["main"],"files":{"main":"exit 0"}}' | "$here/../ldv" run >"$work/out"
+fi
 
 # usage: make_rows ROWS; each row has an id, a number below 100, the number 1 and a text.
 make_rows() {
@@ -38,9 +40,9 @@ make_world() {
 measure() {
     input=$1
     shift
-    set -- $(python3 "$here/measure.py" "$input" "$work/out" "$@")
-    seconds=$1
-    memory=$2
+    took=$(python3 "$here/measure.py" "$input" "$work/out" "$@")
+    seconds=${took% *}
+    memory=${took#* }
 }
 
 # usage: show NAME ROWS; a line of the table.

@@ -6,14 +6,16 @@
 set -eu
 
 here=$(CDPATH='' cd -- "$(dirname "$0")" && pwd -P)
-ldv=${LDV:-$here/../ldv}
+ldv=${LDV:-$here/../crates/ldv/out/ldv}
 sizes=${SIZES:-1 4 16 60}
 work=$(mktemp -d)
 trap 'rm -rf "$work"' EXIT
 trap 'exit 1' HUP INT TERM
 
-# Builds the program, where it isn't built, before anything is measured.
-printf '{"start":["main"],"files":{"main":"exit 0"}}' | "$ldv" run >"$work/out"
+# Builds the program of this checkout, where it isn't built. It is measured without the script.
+if [ -z "${LDV:-}" ]; then
+    printf '{"start":["main"],"files":{"main":"exit 0"}}' | "$here/../ldv" run >"$work/out"
+fi
 
 # usage: make_world KIND MIB; a world of about so many MiB, whose tables and files keep their limits.
 make_world() {
@@ -60,8 +62,8 @@ for kind in rows texts hex; do
     for size in $sizes; do
         make_world "$kind" "$size"
         bytes=$(wc -c <"$work/world.json")
-        set -- $(python3 "$here/measure.py" "$work/world.json" "$work/out" "$ldv" run)
-        awk -v kind="$kind" -v bytes="$bytes" -v s="$1" -v m="$2" 'BEGIN {
+        took=$(python3 "$here/measure.py" "$work/world.json" "$work/out" "$ldv" run)
+        awk -v kind="$kind" -v bytes="$bytes" -v s="${took% *}" -v m="${took#* }" 'BEGIN {
             if (s == 0) s = 0.001
             printf "%-6s %10d %9.3f %9.1f %12.0f %16.1f\n", kind, bytes, s, m, bytes / s, m * 1048576 / bytes
         }'
