@@ -7,6 +7,7 @@ use crate::ldv_main;
 use ldv_io::{MemorySink, MemorySource};
 use ldv_value::{Bytes, Calls};
 use std::alloc::{AllocError, Global};
+use std::process::Abort;
 use std::test::Fail;
 
 // What a call of the program left: its status, what was written, and its line.
@@ -233,28 +234,24 @@ fn refuses_what_it_cannot_run(rt: HostRuntime) -> Result<(), Fail> {
     Ok(())
 }
 
+// Words that are no command: a read would fail, so the source isn't read.
+fn expect_usage(rt: &impl Abort, alloc: Global, words: &[&str]) -> Result<(), AllocError> {
+    let faults = Faults { read: 1, write: 0 };
+    let ended = call(alloc, words, Bytes::of_slice(alloc, b"x")?, faults)?;
+    assert_eq!(rt; ended.status, 2);
+    assert_eq!(rt; ended.written.as_slice(), b"".as_slice());
+    assert_eq!(rt; ended.line.as_slice(), b"ldv: usage\n".as_slice());
+    Ok(())
+}
+
 #[test]
 fn judges_the_words_first(rt: HostRuntime) -> Result<(), Fail> {
     let alloc = rt.alloc();
-    let none: [&str; 0] = [];
-    for words in [
-        none.as_slice(),
-        ["run", "run"].as_slice(),
-        ["Run"].as_slice(),
-        ["--help"].as_slice(),
-        [""].as_slice(),
-    ] {
-        // A read would fail, so the source isn't read.
-        let ended = call(
-            alloc,
-            words,
-            Bytes::of_slice(alloc, b"x")?,
-            Faults { read: 1, write: 0 },
-        )?;
-        assert_eq!(rt; ended.status, 2);
-        assert_eq!(rt; ended.written.as_slice(), b"".as_slice());
-        assert_eq!(rt; ended.line.as_slice(), b"ldv: usage\n".as_slice());
-    }
+    expect_usage(&rt, alloc, &[])?;
+    expect_usage(&rt, alloc, &["run", "run"])?;
+    expect_usage(&rt, alloc, &["Run"])?;
+    expect_usage(&rt, alloc, &["--help"])?;
+    expect_usage(&rt, alloc, &[""])?;
     Ok(())
 }
 
