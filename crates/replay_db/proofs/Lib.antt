@@ -1,2 +1,4 @@
+mod FileLaws
 mod Keeps
+mod RunSame
 mod StatementLaw
