@@ -1,4 +1,14 @@
-//! What a package's replay rests on: any world between the slice of a run and its world runs alike.
+//! What replay of a package rests on.
 //!
-//! - `between_law` says so of every world (`specs/Laws.antt`, over the definitions of `run_model`).
+//! It promises, in `between_law` (`specs/Laws.antt`, over the definitions of `run_model`), of every world
+//! with any script:
+//! - a world that lies between the slice of a run and the run's world has the same outcome, events and
+//!   package;
+//! - the slice lies between, and is the own world of the run's package, so replay of the package gives
+//!   what the run gave, and its own package is that very package;
+//! - a run that has ended comes to the same with more steps.
 #![tactic(auto)]
+
+mod law;
+
+pub use law::between_law;
