@@ -7,8 +7,8 @@
 
 mod files;
 mod names;
+mod outcome;
 mod reasons;
-mod slice;
 mod tables;
 
-pub use slice::{Sliced, slice};
+pub use outcome::{Sliced, slice};

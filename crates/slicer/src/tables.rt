@@ -21,7 +21,7 @@ fn find_reason(
     table: &Utf8,
     row: u32,
 ) -> Result<Option<Why>, AllocError>
-    requires { (q : Key) → reason_at reasons.now q ≡ first_reason (string_bytes q.0) q.1 _events.now }
+    requires reasons { (q : Key) → reason_at reasons.now q ≡ first_reason (string_bytes q.0) q.1 _events.now }
     ensures { IfOk result (λ found. option_map reason_from found ≡ first_reason table.now row _events.now) }
 {
     let key = (String::from_str(alloc, table.as_str())?, row);
@@ -58,7 +58,7 @@ fn pack_rows(
     table: &Utf8,
     rows: &[TableRow],
 ) -> Result<PackedRows, AllocError>
-    requires { (q : Key) → reason_at reasons.now q ≡ first_reason (string_bytes q.0) q.1 events.now }
+    requires reasons { (q : Key) → reason_at reasons.now q ≡ first_reason (string_bytes q.0) q.1 events.now }
     ensures { IfOk result (λ packed. packed ≡ rows_needed events.now table.now rows.now) }
 {
     let mut packed = PackedRows::new(alloc);
@@ -75,7 +75,7 @@ fn pack_table(
     reasons: &Reasons,
     table: &Table,
 ) -> Result<PackedTable, AllocError>
-    requires { (q : Key) → reason_at reasons.now q ≡ first_reason (string_bytes q.0) q.1 events.now }
+    requires reasons { (q : Key) → reason_at reasons.now q ≡ first_reason (string_bytes q.0) q.1 events.now }
     ensures { IfOk result (λ packed. packed ≡ packed_table events.now table.now) }
 {
     Ok(PackedTable {
@@ -95,7 +95,7 @@ fn push_named(
     reasons: &Reasons,
     table: &Table,
 ) -> Result<(), AllocError>
-    requires { (q : Key) → reason_at reasons.now q ≡ first_reason (string_bytes q.0) q.1 events.now }
+    requires reasons { (q : Key) → reason_at reasons.now q ≡ first_reason (string_bytes q.0) q.1 events.now }
     requires named { (q : List ℕ) → has_name names.now q ≡ is_table_needed events.now q }
     ensures { OnOk result (to.new ≡ (if is_table_needed events.now table.now.name then to.old ++ packed_table events.now table.now ∷ [] else to.old)) }
 {
@@ -113,7 +113,7 @@ fn pack_tables(
     reasons: &Reasons,
     tables: &[Table],
 ) -> Result<PackedTables, AllocError>
-    requires { (q : Key) → reason_at reasons.now q ≡ first_reason (string_bytes q.0) q.1 events.now }
+    requires reasons { (q : Key) → reason_at reasons.now q ≡ first_reason (string_bytes q.0) q.1 events.now }
     requires named { (q : List ℕ) → has_name names.now q ≡ is_table_needed events.now q }
     ensures { IfOk result (λ packed. packed ≡ tables_needed events.now tables.now) }
 {
