@@ -80,7 +80,7 @@ fn note_needed(
     changed: &NameSet,
     path: Option<&Utf8>,
 ) -> Result<(), AllocError>
-    ensures { OnOk result ((q : List ℕ) → has_name names.new q ≡ (has_name names.old q || (not (has_name changed.now q) && is_path q (option_map (λ p. p.now) path)))) }
+    ensures { OnOk result ((q : List ℕ) → has_name names.new q ≡ (has_name names.old q || (not (has_name changed.now q) && is_path q (option_map (λ p. p.now) path.entry)))) }
 {
     match path {
         None => Ok(()),
@@ -93,7 +93,7 @@ fn note_changed(
     changed: &mut NameSet,
     path: Option<&Utf8>,
 ) -> Result<(), AllocError>
-    ensures { OnOk result ((q : List ℕ) → has_name changed.new q ≡ (has_name changed.old q || is_path q (option_map (λ p. p.now) path))) }
+    ensures { OnOk result ((q : List ℕ) → has_name changed.new q ≡ (has_name changed.old q || is_path q (option_map (λ p. p.now) path.entry))) }
 {
     match path {
         None => Ok(()),

@@ -7,8 +7,8 @@
 
 mod files;
 mod names;
-mod outcome;
+mod needed;
 mod reasons;
 mod tables;
 
-pub use outcome::{Sliced, slice};
+pub use needed::{Sliced, slice};
