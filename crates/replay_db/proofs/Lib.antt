@@ -2,6 +2,7 @@ mod EndedLaw
 mod FileLaws
 mod Keeps
 mod PackageLaws
+mod PicksLaw
 mod RunSame
 mod SliceLaws
 mod StatementLaw

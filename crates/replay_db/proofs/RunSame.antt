@@ -78,11 +78,11 @@ module _ (cut : Cut) where
   -- ---- one step
 
   -- nothing is cut that a question needs
-  abbrev KeepsQuestion : Option Question → List Table → Type 0
+  abbrev pub KeepsQuestion : Option Question → List Table → Type 0
   KeepsQuestion None db = Unit {0}
   KeepsQuestion (Some q) db = KeepsTables cut (asked_tables (reads q.text q.params) db) × KeepsRows cut (need_of (reads q.text q.params) db)
 
-  keeps_question : (number process : ℕ) (past : Past) (q : Option Question) (db : List Table) (rest : List Act) → KeepsEvents cut (map (event_at number process) (question_acts past q db ++ rest)) → KeepsQuestion q db
+  pub keeps_question : (number process : ℕ) (past : Past) (q : Option Question) (db : List Table) (rest : List Act) → KeepsEvents cut (map (event_at number process) (question_acts past q db ++ rest)) → KeepsQuestion q db
   keeps_question number process past None db rest k = tt
   keeps_question number process past (Some q) db rest k = (k.0.0, rows_of_reads cut past (need_of (reads q.text q.params) db) k.0.1)
 
@@ -103,7 +103,7 @@ module _ (cut : Cut) where
   next_same None number p s k = refl
   next_same (Some i) number p s k = executes_same i number p s k
 
-  steps_same : (o : Option Process) (number : ℕ) (s : State) → KeepsQuestion (question_in o) s.tables → step_of o number (cut_state cut s) ≡ cut_state cut (step_of o number s)
+  pub steps_same : (o : Option Process) (number : ℕ) (s : State) → KeepsQuestion (question_in o) s.tables → step_of o number (cut_state cut s) ≡ cut_state cut (step_of o number s)
   steps_same None number s k = refl
   steps_same (Some p) number s k = next_same (slice_get p.script p.place) number p s k
 
@@ -117,13 +117,13 @@ module _ (cut : Cut) where
 
   -- ---- the events of a step
 
-  acts_same : (past : Past) (q : Option Question) (db : List Table) → KeepsQuestion q db → question_acts past q (cut_tables cut db) ≡ question_acts past q db
+  pub acts_same : (past : Past) (q : Option Question) (db : List Table) → KeepsQuestion q db → question_acts past q (cut_tables cut db) ≡ question_acts past q db
   acts_same past None db k = refl
   acts_same past (Some q) db k =
       let same = statement_law cut (reads q.text q.params) db k.0 k.1 in
       λ j. Asked past.asked (same.2 j) (map (read_of past) (same.1 j)) [] ∷ []
 
-  past_same : (past : Past) (q : Option Question) (db : List Table) → past_after past q (cut_tables cut db) ≡ past_after past q db
+  pub past_same : (past : Past) (q : Option Question) (db : List Table) → past_after past q (cut_tables cut db) ≡ past_after past q db
   past_same past None db = refl
   past_same past (Some q) db = refl
 
@@ -175,7 +175,7 @@ module _ (cut : Cut) where
 
   -- ---- outcomes
 
-  outcome_same : (s : State) → outcome_of (cut_state cut s) ≡ outcome_of s
+  pub outcome_same : (s : State) → outcome_of (cut_state cut s) ≡ outcome_of s
   outcome_same s = λ j. record { processes = by_name (map outcome_of_process s.processes); paths = outcomes_same cut s.touched s.files j }
 
   pub outcome_law : (n : ℕ) (s : State) → run n (cut_state cut s) ≡ cut_state cut (run n s) → outcome_within n (cut_state cut s) ≡ outcome_within n s

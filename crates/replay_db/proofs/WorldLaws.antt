@@ -41,6 +41,20 @@ whole_stays need k is keeps = by k (subst (λ (o : Option FileNeed). KeepsFile o
 start_needed : (path : List ℕ) (events : List Event) → file_need path (start_events (Some path) ++ events) ≡ Some Whole
 start_needed path events = let self : same_text path path ≡ true = (bytes_eq-Decides path path).1 refl in rw self refl
 
+-- the script is that of the first start word's file, which is needed whole
+pub script_law : (w : World) (script : List Instr) → start_script w ≡ Some script → (cut : Cut) (events : List Event) → KeepsNeeded cut (start_events (slice_get w.start 0) ++ events) → start_script (cut_world cut w) ≡ Some script
+script_law w script is cut events keeps = elim (cases_option (slice_get w.start 0)) [
+  | inl none ↦ let never : None ≡ Some script = rw none at is in cc
+  | inr word ↦
+      let all : List Event = start_events (slice_get w.start 0) ++ events in
+      let told : all ≡ start_events (Some word.0) ++ events = ap (λ (o : Option (List ℕ)). start_events o ++ events) word.1 in
+      let need : file_need word.0 all ≡ Some Whole = ap (file_need word.0) told ∙ start_needed word.0 events in
+      let stays : cut.file word.0 ≡ Same = whole_stays (file_need word.0 all) (cut.file word.0) need (keeps.files word.0) in
+      let found : file_at word.0 (cut_files cut [] w.files) ≡ file_at word.0 w.files = file_same cut word.0 stays w.files in
+      let at_word : (files : List File) → option_and_then (λ p. file_at p files) (slice_get w.start 0) ≡ file_at word.0 files = λ files. ap (option_and_then (λ p. file_at p files)) word.1 in
+      ap (option_and_then (λ (file : File). script_of file.content)) (at_word (cut_files cut [] w.files) ∙ found ∙ sym (at_word w.files)) ∙ is
+]
+
 module _ (n : ℕ) (w : World) (script : List Instr) (is : start_script w ≡ Some script) (cut : Cut) (keeps : KeepsNeeded cut (events_within n w)) where
   abbrev start : State
   start = start_state w script
@@ -48,18 +62,8 @@ module _ (n : ℕ) (w : World) (script : List Instr) (is : start_script w ≡ So
   events_are : events_within n w ≡ start_events (slice_get w.start 0) ++ events_from n 1 no_past start
   events_are = ap (script_events n w) is
 
-  -- the script is that of the first start word's file
   script_stays : start_script (cut_world cut w) ≡ Some script
-  script_stays = elim (cases_option (slice_get w.start 0)) [
-    | inl none ↦ let never : None ≡ Some script = rw none at is in cc
-    | inr word ↦
-        let told : events_within n w ≡ start_events (Some word.0) ++ events_from n 1 no_past start = events_are ∙ ap (λ (o : Option (List ℕ)). start_events o ++ events_from n 1 no_past start) word.1 in
-        let need : file_need word.0 (events_within n w) ≡ Some Whole = ap (file_need word.0) told ∙ start_needed word.0 (events_from n 1 no_past start) in
-        let stays : cut.file word.0 ≡ Same = whole_stays (file_need word.0 (events_within n w)) (cut.file word.0) need (keeps.files word.0) in
-        let found : file_at word.0 (cut_files cut [] w.files) ≡ file_at word.0 w.files = file_same cut word.0 stays w.files in
-        let at_word : (files : List File) → option_and_then (λ p. file_at p files) (slice_get w.start 0) ≡ file_at word.0 files = λ files. ap (option_and_then (λ p. file_at p files)) word.1 in
-        ap (option_and_then (λ (file : File). script_of file.content)) (at_word (cut_files cut [] w.files) ∙ found ∙ sym (at_word w.files)) ∙ is
-  ]
+  script_stays = script_law w script is cut (events_from n 1 no_past start) (subst (KeepsNeeded cut) events_are keeps)
 
   keeps_run : KeepsEvents cut (events_from n 1 no_past start)
   keeps_run =

@@ -8,7 +8,8 @@ use Rattle.run_model.specs.declared.world.World.{World}
 use Rattle.run_model.specs.Ends.{outcome_within}
 use Rattle.run_model.specs.Events.{events_within}
 use Rattle.run_model.specs.Run.{all_ended, run}
-use Rattle.run_model.specs.Slice.{included_package, own_world, slice_of, Between}
+use Rattle.run_model.specs.Picks.{run_by, outcome_by, world_events_by}
+use Rattle.run_model.specs.Slice.{included_package, own_world, slice_of, CutOf, Between}
 use Rattle.run_model.specs.Start.{start_script}
 use Rattle.run_model.specs.State.{start_state}
 use Rattle.std.specs.Prelude.{true}
@@ -23,6 +24,16 @@ pub record SameRun (n : ℕ) (v w : World) (script : List Instr) : Type 0 where
 -- any world between the slice and the world
 abbrev pub BetweenLaw : Type 0
 BetweenLaw = (n : ℕ) (w v : World) (script : List Instr) → start_script w ≡ Some script → Between n v w → SameRun n v w script
+
+-- the same where both runs go by one list of picks, whatever they are; needs and slice are those of that run
+pub record SameRunBy (picks : List ℕ) (v w : World) (script : List Instr) : Type 0 where
+  pub script_same : start_script v ≡ Some script
+  pub ends : all_ended (run_by picks (start_state v script)) ≡ all_ended (run_by picks (start_state w script))
+  pub outcome : outcome_by picks (start_state v script) ≡ outcome_by picks (start_state w script)
+  pub events : world_events_by picks v ≡ world_events_by picks w
+
+abbrev pub InterleavingLaw : Type 0
+InterleavingLaw = (picks : List ℕ) (w v : World) (script : List Instr) → start_script w ≡ Some script → CutOf (world_events_by picks w) v w → SameRunBy picks v w script
 
 -- the slice is itself between, and is the package's own world
 abbrev pub SliceLaw : Type 0

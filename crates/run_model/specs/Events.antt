@@ -40,9 +40,13 @@ abbrev pub question_in : Option Process → Option Question
 question_in None = None
 question_in (Some p) = question_by (slice_get p.script p.place) p
 
+-- what a step of the process of a creation number asks
+abbrev pub question_at : ℕ → State → Option Question
+question_at process s = question_in (slice_get s.processes process)
+
 -- what the next step asks
 abbrev pub next_question : State → Option Question
-next_question s = question_in (slice_get s.processes (pick s))
+next_question s = question_at (pick s) s
 
 -- ---- what the steps before tell
 
@@ -87,9 +91,10 @@ abbrev pub end_acts : Option Process → List Act
 end_acts None = []
 end_acts (Some p) = status_acts p.status
 
--- the end stands last; `print` and `exit` and misuse have no other act
-abbrev pub acts_of_step : Past → State → List Act
-acts_of_step past s = question_acts past (next_question s) s.tables ++ end_acts (slice_get (advanced s).processes (pick s))
+-- of a step of a process, by the state before and the state after. The end stands last; `print`, `exit`
+-- and misuse have no other act
+abbrev pub acts_between : Past → ℕ → State → State → List Act
+acts_between past process before after = question_acts past (question_at process before) before.tables ++ end_acts (slice_get after.processes process)
 
 -- ---- events
 
@@ -98,7 +103,7 @@ event_at step process act = record { step = step; process = process; act = act }
 
 -- of the step of a number, by the process that is picked for it
 abbrev pub events_of_step : ℕ → Past → State → List Event
-events_of_step number past s = map (event_at number (pick s)) (acts_of_step past s)
+events_of_step number past s = map (event_at number (pick s)) (acts_between past (pick s) s (advanced s))
 
 -- of some steps from the step of a number on, or up to the end where that comes before
 unfoldable pub events_from : ℕ → ℕ → Past → State → List Event

@@ -245,6 +245,10 @@ slice_cut events = record { file = λ path. kept_by (file_need path events); tab
 abbrev pub slice_of : ℕ → World → World
 slice_of n w = cut_world (slice_cut (events_within n w)) w
 
--- a world lies between the slice and a world where a cut that keeps what is needed makes it
+-- a cut that keeps what the events of a run of a world need makes another of it
+abbrev pub CutOf : List Event → World → World → Type 0
+CutOf events v w = (cut : Cut) × KeepsNeeded cut events × (v ≡ cut_world cut w)
+
+-- a world lies between the slice of a run of at most so many steps and the run's world
 abbrev pub Between : ℕ → World → World → Type 0
-Between n v w = (cut : Cut) × KeepsNeeded cut (events_within n w) × (v ≡ cut_world cut w)
+Between n v w = CutOf (events_within n w) v w

@@ -1,4 +1,5 @@
 use Rattle.replay_db.proofs.EndedLaw.{ended_law}
+use Rattle.replay_db.proofs.PicksLaw.{interleaving_law}
 use Rattle.replay_db.proofs.SliceLaws.{own_law}
 use Rattle.replay_db.proofs.WorldLaws as laws
 use Rattle.replay_db.proofs.law.between_law.Goals as goal
@@ -17,3 +18,6 @@ returns-clause-replay c = laws.replay_law
 
 pub returns-clause-settled : goal.returns-clause-settled
 returns-clause-settled c = ended_law
+
+pub returns-clause-interleaved : goal.returns-clause-interleaved
+returns-clause-interleaved c = interleaving_law
