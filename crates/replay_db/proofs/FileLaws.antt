@@ -1,14 +1,13 @@
 -- What is found among files of which some are cut.
-use Rattle.std.proofs.Common.{◌≡◌, ℕ, List, [], ◌∷◌, refl, sym, ap, ◌∙◌, Bool, true, false, cond, inl, inr}
-use Rattle.std.specs.Prelude.{Option, Some, None, option_map, map, find, ◌||◌, if◌then◌else◌, bytes_eq}
+use Rattle.std.proofs.Common.{◌≡◌, ℕ, List, [], ◌∷◌, refl, sym, ap, ◌∙◌, Bool, true, false, inl, inr}
+use Rattle.std.specs.Prelude.{Option, option_map, map, find, bytes_eq}
 use Rattle.std.specs.List.{list_any, cons_option}
 use Rattle.std.proofs.lemmas.Bool.{cases_Bool}
 use Rattle.std.proofs.lemmas.Slice.Eq.{bytes_eq-Decides}
 use Rattle.ldv_value.specs.declared.file.File.{File}
-use Rattle.run_model.specs.declared.outcome.PathOutcome.{PathOutcome}
 use Rattle.run_model.specs.Ends.{outcome_of_path}
 use Rattle.run_model.specs.Start.{file_at}
-use Rattle.run_model.specs.Slice.{Cut, Kept, Gone, Same, Other, kept_file, cut_file, cut_files}
+use Rattle.run_model.specs.Slice.{Cut, Kept, Gone, Same, Other, kept_file, cut_files}
 use Rattle.replay_db.proofs.Keeps.{or_second}
 
 abbrev at_path : (List ℕ → Bool) → List File → Option File

@@ -1,14 +1,11 @@
 -- What is kept of a list of needed rows, and of the tables that a statement names.
-use Rattle.std.proofs.Common.{◌≡◌, ℕ, List, [], ◌∷◌, ◌++◌, refl, sym, ap, ◌∙◌, subst, Bool, true, false, cond, inl, inr}
-use Rattle.std.specs.Prelude.{Option, Some, None, map, filter, find, ◌&&◌, ◌||◌, ◌==◌, if◌then◌else◌}
-use Rattle.std.specs.List.{list_any}
+use Rattle.std.proofs.Common.{◌≡◌, ℕ, List, [], ◌∷◌, ◌++◌, refl, sym, ◌∙◌, subst, Bool, true, false, inl, inr}
+use Rattle.std.specs.Prelude.{Some, map, find, ◌&&◌, ◌||◌, ◌==◌, if◌then◌else◌}
 use Rattle.std.proofs.lemmas.Bool.{cases_Bool}
 use Rattle.std.proofs.lemmas.Bool.Decides.{Decides-eqb}
 use Rattle.std.proofs.lemmas.Slice.Eq.{bytes_eq-Decides}
-use Rattle.sql_model.specs.declared.need.Need.{Need}
-use Rattle.sql_model.specs.declared.table.Table.{Table}
 use Rattle.sql_model.specs.Needs.{NeededRow, is_same_row, is_earlier_row, put_row, rising_rows}
-use Rattle.sql_model.specs.Scope.{same_text, is_table, table_at}
+use Rattle.sql_model.specs.Scope.{same_text}
 use Rattle.run_model.specs.Events.{Past, read_of}
 use Rattle.run_model.specs.Slice.{Cut, KeepsReads}
 

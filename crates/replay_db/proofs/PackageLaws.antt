@@ -1,6 +1,6 @@
 -- What events need is the same of initial files and tables from which nothing was cut that they need.
-use Rattle.std.proofs.Common.{◌≡◌, ℕ, List, [], ◌∷◌, refl, sym, ap, ◌∙◌, subst, Bool, true, false, cond, inl, inr}
-use Rattle.std.specs.Prelude.{Option, Some, None, option_map, is_some, map, filter, ◌&&◌, ◌||◌, ◌==◌, ◌⊎◌, if◌then◌else◌}
+use Rattle.std.proofs.Common.{◌≡◌, ℕ, List, [], ◌∷◌, refl, sym, ap, ◌∙◌, true, inl, inr}
+use Rattle.std.specs.Prelude.{Option, Some, None, option_map, is_some, filter, ◌==◌, ◌⊎◌}
 use Rattle.std.specs.List.{list_any, cons_option, filter_map}
 use Rattle.std.proofs.lemmas.Bool.{cases_Bool}
 use Rattle.ldv_value.specs.declared.file.File.{File}
@@ -11,10 +11,8 @@ use Rattle.sql_model.specs.Scope.{same_text}
 use Rattle.run_model.specs.declared.event.Act.{Act}
 use Rattle.run_model.specs.declared.event.Act.TheVariants.{Asked}
 use Rattle.run_model.specs.declared.event.Event.{Event}
-use Rattle.run_model.specs.declared.package.PackedFile.{PackedFile}
 use Rattle.run_model.specs.declared.package.PackedRow.{PackedRow}
-use Rattle.run_model.specs.declared.package.PackedTable.{PackedTable}
-use Rattle.run_model.specs.Slice.{FileNeed, Whole, Present, file_need, packed_as, packed_file, files_needed, Reason, is_read, reason_in, act_reason, reason_or, first_reason, packed_because, packed_row, rows_needed, names_table, is_table_needed, packed_table, tables_needed, Cut, Kept, Gone, Same, Other, kept_file, cut_file, cut_files, cut_table, cut_tables, KeepsFile, KeepsTables, KeepsReads, KeepsAct, KeepsEvents}
+use Rattle.run_model.specs.Slice.{FileNeed, Whole, Present, file_need, packed_as, packed_file, files_needed, is_read, reason_in, act_reason, first_reason, packed_because, rows_needed, names_table, is_table_needed, packed_table, tables_needed, Cut, Kept, Gone, Same, Other, kept_file, cut_files, cut_table, cut_tables, KeepsFile, KeepsTables, KeepsReads, KeepsAct, KeepsEvents}
 use Rattle.replay_db.proofs.Keeps.{and_first, and_second, same_text_is, number_is}
 
 cases_option : {A : Type 0} (o : Option A) → (o ≡ None) ⊎ ((x : A) × (o ≡ Some x))

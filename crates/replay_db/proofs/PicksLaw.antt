@@ -1,6 +1,6 @@
 -- The law of worlds between, for every interleaving.
 use Rattle.std.proofs.Common.{◌≡◌, ℕ, ◌+◌, List, [], ◌∷◌, ◌++◌, refl, sym, ap, ◌∙◌, subst, Bool, true, false, inl, inr}
-use Rattle.std.specs.Prelude.{Option, Some, None, map, slice_get, if◌then◌else◌}
+use Rattle.std.specs.Prelude.{Some, None, map, slice_get, if◌then◌else◌}
 use Rattle.std.proofs.lemmas.Bool.{cases_Bool}
 use Rattle.script_parse.specs.declared.script.Instr.{Instr}
 use Rattle.run_model.specs.declared.event.Event.{Event}
@@ -8,7 +8,7 @@ use Rattle.run_model.specs.declared.outcome.Outcome.{Outcome}
 use Rattle.run_model.specs.declared.world.World.{World}
 use Rattle.run_model.specs.Ends.{outcome_of}
 use Rattle.run_model.specs.Events.{Past, no_past, past_after, question_at, question_acts, end_acts, event_at, start_events}
-use Rattle.run_model.specs.Picks.{picked_by, scheduled_by, step_by, advanced_by, run_by, outcome_by, events_of_pick, events_by, script_events_by, world_events_by}
+use Rattle.run_model.specs.Picks.{picked_by, scheduled_by, step_by, advanced_by, run_by, events_of_pick, events_by, script_events_by, world_events_by}
 use Rattle.run_model.specs.Run.{all_ended}
 use Rattle.run_model.specs.Slice.{Cut, cut_tables, cut_state, cut_world, KeepsEvents, KeepsNeeded, CutOf}
 use Rattle.run_model.specs.Start.{start_script}
@@ -64,13 +64,12 @@ module _ (cut : Cut) where
         let next : advanced_by k (cut_state cut s) ≡ cut_state cut (advanced_by k s) = advanced_by_same k s going q in
         let told : past_after past (question_at (picked_by k s) s) (cut_tables cut s.tables) ≡ later = past_same cut past (question_at (picked_by k s) s) s.tables in
         let here : events_of_pick number past k (cut_state cut s) ≡ events_of_pick number past k s = pick_events_same number past k s going q in
-        let more : SameBy picks (number + 1) later (advanced_by k s) = picks_same picks (number + 1) later (advanced_by k s) both.1 in
-        (
+        let more : SameBy picks (number + 1) later (advanced_by k s) = picks_same picks (number + 1) later (advanced_by k s) both.1 in (
           ap (run_by picks) next ∙ more.0,
           events_by_going k picks number past (cut_state cut s) going
-          ∙ (λ j. here j ++ events_by picks (number + 1) (told j) (next j))
-          ∙ ap (λ (es : List Event). events_of_pick number past k s ++ es) more.1
-          ∙ sym (events_by_going k picks number past s going),
+              ∙ (λ j. here j ++ events_by picks (number + 1) (told j) (next j))
+              ∙ ap (λ (es : List Event). events_of_pick number past k s ++ es) more.1
+              ∙ sym (events_by_going k picks number past s going),
         )
   ]
 
@@ -100,7 +99,7 @@ module _ (picks : List ℕ) (w : World) (script : List Instr) (is : start_script
     events =
         ap (script_events_by picks (cut_world cut w)) script_stays
         ∙ ap (λ (es : List Event). start_events (slice_get w.start 0) ++ es) runs_same.1
-        ∙ sym events_are
+        ∙ sym events_are;
   }
 
 pub interleaving_law : (picks : List ℕ) (w v : World) (script : List Instr) → start_script w ≡ Some script → CutOf (world_events_by picks w) v w → SameRunBy picks v w script

@@ -1,7 +1,7 @@
 -- A run from a state of which nothing was cut that the run needs is the run from the whole state, without
 -- what is cut.
-use Rattle.std.proofs.Common.{◌≡◌, ℕ, zero, suc, ◌+◌, List, [], ◌∷◌, ◌++◌, refl, sym, ap, ◌∙◌, subst, Bool, true, false, cond, inl, inr}
-use Rattle.std.specs.Prelude.{Option, Some, None, map, slice_get, slice_set, if◌then◌else◌}
+use Rattle.std.proofs.Common.{◌≡◌, ℕ, zero, suc, ◌+◌, List, [], ◌∷◌, ◌++◌, refl, sym, ap, ◌∙◌, subst, Bool, true, false, inl, inr}
+use Rattle.std.specs.Prelude.{Option, Some, None, map, slice_get, if◌then◌else◌}
 use Rattle.std.proofs.lemmas.Bool.{cases_Bool}
 use Rattle.ldv_value.specs.declared.value.Value.{Value}
 use Rattle.ldv_value.specs.declared.value.Value.TheVariants.{Null, Int, Text}
@@ -20,7 +20,7 @@ use Rattle.run_model.specs.Events.{Question, question_of, question_by, question_
 use Rattle.run_model.specs.Run.{all_ended, pick, scheduled, step_on, advanced, run}
 use Rattle.run_model.specs.Slice.{Cut, cut_tables, cut_state, KeepsTables, KeepsEvents}
 use Rattle.run_model.specs.State.{Process, State}
-use Rattle.run_model.specs.Step.{operand_value, operand_values, with_reply, with_process, ask, execute, execute_next, step_of, step}
+use Rattle.run_model.specs.Step.{operand_value, operand_values, with_reply, with_process, ask, execute, execute_next, step_of}
 use Rattle.replay_db.proofs.FileLaws.{outcomes_same}
 use Rattle.replay_db.proofs.Keeps.{KeepsRows, rows_of_reads}
 use Rattle.replay_db.proofs.StatementLaw.{statement_law}
@@ -162,13 +162,12 @@ module _ (cut : Cut) where
         let next : advanced (cut_state cut s) ≡ cut_state cut (advanced s) = advanced_same s going q in
         let told : past_after past (next_question s) (cut_tables cut s.tables) ≡ later = past_same past (next_question s) s.tables in
         let here : events_of_step number past (cut_state cut s) ≡ events_of_step number past s = step_events_same number past s going q in
-        let more : SameRun n (number + 1) later (advanced s) = run_law n (number + 1) later (advanced s) both.1 in
-        (
+        let more : SameRun n (number + 1) later (advanced s) = run_law n (number + 1) later (advanced s) both.1 in (
           run_suc n (cut_state cut s) ∙ ap (run n) next ∙ more.0 ∙ sym (ap (cut_state cut) (run_suc n s)),
           events_suc n number past (cut_state cut s) going
-          ∙ (λ j. here j ++ events_from n (number + 1) (told j) (next j))
-          ∙ ap (λ (es : List Event). events_of_step number past s ++ es) more.1
-          ∙ sym (events_suc n number past s going),
+              ∙ (λ j. here j ++ events_from n (number + 1) (told j) (next j))
+              ∙ ap (λ (es : List Event). events_of_step number past s ++ es) more.1
+              ∙ sym (events_suc n number past s going),
           steps_suc n (cut_state cut s) going ∙ ap (λ (t : State). 1 + steps_within n t) next ∙ ap (λ (k : ℕ). 1 + k) more.2 ∙ sym (steps_suc n s going),
         )
   ]

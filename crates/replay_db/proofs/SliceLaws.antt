@@ -1,7 +1,7 @@
 -- The slice keeps what is needed, and is the package's own world.
-use Rattle.std.proofs.Common.{◌≡◌, ℕ, List, [], ◌∷◌, refl, sym, ap, ◌∙◌, Bool, true, false, cond, inl, inr}
-use Rattle.std.specs.Prelude.{Option, Some, None, option_map, is_some, map, filter, ◌&&◌, ◌||◌, ◌==◌, ◌⊎◌, if◌then◌else◌}
-use Rattle.std.specs.List.{list_any, cons_option, filter_map}
+use Rattle.std.proofs.Common.{◌≡◌, ℕ, List, [], ◌∷◌, refl, ap, Bool, true, false, inl, inr}
+use Rattle.std.specs.Prelude.{Option, Some, None, option_map, is_some, map, filter, ◌||◌, ◌==◌, ◌⊎◌}
+use Rattle.std.specs.List.{list_any, cons_option}
 use Rattle.std.proofs.lemmas.Bool.{cases_Bool}
 use Rattle.std.proofs.lemmas.Bool.Decides.{Decides-eqb}
 use Rattle.std.proofs.lemmas.Slice.Eq.{bytes_eq-Decides}
@@ -16,7 +16,7 @@ use Rattle.run_model.specs.declared.event.Event.{Event}
 use Rattle.run_model.specs.declared.package.PackedFile.{PackedFile}
 use Rattle.run_model.specs.declared.world.World.{World}
 use Rattle.run_model.specs.Events.{events_within}
-use Rattle.run_model.specs.Slice.{FileNeed, Whole, Present, file_need, packed_as, packed_file, files_needed, Reason, is_read, reason_in, act_reason, reason_or, first_reason, packed_because, rows_needed, names_table, is_table_needed, packed_table, tables_needed, included_package, own_file, own_row, own_table, own_world, Cut, Kept, Gone, Same, Other, kept_file, cut_file, cut_files, cut_table, cut_tables, KeepsFile, KeepsTables, KeepsReads, KeepsAct, KeepsEvents, KeepsNeeded, kept_by, slice_cut, slice_of}
+use Rattle.run_model.specs.Slice.{FileNeed, Whole, Present, file_need, packed_as, files_needed, Reason, is_read, reason_in, act_reason, reason_or, first_reason, rows_needed, names_table, is_table_needed, packed_table, tables_needed, included_package, own_file, own_row, own_table, own_world, kept_file, cut_files, cut_table, cut_tables, KeepsFile, KeepsTables, KeepsReads, KeepsAct, KeepsEvents, KeepsNeeded, kept_by, slice_cut, slice_of}
 use Rattle.replay_db.proofs.Keeps.{or_second}
 
 cases_option : {A : Type 0} (o : Option A) → (o ≡ None) ⊎ ((x : A) × (o ≡ Some x))
@@ -53,8 +53,7 @@ module _ (all : List Event) where
   reads_part : (statement : ℕ) (needs : List Need) → ((table : List ℕ) (row : ℕ) → is_some (reason_in statement table row needs) ≡ true → is_some (first_reason table row all) ≡ true) → KeepsReads (slice_cut all) needs
   reads_part statement [] among = tt
   reads_part statement (need ∷ needs) among =
-      let self : is_read need.member.table need.member.row need ≡ true = rw (self_text need.member.table, self_number need.member.row) refl in
-      (
+      let self : is_read need.member.table need.member.row need ≡ true = rw (self_text need.member.table, self_number need.member.row) refl in (
         among need.member.table need.member.row (rw self refl),
         reads_part statement needs (λ table row more. among table row (some_later statement table row need needs more)),
       )
@@ -79,17 +78,17 @@ module _ (all : List Event) where
   events_part [] tables_among rows_among = tt
   events_part (e ∷ es) tables_among rows_among = (
     act_part e.act
-    (λ table here. tables_among table (or_first (names_table table e.act) (is_table_needed es table) here))
-    (λ table row here. rows_among table row (first_some (act_reason table row e.act) (first_reason table row es) here)),
+        (λ table here. tables_among table (or_first (names_table table e.act) (is_table_needed es table) here))
+        (λ table row here. rows_among table row (first_some (act_reason table row e.act) (first_reason table row es) here)),
     events_part es
-    (λ table more. tables_among table (or_second (names_table table e.act) (is_table_needed es table) more))
-    (λ table row more. rows_among table row (later_some (act_reason table row e.act) (first_reason table row es) more)),
+        (λ table more. tables_among table (or_second (names_table table e.act) (is_table_needed es table) more))
+        (λ table row more. rows_among table row (later_some (act_reason table row e.act) (first_reason table row es) more)),
   )
 
   pub slice_keeps : KeepsNeeded (slice_cut all) all
   slice_keeps = record {
     files = λ path. kept_file_need (file_need path all);
-    rows = events_part all (λ table more. more) (λ table row more. more)
+    rows = events_part all (λ table more. more) (λ table row more. more);
   }
 
   -- ---- the own world of what is packed

@@ -1,11 +1,9 @@
 -- A statement answers and needs the same of tables from which nothing was cut that it needs.
-use Rattle.std.proofs.Common.{◌≡◌, ℕ, List, [], ◌∷◌, ◌++◌, refl, sym, ap, ◌∙◌, subst, Bool, true, false, cond, inl, inr}
-use Rattle.std.specs.Prelude.{Option, Some, None, option_map, is_none, map, filter, find, not, ◌&&◌, ◌||◌, ◌⊎◌, if◌then◌else◌}
+use Rattle.std.proofs.Common.{◌≡◌, ℕ, List, [], ◌∷◌, ◌++◌, refl, sym, ap, ◌∙◌, Bool, true, false, inl, inr}
+use Rattle.std.specs.Prelude.{Option, Some, None, option_map, is_none, map, filter, not, ◌&&◌, ◌||◌, ◌⊎◌, if◌then◌else◌}
 use Rattle.std.specs.List.{flat_map, list_any, list_all}
 use Rattle.std.proofs.lemmas.Bool.{cases_Bool}
 use Rattle.std.proofs.lemmas.List.Elements.{filter-append}
-use Rattle.ldv_value.specs.declared.value.Value.{Value}
-use Rattle.sql_model.specs.declared.reply.Reply.{Reply}
 use Rattle.sql_model.specs.declared.reply.Reply.TheVariants.{Rows}
 use Rattle.sql_model.specs.declared.reply.SqlRefusal.{SqlRefusal}
 use Rattle.sql_model.specs.declared.reply.SqlRefusal.TheVariants.{NoTable, NoColumn, TypeClash}
@@ -18,8 +16,8 @@ use Rattle.sql_model.specs.declared.table.Table.{Table}
 use Rattle.sql_model.specs.declared.table.TableRow.{TableRow}
 use Rattle.sql_model.specs.Answers.{Combination, combinations, joined_values, meets_all, picked, core_rows}
 use Rattle.sql_model.specs.Kinds.{names_in, row_kind, is_condition}
-use Rattle.sql_model.specs.Needs.{NeededRow, rising_rows, combination_rows, core_lineage, lineage_rows, accepted_needs, need_unless, need_of, is_named, table_name, asked_tables}
-use Rattle.sql_model.specs.Scope.{InScope, same_text, is_table, table_at, columns_of, rows_of, scope_of, in_source, environment, resolves}
+use Rattle.sql_model.specs.Needs.{rising_rows, combination_rows, core_lineage, lineage_rows, need_unless, need_of, is_named, table_name, asked_tables}
+use Rattle.sql_model.specs.Scope.{InScope, is_table, table_at, columns_of, rows_of, scope_of, environment, resolves}
 use Rattle.sql_model.specs.Statements.{tables_of_core, tables_of, cores_of, is_doubled, lacks_table, lacks_column, clashes, refusal_of, accepted_reply, reply_or, reply_of}
 use Rattle.run_model.specs.Slice.{Cut, cut_table, cut_tables, KeepsTables}
 use Rattle.replay_db.proofs.Keeps.{or_second, same_text_is, found_passes, KeepsRows, keeps_split, keeps_rising}
@@ -259,8 +257,7 @@ module _ (cut : Cut) where
   statement_law (Some statement) db tables keeps =
       let k : Agrees db (tables_of statement) = agree_all (tables_of statement) db tables in
       let refusal : refusal_of (Some statement) (cut_tables cut db) ≡ refusal_of (Some statement) db = refusal_same statement db k in
-      let same = settled_same statement db k (refusal_of (Some statement) db) keeps in
-      (
+      let same = settled_same statement db k (refusal_of (Some statement) db) keeps in (
         ap (λ (r : Option SqlRefusal). reply_or r (Some statement) (cut_tables cut db)) refusal ∙ same.0,
         ap (λ (r : Option SqlRefusal). need_unless r (Some statement) (cut_tables cut db)) refusal ∙ same.1,
         asked_same (is_named statement) (λ t. refl) db tables,

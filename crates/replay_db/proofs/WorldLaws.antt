@@ -1,6 +1,6 @@
 -- The law of worlds between.
-use Rattle.std.proofs.Common.{◌≡◌, ℕ, List, [], ◌∷◌, ◌++◌, refl, sym, ap, ◌∙◌, subst, Bool, true, false, cond, inl, inr}
-use Rattle.std.specs.Prelude.{Option, Some, None, option_and_then, slice_get, ◌||◌, ◌⊎◌, not, ◌&&◌, if◌then◌else◌}
+use Rattle.std.proofs.Common.{◌≡◌, ℕ, List, [], ◌++◌, refl, sym, ap, ◌∙◌, subst, true, inl, inr}
+use Rattle.std.specs.Prelude.{Option, Some, None, option_and_then, slice_get, ◌⊎◌}
 use Rattle.std.proofs.lemmas.Slice.Eq.{bytes_eq-Decides}
 use Rattle.ldv_value.specs.declared.file.File.{File}
 use Rattle.script_parse.specs.declared.script.Instr.{Instr}
@@ -8,15 +8,11 @@ use Rattle.script_parse.specs.Script.{script_of}
 use Rattle.sql_model.specs.Scope.{same_text}
 use Rattle.run_model.specs.declared.event.Event.{Event}
 use Rattle.run_model.specs.declared.package.Mode.TheVariants.{Included}
-use Rattle.run_model.specs.declared.package.Package.{Package}
-use Rattle.run_model.specs.declared.package.PackedFile.{PackedFile}
-use Rattle.run_model.specs.declared.package.PackedTable.{PackedTable}
 use Rattle.run_model.specs.declared.world.World.{World}
-use Rattle.run_model.specs.Ends.{outcome_within}
 use Rattle.run_model.specs.Events.{no_past, events_from, steps_within, start_events, script_events, events_within}
 use Rattle.run_model.specs.Run.{run}
 use Rattle.run_model.specs.Slice.{FileNeed, Whole, file_need, files_needed, tables_needed, world_steps, included_package, own_world, Cut, Kept, Gone, Same, Other, cut_world, cut_state, cut_files, KeepsFile, KeepsEvents, KeepsNeeded, slice_cut, slice_of, Between}
-use Rattle.run_model.specs.Start.{file_at, start_file, start_script}
+use Rattle.run_model.specs.Start.{file_at, start_script}
 use Rattle.run_model.specs.State.{State, start_state}
 use Rattle.replay_db.specs.Laws.{SameRun}
 use Rattle.replay_db.proofs.FileLaws.{file_same}
@@ -92,7 +88,7 @@ module _ (n : ℕ) (w : World) (script : List Instr) (is : start_script w ≡ So
     script_same = script_stays;
     outcome = outcome_law cut n start runs_same.0;
     events = events_stay;
-    packed = λ j. record { mode = Included; start = w.start; seed = w.seed; steps = steps_stay j; files = files_stay j; tables = tables_stay j; logs = []; events = events_stay j }
+    packed = λ j. record { mode = Included; start = w.start; seed = w.seed; steps = steps_stay j; files = files_stay j; tables = tables_stay j; logs = []; events = events_stay j };
   }
 
 pub between_law : (n : ℕ) (w v : World) (script : List Instr) → start_script w ≡ Some script → Between n v w → SameRun n v w script

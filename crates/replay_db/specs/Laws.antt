@@ -2,7 +2,7 @@
 -- does, and comes to the same package.
 --
 -- Where a package's own world lies between, replay of the package gives what the recorded run gave.
-use Rattle.std.specs.Prelude.{◌≡◌, ℕ, ◌≤◌, List, Option, Some}
+use Rattle.std.specs.Prelude.{◌≡◌, ℕ, ◌≤◌, List, Some}
 use Rattle.script_parse.specs.declared.script.Instr.{Instr}
 use Rattle.run_model.specs.declared.world.World.{World}
 use Rattle.run_model.specs.Ends.{outcome_within}
