@@ -7,3 +7,4 @@ mod RunSame
 mod SliceLaws
 mod StatementLaw
 mod WorldLaws
+pub mod SelectionNeeds

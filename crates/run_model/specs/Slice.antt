@@ -1,6 +1,6 @@
 -- What a run needs of its world, read off its events; the world cut down to that, the worlds that lie
 -- between the two, and the package.
-use Rattle.std.specs.Prelude.{◌≡◌, ℕ, ◌+◌, ◌==◌, List, [], ◌∷◌, map, filter, Bool, true, false, not, ◌&&◌, ◌||◌, if◌then◌else◌, Option, Some, None, is_some, option_map, bytes_eq}
+use Rattle.std.specs.Prelude.{◌≡◌, ℕ, ◌==◌, List, [], ◌∷◌, map, filter, Bool, true, false, not, ◌&&◌, ◌||◌, if◌then◌else◌, Option, Some, None, is_some, option_map, bytes_eq}
 use Rattle.std.specs.List.{list_any, filter_map}
 use Rattle.ldv_value.specs.declared.file.File.{File}
 use Rattle.sql_model.specs.declared.need.Need.{Need}

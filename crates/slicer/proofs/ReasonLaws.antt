@@ -101,6 +101,7 @@ module _ (m n : BTreeMap Key Why) (key : Key) (statement : ℕ) (need : Need) (t
       some_mapped : (o : Option Why) → is_some o ≡ true → is_some (option_map reason_from o) ≡ true
       some_mapped None some = cc
       some_mapped (Some w) some = refl
+
       kept : (a b : Option Reason) → is_some a ≡ true → a ≡ reason_or a b
       kept None b some = cc
       kept (Some r) b some = refl

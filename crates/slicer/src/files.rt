@@ -44,7 +44,11 @@ fn present_in(act: &Act) -> Option<&Utf8>
 fn needed_in(act: &Act, whole: bool) -> Option<&Utf8>
     ensures { option_map (λ p. p.now) result ≡ path_by whole act.now }
 {
-    if whole { whole_in(act) } else { present_in(act) }
+    if whole {
+        whole_in(act)
+    } else {
+        present_in(act)
+    }
 }
 
 fn changed_in(act: &Act) -> Option<&Utf8>
@@ -88,11 +92,7 @@ fn note_needed(
     }
 }
 
-fn note_changed(
-    alloc: Global,
-    changed: &mut NameSet,
-    path: Option<&Utf8>,
-) -> Result<(), AllocError>
+fn note_changed(alloc: Global, changed: &mut NameSet, path: Option<&Utf8>) -> Result<(), AllocError>
     ensures { OnOk result ((q : List ℕ) → has_name changed.new q ≡ (has_name changed.old q || is_path q (option_map (λ p. p.now) path.entry))) }
 {
     match path {

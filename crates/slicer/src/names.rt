@@ -44,7 +44,12 @@ fn add_tables(alloc: Global, names: &mut NameSet, act: &Act) -> Result<(), Alloc
     ensures { OnOk result ((q : List ℕ) → has_name names.new q ≡ (has_name names.old q || names_table q act.now)) }
 {
     match act {
-        Act::Asked { statement: _, tables, reads: _, made: _ } => add_all(alloc, names, tables.items()),
+        Act::Asked {
+            statement: _,
+            tables,
+            reads: _,
+            made: _,
+        } => add_all(alloc, names, tables.items()),
         _ => Ok(()),
     }
 }

@@ -22,18 +22,37 @@ pub(crate) struct Why {
 pub(crate) type Reasons = BTreeMap<(String, u32), Why>;
 
 // Notes a row that a statement needs, if no earlier one needs it.
-fn note_read(alloc: Global, reasons: &mut Reasons, statement: u32, need: &Need) -> Result<(), AllocError>
+fn note_read(
+    alloc: Global,
+    reasons: &mut Reasons,
+    statement: u32,
+    need: &Need,
+) -> Result<(), AllocError>
     ensures { OnOk result ((q : Key) → reason_at reasons.new q ≡ reason_or (reason_at reasons.old q) (reason_of_read statement need.now q)) }
 {
-    let key = (String::from_str(alloc, need.member.table.as_str())?, need.member.row);
+    let key = (
+        String::from_str(alloc, need.member.table.as_str())?,
+        need.member.row,
+    );
     if reasons.contains_key(&key) {
         return Ok(());
     }
-    reasons.insert(key, Why { statement, rule: need.rule })?;
+    reasons.insert(
+        key,
+        Why {
+            statement,
+            rule: need.rule,
+        },
+    )?;
     Ok(())
 }
 
-fn note_reads(alloc: Global, reasons: &mut Reasons, statement: u32, needs: &[Need]) -> Result<(), AllocError>
+fn note_reads(
+    alloc: Global,
+    reasons: &mut Reasons,
+    statement: u32,
+    needs: &[Need],
+) -> Result<(), AllocError>
     ensures { OnOk result ((q : Key) → reason_at reasons.new q ≡ reason_or (reason_at reasons.old q) (reason_in statement (string_bytes q.0) q.1 needs.now)) }
 {
     for need in needs {
@@ -46,7 +65,12 @@ fn note_act(alloc: Global, reasons: &mut Reasons, act: &Act) -> Result<(), Alloc
     ensures { OnOk result ((q : Key) → reason_at reasons.new q ≡ reason_or (reason_at reasons.old q) (act_reason (string_bytes q.0) q.1 act.now)) }
 {
     match act {
-        Act::Asked { statement, tables: _, reads, made: _ } => note_reads(alloc, reasons, *statement, reads.items()),
+        Act::Asked {
+            statement,
+            tables: _,
+            reads,
+            made: _,
+        } => note_reads(alloc, reasons, *statement, reads.items()),
         _ => Ok(()),
     }
 }

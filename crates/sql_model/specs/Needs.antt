@@ -1,7 +1,7 @@
 -- What a statement needs of the tables: the rows that its reply rests on, and the tables that it names.
 --
 -- A row that is needed by several rules has the first of them.
-use Rattle.std.specs.Prelude.{ℕ, List, [], ◌∷◌, ◌++◌, map, filter, Bool, ◌&&◌, ◌==◌, if◌then◌else◌, Option, Some, None}
+use Rattle.std.specs.Prelude.{ℕ, List, [], ◌∷◌, map, filter, Bool, ◌&&◌, ◌==◌, if◌then◌else◌, Option, Some, None}
 use Rattle.std.specs.List.{flat_map, list_any}
 use Rattle.std.specs.Ordering.{nat_cmp, is_lt}
 use Rattle.std.specs.Cmp.Lexicographic.{slice_cmp}
@@ -11,7 +11,6 @@ use Rattle.sql_model.specs.declared.need.Rule.TheVariants.{L}
 use Rattle.sql_model.specs.declared.reply.SqlRefusal.{SqlRefusal}
 use Rattle.sql_model.specs.declared.statement.Core.{Core}
 use Rattle.sql_model.specs.declared.statement.FromItem.{FromItem}
-use Rattle.sql_model.specs.declared.statement.Query.{Query}
 use Rattle.sql_model.specs.declared.statement.Statement.{Statement}
 use Rattle.sql_model.specs.declared.statement.Statement.TheVariants.{Query as TheQuery, Insert as TheInsert, Update as TheUpdate, Delete as TheDelete}
 use Rattle.sql_model.specs.declared.table.Table.{Table}
