@@ -1,6 +1,6 @@
 -- What a selection from one table needs: the picked rows of that table.
-use Rattle.std.proofs.Common.{◌≡◌, ℕ, List, [], ◌∷◌, ◌++◌, refl, sym, ap, ◌∙◌, Bool, true, false, cond, append-nil, inl, inr}
-use Rattle.std.specs.Prelude.{Option, Some, None, map, filter, if◌then◌else◌}
+use Rattle.std.proofs.Common.{◌≡◌, ℕ, List, [], ◌∷◌, ◌++◌, refl, ap, ◌∙◌, Bool, true, false, append-nil, inl, inr}
+use Rattle.std.specs.Prelude.{Option, map, filter}
 use Rattle.std.specs.List.{flat_map}
 use Rattle.std.proofs.lemmas.Bool.{cases_Bool}
 use Rattle.ldv_value.specs.declared.value.Value.{Value}

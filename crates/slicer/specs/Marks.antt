@@ -1,5 +1,5 @@
 -- What the maps of `src/` mean.
-use Rattle.std.specs.Prelude.{ℕ, List, Bool, ◌||◌, ◌&&◌, not, Option, is_some, if◌then◌else◌, Some, None, String, string_bytes, string_cmp}
+use Rattle.std.specs.Prelude.{ℕ, List, Bool, Option, is_some, if◌then◌else◌, Some, None, String, string_bytes, string_cmp}
 use Rattle.std.specs.Option.{option_map}
 use Rattle.std.specs.declared.alloc.Global.{Global}
 use Rattle.std.specs.declared.cmp.Ordering.{Ordering}

@@ -1,4 +1,4 @@
-use Rattle.std.proofs.Common.{◌≡◌, List, ℕ, drop}
+use Rattle.std.proofs.Common.{◌≡◌, drop}
 use Rattle.std.specs.Prelude.{string_bytes}
 use Rattle.run_model.specs.Slice.{reason_or, first_reason}
 use Rattle.slicer.specs.Marks.{Key, reason_at}
