@@ -115,7 +115,6 @@ fn named_initially(alloc: Global, events: &[Event], whole: bool) -> Result<NameS
 }
 
 fn pack_file(
-    alloc: Global,
     file: &File,
     whole: &NameSet,
     present: &NameSet,
@@ -134,7 +133,6 @@ fn pack_file(
             content: None,
         }));
     }
-    let _unneeded = alloc;
     Ok(None)
 }
 
@@ -157,7 +155,7 @@ fn pack_files(
 {
     let mut packed = PackedFiles::new(alloc);
     for file in files {
-        push_file(&mut packed, pack_file(alloc, file, whole, present)?)?;
+        push_file(&mut packed, pack_file(file, whole, present)?)?;
     }
     Ok(packed)
 }
