@@ -1,6 +1,7 @@
 pub mod Answers
 pub mod Codes
 pub mod Kinds
+pub mod Needs
 pub mod Reading
 pub mod Scope
 pub mod Sense

@@ -1,0 +1,57 @@
+-- What is found among files of which some are cut.
+use Rattle.std.proofs.Common.{◌≡◌, ℕ, List, [], ◌∷◌, refl, sym, ap, ◌∙◌, Bool, true, false, inl, inr}
+use Rattle.std.specs.Prelude.{Option, option_map, map, find, bytes_eq}
+use Rattle.std.specs.List.{list_any, cons_option}
+use Rattle.std.proofs.lemmas.Bool.{cases_Bool}
+use Rattle.std.proofs.lemmas.Slice.Eq.{bytes_eq-Decides}
+use Rattle.ldv_value.specs.declared.file.File.{File}
+use Rattle.run_model.specs.Ends.{outcome_of_path}
+use Rattle.run_model.specs.Start.{file_at}
+use Rattle.run_model.specs.Slice.{Cut, Kept, Gone, Same, Other, kept_file, cut_files}
+use Rattle.replay_db.proofs.Keeps.{or_second}
+
+abbrev at_path : (List ℕ → Bool) → List File → Option File
+at_path p files = find (λ file. p file.path) files
+
+-- a file of another path is passed over, whatever becomes of it
+passed_over : (p : List ℕ → Bool) (f : File) → p f.path ≡ false → (k : Kept) (rest files : List File) → at_path p rest ≡ at_path p files → at_path p (cons_option (kept_file k f) rest) ≡ at_path p files
+passed_over p f miss Gone rest files same = same
+passed_over p f miss Same rest files same = rw miss same
+passed_over p f miss (Other bytes) rest files same = rw miss same
+
+module _ (cut : Cut) where
+  -- a file that stays as it is is found
+  pub file_same : (path : List ℕ) → cut.file path ≡ Same → (files : List File) → file_at path (cut_files cut [] files) ≡ file_at path files
+  file_same path stays [] = refl
+  file_same path stays (f ∷ fs) = elim (cases_Bool (bytes_eq path f.path)) [
+    | inl hit ↦
+        let here : path ≡ f.path = (bytes_eq-Decides path f.path).0 hit in
+        let same : cut.file f.path ≡ Same = ap cut.file (sym here) ∙ stays in
+        rw (same, hit) refl
+    | inr miss ↦ rw miss (passed_over (bytes_eq path) f miss (cut.file f.path) (cut_files cut [] fs) fs (file_same path stays fs))
+  ]
+
+  -- a touched path has its content
+  touched_same : (touched : List (List ℕ)) (path : List ℕ) → list_any (bytes_eq path) touched ≡ true → (files : List File) → at_path (λ q. bytes_eq q path) (cut_files cut touched files) ≡ at_path (λ q. bytes_eq q path) files
+  touched_same touched path is [] = refl
+  touched_same touched path is (f ∷ fs) = elim (cases_Bool (bytes_eq f.path path)) [
+    | inl hit ↦
+        let here : f.path ≡ path = (bytes_eq-Decides f.path path).0 hit in
+        let same : list_any (bytes_eq f.path) touched ≡ true = ap (λ (q : List ℕ). list_any (bytes_eq q) touched) here ∙ is in
+        rw (same, hit) refl
+    | inr miss ↦ elim (cases_Bool (list_any (bytes_eq f.path) touched)) [
+      | inl own ↦ rw (own, miss) (touched_same touched path is fs)
+      | inr other ↦ rw (other, miss) (passed_over (λ q. bytes_eq q path) f miss (cut.file f.path) (cut_files cut touched fs) fs (touched_same touched path is fs))
+    ]
+  ]
+
+  outcomes_part : (all : List (List ℕ)) (files : List File) (paths : List (List ℕ)) → ((path : List ℕ) → list_any (bytes_eq path) paths ≡ true → list_any (bytes_eq path) all ≡ true) → map (outcome_of_path (cut_files cut all files)) paths ≡ map (outcome_of_path files) paths
+  outcomes_part all files [] among = refl
+  outcomes_part all files (path ∷ paths) among =
+      let self : bytes_eq path path ≡ true = (bytes_eq-Decides path path).1 refl in
+      let found = touched_same all path (among path (rw self refl)) files in
+      let head : outcome_of_path (cut_files cut all files) path ≡ outcome_of_path files path = λ j. record { path = path; content = option_map (λ file. file.content) (found j) } in
+      λ j. head j ∷ outcomes_part all files paths (λ q more. among q (or_second (bytes_eq q path) (list_any (bytes_eq q) paths) more)) j
+
+  pub outcomes_same : (touched : List (List ℕ)) (files : List File) → map (outcome_of_path (cut_files cut touched files)) touched ≡ map (outcome_of_path files) touched
+  outcomes_same touched files = outcomes_part touched files touched (λ path more. more)

@@ -1,0 +1,14 @@
+//! The law of worlds between.
+
+ghost use Rattle.replay_db.specs.Laws.{BetweenLaw, InterleavingLaw, SliceLaw, OwnLaw, ReplayLaw, EndedLaw};
+
+/// A world from which nothing was cut that a run needs runs as the whole world does; the own world of
+/// the run's package is such a world. It says so of every world, and does nothing.
+pub fn between_law()
+    ensures between { BetweenLaw }
+    ensures interleaved { InterleavingLaw }
+    ensures slice { SliceLaw }
+    ensures own { OwnLaw }
+    ensures replay { ReplayLaw }
+    ensures settled { EndedLaw }
+{}

@@ -1,0 +1,23 @@
+-- Sets of names, step by step.
+use Rattle.std.proofs.Common.{◌≡◌, ℕ, List, sym, ap, ◌∙◌, cond, inl, inr}
+use Rattle.std.specs.Prelude.{Some, is_some, ◌||◌, String, string_bytes, string_cmp, bytes_eq}
+use Rattle.std.specs.declared.alloc.Global.{Global}
+use Rattle.std.specs.BTreeMap.{BTreeMap, get_by_text, UpdatesBy}
+use Rattle.std.specs.Cmp.Lexicographic.{slice_cmp}
+use Rattle.std.specs.Ordering.{nat_cmp}
+use Rattle.std.proofs.lemmas.Bool.{cases_Bool}
+use Rattle.std.proofs.lemmas.Map.Text.{btree_map_updates_text}
+use Rattle.sql_model.specs.Scope.{same_text}
+use Rattle.slicer.specs.Marks.{has_name}
+use Rattle.slicer.proofs.Booleans.{or_true, or_false}
+
+pub add_name : (m n : BTreeMap (String Global) (Unit {0})) (key : String Global) (name : List ℕ) → string_bytes key ≡ name
+    → UpdatesBy string_cmp (λ k. slice_cmp nat_cmp (string_bytes key) (string_bytes k)) m n (Some tt)
+    → (q : List ℕ) → has_name n q ≡ (has_name m q || same_text name q)
+add_name m n key name is updates q =
+    let new : get_by_text n q ≡ cond (bytes_eq name q) (Some tt) (get_by_text m q) =
+    btree_map_updates_text (string_bytes key) m n (Some tt) updates q ∙ ap (λ (k : List ℕ). cond (bytes_eq k q) (Some tt) (get_by_text m q)) is in
+    elim (cases_Bool (bytes_eq name q)) [
+      | inl hit ↦ ap is_some new ∙ rw hit (sym (or_true (has_name m q)))
+      | inr miss ↦ ap is_some new ∙ rw miss (sym (or_false (has_name m q)))
+    ]

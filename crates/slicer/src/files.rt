@@ -1,0 +1,174 @@
+//! Needed files.
+
+ghost use Rattle.std.specs.Prelude.{◌≡◌, ◌||◌, ◌&&◌, ◌++◌, [], not, List, ℕ, OnOk, IfOk, Option, Some, None, if◌then◌else◌};
+ghost use Rattle.std.specs.List.{filter_map, cons_option};
+ghost use Rattle.std.specs.Option.{option_map};
+ghost use Rattle.slicer.specs.Marks.{has_name, path_by, need_as, packed_by};
+ghost use Rattle.run_model.specs.Slice.{is_path, whole_path, present_path, changed_path, names_initial, packed_as, files_needed};
+
+use crate::names::{NameSet, add, has};
+use ldv_value::{File, Utf8};
+use run_model::{Act, Event, PackedFile, PackedFiles};
+use std::alloc::{AllocError, Global};
+
+fn only_if(path: &Utf8, found: bool) -> Option<&Utf8>
+    ensures { option_map (λ p. p.now) result ≡ (if found then Some path.now else None) }
+{
+    if found { Some(path) } else { None }
+}
+
+fn whole_in(act: &Act) -> Option<&Utf8>
+    ensures { option_map (λ p. p.now) result ≡ whole_path act.now }
+{
+    match act {
+        Act::Started { path } => Some(path),
+        Act::Spawned { path } => Some(path),
+        Act::Unspawned { path, found } => only_if(path, *found),
+        Act::OpenedRead { path } => Some(path),
+        Act::OpenedAppend { path, found } => only_if(path, *found),
+        _ => None,
+    }
+}
+
+fn present_in(act: &Act) -> Option<&Utf8>
+    ensures { option_map (λ p. p.now) result ≡ present_path act.now }
+{
+    match act {
+        Act::Unopened { path, found } => only_if(path, *found),
+        Act::Tested { path, found } => only_if(path, *found),
+        Act::Removed { path } => Some(path),
+        _ => None,
+    }
+}
+
+fn needed_in(act: &Act, whole: bool) -> Option<&Utf8>
+    ensures { option_map (λ p. p.now) result ≡ path_by whole act.now }
+{
+    if whole {
+        whole_in(act)
+    } else {
+        present_in(act)
+    }
+}
+
+fn changed_in(act: &Act) -> Option<&Utf8>
+    ensures { option_map (λ p. p.now) result ≡ changed_path act.now }
+{
+    match act {
+        Act::OpenedWrite { path } => Some(path),
+        Act::OpenedAppend { path, found: _ } => Some(path),
+        Act::OpenedNew { path } => Some(path),
+        Act::Removed { path } => Some(path),
+        _ => None,
+    }
+}
+
+// Adds a path, unless it is changed.
+fn add_unchanged(
+    alloc: Global,
+    names: &mut NameSet,
+    changed: &NameSet,
+    path: &Utf8,
+) -> Result<(), AllocError>
+    ensures { OnOk result ((q : List ℕ) → has_name names.new q ≡ (has_name names.old q || (not (has_name changed.now q) && is_path q (Some path.now)))) }
+{
+    if has(changed, path) {
+        return Ok(());
+    }
+    add(alloc, names, path)
+}
+
+fn note_needed(
+    alloc: Global,
+    names: &mut NameSet,
+    changed: &NameSet,
+    path: Option<&Utf8>,
+) -> Result<(), AllocError>
+    ensures { OnOk result ((q : List ℕ) → has_name names.new q ≡ (has_name names.old q || (not (has_name changed.now q) && is_path q (option_map (λ p. p.now) path.entry)))) }
+{
+    match path {
+        None => Ok(()),
+        Some(path) => add_unchanged(alloc, names, changed, path),
+    }
+}
+
+fn note_changed(alloc: Global, changed: &mut NameSet, path: Option<&Utf8>) -> Result<(), AllocError>
+    ensures { OnOk result ((q : List ℕ) → has_name changed.new q ≡ (has_name changed.old q || is_path q (option_map (λ p. p.now) path.entry))) }
+{
+    match path {
+        None => Ok(()),
+        Some(path) => add(alloc, changed, path),
+    }
+}
+
+// The paths that events need whole, or present, before an earlier event changes them.
+fn named_initially(alloc: Global, events: &[Event], whole: bool) -> Result<NameSet, AllocError>
+    ensures { IfOk result (λ names. (q : List ℕ) → has_name names q ≡ names_initial (path_by whole) q events.now) }
+{
+    let mut names = NameSet::new(alloc);
+    let mut changed = NameSet::new(alloc);
+    for event in events {
+        note_needed(alloc, &mut names, &changed, needed_in(&event.act, whole))?;
+        note_changed(alloc, &mut changed, changed_in(&event.act))?;
+    }
+    Ok(names)
+}
+
+fn pack_file(
+    file: &File,
+    whole: &NameSet,
+    present: &NameSet,
+) -> Result<Option<PackedFile>, AllocError>
+    ensures { IfOk result (λ packed. packed ≡ packed_by whole.now present.now file.now) }
+{
+    if has(whole, &file.path) {
+        return Ok(Some(PackedFile {
+            path: file.path.copy()?,
+            content: Some(file.content.copy()?),
+        }));
+    }
+    if has(present, &file.path) {
+        return Ok(Some(PackedFile {
+            path: file.path.copy()?,
+            content: None,
+        }));
+    }
+    Ok(None)
+}
+
+fn push_file(to: &mut PackedFiles, file: Option<PackedFile>) -> Result<(), AllocError>
+    ensures { OnOk result (to.new ≡ to.old ++ cons_option file []) }
+{
+    match file {
+        None => Ok(()),
+        Some(file) => to.push(file),
+    }
+}
+
+fn pack_files(
+    alloc: Global,
+    files: &[File],
+    whole: &NameSet,
+    present: &NameSet,
+) -> Result<PackedFiles, AllocError>
+    ensures { IfOk result (λ packed. packed ≡ filter_map (packed_by whole.now present.now) files.now) }
+{
+    let mut packed = PackedFiles::new(alloc);
+    for file in files {
+        push_file(&mut packed, pack_file(file, whole, present)?)?;
+    }
+    Ok(packed)
+}
+
+/// The needed ones of initial files. `AllocError` means want of memory alone.
+pub(crate) fn needed_files(
+    alloc: Global,
+    events: &[Event],
+    files: &[File],
+) -> Result<PackedFiles, AllocError>
+    ensures { IfOk result (λ packed. packed ≡ files_needed events.now files.now) }
+{
+    let whole = named_initially(alloc, events, true)?;
+    let present = named_initially(alloc, events, false)?;
+    pack_files(alloc, files, &whole, &present)
+}

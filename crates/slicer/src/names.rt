@@ -1,0 +1,66 @@
+//! Sets of names.
+
+ghost use Rattle.std.specs.Prelude.{◌≡◌, ◌||◌, List, ℕ, OnOk, IfOk, IfNone, IfSome, Bool, false};
+ghost use Rattle.std.specs.List.{list_any};
+ghost use Rattle.sql_model.specs.Scope.{same_text};
+ghost use Rattle.slicer.specs.Marks.{has_name};
+ghost use Rattle.run_model.specs.Slice.{names_table, is_table_needed};
+
+use ldv_value::Utf8;
+use run_model::{Act, Event};
+use std::alloc::{AllocError, Global};
+use std::collections::BTreeMap;
+
+/// A set of names.
+pub(crate) type NameSet = BTreeMap<String, ()>;
+
+/// Whether a name is in the set.
+pub(crate) fn has(names: &NameSet, name: &Utf8) -> bool
+    ensures { result ≡ has_name names.now name.now }
+{
+    names.contains_key(name.as_str())
+}
+
+/// Puts a name into the set.
+pub(crate) fn add(alloc: Global, names: &mut NameSet, name: &Utf8) -> Result<(), AllocError>
+    ensures { OnOk result ((q : List ℕ) → has_name names.new q ≡ (has_name names.old q || same_text name.now q)) }
+{
+    let key = String::from_str(alloc, name.as_str())?;
+    names.insert(key, ())?;
+    Ok(())
+}
+
+fn add_all(alloc: Global, names: &mut NameSet, more: &[Utf8]) -> Result<(), AllocError>
+    ensures { OnOk result ((q : List ℕ) → has_name names.new q ≡ (has_name names.old q || list_any (λ name. same_text name q) more.now)) }
+{
+    for name in more {
+        add(alloc, names, name)?;
+    }
+    Ok(())
+}
+
+// Adds the tables of a statement.
+fn add_tables(alloc: Global, names: &mut NameSet, act: &Act) -> Result<(), AllocError>
+    ensures { OnOk result ((q : List ℕ) → has_name names.new q ≡ (has_name names.old q || names_table q act.now)) }
+{
+    match act {
+        Act::Asked {
+            statement: _,
+            tables,
+            reads: _,
+            made: _,
+        } => add_all(alloc, names, tables.items()),
+        _ => Ok(()),
+    }
+}
+
+/// The tables that statements name.
+pub(crate) fn tables_named(alloc: Global, events: &[Event]) -> Result<NameSet, AllocError>
+    ensures { IfOk result (λ names. (q : List ℕ) → has_name names q ≡ is_table_needed events.now q) }
+{
+    let mut names = NameSet::new(alloc);
+    for event in events {
+        add_tables(alloc, &mut names, &event.act)?;
+    }
+    Ok(names)
+}
