@@ -50,5 +50,5 @@ pub type Numbers = List<u32>;
 pub type Places = List<u32>;
 /// Lists of places.
 pub type PlaceLists = List<Places>;
-/// Numbers of calls, from 0.
+/// Numbers of calls, from 1, in the order of the calls.
 pub type Calls = List<u64>;
