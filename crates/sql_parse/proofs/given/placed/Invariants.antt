@@ -1,0 +1,7 @@
+use Rattle.std.proofs.Common.{◌≡◌}
+use Rattle.sql_parse.specs.Statements.{placed}
+use Rattle.sql_parse.specs.Tokens.{before}
+use Rattle.sql_parse.proofs.given.placed.Given as goal
+
+abbrev pub invariant-loop-token : goal.invariant-loop-token
+invariant-loop-token l = before l.given (placed l.params l.place l.token-iterator.rest.items) ≡ placed l.params 0 l.fn.tokens

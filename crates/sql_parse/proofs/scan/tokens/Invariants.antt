@@ -1,0 +1,6 @@
+use Rattle.std.proofs.Common.{◌≡◌, drop}
+use Rattle.sql_parse.specs.Tokens.{before, tokens_from, tokens_of}
+use Rattle.sql_parse.proofs.scan.tokens.Given as goal
+
+abbrev pub invariant-loop-b : goal.invariant-loop-b
+invariant-loop-b l = before l.tokens (tokens_from (drop l.b-index l.text) l.place) ≡ tokens_of l.text

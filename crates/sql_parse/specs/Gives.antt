@@ -1,0 +1,28 @@
+-- How a call that may want memory answers what a definition gives.
+use Rattle.std.specs.Prelude.{◌≡◌, List, Option, Some, None, Result, Ok, Err, option_and_then}
+use Rattle.sql_parse.specs.declared.stop.ParseStop.{ParseStop}
+use Rattle.sql_parse.specs.declared.stop.ParseStop.TheVariants.{Syntax, NoMemory}
+use Rattle.sql_parse.specs.declared.token.Token.{Token}
+
+infixl 10 ◌>>=◌
+abbrev pub ◌>>=◌ : {A B : Type 0} → Option A → (A → Option B) → Option B
+o >>= f = option_and_then f o
+
+abbrev pub Fails : {X : Type 0} → ParseStop → Option X → Type 0
+Fails Syntax due = due ≡ None
+Fails NoMemory due = Unit {0}
+
+-- the answer is the value that is due, or `Syntax` where none is; want of memory may come in its place
+abbrev pub Gives : {X : Type 0} → Result X ParseStop → Option X → Type 0
+Gives (Ok x) due = due ≡ Some x
+Gives (Err e) due = Fails e due
+
+-- the same of a call that reads from the front of tokens and leaves a rest of them
+abbrev pub Reads : {X : Type 0} → Result X ParseStop → List Token → Option (X × List Token) → Type 0
+Reads (Ok x) rest due = due ≡ Some (x, rest)
+Reads (Err e) rest due = Fails e due
+
+-- the same of a call whose one result is the rest
+abbrev pub Passes : {X : Type 0} → Result X ParseStop → List Token → Option (List Token) → Type 0
+Passes (Ok x) rest due = due ≡ Some rest
+Passes (Err e) rest due = Fails e due

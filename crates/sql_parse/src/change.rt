@@ -1,0 +1,73 @@
+//! Statements that change a table.
+
+ghost use Rattle.sql_parse.specs.Gives.{Reads};
+ghost use Rattle.sql_parse.specs.Statements.{reads_columns, reads_insert, reads_set, reads_update, reads_delete};
+
+use crate::expression::expression;
+use crate::part::{Part, listed, optional};
+use crate::reader::Reader;
+use crate::stop::ParseStop;
+use ldv_value::{Names, Utf8};
+use sql_model::{Delete, Exprs, Insert, Set, Update};
+use std::alloc::Global;
+
+/// What stands behind INSERT.
+pub(crate) fn insert(alloc: Global, reader: &mut Reader) -> Result<Insert, ParseStop>
+    ensures { Reads result reader.new (reads_insert reader.old) }
+{
+    reader.expect("into")?;
+    let table = reader.name(alloc)?;
+    let columns = columns(alloc, reader)?;
+    reader.expect("values")?;
+    let rows = listed::<Exprs>(alloc, reader)?;
+    Ok(Insert {
+        table,
+        columns,
+        rows,
+    })
+}
+
+// The names of columns in parentheses, where they stand.
+fn columns(alloc: Global, reader: &mut Reader) -> Result<Option<Names>, ParseStop>
+    ensures { Reads result reader.new (reads_columns reader.old) }
+{
+    if !reader.starts("(") {
+        return Ok(None);
+    }
+    reader.skip();
+    let names = listed::<Utf8>(alloc, reader)?;
+    reader.expect(")")?;
+    Ok(Some(names))
+}
+
+/// What stands behind UPDATE.
+pub(crate) fn update(alloc: Global, reader: &mut Reader) -> Result<Update, ParseStop>
+    ensures { Reads result reader.new (reads_update reader.old) }
+{
+    let table = reader.name(alloc)?;
+    reader.expect("set")?;
+    let sets = listed::<Set>(alloc, reader)?;
+    let pick = optional(alloc, reader, "where")?;
+    Ok(Update { table, sets, pick })
+}
+
+impl Part for Set {
+    ghost reads = { reads_set };
+
+    fn read(alloc: Global, reader: &mut Reader) -> Result<Self, ParseStop> {
+        let column = reader.name(alloc)?;
+        reader.expect("=")?;
+        let expr = expression(alloc, reader)?;
+        Ok(Set { column, expr })
+    }
+}
+
+/// What stands behind DELETE.
+pub(crate) fn delete(alloc: Global, reader: &mut Reader) -> Result<Delete, ParseStop>
+    ensures { Reads result reader.new (reads_delete reader.old) }
+{
+    reader.expect("from")?;
+    let table = reader.name(alloc)?;
+    let pick = optional(alloc, reader, "where")?;
+    Ok(Delete { table, pick })
+}

@@ -1,0 +1,37 @@
+//! Names of columns.
+
+ghost use Rattle.sql_parse.specs.Gives.{Reads};
+ghost use Rattle.sql_parse.specs.Columns.{column_behind, reads_column};
+
+use crate::reader::Reader;
+use crate::stop::ParseStop;
+use ldv_value::Utf8;
+use sql_model::ColumnName;
+use std::alloc::Global;
+
+/// A column.
+pub(crate) fn column(alloc: Global, reader: &mut Reader) -> Result<ColumnName, ParseStop>
+    ensures { Reads result reader.new (reads_column reader.old) }
+{
+    let name = reader.name(alloc)?;
+    column_behind(alloc, reader, name)
+}
+
+/// The column behind a name, which is its own or that of its source.
+pub(crate) fn column_behind(
+    alloc: Global,
+    reader: &mut Reader,
+    name: Utf8,
+) -> Result<ColumnName, ParseStop>
+    ensures { Reads result reader.new (column_behind name reader.old) }
+{
+    if reader.starts(".") {
+        reader.skip();
+        let second = reader.name(alloc)?;
+        return Ok(ColumnName {
+            table: Some(name),
+            name: second,
+        });
+    }
+    Ok(ColumnName { table: None, name })
+}

@@ -1,0 +1,231 @@
+//! The expression at the front of tokens.
+
+ghost use Rattle.std.specs.Prelude.{◌≡◌, ◌≤◌, ◌<◌, ◌+◌, ◌-◌, IfOk, Some};
+ghost use Rattle.sql_parse.specs.Gives.{Gives, Reads};
+ghost use Rattle.sql_parse.specs.Expressions.{whole, closed, null_test, pair, operand_at, operand, joined, joined_within, goes_on, joins_more, within, reads_expr};
+ghost use Rattle.sql_parse.specs.Reader.{repeat};
+
+use crate::deep::Deep;
+use crate::opening::{Opening, Wrap, inside_level, read_opening};
+use crate::operator::{Joint, joins, operator_level, right_of};
+use crate::reader::Reader;
+use crate::stop::ParseStop;
+use sql_model::{Expr, Operator};
+use sqlite_items::Boxed;
+use std::alloc::Global;
+
+/// The most depth of an expression.
+const DEPTH_LIMIT: usize = 64;
+
+/// An expression.
+pub(crate) fn expression(alloc: Global, reader: &mut Reader) -> Result<Expr, ParseStop>
+    ensures { Reads result reader.new (reads_expr reader.old) }
+{
+    let deep = within(alloc, reader, DEPTH_LIMIT, 1)?;
+    let Deep {
+        expr,
+        depth: _,
+        level: _,
+    } = deep;
+    Ok(expr)
+}
+
+// An expression of at least a level, within a depth.
+#[cycle(expression)]
+#[tactic(auto, using(crate::proofs::Repeat::repeat_rules, crate::proofs::Within::within_rules))]
+fn within(alloc: Global, reader: &mut Reader, limit: usize, least: u8) -> Result<Deep, ParseStop>
+    requires { limit ≤ 64 }
+    ensures read { Reads result reader.new (within limit least reader.old) }
+    ensures depth { IfOk result (λ deep. deep.depth ≤ limit) }
+{
+    if limit == 0 {
+        return Err(ParseStop::Syntax);
+    }
+    let first = operand(alloc, reader, limit - 1, least)?;
+    chain(alloc, reader, limit, least, first)
+}
+
+// An operand of at least a level, whose inside is within a depth.
+#[cycle(expression)]
+#[tactic(auto, using(crate::proofs::Repeat::repeat_rules, crate::proofs::Within::within_rules))]
+fn operand(alloc: Global, reader: &mut Reader, limit: usize, least: u8) -> Result<Deep, ParseStop>
+    requires { limit < 64 }
+    ensures read { Reads result reader.new (operand (within limit) least reader.old) }
+    ensures depth { IfOk result (λ deep. deep.depth ≤ limit + 1) }
+{
+    match read_opening(alloc, reader, least)? {
+        Opening::Leaf(expr) => Ok(Deep {
+            expr,
+            depth: 1,
+            level: 8,
+        }),
+        Opening::Around(wrap) => {
+            let inside = within(alloc, reader, limit, inside_level(wrap))?;
+            closed(alloc, reader, wrap, inside)
+        }
+    }
+}
+
+// A first operand, and the operators that follow it.
+#[cycle(expression)]
+#[tactic(auto, using(crate::proofs::Repeat::repeat_rules, crate::proofs::Within::within_rules))]
+fn chain(
+    alloc: Global,
+    reader: &mut Reader,
+    limit: usize,
+    least: u8,
+    first: Deep,
+) -> Result<Deep, ParseStop>
+    requires some { 0 < limit }
+    requires most { limit ≤ 64 }
+    requires depth { first.depth ≤ limit }
+    ensures read { Reads result reader.new (repeat (joins_more (within (limit - 1)) (limit - 1) least) limit first reader.old) }
+    ensures depth { IfOk result (λ deep. deep.depth ≤ limit) }
+{
+    let mut left = first;
+    for _made in 0..limit {
+        let (next, more) = joins_more(alloc, reader, limit - 1, least, left)?;
+        left = next;
+        if !more {
+            return Ok(left);
+        }
+    }
+    Err(ParseStop::Syntax)
+}
+
+// One more operator, where one follows.
+#[cycle(expression)]
+#[tactic(auto, using(crate::proofs::Repeat::repeat_rules, crate::proofs::Within::within_rules))]
+fn joins_more(
+    alloc: Global,
+    reader: &mut Reader,
+    limit: usize,
+    least: u8,
+    left: Deep,
+) -> Result<(Deep, bool), ParseStop>
+    requires most { limit < 64 }
+    requires depth { left.depth ≤ limit + 1 }
+    ensures read { Reads result reader.new (joins_more (within limit) limit least left reader.old) }
+    ensures depth { IfOk result (λ r. r.0.depth ≤ limit + 1) }
+{
+    match joins(reader, least, left.level) {
+        None => Ok((left, false)),
+        Some(joint) => {
+            reader.skip();
+            let left = joined_within(alloc, reader, limit, joint, left)?;
+            Ok((left, true))
+        }
+    }
+}
+
+// What a joint makes of its left operand and of what follows.
+#[cycle(expression)]
+#[tactic(auto, using(crate::proofs::Repeat::repeat_rules, crate::proofs::Within::within_rules))]
+fn joined_within(
+    alloc: Global,
+    reader: &mut Reader,
+    limit: usize,
+    joint: Joint,
+    left: Deep,
+) -> Result<Deep, ParseStop>
+    requires { limit < 64 }
+    ensures read { Reads result reader.new (joined_within (within limit) limit joint left reader.old) }
+    ensures depth { IfOk result (λ deep. deep.depth ≤ limit + 1) }
+{
+    if left.depth > limit {
+        return Err(ParseStop::Syntax);
+    }
+    match joint {
+        Joint::IsNull => null_test(alloc, reader, left),
+        Joint::Both(operator) => {
+            let right = within(alloc, reader, limit, right_of(operator))?;
+            pair(alloc, operator, left, right)
+        }
+    }
+}
+
+// The form around what is inside, behind its end.
+fn closed(alloc: Global, reader: &mut Reader, wrap: Wrap, inside: Deep) -> Result<Deep, ParseStop>
+    requires { inside.depth ≤ 64 }
+    ensures read { Reads result reader.new (closed wrap inside reader.old) }
+    ensures depth { IfOk result (λ deep. deep.depth ≡ inside.depth + 1) }
+{
+    let Deep {
+        expr,
+        depth,
+        level: _,
+    } = inside;
+    let depth = depth + 1;
+    match wrap {
+        Wrap::Not => {
+            let expr = Expr::Not(Boxed::new(alloc, expr)?);
+            Ok(Deep {
+                expr,
+                depth,
+                level: 3,
+            })
+        }
+        Wrap::Minus => {
+            let expr = Expr::Negate(Boxed::new(alloc, expr)?);
+            Ok(Deep {
+                expr,
+                depth,
+                level: 7,
+            })
+        }
+        Wrap::Bracket => {
+            reader.expect(")")?;
+            Ok(Deep {
+                expr,
+                depth,
+                level: 8,
+            })
+        }
+        Wrap::FoldOf(fold) => {
+            reader.expect(")")?;
+            let expr = Expr::Aggregate(fold, Some(Boxed::new(alloc, expr)?));
+            Ok(Deep {
+                expr,
+                depth,
+                level: 8,
+            })
+        }
+    }
+}
+
+// What stands behind IS.
+fn null_test(alloc: Global, reader: &mut Reader, left: Deep) -> Result<Deep, ParseStop>
+    requires { left.depth ≤ 64 }
+    ensures read { Reads result reader.new (null_test left reader.old) }
+    ensures depth { IfOk result (λ deep. deep.depth ≡ left.depth + 1) }
+{
+    let negated = reader.pass("not");
+    reader.expect("null")?;
+    let Deep {
+        expr,
+        depth,
+        level: _,
+    } = left;
+    let expr = Expr::IsNull(Boxed::new(alloc, expr)?, negated);
+    Ok(Deep {
+        expr,
+        depth: depth + 1,
+        level: 4,
+    })
+}
+
+// Two operands and what stands between them.
+fn pair(alloc: Global, operator: Operator, left: Deep, right: Deep) -> Result<Deep, ParseStop>
+    requires left { left.depth ≤ 64 }
+    requires right { right.depth ≤ 64 }
+    ensures { Gives result (Some (pair operator left right)) }
+{
+    let depth = left.depth.max(right.depth) + 1;
+    let a = Boxed::new(alloc, left.expr)?;
+    let b = Boxed::new(alloc, right.expr)?;
+    Ok(Deep {
+        expr: Expr::Both(operator, a, b),
+        depth,
+        level: operator_level(operator),
+    })
+}

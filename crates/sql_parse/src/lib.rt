@@ -1,0 +1,40 @@
+//! SQL's grammar and its parser.
+//!
+//! It promises to the layers above that `parse` gives the statement that `statement_of` gives for the text
+//! and its parameters, and `Syntax` exactly where it gives none (`specs/Statements.antt`, over `Queries`,
+//! `Parts`, `Columns`, `Expressions`, `Operators` and `Tokens`).
+//!
+//! What SQL is stands apart from how it is read: relations say form by form how bytes spell tokens
+//! (`specs/GrammarOfTokens.antt`), and which tokens are an expression (`specs/Grammar.antt`) or a statement
+//! (`specs/GrammarOfStatements.antt`, at last `Reads`). `reading_law` says that `statement_of` gives exactly
+//! the statement as which the text with its parameters reads by this grammar, and that there is at most one.
+//! `token_law` and `expression_law` say the same of tokens and of expressions.
+//!
+//! The way of the text: `scan` cuts it into tokens, `given` puts the parameters into the places of their
+//! `?`, and the other modules read the tokens from left to right, each its part of the grammar.
+#![tactic(auto)]
+
+mod change;
+mod column;
+mod deep;
+mod expression;
+mod given;
+mod law;
+mod opening;
+mod operator;
+mod part;
+mod query;
+mod reader;
+mod reading;
+mod scan;
+mod select;
+mod source;
+mod stop;
+mod token;
+
+pub use law::{expression_law, reading_law, token_law};
+pub use reading::parse;
+pub use stop::ParseStop;
+
+#[cfg(test)]
+mod tests;

@@ -1,0 +1,143 @@
+//! How an operand begins.
+
+ghost use Rattle.std.specs.Prelude.{◌≡◌};
+ghost use Rattle.sql_parse.specs.Gives.{Gives, Reads};
+ghost use Rattle.sql_parse.specs.Expressions.{negation, fold_opening, count_inside, count_opening, column_opening, word_opening, opens, opening, inside_level};
+
+use crate::column::column_behind;
+use crate::reader::{Reader, name_in};
+use crate::stop::ParseStop;
+use crate::token::Token;
+use ldv_value::{Utf8, Value};
+use sql_model::{Expr, Fold};
+use std::alloc::Global;
+
+/// How an operand begins.
+#[derive(Drop)]
+pub(crate) enum Opening {
+    /// It is this constant, column or COUNT(*).
+    Leaf(Expr),
+    /// It is this form around another expression.
+    Around(Wrap),
+}
+
+/// A form around one expression, which begins with a token of its own.
+#[derive(Clone, Copy, Debug, PartialEq, Eq)]
+pub(crate) enum Wrap {
+    /// NOT.
+    Not,
+    /// Unary minus.
+    Minus,
+    /// A pair of parentheses.
+    Bracket,
+    /// An aggregate.
+    FoldOf(Fold),
+}
+
+/// The beginning of an operand of at least a level.
+pub(crate) fn read_opening(
+    alloc: Global,
+    reader: &mut Reader,
+    least: u8,
+) -> Result<Opening, ParseStop>
+    ensures { Reads result reader.new (opening least reader.old) }
+{
+    let token = reader.token(alloc)?;
+    opens(alloc, reader, least, token)
+}
+
+fn opens(alloc: Global, reader: &mut Reader, least: u8, token: Token) -> Result<Opening, ParseStop>
+    ensures { Reads result reader.new (opens least token reader.old) }
+{
+    match token {
+        Token::Word(word) => word_opening(alloc, reader, least, word),
+        Token::Number(number) => Ok(Opening::Leaf(Expr::Constant(Value::Int(number)))),
+        Token::Quoted(text) => Ok(Opening::Leaf(Expr::Constant(Value::Text(text)))),
+        Token::Given(value) => Ok(Opening::Leaf(Expr::Constant(value))),
+    }
+}
+
+fn word_opening(
+    alloc: Global,
+    reader: &mut Reader,
+    least: u8,
+    word: Utf8,
+) -> Result<Opening, ParseStop>
+    ensures { Reads result reader.new (word_opening least word reader.old) }
+{
+    if word.is_text("not") {
+        let opening = negation(least)?;
+        Ok(opening)
+    } else if word.is_text("-") {
+        Ok(Opening::Around(Wrap::Minus))
+    } else if word.is_text("(") {
+        Ok(Opening::Around(Wrap::Bracket))
+    } else if word.is_text("null") {
+        Ok(Opening::Leaf(Expr::Constant(Value::Null)))
+    } else if word.is_text("count") {
+        count_opening(reader)
+    } else if word.is_text("sum") {
+        fold_opening(reader, Fold::Sum)
+    } else if word.is_text("min") {
+        fold_opening(reader, Fold::Min)
+    } else if word.is_text("max") {
+        fold_opening(reader, Fold::Max)
+    } else {
+        column_opening(alloc, reader, word)
+    }
+}
+
+fn negation(least: u8) -> Result<Opening, ParseStop>
+    ensures { Gives result (negation least) }
+{
+    if least <= 3 {
+        Ok(Opening::Around(Wrap::Not))
+    } else {
+        Err(ParseStop::Syntax)
+    }
+}
+
+fn fold_opening(reader: &mut Reader, fold: Fold) -> Result<Opening, ParseStop>
+    ensures { Reads result reader.new (fold_opening fold reader.old) }
+{
+    reader.expect("(")?;
+    Ok(Opening::Around(Wrap::FoldOf(fold)))
+}
+
+fn count_opening(reader: &mut Reader) -> Result<Opening, ParseStop>
+    ensures { Reads result reader.new (count_opening reader.old) }
+{
+    reader.expect("(")?;
+    count_inside(reader)
+}
+
+fn count_inside(reader: &mut Reader) -> Result<Opening, ParseStop>
+    ensures { Reads result reader.new (count_inside reader.old) }
+{
+    if reader.starts("*") {
+        reader.skip();
+        reader.expect(")")?;
+        return Ok(Opening::Leaf(Expr::Aggregate(Fold::Count, None)));
+    }
+    Ok(Opening::Around(Wrap::FoldOf(Fold::Count)))
+}
+
+fn column_opening(alloc: Global, reader: &mut Reader, word: Utf8) -> Result<Opening, ParseStop>
+    ensures { Reads result reader.new (column_opening word reader.old) }
+{
+    let name = name_in(word)?;
+    let column = column_behind(alloc, reader, name)?;
+    Ok(Opening::Leaf(Expr::Column(column)))
+}
+
+/// The least level of what is inside a form.
+pub(crate) fn inside_level(wrap: Wrap) -> u8
+    ensures { result ≡ inside_level wrap }
+{
+    match wrap {
+        Wrap::Not => 3,
+        Wrap::Minus => 7,
+        Wrap::Bracket => 1,
+        Wrap::FoldOf(_) => 1,
+    }
+}

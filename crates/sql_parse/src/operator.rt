@@ -1,0 +1,158 @@
+//! What may stand between operands, and how strongly it binds.
+
+ghost use Rattle.std.specs.Prelude.{◌≡◌};
+ghost use Rattle.sql_parse.specs.Operators.{comparison_of, compared, joint_in, joint_of, operator_level, level_of, operator_left, left_of, right_of, may_join, joins};
+
+use crate::reader::Reader;
+use crate::token::Token;
+use ldv_value::Cmp;
+use sql_model::Operator;
+
+/// What may stand behind an operand.
+#[derive(Clone, Copy, Debug, PartialEq, Eq)]
+pub enum Joint {
+    /// An operator, and then a second operand.
+    Both(Operator),
+    /// IS, and then NULL or NOT NULL.
+    IsNull,
+}
+
+/// What stands next, where it may go on with an operand of a level in a whole of at least the least
+/// level.
+pub(crate) fn joins(reader: &Reader, least: u8, level: u8) -> Option<Joint>
+    ensures { result ≡ joins least level reader.now }
+{
+    let joint = next_joint(reader)?;
+    if may_join(least, level, joint) {
+        Some(joint)
+    } else {
+        None
+    }
+}
+
+fn next_joint(reader: &Reader) -> Option<Joint>
+    ensures { result ≡ joint_of reader.now }
+{
+    match reader.peek() {
+        None => None,
+        Some(Token::Word(word)) => joint_in(word.as_str()),
+        Some(Token::Number(_)) => None,
+        Some(Token::Quoted(_)) => None,
+        Some(Token::Given(_)) => None,
+    }
+}
+
+fn joint_in(word: &str) -> Option<Joint>
+    ensures { result ≡ joint_in word.now }
+{
+    if word == "or" {
+        Some(Joint::Both(Operator::Or))
+    } else if word == "and" {
+        Some(Joint::Both(Operator::And))
+    } else if word == "is" {
+        Some(Joint::IsNull)
+    } else if word == "+" {
+        Some(Joint::Both(Operator::Add))
+    } else if word == "-" {
+        Some(Joint::Both(Operator::Subtract))
+    } else if word == "*" {
+        Some(Joint::Both(Operator::Multiply))
+    } else {
+        compared(word)
+    }
+}
+
+fn compared(word: &str) -> Option<Joint>
+    ensures { result ≡ compared word.now }
+{
+    let cmp = comparison(word)?;
+    Some(Joint::Both(Operator::Compare(cmp)))
+}
+
+fn comparison(word: &str) -> Option<Cmp>
+    ensures { result ≡ comparison_of word.now }
+{
+    if word == "=" {
+        Some(Cmp::Eq)
+    } else if word == "<>" {
+        Some(Cmp::Ne)
+    } else if word == "!=" {
+        Some(Cmp::Ne)
+    } else if word == "<" {
+        Some(Cmp::Lt)
+    } else if word == "<=" {
+        Some(Cmp::Le)
+    } else if word == ">" {
+        Some(Cmp::Gt)
+    } else if word == ">=" {
+        Some(Cmp::Ge)
+    } else {
+        None
+    }
+}
+
+fn may_join(least: u8, level: u8, joint: Joint) -> bool
+    ensures { result ≡ may_join least level joint }
+{
+    least <= level_of(joint) && left_of(joint) <= level
+}
+
+/// The level of what a joint makes.
+pub(crate) fn level_of(joint: Joint) -> u8
+    ensures { result ≡ level_of joint }
+{
+    match joint {
+        Joint::Both(operator) => operator_level(operator),
+        Joint::IsNull => 4,
+    }
+}
+
+/// The level of what an operator makes.
+pub(crate) fn operator_level(operator: Operator) -> u8
+    ensures { result ≡ operator_level operator }
+{
+    match operator {
+        Operator::Or => 1,
+        Operator::And => 2,
+        Operator::Compare(_) => 4,
+        Operator::Add => 5,
+        Operator::Subtract => 5,
+        Operator::Multiply => 6,
+    }
+}
+
+fn left_of(joint: Joint) -> u8
+    ensures { result ≡ left_of joint }
+{
+    match joint {
+        Joint::Both(operator) => operator_left(operator),
+        Joint::IsNull => 5,
+    }
+}
+
+fn operator_left(operator: Operator) -> u8
+    ensures { result ≡ operator_left operator }
+{
+    match operator {
+        Operator::Or => 1,
+        Operator::And => 2,
+        Operator::Compare(_) => 5,
+        Operator::Add => 5,
+        Operator::Subtract => 5,
+        Operator::Multiply => 6,
+    }
+}
+
+/// The least level of an operator's right operand.
+pub(crate) fn right_of(operator: Operator) -> u8
+    ensures { result ≡ right_of operator }
+{
+    match operator {
+        Operator::Or => 2,
+        Operator::And => 3,
+        Operator::Compare(_) => 5,
+        Operator::Add => 6,
+        Operator::Subtract => 6,
+        Operator::Multiply => 7,
+    }
+}

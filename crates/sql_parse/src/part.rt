@@ -1,0 +1,128 @@
+//! Lists of parts.
+
+ghost use Rattle.std.specs.Prelude.{List as Items, Option};
+ghost use Rattle.sql_parse.specs.declared.token.Token.{Token};
+ghost use Rattle.sql_parse.specs.Columns.{reads_column};
+ghost use Rattle.sql_parse.specs.Expressions.{reads_expr};
+ghost use Rattle.sql_parse.specs.Gives.{Reads};
+ghost use Rattle.sql_parse.specs.Parts.{another, listed, reads_tuple, reads_optional};
+ghost use Rattle.sql_parse.specs.Reader.{repeat, reads_name};
+
+use crate::column::column;
+use crate::expression::expression;
+use crate::reader::Reader;
+use crate::stop::ParseStop;
+use ldv_value::{List, Utf8};
+use sql_model::{ColumnName, Expr, Exprs};
+use std::alloc::Global;
+
+/// What a list in a statement has between its commas.
+pub(crate) trait Part: Drop {
+    /// What is read at the front of tokens.
+    ghost reads: { Items Token → Option (Self × Items Token) };
+
+    /// Reads one part.
+    fn read(alloc: Global, reader: &mut Reader) -> Result<Self, ParseStop>
+        ensures { Reads result reader.new (reads reader.old) };
+}
+
+/// One part and more of them, with commas between.
+pub(crate) fn listed<P: Part>(alloc: Global, reader: &mut Reader) -> Result<List<P>, ParseStop>
+    ensures { Reads result reader.new (listed P.reads reader.old) }
+{
+    let most = reader.len();
+    let first = P::read(alloc, reader)?;
+    let mut parts = List::new(alloc);
+    parts.push(first)?;
+    more(alloc, reader, most, parts)
+}
+
+// The parts that follow, at most so many.
+#[tactic(auto, using(crate::proofs::Repeat::repeat_rules))]
+fn more<P: Part>(
+    alloc: Global,
+    reader: &mut Reader,
+    most: usize,
+    parts: List<P>,
+) -> Result<List<P>, ParseStop>
+    ensures { Reads result reader.new (repeat (another P.reads) most parts reader.old) }
+{
+    let mut made = parts;
+    for _count in 0..most {
+        let (next, going) = another(alloc, reader, made)?;
+        made = next;
+        if !going {
+            return Ok(made);
+        }
+    }
+    Err(ParseStop::Syntax)
+}
+
+// One more part, where a comma follows.
+fn another<P: Part>(
+    alloc: Global,
+    reader: &mut Reader,
+    made: List<P>,
+) -> Result<(List<P>, bool), ParseStop>
+    ensures { Reads result reader.new (another P.reads made reader.old) }
+{
+    if !reader.starts(",") {
+        return Ok((made, false));
+    }
+    reader.skip();
+    let part = P::read(alloc, reader)?;
+    let mut made = made;
+    made.push(part)?;
+    Ok((made, true))
+}
+
+impl Part for Utf8 {
+    ghost reads = { reads_name };
+
+    fn read(alloc: Global, reader: &mut Reader) -> Result<Self, ParseStop> {
+        reader.name(alloc)
+    }
+}
+
+impl Part for Expr {
+    ghost reads = { reads_expr };
+
+    fn read(alloc: Global, reader: &mut Reader) -> Result<Self, ParseStop> {
+        expression(alloc, reader)
+    }
+}
+
+impl Part for ColumnName {
+    ghost reads = { reads_column };
+
+    fn read(alloc: Global, reader: &mut Reader) -> Result<Self, ParseStop> {
+        column(alloc, reader)
+    }
+}
+
+impl Part for Exprs {
+    ghost reads = { reads_tuple };
+
+    fn read(alloc: Global, reader: &mut Reader) -> Result<Self, ParseStop> {
+        reader.expect("(")?;
+        let exprs = listed::<Expr>(alloc, reader)?;
+        reader.expect(")")?;
+        Ok(exprs)
+    }
+}
+
+/// The expression behind a word, where the word stands.
+pub(crate) fn optional(
+    alloc: Global,
+    reader: &mut Reader,
+    word: &str,
+) -> Result<Option<Expr>, ParseStop>
+    ensures { Reads result reader.new (reads_optional word.now reader.old) }
+{
+    if !reader.starts(word) {
+        return Ok(None);
+    }
+    reader.skip();
+    let expr = expression(alloc, reader)?;
+    Ok(Some(expr))
+}

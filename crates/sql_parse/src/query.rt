@@ -1,0 +1,173 @@
+//! Queries.
+
+ghost use Rattle.std.specs.Prelude.{◌≡◌, codes};
+ghost use Rattle.sql_parse.specs.Gives.{Gives, Reads};
+ghost use Rattle.sql_parse.specs.Queries.{another_core, reads_cores, place_of, key_of, reads_key, directed, reads_order, reads_orders, bound_of, reads_bound, reads_limit, reads_query};
+ghost use Rattle.sql_parse.specs.Reader.{repeat, starts};
+
+use crate::part::{Part, listed};
+use crate::reader::{Reader, name_in};
+use crate::select::core;
+use crate::stop::ParseStop;
+use crate::token::Token;
+use ldv_value::Value;
+use sql_model::{Cores, Order, OrderKey, Orders, Query};
+use std::alloc::Global;
+
+/// A query.
+pub(crate) fn query(alloc: Global, reader: &mut Reader) -> Result<Query, ParseStop>
+    ensures { Reads result reader.new (reads_query reader.old) }
+{
+    let cores = cores(alloc, reader)?;
+    let order = orders(alloc, reader)?;
+    let limit = limit(alloc, reader)?;
+    Ok(Query {
+        cores,
+        order,
+        limit,
+    })
+}
+
+fn cores(alloc: Global, reader: &mut Reader) -> Result<Cores, ParseStop>
+    ensures { Reads result reader.new (reads_cores reader.old) }
+{
+    let most = reader.len();
+    let first = core(alloc, reader, false)?;
+    let mut cores = Cores::new(alloc);
+    cores.push(first)?;
+    more_cores(alloc, reader, most, cores)
+}
+
+#[tactic(auto, using(crate::proofs::Repeat::repeat_rules))]
+fn more_cores(
+    alloc: Global,
+    reader: &mut Reader,
+    most: usize,
+    first: Cores,
+) -> Result<Cores, ParseStop>
+    ensures { Reads result reader.new (repeat another_core most first reader.old) }
+{
+    let mut made = first;
+    for _count in 0..most {
+        let (next, going) = another_core(alloc, reader, made)?;
+        made = next;
+        if !going {
+            return Ok(made);
+        }
+    }
+    Err(ParseStop::Syntax)
+}
+
+// One more core, where UNION follows.
+fn another_core(alloc: Global, reader: &mut Reader, made: Cores) -> Result<(Cores, bool), ParseStop>
+    ensures { Reads result reader.new (another_core made reader.old) }
+{
+    if !reader.starts("union") {
+        return Ok((made, false));
+    }
+    reader.skip();
+    let joined_all = reader.pass("all");
+    let core = core(alloc, reader, joined_all)?;
+    let mut made = made;
+    made.push(core)?;
+    Ok((made, true))
+}
+
+fn orders(alloc: Global, reader: &mut Reader) -> Result<Orders, ParseStop>
+    ensures { Reads result reader.new (reads_orders reader.old) }
+{
+    if !reader.starts("order") {
+        return Ok(Orders::new(alloc));
+    }
+    reader.skip();
+    reader.expect("by")?;
+    listed::<Order>(alloc, reader)
+}
+
+impl Part for Order {
+    ghost reads = { reads_order };
+
+    fn read(alloc: Global, reader: &mut Reader) -> Result<Self, ParseStop> {
+        let key = key(alloc, reader)?;
+        let descending = descending(reader);
+        Ok(Order { key, descending })
+    }
+}
+
+// Goes past ASC or DESC, and says whether it is DESC.
+fn descending(reader: &mut Reader) -> bool
+    ensures test { result ≡ starts (codes "desc") reader.old }
+    ensures rest { reader.new ≡ directed reader.old }
+{
+    let descending = reader.starts("desc");
+    if reader.starts("asc") {
+        reader.skip();
+        return descending;
+    }
+    reader.pass("desc");
+    descending
+}
+
+fn key(alloc: Global, reader: &mut Reader) -> Result<OrderKey, ParseStop>
+    ensures { Reads result reader.new (reads_key reader.old) }
+{
+    let token = reader.token(alloc)?;
+    let key = key_of(token)?;
+    Ok(key)
+}
+
+fn key_of(token: Token) -> Result<OrderKey, ParseStop>
+    ensures { Gives result (key_of token) }
+{
+    match token {
+        Token::Word(word) => {
+            let name = name_in(word)?;
+            Ok(OrderKey::Name(name))
+        }
+        Token::Number(number) => {
+            let place = place_of(number)?;
+            Ok(OrderKey::Place(place))
+        }
+        Token::Quoted(_) => Err(ParseStop::Syntax),
+        Token::Given(_) => Err(ParseStop::Syntax),
+    }
+}
+
+fn place_of(number: i64) -> Result<u64, ParseStop>
+    ensures { Gives result (place_of number) }
+{
+    if number < 0 {
+        Err(ParseStop::Syntax)
+    } else {
+        Ok(number as u64)
+    }
+}
+
+fn limit(alloc: Global, reader: &mut Reader) -> Result<Option<Value>, ParseStop>
+    ensures { Reads result reader.new (reads_limit reader.old) }
+{
+    if !reader.starts("limit") {
+        return Ok(None);
+    }
+    reader.skip();
+    bound(alloc, reader)
+}
+
+fn bound(alloc: Global, reader: &mut Reader) -> Result<Option<Value>, ParseStop>
+    ensures { Reads result reader.new (reads_bound reader.old) }
+{
+    let token = reader.token(alloc)?;
+    let value = bound_of(token)?;
+    Ok(Some(value))
+}
+
+fn bound_of(token: Token) -> Result<Value, ParseStop>
+    ensures { Gives result (bound_of token) }
+{
+    match token {
+        Token::Word(_) => Err(ParseStop::Syntax),
+        Token::Number(number) => Ok(Value::Int(number)),
+        Token::Quoted(_) => Err(ParseStop::Syntax),
+        Token::Given(value) => Ok(value),
+    }
+}

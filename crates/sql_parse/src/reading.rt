@@ -1,0 +1,79 @@
+//! From a text to its statement.
+
+ghost use Rattle.std.specs.Prelude.{◌≡◌, IfOk, IsErrOf, Some, None};
+ghost use Rattle.sql_parse.specs.declared.stop.ParseStop.TheVariants.{Syntax};
+ghost use Rattle.sql_parse.specs.Gives.{Gives, Reads};
+ghost use Rattle.sql_parse.specs.Statements.{reads_statement, is_end, whole_statement, statement_of};
+
+use crate::change::{delete, insert, update};
+use crate::given::placed;
+use crate::query::query;
+use crate::reader::Reader;
+use crate::scan::tokens;
+use crate::stop::ParseStop;
+use ldv_value::Values;
+use sql_model::Statement;
+use std::alloc::Global;
+
+/// Reads a statement, in one pass over the tokens of the text. The k-th `?` stands for the k-th parameter.
+/// `Syntax` comes where the text with these parameters has no reading: also where it has more or fewer `?`
+/// than there are parameters.
+pub fn parse(alloc: Global, text: &str, params: &Values) -> Result<Statement, ParseStop>
+    ensures statement { IfOk result (λ statement. statement_of text.now params.now ≡ Some statement) }
+    ensures syntax { IsErrOf result Syntax → statement_of text.now params.now ≡ None }
+{
+    parsed(alloc, text, params)
+}
+
+fn parsed(alloc: Global, text: &str, params: &Values) -> Result<Statement, ParseStop>
+    ensures { Gives result (statement_of text.now params.now) }
+{
+    let tokens = tokens(alloc, text.as_bytes())?;
+    let given = placed(alloc, tokens, params)?;
+    whole(alloc, Reader::new(given))
+}
+
+// A statement that is all of its tokens, but for a `;` behind it.
+fn whole(alloc: Global, tokens: Reader) -> Result<Statement, ParseStop>
+    ensures { Gives result (whole_statement tokens) }
+{
+    let mut reader = tokens;
+    let statement = statement(alloc, &mut reader)?;
+    if is_end(&mut reader) {
+        Ok(statement)
+    } else {
+        Err(ParseStop::Syntax)
+    }
+}
+
+fn is_end(reader: &mut Reader) -> bool
+    ensures { result ≡ is_end reader.old }
+{
+    reader.pass(";");
+    reader.len() == 0
+}
+
+fn statement(alloc: Global, reader: &mut Reader) -> Result<Statement, ParseStop>
+    ensures { Reads result reader.new (reads_statement reader.old) }
+{
+    if reader.starts("select") {
+        let query = query(alloc, reader)?;
+        return Ok(Statement::Query(query));
+    }
+    if reader.starts("insert") {
+        reader.skip();
+        let insert = insert(alloc, reader)?;
+        return Ok(Statement::Insert(insert));
+    }
+    if reader.starts("update") {
+        reader.skip();
+        let update = update(alloc, reader)?;
+        return Ok(Statement::Update(update));
+    }
+    if reader.starts("delete") {
+        reader.skip();
+        let delete = delete(alloc, reader)?;
+        return Ok(Statement::Delete(delete));
+    }
+    Err(ParseStop::Syntax)
+}

@@ -1,0 +1,276 @@
+//! From the bytes of a text to its tokens.
+
+ghost use Rattle.std.specs.Prelude.{◌≡◌, ◌-◌, ◌++◌, OnOk, IsTrue, option_to_list};
+ghost use Rattle.sql_parse.specs.Gives.{Gives};
+ghost use Rattle.sql_parse.specs.Tokens.{is_blank, is_digit, is_upper, is_letter, folded, is_whole_symbol, begins_symbol, is_pair, short_symbol, longer, start, ends, step_between, step_in_word, step_in_number, step_in_text, step_behind_quote, step_in_symbol, step, finish, tokens_of};
+
+use crate::stop::ParseStop;
+use crate::token::{Token, Tokens, number_token, symbol_token, text_token, word_token};
+use ldv_value::Bytes;
+use std::alloc::{AllocError, Global};
+
+/// Where the reading of a text stands.
+#[derive(Drop)]
+pub(crate) enum Place {
+    /// Between two tokens, or before the first one.
+    Between,
+    /// In a word, of which these are the bytes, folded.
+    InWord(Bytes),
+    /// In a number, of which this is the value, or 2^64 - 1 where it is more.
+    InNumber(u64),
+    /// In a text between quotes, of which this is the content.
+    InText(Bytes),
+    /// The same behind a quote, which ends the text or is the first of two.
+    BehindQuote(Bytes),
+    /// Behind a byte that begins a symbol of two bytes.
+    InSymbol(u8),
+    /// Behind a token that is whole.
+    Ended(Token),
+}
+
+/// The tokens of a text.
+#[tactic(auto, using(crate::proofs::TokensFrom::scan_rules))]
+pub(crate) fn tokens(alloc: Global, text: &[u8]) -> Result<Tokens, ParseStop>
+    ensures { Gives result (tokens_of text.now) }
+{
+    let mut tokens = Tokens::new(alloc);
+    let mut place = Place::Between;
+    for b in text {
+        let (next, token) = step(alloc, place, *b)?;
+        add(&mut tokens, token)?;
+        place = next;
+    }
+    let token = finish(alloc, place)?;
+    add(&mut tokens, token)?;
+    Ok(tokens)
+}
+
+fn add(tokens: &mut Tokens, token: Option<Token>) -> Result<(), AllocError>
+    ensures { OnOk result (tokens.new ≡ tokens.old ++ option_to_list token) }
+{
+    if let Some(token) = token {
+        tokens.push(token)?;
+    }
+    Ok(())
+}
+
+fn step(alloc: Global, place: Place, b: u8) -> Result<(Place, Option<Token>), ParseStop>
+    ensures { Gives result (step place b) }
+{
+    match place {
+        Place::Between => between(alloc, b),
+        Place::InWord(word) => in_word(alloc, word, b),
+        Place::InNumber(number) => in_number(alloc, number, b),
+        Place::InText(text) => in_text(text, b),
+        Place::BehindQuote(text) => behind_quote(alloc, text, b),
+        Place::InSymbol(first) => in_symbol(alloc, first, b),
+        Place::Ended(token) => ends(alloc, token, b),
+    }
+}
+
+fn between(alloc: Global, b: u8) -> Result<(Place, Option<Token>), ParseStop>
+    ensures { Gives result (step_between b) }
+{
+    let place = start(alloc, b)?;
+    Ok((place, None))
+}
+
+// A token ends before a byte.
+fn ends(alloc: Global, token: Token, b: u8) -> Result<(Place, Option<Token>), ParseStop>
+    ensures { Gives result (ends token b) }
+{
+    let place = start(alloc, b)?;
+    Ok((place, Some(token)))
+}
+
+fn in_word(alloc: Global, mut word: Bytes, b: u8) -> Result<(Place, Option<Token>), ParseStop>
+    ensures { Gives result (step_in_word word b) }
+{
+    if letter(b) || digit(b) {
+        word.push(fold(b))?;
+        return Ok((Place::InWord(word), None));
+    }
+    let token = word_token(word)?;
+    ends(alloc, token, b)
+}
+
+fn in_number(alloc: Global, number: u64, b: u8) -> Result<(Place, Option<Token>), ParseStop>
+    ensures { Gives result (step_in_number number b) }
+{
+    if digit(b) {
+        return Ok((Place::InNumber(longer(number, b)), None));
+    }
+    if letter(b) {
+        return Err(ParseStop::Syntax);
+    }
+    let token = number_token(number)?;
+    ends(alloc, token, b)
+}
+
+fn in_text(mut text: Bytes, b: u8) -> Result<(Place, Option<Token>), ParseStop>
+    ensures { Gives result (step_in_text text b) }
+{
+    if b == b'\'' {
+        return Ok((Place::BehindQuote(text), None));
+    }
+    text.push(b)?;
+    Ok((Place::InText(text), None))
+}
+
+fn behind_quote(alloc: Global, mut text: Bytes, b: u8) -> Result<(Place, Option<Token>), ParseStop>
+    ensures { Gives result (step_behind_quote text b) }
+{
+    if b == b'\'' {
+        text.push(b)?;
+        return Ok((Place::InText(text), None));
+    }
+    let token = text_token(text)?;
+    ends(alloc, token, b)
+}
+
+fn in_symbol(alloc: Global, first: u8, b: u8) -> Result<(Place, Option<Token>), ParseStop>
+    ensures { Gives result (step_in_symbol first b) }
+{
+    if pair(first, b) {
+        let bytes = Bytes::of_slice(alloc, &[first, b])?;
+        let token = symbol_token(bytes)?;
+        return Ok((Place::Ended(token), None));
+    }
+    let token = short_symbol(alloc, first)?;
+    ends(alloc, token, b)
+}
+
+fn short_symbol(alloc: Global, b: u8) -> Result<Token, ParseStop>
+    ensures { Gives result (short_symbol b) }
+{
+    if b == b'!' {
+        return Err(ParseStop::Syntax);
+    }
+    let bytes = Bytes::of_slice(alloc, &[b])?;
+    symbol_token(bytes)
+}
+
+// Where the reading stands behind a byte that goes on with no token.
+fn start(alloc: Global, b: u8) -> Result<Place, ParseStop>
+    ensures { Gives result (start b) }
+{
+    if blank(b) {
+        return Ok(Place::Between);
+    }
+    if letter(b) {
+        let word = Bytes::of_slice(alloc, &[fold(b)])?;
+        return Ok(Place::InWord(word));
+    }
+    if digit(b) {
+        return Ok(Place::InNumber(value(b)));
+    }
+    if b == b'\'' {
+        return Ok(Place::InText(Bytes::new(alloc)));
+    }
+    if symbol_begins(b) {
+        return Ok(Place::InSymbol(b));
+    }
+    if whole_symbol(b) {
+        let bytes = Bytes::of_slice(alloc, &[b])?;
+        let token = symbol_token(bytes)?;
+        return Ok(Place::Ended(token));
+    }
+    Err(ParseStop::Syntax)
+}
+
+fn finish(alloc: Global, place: Place) -> Result<Option<Token>, ParseStop>
+    ensures { Gives result (finish place) }
+{
+    match place {
+        Place::Between => Ok(None),
+        Place::InWord(word) => {
+            let token = word_token(word)?;
+            Ok(Some(token))
+        }
+        Place::InNumber(number) => {
+            let token = number_token(number)?;
+            Ok(Some(token))
+        }
+        Place::InText(_) => Err(ParseStop::Syntax),
+        Place::BehindQuote(text) => {
+            let token = text_token(text)?;
+            Ok(Some(token))
+        }
+        Place::InSymbol(b) => {
+            let token = short_symbol(alloc, b)?;
+            Ok(Some(token))
+        }
+        Place::Ended(token) => Ok(Some(token)),
+    }
+}
+
+fn value(b: u8) -> u64
+    requires { IsTrue (is_digit b) }
+    ensures { result ≡ b - 48 }
+{
+    (b - b'0') as u64
+}
+
+fn longer(number: u64, b: u8) -> u64
+    requires { IsTrue (is_digit b) }
+    ensures { result ≡ longer number b }
+{
+    number.saturating_mul(10).saturating_add(value(b))
+}
+
+fn blank(b: u8) -> bool
+    ensures { result ≡ is_blank b }
+{
+    b == b' ' || b == b'\t' || b == b'\n' || b == b'\r'
+}
+
+fn digit(b: u8) -> bool
+    ensures { result ≡ is_digit b }
+{
+    b'0' <= b && b <= b'9'
+}
+
+fn upper(b: u8) -> bool
+    ensures { result ≡ is_upper b }
+{
+    b'A' <= b && b <= b'Z'
+}
+
+fn letter(b: u8) -> bool
+    ensures { result ≡ is_letter b }
+{
+    upper(b) || b'a' <= b && b <= b'z' || b == b'_'
+}
+
+fn fold(b: u8) -> u8
+    ensures { result ≡ folded b }
+{
+    if upper(b) { b + 32 } else { b }
+}
+
+fn whole_symbol(b: u8) -> bool
+    ensures { result ≡ is_whole_symbol b }
+{
+    b == b'?'
+        || b == b'*'
+        || b == b'+'
+        || b == b'-'
+        || b == b'='
+        || b == b'('
+        || b == b')'
+        || b == b','
+        || b == b'.'
+        || b == b';'
+}
+
+fn symbol_begins(b: u8) -> bool
+    ensures { result ≡ begins_symbol b }
+{
+    b == b'<' || b == b'>' || b == b'!'
+}
+
+fn pair(a: u8, b: u8) -> bool
+    ensures { result ≡ is_pair a b }
+{
+    b == b'=' || a == b'<' && b == b'>'
+}

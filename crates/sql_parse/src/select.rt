@@ -1,0 +1,118 @@
+//! Cores.
+
+ghost use Rattle.std.specs.Prelude.{◌≡◌, ◌++◌, OnOk, option_to_list};
+ghost use Rattle.sql_parse.specs.Gives.{Reads};
+ghost use Rattle.sql_parse.specs.Queries.{reads_alias, reads_item, reads_items, reads_group, core_end, core_rest, reads_core};
+
+use crate::expression::expression;
+use crate::part::{Part, listed, optional};
+use crate::reader::Reader;
+use crate::source::{Sources, all_sources};
+use crate::stop::ParseStop;
+use ldv_value::Utf8;
+use sql_model::{ColumnName, ColumnNames, Core, Expr, Exprs, Item, Items};
+use std::alloc::{AllocError, Global};
+
+/// The most sources of a core.
+const SOURCE_LIMIT: usize = 8;
+
+/// A core, of which it is known whether UNION ALL stands before it.
+pub(crate) fn core(alloc: Global, reader: &mut Reader, joined_all: bool) -> Result<Core, ParseStop>
+    ensures { Reads result reader.new (reads_core joined_all reader.old) }
+{
+    reader.expect("select")?;
+    let distinct = reader.pass("distinct");
+    core_rest(alloc, reader, joined_all, distinct)
+}
+
+fn core_rest(
+    alloc: Global,
+    reader: &mut Reader,
+    joined_all: bool,
+    distinct: bool,
+) -> Result<Core, ParseStop>
+    ensures { Reads result reader.new (core_rest joined_all distinct reader.old) }
+{
+    let items = items(alloc, reader)?;
+    reader.expect("from")?;
+    let sources = all_sources(alloc, reader, SOURCE_LIMIT)?;
+    core_end(alloc, reader, joined_all, distinct, items, sources)
+}
+
+fn core_end(
+    alloc: Global,
+    reader: &mut Reader,
+    joined_all: bool,
+    distinct: bool,
+    items: Option<Items>,
+    sources: Sources,
+) -> Result<Core, ParseStop>
+    ensures { Reads result reader.new (core_end joined_all distinct items sources reader.old) }
+{
+    let pick = optional(alloc, reader, "where")?;
+    let group = group(alloc, reader)?;
+    let having = optional(alloc, reader, "having")?;
+    let Sources { from, mut picks } = sources;
+    add(&mut picks, pick)?;
+    Ok(Core {
+        joined_all,
+        distinct,
+        items,
+        from,
+        picks,
+        group,
+        having,
+    })
+}
+
+fn add(picks: &mut Exprs, pick: Option<Expr>) -> Result<(), AllocError>
+    ensures { OnOk result (picks.new ≡ picks.old ++ option_to_list pick) }
+{
+    if let Some(pick) = pick {
+        picks.push(pick)?;
+    }
+    Ok(())
+}
+
+fn group(alloc: Global, reader: &mut Reader) -> Result<ColumnNames, ParseStop>
+    ensures { Reads result reader.new (reads_group reader.old) }
+{
+    if !reader.starts("group") {
+        return Ok(ColumnNames::new(alloc));
+    }
+    reader.skip();
+    reader.expect("by")?;
+    listed::<ColumnName>(alloc, reader)
+}
+
+fn items(alloc: Global, reader: &mut Reader) -> Result<Option<Items>, ParseStop>
+    ensures { Reads result reader.new (reads_items reader.old) }
+{
+    if reader.starts("*") {
+        reader.skip();
+        return Ok(None);
+    }
+    let items = listed::<Item>(alloc, reader)?;
+    Ok(Some(items))
+}
+
+impl Part for Item {
+    ghost reads = { reads_item };
+
+    fn read(alloc: Global, reader: &mut Reader) -> Result<Self, ParseStop> {
+        let expr = expression(alloc, reader)?;
+        let name = alias(alloc, reader)?;
+        Ok(Item { expr, name })
+    }
+}
+
+fn alias(alloc: Global, reader: &mut Reader) -> Result<Option<Utf8>, ParseStop>
+    ensures { Reads result reader.new (reads_alias reader.old) }
+{
+    if !reader.starts("as") {
+        return Ok(None);
+    }
+    reader.skip();
+    let name = reader.name(alloc)?;
+    Ok(Some(name))
+}

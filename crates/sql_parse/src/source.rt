@@ -1,0 +1,158 @@
+//! Sources of a core.
+
+ghost use Rattle.std.specs.Prelude.{◌≡◌};
+ghost use Rattle.sql_parse.specs.Gives.{Reads};
+ghost use Rattle.sql_parse.specs.Queries.{is_name, names, second_name, reads_source, plain_source, joined_source, another_source, reads_sources};
+ghost use Rattle.sql_parse.specs.Reader.{repeat};
+
+use crate::expression::expression;
+use crate::reader::Reader;
+use crate::stop::ParseStop;
+use crate::token::Token;
+use ldv_value::Utf8;
+use sql_model::{Exprs, FromItem, FromItems, is_sql_name};
+use std::alloc::Global;
+
+/// Sources, and the conditions that stand behind ON.
+#[derive(Drop)]
+pub(crate) struct Sources {
+    pub from: FromItems,
+    pub picks: Exprs,
+}
+
+/// The sources of a core, at most so many.
+pub(crate) fn all_sources(
+    alloc: Global,
+    reader: &mut Reader,
+    most: usize,
+) -> Result<Sources, ParseStop>
+    ensures { Reads result reader.new (reads_sources most reader.old) }
+{
+    let source = source(alloc, reader)?;
+    let mut from = FromItems::new(alloc);
+    from.push(source)?;
+    let first = Sources {
+        from,
+        picks: Exprs::new(alloc),
+    };
+    more_sources(alloc, reader, most, first)
+}
+
+#[tactic(auto, using(crate::proofs::Repeat::repeat_rules))]
+fn more_sources(
+    alloc: Global,
+    reader: &mut Reader,
+    most: usize,
+    first: Sources,
+) -> Result<Sources, ParseStop>
+    ensures { Reads result reader.new (repeat another_source most first reader.old) }
+{
+    let mut made = first;
+    for _count in 0..most {
+        let (next, going) = another_source(alloc, reader, made)?;
+        made = next;
+        if !going {
+            return Ok(made);
+        }
+    }
+    Err(ParseStop::Syntax)
+}
+
+fn another_source(
+    alloc: Global,
+    reader: &mut Reader,
+    made: Sources,
+) -> Result<(Sources, bool), ParseStop>
+    ensures { Reads result reader.new (another_source made reader.old) }
+{
+    if reader.starts(",") {
+        reader.skip();
+        return plain_source(alloc, reader, made);
+    }
+    if reader.starts("join") {
+        reader.skip();
+        return joined_source(alloc, reader, made);
+    }
+    if reader.starts("inner") {
+        reader.skip();
+        reader.expect("join")?;
+        return joined_source(alloc, reader, made);
+    }
+    Ok((made, false))
+}
+
+fn plain_source(
+    alloc: Global,
+    reader: &mut Reader,
+    made: Sources,
+) -> Result<(Sources, bool), ParseStop>
+    ensures { Reads result reader.new (plain_source made reader.old) }
+{
+    let source = source(alloc, reader)?;
+    let Sources { mut from, picks } = made;
+    from.push(source)?;
+    Ok((Sources { from, picks }, true))
+}
+
+fn joined_source(
+    alloc: Global,
+    reader: &mut Reader,
+    made: Sources,
+) -> Result<(Sources, bool), ParseStop>
+    ensures { Reads result reader.new (joined_source made reader.old) }
+{
+    let source = source(alloc, reader)?;
+    reader.expect("on")?;
+    let pick = expression(alloc, reader)?;
+    let Sources {
+        mut from,
+        mut picks,
+    } = made;
+    from.push(source)?;
+    picks.push(pick)?;
+    Ok((Sources { from, picks }, true))
+}
+
+fn source(alloc: Global, reader: &mut Reader) -> Result<FromItem, ParseStop>
+    ensures { Reads result reader.new (reads_source reader.old) }
+{
+    let table = reader.name(alloc)?;
+    let name = second_name(alloc, reader, &table)?;
+    Ok(FromItem { table, name })
+}
+
+// The second name of a source, or its table's.
+fn second_name(alloc: Global, reader: &mut Reader, table: &Utf8) -> Result<Utf8, ParseStop>
+    ensures { Reads result reader.new (second_name table.now reader.old) }
+{
+    if reader.starts("as") {
+        reader.skip();
+        return reader.name(alloc);
+    }
+    if names(reader) {
+        return reader.name(alloc);
+    }
+    let name = table.copy()?;
+    Ok(name)
+}
+
+// Whether the next token is a name.
+fn names(reader: &Reader) -> bool
+    ensures { result ≡ names reader.now }
+{
+    match reader.peek() {
+        None => false,
+        Some(token) => is_name(token),
+    }
+}
+
+fn is_name(token: &Token) -> bool
+    ensures { result ≡ is_name token.now }
+{
+    match token {
+        Token::Word(word) => is_sql_name(word.as_str()),
+        Token::Number(_) => false,
+        Token::Quoted(_) => false,
+        Token::Given(_) => false,
+    }
+}

@@ -1,0 +1,91 @@
+//! Tokens of a text.
+
+ghost use Rattle.std.specs.Prelude.{◌≡◌, IfOk};
+ghost use Rattle.std.specs.Str.{is_utf8};
+ghost use Rattle.sql_parse.specs.Gives.{Gives};
+ghost use Rattle.sql_parse.specs.Tokens.{text_of, word_token, number_token, text_token, symbol_token};
+
+use crate::stop::ParseStop;
+use ldv_value::{Bytes, CopyItem, List, TEXT_LIMIT, Utf8, Value};
+use std::alloc::{AllocError, Global};
+
+/// The most bytes of a word.
+const WORD_LIMIT: usize = 63;
+
+/// A token of a text.
+#[derive(Drop)]
+pub enum Token {
+    /// A word, its letters in lower case, or a symbol.
+    Word(Utf8),
+    /// A number.
+    Number(i64),
+    /// A text between quotes: its content.
+    Quoted(Utf8),
+    /// The value of the parameter for which a `?` stands.
+    Given(Value),
+}
+
+/// Tokens, in the order of the text.
+pub(crate) type Tokens = List<Token>;
+
+impl CopyItem for Token {
+    fn copy_item(&self, alloc: Global) -> Result<Self, AllocError> {
+        match self {
+            Token::Word(word) => Ok(Token::Word(word.copy()?)),
+            Token::Number(number) => Ok(Token::Number(*number)),
+            Token::Quoted(text) => Ok(Token::Quoted(text.copy()?)),
+            Token::Given(value) => Ok(Token::Given(value.copy_item(alloc)?)),
+        }
+    }
+}
+
+/// The token of a word's bytes.
+pub(crate) fn word_token(bytes: Bytes) -> Result<Token, ParseStop>
+    ensures { Gives result (word_token bytes) }
+{
+    if bytes.len() > WORD_LIMIT {
+        return Err(ParseStop::Syntax);
+    }
+    let text = text(bytes)?;
+    Ok(Token::Word(text))
+}
+
+/// The token of a number's value.
+pub(crate) fn number_token(number: u64) -> Result<Token, ParseStop>
+    ensures { Gives result (number_token number) }
+{
+    if number < 1 << 63 {
+        Ok(Token::Number(number as i64))
+    } else {
+        Err(ParseStop::Syntax)
+    }
+}
+
+/// The token of the bytes between quotes.
+pub(crate) fn text_token(bytes: Bytes) -> Result<Token, ParseStop>
+    ensures { Gives result (text_token bytes) }
+{
+    if bytes.len() > TEXT_LIMIT {
+        return Err(ParseStop::Syntax);
+    }
+    let text = text(bytes)?;
+    Ok(Token::Quoted(text))
+}
+
+/// The token of a symbol's bytes.
+pub(crate) fn symbol_token(bytes: Bytes) -> Result<Token, ParseStop>
+    ensures { Gives result (symbol_token bytes) }
+{
+    let text = text(bytes)?;
+    Ok(Token::Word(text))
+}
+
+#[tactic(auto, using(crate::proofs::Utf8::text_rules))]
+fn text(bytes: Bytes) -> Result<Utf8, ParseStop>
+    ensures { Gives result (text_of bytes) }
+{
+    match String::from_utf8(bytes.into_vec()) {
+        Ok(text) => Ok(Utf8::of_string(text)),
+        Err(_) => Err(ParseStop::Syntax),
+    }
+}
