@@ -1,6 +1,7 @@
 //! The law of worlds between.
 
 ghost use Rattle.replay_db.specs.Laws.{BetweenLaw, InterleavingLaw, SliceLaw, OwnLaw, ReplayLaw, EndedLaw};
+ghost use Rattle.replay_db.specs.Worlds.{ValidPackageLaw, TypedPackageLaw};
 
 /// A world from which nothing was cut that a run needs runs as the whole world does; the own world of
 /// the run's package is such a world. It says so of every world, and does nothing.
@@ -11,4 +12,11 @@ pub fn between_law()
     ensures own { OwnLaw }
     ensures replay { ReplayLaw }
     ensures settled { EndedLaw }
+{}
+
+/// The package of a valid world's run that has ended is itself valid, so its spelling is read back as it.
+/// It says so of every world, and does nothing.
+pub fn package_law()
+    ensures valid { ValidPackageLaw }
+    ensures typed { TypedPackageLaw }
 {}

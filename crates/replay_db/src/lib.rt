@@ -12,4 +12,4 @@
 
 mod law;
 
-pub use law::between_law;
+pub use law::{between_law, package_law};

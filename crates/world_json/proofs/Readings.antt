@@ -26,7 +26,7 @@ ended : (doc : Document) (o : Option WorldFault) (world : World) → ending doc 
 ended doc None world is = let same : world_as doc ≡ world = cc in (refl, same)
 ended doc (Some fault) world is = cc
 
-document_passes : (doc : Document) (world : World) → reading_of doc ≡ Ok world → IsWorldOf doc world
+pub document_passes : (doc : Document) (world : World) → reading_of doc ≡ Ok world → IsWorldOf doc world
 document_passes doc world is =
     let named = passed (is_named doc) _ _ world is in
     let within = passed (is_within doc) _ _ world named.1 in

@@ -7,8 +7,8 @@ use Rattle.std.specs.Cmp.Lexicographic.{slice_cmp}
 use Rattle.std.specs.Str.{is_utf8}
 use Rattle.json.specs.Json as json
 use Rattle.json.specs.Lex.{tokens}
-use Rattle.serde_json.specs.Data.{Data, null, boolean, number, string, array, object, Items, no_items, item, Members, no_members, member, put}
-use Rattle.serde_json.specs.Find.{get_member, as_object, as_str}
+pub use Rattle.serde_json.specs.Data.{Data, null, boolean, number, string, array, object, Items, no_items, item, Members, no_members, member, put}
+pub use Rattle.serde_json.specs.Find.{get_member, as_object, as_str}
 use Rattle.serde_json.specs.Read.{number_of, of_json, of_items, of_members, max_depth, read}
 use Rattle.ldv_value.specs.declared.file.File.{File}
 use Rattle.ldv_value.specs.declared.value.Value.{Value}
@@ -25,14 +25,14 @@ use Rattle.world_json.specs.Rising.{is_below_first, rises, is_rising}
 
 -- ---- what holds of a value, where there is one
 
-abbrev Holds : {A : Type 0} → (A → Type 0) → Option A → Type 0
+abbrev pub Holds : {A : Type 0} → (A → Type 0) → Option A → Type 0
 Holds P None = Unit {0}
 Holds P (Some a) = P a
 
-abbrev Any : {A : Type 0} → A → Type 0
+abbrev pub Any : {A : Type 0} → A → Type 0
 Any a = Unit {0}
 
-holds_any : {A : Type 0} (o : Option A) → Holds Any o
+pub holds_any : {A : Type 0} (o : Option A) → Holds Any o
 holds_any None = tt
 holds_any (Some a) = tt
 
@@ -48,11 +48,11 @@ holds_and_then : {A B : Type 0} (P : A → Type 0) (Q : B → Type 0) (f : A →
 holds_and_then P Q f k None h = tt
 holds_and_then P Q f k (Some a) h = k a h
 
-holds_then : {A B : Type 0} (P : A → Type 0) (Q : B → Type 0) (f : A → Option B) → ((a : A) → P a → Holds Q (f a)) → (o : Option A) → Holds P o → Holds Q (o >>= f)
+pub holds_then : {A B : Type 0} (P : A → Type 0) (Q : B → Type 0) (f : A → Option B) → ((a : A) → P a → Holds Q (f a)) → (o : Option A) → Holds P o → Holds Q (o >>= f)
 holds_then P Q f k None h = tt
 holds_then P Q f k (Some a) h = k a h
 
-holds_if : {A : Type 0} (P : A → Type 0) (b : Bool) (o : Option A) → Holds P o → Holds P (if b then o else None)
+pub holds_if : {A : Type 0} (P : A → Type 0) (b : Bool) (o : Option A) → Holds P o → Holds P (if b then o else None)
 holds_if P true o h = h
 holds_if P false o h = tt
 
@@ -195,16 +195,16 @@ file_named : (path : List ℕ) (d : Data) → Holds (λ (file : File). file.path
 file_named path d = holds_then Any (λ (file : File). file.path ≡ path) (λ content. Some (record { path = path; content = content })) (λ content h. refl) (content_of d) (holds_any (content_of d))
 
 -- the steps of a table, each with those before it
-abbrev by_next : List ℕ → List Column → List (List ℕ) → List (List Value) → ℕ → Option Draft
+abbrev pub by_next : List ℕ → List Column → List (List ℕ) → List (List Value) → ℕ → Option Draft
 by_next name columns key rows next = if is_width (length columns) rows then Some (draft_of name columns key rows next) else None
 
-abbrev by_rows : List ℕ → Option Data → List Column → List (List ℕ) → List (List Value) → Option Draft
+abbrev pub by_rows : List ℕ → Option Data → List Column → List (List ℕ) → List (List Value) → Option Draft
 by_rows name next columns key rows = optional whole_of (length rows) next >>= by_next name columns key rows
 
-abbrev by_key : List ℕ → Option Data → Option Data → List Column → List (List ℕ) → Option Draft
+abbrev pub by_key : List ℕ → Option Data → Option Data → List Column → List (List ℕ) → Option Draft
 by_key name rows next columns key = optional (array_of (array_of cell_of)) [] rows >>= by_rows name next columns key
 
-abbrev by_columns : List ℕ → Option Data → Option Data → Option Data → List Column → Option Draft
+abbrev pub by_columns : List ℕ → Option Data → Option Data → Option Data → List Column → Option Draft
 by_columns name key rows next columns = optional (array_of as_str) [] key >>= by_key name rows next columns
 
 abbrev IsNamed : List ℕ → Draft → Type 0
@@ -234,13 +234,13 @@ abbrev DocumentRises : Document → Type 0
 DocumentRises doc = (rises (map (λ file. file.path) doc.files) ≡ true) × (rises (map (λ table. table.name) doc.tables) ≡ true)
 
 -- the steps of a document, each with those before it
-abbrev by_files : List (List ℕ) → ℕ → Option Data → List File → Option Document
+abbrev pub by_files : List (List ℕ) → ℕ → Option Data → List File → Option Document
 by_files start seed tables files = optional (object_of table_of) [] tables >>= λ tables. Some (document_as start seed files tables)
 
-abbrev by_seed : Option Data → Option Data → List (List ℕ) → ℕ → Option Document
+abbrev pub by_seed : Option Data → Option Data → List (List ℕ) → ℕ → Option Document
 by_seed files tables start seed = required (object_of file_of) files >>= by_files start seed tables
 
-abbrev by_start : Option Data → Option Data → Option Data → List (List ℕ) → Option Document
+abbrev pub by_start : Option Data → Option Data → Option Data → List (List ℕ) → Option Document
 by_start seed files tables start = optional whole_of 0 seed >>= by_seed files tables start
 
 document_from_rises : (start seed files tables : Option Data) → Holds AllRise files → Holds AllRise tables → Holds DocumentRises (document_from start seed files tables)

@@ -1,0 +1,187 @@
+-- What events need of files and tables that meet the rules meets them too.
+use Rattle.std.proofs.Common.{◌≡◌, ℕ, List, [], ◌∷◌, length, map, find, Option, Some, None, option_map, refl, sym, ap, ◌∙◌, Bool, true, false, not, ◌&&◌, if◌then◌else◌, filter_map, nat_le, nat_lt, ◌==◌, bytes_eq, arith, inl, inr, is_lt, nat_cmp, Ordering, Less, Equal, Greater}
+use Rattle.std.specs.List.{list_all, cons_option}
+use Rattle.std.specs.Cmp.Lexicographic.{slice_cmp, nat_list_cmp_total}
+use Rattle.std.proofs.lemmas.Bool.{and_parts, and_from, not-true, not_from_false, cases_Bool}
+use Rattle.std.proofs.lemmas.Bool.Decides.{nat_tests}
+use Rattle.std.proofs.lemmas.Slice.Eq.{bytes_eq-Decides}
+use Rattle.ldv_value.specs.Names.{path_test}
+use Rattle.ldv_value.specs.declared.file.File.{File}
+use Rattle.ldv_value.specs.declared.value.Value.{Value}
+use Rattle.sql_model.specs.SqlNames.{sql_name_test}
+use Rattle.sql_model.specs.declared.table.Table.{Table}
+use Rattle.sql_model.specs.declared.table.TableRow.{TableRow}
+use Rattle.run_model.specs.declared.event.Event.{Event}
+use Rattle.run_model.specs.declared.package.PackedFile.{PackedFile}
+use Rattle.run_model.specs.declared.package.PackedRow.{PackedRow}
+use Rattle.run_model.specs.declared.package.PackedTable.{PackedTable}
+use Rattle.run_model.specs.Slice.{FileNeed, Whole, Present, file_need, packed_as, packed_file, files_needed, Reason, first_reason, packed_because, packed_row, rows_needed, is_table_needed, packed_table, tables_needed}
+use Rattle.package_layout.specs.Order.{rises, repeats, is_below, file_below, row_below, table_below}
+use Rattle.package_layout.specs.Room.{few, key_room, row_room, table_room}
+use Rattle.package_layout.specs.Valid.{content_rule, file_rule, files_rule, columns_rule, key_rule, values_rule, row_rule, table_rule, tables_rule, values_at, is_same_key, is_keyed, keys_rule}
+use Rattle.replay_db.specs.Worlds.{all_of_file, all_of_row, all_of_table}
+use Rattle.replay_db.proofs.PackageValidLists.{kept_if, Chains, tests_stay, within_still, rises_still, unique_still, some_kept, map_twice}
+
+-- ---- orders
+
+less_is : (o : Ordering) → is_lt o ≡ true → o ≡ Less
+less_is Less is = refl
+less_is Equal is = cc
+less_is Greater is = cc
+
+texts_chain : Chains is_below
+texts_chain a b c first second = ap is_lt (nat_list_cmp_total.trans a b c (less_is (slice_cmp nat_cmp a b) first) (less_is (slice_cmp nat_cmp b c) second))
+
+numbers_chain : Chains nat_lt
+numbers_chain a b c first second = grind (arith, nat_tests)
+
+-- ---- files
+
+file_kept : (file : File) (need : Option FileNeed) (y : PackedFile) → option_map (packed_as file) need ≡ Some y → (y.path ≡ file.path) × ((file_rule (all_of_file file) ≡ true) → file_rule y ≡ true)
+file_kept file None y is = cc
+file_kept file (Some Whole) y is =
+    let same : all_of_file file ≡ y = cc in
+    (sym (ap (λ (z : PackedFile). z.path) same), λ met. ap file_rule (sym same) ∙ met)
+file_kept file (Some Present) y is =
+    let same : packed_as file Present ≡ y = cc in
+    let part : file_rule (all_of_file file) ≡ true → file_rule (packed_as file Present) ≡ true = λ met. let both = and_parts (path_test file.path) (content_rule (Some file.content)) met in and_from (path_test file.path) true both.0 refl in
+    (sym (ap (λ (z : PackedFile). z.path) same), λ met. ap file_rule (sym same) ∙ part met)
+
+pub files_valid : (events : List Event) (files : List File) → files_rule (map all_of_file files) ≡ true → files_rule (files_needed events files) ≡ true
+files_valid events files met =
+    let all : List PackedFile = map all_of_file files in
+    let f : File → Option PackedFile = packed_file events in
+    let kept = files_needed events files in
+    let parts = and_parts (nat_le (length all) 65536 && list_all file_rule all) (rises file_below all) met in
+    let first = and_parts (nat_le (length all) 65536) (list_all file_rule all) parts.0 in
+    let few_files : nat_le (length kept) 65536 ≡ true = within_still all_of_file f files 65536 first.0 in
+    let each : list_all file_rule kept ≡ true = tests_stay all_of_file f file_rule file_rule (λ file y is. (file_kept file (file_need file.path events) y is).1) files first.1 in
+    let rising : rises file_below kept ≡ true = rises_still all_of_file f (λ y. y.path) (λ file y is. (file_kept file (file_need file.path events) y is).0) is_below texts_chain files parts.1 in
+    and_from (nat_le (length kept) 65536 && list_all file_rule kept) (rises file_below kept) (and_from (nat_le (length kept) 65536) (list_all file_rule kept) few_files each) rising
+
+-- a file of another path is passed over
+passed_over : (word : List ℕ) (file : File) → bytes_eq word file.path ≡ false → (need : Option FileNeed) (rest : List PackedFile)
+    → find (λ f. bytes_eq word f.path) (cons_option (option_map (packed_as file) need) rest) ≡ find (λ f. bytes_eq word f.path) rest
+passed_over word file miss None rest = refl
+passed_over word file miss (Some Whole) rest = rw miss refl
+passed_over word file miss (Some Present) rest = rw miss refl
+
+-- a file that is needed whole is found as it is
+pub whole_found : (events : List Event) (word : List ℕ) → file_need word events ≡ Some Whole → (files : List File)
+    → find (λ f. bytes_eq word f.path) (files_needed events files) ≡ find (λ f. bytes_eq word f.path) (map all_of_file files)
+whole_found events word whole [] = refl
+whole_found events word whole (file ∷ files) = elim (cases_Bool (bytes_eq word file.path)) [
+  | inl hit ↦
+      let here : file.path ≡ word = sym ((bytes_eq-Decides word file.path).0 hit) in
+      let need : file_need file.path events ≡ Some Whole = ap (λ (path : List ℕ). file_need path events) here ∙ whole in
+      rw (need, hit) refl
+  | inr miss ↦ rw miss (passed_over word file miss (file_need file.path events) (files_needed events files) ∙ whole_found events word whole files)
+]
+
+-- ---- rows
+
+-- what is kept of a row, and why
+pub record KeptRow (row : TableRow) (found : Option Reason) (y : PackedRow) : Type 0 where
+  pub number : y.number ≡ row.number
+  pub values : y.values ≡ row.values
+  pub why : found ≡ Some (record { statement = y.statement; rule = y.rule })
+
+pub row_kept : (row : TableRow) (found : Option Reason) (y : PackedRow) → option_map (packed_because row) found ≡ Some y → KeptRow row found y
+row_kept row None y is = cc
+row_kept row (Some reason) y is =
+    let same : packed_because row reason ≡ y = cc in
+    record {
+      number = sym (ap (λ (z : PackedRow). z.number) same);
+      values = sym (ap (λ (z : PackedRow). z.values) same);
+      why = λ j. Some (record { statement = (same j).statement; rule = (same j).rule });
+    }
+
+-- ---- tables
+
+abbrev pub table_kept : List Event → Table → Option PackedTable
+table_kept events table = if is_table_needed events table.name then Some (packed_table events table) else None
+
+pub tables_as : (events : List Event) (tables : List Table) → tables_needed events tables ≡ filter_map (table_kept events) tables
+tables_as events tables = some_kept (λ table. is_table_needed events table.name) (packed_table events) tables
+
+pub table_is : (events : List Event) (table : Table) (y : PackedTable) → table_kept events table ≡ Some y → y ≡ packed_table events table
+table_is events table y is = kept_if (is_table_needed events table.name) (packed_table events table) y is
+
+module _ (events : List Event) (table : Table) where
+  abbrev all_rows : List PackedRow
+  all_rows = map all_of_row table.rows
+
+  abbrev kept_rows : List PackedRow
+  kept_rows = rows_needed events table.name table.rows
+
+  keeps_row : (row : TableRow) (y : PackedRow) → packed_row events table.name row ≡ Some y → KeptRow row (first_reason table.name row.number events) y
+  keeps_row row y is = row_kept row (first_reason table.name row.number events) y is
+
+  same_values : (row : TableRow) (y : PackedRow) → packed_row events table.name row ≡ Some y → y.values ≡ row.values
+  same_values row y is = (keeps_row row y is).values
+
+  same_number : (row : TableRow) (y : PackedRow) → packed_row events table.name row ≡ Some y → y.number ≡ row.number
+  same_number row y is = (keeps_row row y is).number
+
+  row_valid : (row : TableRow) (y : PackedRow) → packed_row events table.name row ≡ Some y → row_rule (all_of_table table) (all_of_row row) ≡ true → row_rule (packed_table events table) y ≡ true
+  row_valid row y is met = (λ j. nat_lt (same_number row y is j) table.next && values_rule table.schema.columns (same_values row y is j)) ∙ met
+
+  pub table_valid : table_rule (all_of_table table) ≡ true → table_rule (packed_table events table) ≡ true
+  table_valid met =
+      let named : Bool = sql_name_test table.name && columns_rule table.schema.columns && key_rule table.schema in
+      let parts = and_parts (named && list_all (row_rule (all_of_table table)) all_rows) (rises row_below all_rows) met in
+      let first = and_parts named (list_all (row_rule (all_of_table table)) all_rows) parts.0 in
+      let each : list_all (row_rule (packed_table events table)) kept_rows ≡ true =
+      tests_stay all_of_row (packed_row events table.name) (row_rule (all_of_table table)) (row_rule (packed_table events table)) row_valid table.rows first.1 in
+      let rising : rises row_below kept_rows ≡ true = rises_still all_of_row (packed_row events table.name) (λ y. y.number) same_number nat_lt numbers_chain table.rows parts.1 in
+      and_from (named && list_all (row_rule (packed_table events table)) kept_rows) (rises row_below kept_rows) (and_from named (list_all (row_rule (packed_table events table)) kept_rows) first.0 each) rising
+
+  pub table_roomy : table_room (all_of_table table) ≡ true → table_room (packed_table events table) ≡ true
+  table_roomy met =
+      let wide : ℕ = length table.schema.columns in
+      let first = and_parts (few table.schema.columns) (key_room table.schema.key && list_all (row_room wide) all_rows) met in
+      let second = and_parts (key_room table.schema.key) (list_all (row_room wide) all_rows) first.1 in
+      let each : list_all (row_room wide) kept_rows ≡ true =
+      tests_stay all_of_row (packed_row events table.name) (row_room wide) (row_room wide) (λ row y is fits. ap (λ (vs : List Value). length vs == wide) (same_values row y is) ∙ fits) table.rows second.1 in
+      and_from (few table.schema.columns) (key_room table.schema.key && list_all (row_room wide) kept_rows) first.0
+      (and_from (key_room table.schema.key) (list_all (row_room wide) kept_rows) second.0 each)
+
+  abbrev keys_of : List PackedRow → List (List Value)
+  keys_of rows = map (values_at table.schema.key) (map (λ row. row.values) rows)
+
+  keys_unique : repeats is_same_key (keys_of all_rows) ≡ false → repeats is_same_key (keys_of kept_rows) ≡ false
+  keys_unique none =
+      let at : (rows : List PackedRow) → keys_of rows ≡ map (λ row. values_at table.schema.key row.values) rows = λ rows. map_twice (values_at table.schema.key) (λ row. row.values) rows in
+      ap (repeats is_same_key) (at kept_rows)
+      ∙ unique_still all_of_row (packed_row events table.name) (λ y. y.values) same_values (values_at table.schema.key) is_same_key table.rows (sym (ap (repeats is_same_key) (at all_rows)) ∙ none)
+
+  no_two : (b r s : Bool) → (r ≡ false → s ≡ false) → not (b && r) ≡ true → not (b && s) ≡ true
+  no_two false r s keeps met = refl
+  no_two true r s keeps met = not_from_false s (keeps (not-true r met))
+
+  pub table_keyed : is_keyed (all_of_table table) ≡ true → is_keyed (packed_table events table) ≡ true
+  table_keyed met = no_two (not (length table.schema.key == 0)) (repeats is_same_key (keys_of all_rows)) (repeats is_same_key (keys_of kept_rows)) keys_unique met
+
+module _ (events : List Event) where
+  each_table : (p : PackedTable → Bool) → ((table : Table) → p (all_of_table table) ≡ true → p (packed_table events table) ≡ true) → (tables : List Table) → list_all p (map all_of_table tables) ≡ true → list_all p (tables_needed events tables) ≡ true
+  each_table p keeps tables all =
+      ap (list_all p) (tables_as events tables)
+      ∙ tests_stay all_of_table (table_kept events) p p (λ table y is met. ap p (table_is events table y is) ∙ keeps table met) tables all
+
+  pub rooms_valid : (tables : List Table) → list_all table_room (map all_of_table tables) ≡ true → list_all table_room (tables_needed events tables) ≡ true
+  rooms_valid tables all = each_table table_room (table_roomy events) tables all
+
+  pub keys_valid : (tables : List Table) → keys_rule (map all_of_table tables) ≡ true → keys_rule (tables_needed events tables) ≡ true
+  keys_valid tables all = each_table is_keyed (table_keyed events) tables all
+
+  pub tables_valid : (tables : List Table) → tables_rule (map all_of_table tables) ≡ true → tables_rule (tables_needed events tables) ≡ true
+  tables_valid tables met =
+      let all : List PackedTable = map all_of_table tables in
+      let kept = tables_needed events tables in
+      let parts = and_parts (nat_le (length all) 256 && list_all table_rule all) (rises table_below all) met in
+      let first = and_parts (nat_le (length all) 256) (list_all table_rule all) parts.0 in
+      let few_tables : nat_le (length kept) 256 ≡ true = ap (λ (ts : List PackedTable). nat_le (length ts) 256) (tables_as events tables) ∙ within_still all_of_table (table_kept events) tables 256 first.0 in
+      let each : list_all table_rule kept ≡ true = each_table table_rule (table_valid events) tables first.1 in
+      let rising : rises table_below kept ≡ true = ap (rises table_below) (tables_as events tables)
+      ∙ rises_still all_of_table (table_kept events) (λ y. y.name) (λ table y is. ap (λ (t : PackedTable). t.name) (table_is events table y is)) is_below texts_chain tables parts.1 in
+      and_from (nat_le (length kept) 256 && list_all table_rule kept) (rises table_below kept) (and_from (nat_le (length kept) 256) (list_all table_rule kept) few_tables each) rising

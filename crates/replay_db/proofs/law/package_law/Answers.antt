@@ -1,0 +1,8 @@
+use Rattle.replay_db.proofs.PackageValid.{valid_package, typed_package}
+use Rattle.replay_db.proofs.law.package_law.Goals as goal
+
+pub returns-clause-valid : goal.returns-clause-valid
+returns-clause-valid c = valid_package
+
+pub returns-clause-typed : goal.returns-clause-typed
+returns-clause-typed c = typed_package
