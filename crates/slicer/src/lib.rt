@@ -12,3 +12,6 @@ mod reasons;
 mod tables;
 
 pub use needed::{Sliced, slice};
+
+#[cfg(test)]
+mod tests;
