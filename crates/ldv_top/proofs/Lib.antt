@@ -1,6 +1,13 @@
 pub mod AnswerLaws
 pub mod CutLemmas
+pub mod DocumentWorlds
+pub mod HeadlineLaw
+pub mod NeedLaw
+pub mod RecordLaws
+pub mod ReplayLaws
 pub mod ReplyLaw
+pub mod RisingRows
 pub mod RunLaw
 pub mod TopLaws
+pub mod TraceLaw
 pub mod WriteLemmas

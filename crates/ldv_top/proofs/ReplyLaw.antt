@@ -46,7 +46,7 @@ picked_single P (row ∷ rows) = elim (cases_Bool (P row.values)) [
   | inr miss ↦ let joined : P (row.values ++ []) ≡ false = ap P (append-nil row.values) ∙ miss in rw (joined, miss) (picked_single P rows)
 ]
 
-kept_all : {X : Type 0} (xs : List X) → filter (λ x. true) xs ≡ xs
+pub kept_all : {X : Type 0} (xs : List X) → filter (λ x. true) xs ≡ xs
 kept_all [] = refl
 kept_all (x ∷ xs) = ap (λ l. x ∷ l) (kept_all xs)
 
@@ -98,14 +98,14 @@ module _ (t n : List ℕ) where
 -- ---- an element that a test finds
 
 module _ {X : Type 0} (p : X → Bool) where
-  none_filtered : (xs : List X) → find p xs ≡ None → filter p xs ≡ []
+  pub none_filtered : (xs : List X) → find p xs ≡ None → filter p xs ≡ []
   none_filtered [] none = refl
   none_filtered (x ∷ xs) none = elim (cases_Bool (p x)) [
     | inl hit ↦ let is : Some x ≡ None = rw hit at none in cc
     | inr miss ↦ rw miss (none_filtered xs (rw miss at none))
   ]
 
-  found_place : (xs : List X) (x : X) → find p xs ≡ Some x → position p xs ≡ Some (position_or_len p xs)
+  pub found_place : (xs : List X) (x : X) → find p xs ≡ Some x → position p xs ≡ Some (position_or_len p xs)
   found_place xs x is =
       let at : slice_get xs (position_or_len p xs) ≡ Some x = sym (find_at p xs) ∙ is in
       let within : position_or_len p xs < length xs = slice_get_within xs (position_or_len p xs) x at in
@@ -114,12 +114,12 @@ module _ {X : Type 0} (p : X → Bool) where
       below : {i m : ℕ} → i < m → nat_lt i m ≡ true
       below lt = grind (arith, nat_tests)
 
-  found_at : (xs : List X) (x : X) → find p xs ≡ Some x → slice_get xs (position_or_len p xs) ≡ Some x
+  pub found_at : (xs : List X) (x : X) → find p xs ≡ Some x → slice_get xs (position_or_len p xs) ≡ Some x
   found_at xs x is = sym (find_at p xs) ∙ is
 
 -- ---- the law
 
-cases_option : {A : Type 0} (o : Option A) → (o ≡ None) ⊎ ((x : A) × (o ≡ Some x))
+pub cases_option : {A : Type 0} (o : Option A) → (o ≡ None) ⊎ ((x : A) × (o ≡ Some x))
 cases_option None = inl refl
 cases_option (Some x) = inr (x, refl)
 
@@ -131,10 +131,10 @@ module _ (t : List ℕ) (db : List Table) where
     | inr miss ↦ rw miss refl
   ]
 
-  missing : (pick : Option EqualityParts) → table_at t db ≡ None → lacks_table (selection t pick) db ≡ true
+  pub missing : (pick : Option EqualityParts) → table_at t db ≡ None → lacks_table (selection t pick) db ≡ true
   missing pick none = rw none refl
 
-  there : (pick : Option EqualityParts) (table : Table) → table_at t db ≡ Some table → lacks_table (selection t pick) db ≡ false
+  pub there : (pick : Option EqualityParts) (table : Table) → table_at t db ≡ Some table → lacks_table (selection t pick) db ≡ false
   there pick table is = rw (is, undoubled pick) refl
 
   -- all rows
@@ -176,7 +176,7 @@ module _ (t : List ℕ) (db : List Table) (table : Table) (is : table_at t db �
   scope_is = rw is refl
 
   -- code 3
-  column_known : lacks_column statement db ≡ not (length (filter named columns) == 1)
+  pub column_known : lacks_column statement db ≡ not (length (filter named columns) == 1)
   column_known =
       ap (λ (names : List ColumnName). not (list_all (resolves in_scope) (names ++ [])) || false) (names-equality e)
       ∙ ap (λ (sc : List InScope). not ((length (filter (is_meant (column_named e.column)) sc) == 1) && true) || false) scope_is
@@ -188,7 +188,7 @@ module _ (t : List ℕ) (db : List Table) (table : Table) (is : table_at t db �
       plain false = refl
 
   -- code 4
-  kind_known : (c : Column) → find named columns ≡ Some c → clashes statement db ≡ not (fits_column e.constant c)
+  pub kind_known : (c : Column) → find named columns ≡ Some c → clashes statement db ≡ not (fits_column e.constant c)
   kind_known c found =
       ap (λ (k : Option Kind). not (is_condition k && true) || false) (row_kind-equality in_scope e)
       ∙ ap (λ (o : Option InScope). not (is_condition (option_and_then (λ k. option_and_then (kind_both (Compare Eq) k) (Some (kind_of_value e.constant))) (option_map (λ entry. kind_of_column entry.column) o)) && true) || false) (ap (find (is_meant (column_named e.column))) scope_is ∙ find_scope t e.column columns ∙ ap (option_map (in_table t e.column)) found)
@@ -204,7 +204,7 @@ module _ (t : List ℕ) (db : List Table) (table : Table) (is : table_at t db �
   value_known c found values =
       ap (λ (o : Option ℕ). unwrap_or (option_and_then (slice_get values) o) Null) (ap (position (is_meant (column_named e.column))) scope_is ∙ position_scope t e.column columns ∙ found_place named columns c found)
 
-  row_known : (c : Column) → find named columns ≡ Some c → (values : List Value) → meets_all (equality_expr e ∷ []) (environment in_scope values) ≡ is_true (test_of Eq (value_at values (position_or_len named columns)) e.constant)
+  pub row_known : (c : Column) → find named columns ≡ Some c → (values : List Value) → meets_all (equality_expr e ∷ []) (environment in_scope values) ≡ is_true (test_of Eq (value_at values (position_or_len named columns)) e.constant)
   row_known c found values =
       and_true (is_true (truth (equality_expr e) (environment in_scope values)))
       ∙ ap is_true (truth-equality e (environment in_scope values) ∙ ap (λ (v : Value). test_of Eq v e.constant) (value_known c found values))

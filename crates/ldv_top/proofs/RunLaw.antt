@@ -28,7 +28,7 @@ use Rattle.ldv_top.specs.Replies.{selection_reply}
 use Rattle.ldv_top.specs.Selections.{selection_of, selection_from}
 use Rattle.ldv_top.proofs.ReplyLaw.{reply_law}
 
-cases_option : {A : Type 0} (o : Option A) → (o ≡ None) ⊎ ((x : A) × (o ≡ Some x))
+pub cases_option : {A : Type 0} (o : Option A) → (o ≡ None) ⊎ ((x : A) × (o ≡ Some x))
 cases_option None = inl refl
 cases_option (Some x) = inr (x, refl)
 
@@ -38,7 +38,7 @@ constant_value : (p : Process) (o : Operand) (v : Value) → constant_in o ≡ S
 constant_value p (Constant w) v is = cc
 constant_value p (Variable name) v is = cc
 
-constant_values : (p : Process) (os : List Operand) (vs ws : List Value) → constants_onto vs os ≡ Some ws → ws ≡ vs ++ operand_values p os
+pub constant_values : (p : Process) (os : List Operand) (vs ws : List Value) → constants_onto vs os ≡ Some ws → ws ≡ vs ++ operand_values p os
 constant_values p [] vs ws is = let e : vs ≡ ws = cc in sym e ∙ sym (append-nil vs)
 constant_values p (o ∷ os) vs ws is = elim (cases_option (constant_in o)) [
   | inl none ↦ let never : None ≡ Some ws = rw none at is in cc
@@ -51,11 +51,11 @@ constant_values p (o ∷ os) vs ws is = elim (cases_option (constant_in o)) [
 
 -- ---- one process alone
 
-abbrev solo : State → Process → State
+abbrev pub solo : State → Process → State
 solo s p = record s { processes = p ∷ [] }
 
 -- what becomes of the process by a step
-abbrev Becomes : Went → State → Process → State → Type 0
+abbrev pub Becomes : Went → State → Process → State → Type 0
 Becomes (Goes next) s p new = (q : Process) × (new ≡ solo s q) × (q.name ≡ p.name) × (q.script ≡ p.script) × (q.place ≡ p.place + 1) × (q.status ≡ p.status) × (q.printed ≡ next.printed) × (q.replies ≡ next.replies)
 Becomes (Stops status) s p new = new ≡ solo s (ended status p)
 
@@ -123,14 +123,14 @@ sqls cursor (Constant v) os st is s p = elim (cases_option (constants_in os)) [
       asked cursor v (operand_values p os) st asks_so s p
 ]
 
-effect : (i : Instr) (st : PlainStep) → plain_step i ≡ Some st → (s : State) (p : Process) → Becomes (take_step s.tables st (shown_as p.printed p.replies)) s p (execute i 0 p (solo s p))
+pub effect : (i : Instr) (st : PlainStep) → plain_step i ≡ Some st → (s : State) (p : Process) → Becomes (take_step s.tables st (shown_as p.printed p.replies)) s p (execute i 0 p (solo s p))
 effect (Print os) st is s p = shows os st is s p
 effect (Exit o) st is s p = stops o st is s p
 effect (Sql cursor o os) st is s p = sqls cursor o os st is s p
 effect other st is s p = cc
 
 -- a plain instruction waits for no child
-goes_on : (i : Instr) (st : PlainStep) → plain_step i ≡ Some st → (p : Process) (ps : List Process) → is_waiting (Some i) p ps ≡ false
+pub goes_on : (i : Instr) (st : PlainStep) → plain_step i ≡ Some st → (p : Process) (ps : List Process) → is_waiting (Some i) p ps ≡ false
 goes_on (Print os) st is p ps = refl
 goes_on (Exit o) st is p ps = refl
 goes_on (Sql cursor o os) st is p ps = refl
@@ -151,7 +151,7 @@ pick_one seed last x = elim (cases_Bool (seed == 0)) [
   | inr other ↦ rw other (index_single (x / 2 ^ 33 % 1))
 ]
 
-picks_it : (s : State) (p : Process) → p.status ≡ None → is_waiting (slice_get p.script p.place) p (p ∷ []) ≡ false → pick (solo s p) ≡ 0
+pub picks_it : (s : State) (p : Process) → p.status ≡ None → is_waiting (slice_get p.script p.place) p (p ∷ []) ≡ false → pick (solo s p) ≡ 0
 picks_it s p going free =
     let alive : is_runnable (p ∷ []) p ≡ true =
     ap (λ (o : Option ℕ). is_none o && not (is_waiting (slice_get p.script p.place) p (p ∷ []))) going ∙ ap not free in
@@ -160,10 +160,10 @@ picks_it s p going free =
 
 -- ---- a step of the process alone
 
-abbrev moved : State → Process → State
+abbrev pub moved : State → Process → State
 moved s p = record s { last = pick (solo s p); x = moved_x s.seed s.x }
 
-advances : (s : State) (p : Process) → p.status ≡ None → is_waiting (slice_get p.script p.place) p (p ∷ []) ≡ false → advanced (solo s p) ≡ execute_next (slice_get p.script p.place) 0 p (solo (moved s p) p)
+pub advances : (s : State) (p : Process) → p.status ≡ None → is_waiting (slice_get p.script p.place) p (p ∷ []) ≡ false → advanced (solo s p) ≡ execute_next (slice_get p.script p.place) 0 p (solo (moved s p) p)
 advances s p going free =
     let alive : all_ended (solo s p) ≡ false = rw going refl in
     rw alive (ap (step (solo (moved s p) p)) (picks_it s p going free))
@@ -190,13 +190,13 @@ run_add (suc m) n s =
 
 -- ---- the instructions that are left
 
-abbrev Does : List Instr → List PlainStep → Type 0
+abbrev pub Does : List Instr → List PlainStep → Type 0
 Does [] [] = Unit {0}
 Does [] (st ∷ sts) = ⊥
 Does (i ∷ is) [] = ⊥
 Does (i ∷ is) (st ∷ sts) = (plain_step i ≡ Some st) × Does is sts
 
-does_them : (is : List Instr) (acc plan : List PlainStep) → steps_onto acc is ≡ Some plan → (sts : List PlainStep) × (plan ≡ acc ++ sts) × Does is sts
+pub does_them : (is : List Instr) (acc plan : List PlainStep) → steps_onto acc is ≡ Some plan → (sts : List PlainStep) × (plan ≡ acc ++ sts) × Does is sts
 does_them [] acc plan is = let e : acc ≡ plan = cc in ([], sym e ∙ sym (append-nil acc), tt)
 does_them (i ∷ rest) acc plan is = elim (cases_option (plain_step i)) [
   | inl none ↦ let never : None ≡ Some plan = rw none at is in cc
@@ -212,10 +212,10 @@ first_suc [] (suc k) x rest is = cc
 first_suc (y ∷ ys) zero x rest is = (cc, cc)
 first_suc (y ∷ ys) (suc k) x rest is = first_suc ys k x rest is
 
-first_of_rest : (xs : List Instr) (k : ℕ) (x : Instr) (rest : List Instr) → drop k xs ≡ x ∷ rest → (slice_get xs k ≡ Some x) × (drop (k + 1) xs ≡ rest)
+pub first_of_rest : (xs : List Instr) (k : ℕ) (x : Instr) (rest : List Instr) → drop k xs ≡ x ∷ rest → (slice_get xs k ≡ Some x) × (drop (k + 1) xs ≡ rest)
 first_of_rest xs k x rest is = rw add-one (first_suc xs k x rest is)
 
-none_of_rest : (xs : List Instr) (k : ℕ) → drop k xs ≡ [] → slice_get xs k ≡ None
+pub none_of_rest : (xs : List Instr) (k : ℕ) → drop k xs ≡ [] → slice_get xs k ≡ None
 none_of_rest [] zero is = refl
 none_of_rest [] (suc k) is = refl
 none_of_rest (y ∷ ys) zero is = cc
@@ -282,11 +282,11 @@ came_outcome s f came =
 came_within : (n : ℕ) (s : State) (f : Finish) → Came (run n s) (0 ∷ []) f → outcome_within n s ≡ Some (outcome_from f)
 came_within n s f came = rw (came_all_ended (run n s) (0 ∷ []) f came) (ap Some (came_outcome (run n s) f came))
 
-short_or_none : (b : Bool) (o : Option (List PlainStep)) (sts : List PlainStep) → (if b then None else o) ≡ Some sts → (b ≡ false) × (o ≡ Some sts)
+pub short_or_none : (b : Bool) (o : Option (List PlainStep)) (sts : List PlainStep) → (if b then None else o) ≡ Some sts → (b ≡ false) × (o ≡ Some sts)
 short_or_none true o sts is = cc
 short_or_none false o sts is = (refl, is)
 
-plain_length : (script : List Instr) (sts : List PlainStep) → plain_script script ≡ Some sts → length script ≤ 1000
+pub plain_length : (script : List Instr) (sts : List PlainStep) → plain_script script ≡ Some sts → length script ≤ 1000
 plain_length script sts is =
     let short : nat_lt 1000 (length script) ≡ false = (short_or_none (nat_lt 1000 (length script)) (plain_steps script) sts is).0 in
     grind (arith, nat_tests)

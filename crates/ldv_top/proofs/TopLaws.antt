@@ -4,8 +4,6 @@ use Rattle.std.specs.Prelude.{Option, Some, None, ◌⊎◌}
 use Rattle.std.specs.Io.KnownBytes.{Consumes, IsAtEnd}
 use Rattle.ldv_top.specs.Comes.{Comes}
 use Rattle.ldv_top.specs.Due.{Due}
-use Rattle.ldv_top.specs.declared.command.Command.{Command}
-use Rattle.ldv_top.specs.declared.command.Command.TheVariants.{Run}
 use Rattle.ldv_top.specs.declared.exit.Exit.{Exit}
 use Rattle.ldv_top.specs.declared.exit.Exit.TheVariants.{Done, Usage, ReadFault, WriteFault, TooLong, NotWorld, NotEnded, Damaged, Diverged, NoSuch, NoMemory, PackageTooLong, NotBuilt}
 
@@ -32,7 +30,3 @@ complete d (Diverged process index) old new R W out is read write no_read no_wri
 complete d NoSuch old new R W out is read write no_read no_write = let e : NoSuch ≡ Done = sym out ∙ is in cc
 complete d PackageTooLong old new R W out is read write no_read no_write = let e : PackageTooLong ≡ Done = sym out ∙ is in cc
 complete d NotBuilt old new R W out is read write no_read no_write = let e : NotBuilt ≡ Done = sym out ∙ is in cc
-
--- there is one command
-pub only_run : (c : Command) → c ≡ Run
-only_run Run = refl

@@ -2,7 +2,10 @@ pub mod Comes
 pub mod Cuts
 pub mod Due
 pub mod Exits
+pub mod Headline
+pub mod Packages
 pub mod Plain
 pub mod Replies
 pub mod Selections
+pub mod Traces
 pub mod Written

@@ -27,7 +27,7 @@ fn is_equal(a: &Value, b: &Value) -> bool
     }
 }
 
-fn is_row_picked(row: &TableRow, place: usize, constant: &Value) -> bool
+pub fn is_row_picked(row: &TableRow, place: usize, constant: &Value) -> bool
     ensures { result ≡ is_picked place constant.now row.now }
 {
     match row.values.get(place) {
@@ -79,7 +79,7 @@ fn pick_rows(
     Ok(copies)
 }
 
-fn fits(constant: &Value, column: &Column) -> bool
+pub fn fits(constant: &Value, column: &Column) -> bool
     ensures { result ≡ fits_column constant.now column.now }
 {
     match constant {
@@ -119,7 +119,7 @@ fn reply_at(
     }
 }
 
-fn count_named(columns: &[Column], name: &Utf8) -> usize
+pub fn count_named(columns: &[Column], name: &Utf8) -> usize
     ensures { result ≡ length (filter (is_column name.now) columns.now) }
 {
     columns
@@ -128,7 +128,7 @@ fn count_named(columns: &[Column], name: &Utf8) -> usize
         .count()
 }
 
-fn place_named(columns: &[Column], name: &Utf8) -> Option<usize>
+pub fn place_named(columns: &[Column], name: &Utf8) -> Option<usize>
     ensures { result ≡ position (is_column name.now) columns.now }
 {
     columns.iter().position(|column| column.name.is_same(name))
@@ -177,7 +177,7 @@ fn reply_of_table(
     }
 }
 
-fn find_table<'a>(tables: &'a [Table], name: &Utf8) -> Option<&'a Table>
+pub fn find_table<'a>(tables: &'a [Table], name: &Utf8) -> Option<&'a Table>
     ensures { option_map (λ x. x.now) result ≡ table_at name.now tables.now }
 {
     tables.iter().find(|table| table.name.is_same(name))

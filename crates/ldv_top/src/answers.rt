@@ -9,6 +9,7 @@ ghost use Rattle.ldv_top.specs.Plain.{finish_of, outcome_from, plain_script};
 use crate::finish::{outcome_of, run_steps};
 use crate::plain::{PlainSteps, plain_of};
 use ldv_value::{Bytes, File, Utf8};
+use package_layout::DamageKind;
 use run_model::{World, outcome_text};
 use script_parse::{Script, ScriptStop, parse_script};
 use std::alloc::{AllocError, Global};
@@ -21,8 +22,12 @@ pub enum Answer {
     Written(Bytes),
     /// The input is no world.
     NotWorld(WorldFault),
-    /// The world can't be run yet.
+    /// The world can't be run yet, or the package is one that can't be replayed yet.
     NotBuilt,
+    /// The input is no package.
+    Damaged(DamageKind),
+    /// The package would have more than 67,108,864 bytes.
+    PackageTooLong,
 }
 
 fn find_file<'a>(files: &'a [File], path: &Utf8) -> Option<&'a File>
@@ -51,7 +56,9 @@ fn script_in(alloc: Global, bytes: &[u8]) -> Result<Option<Script>, AllocError>
     }
 }
 
-fn start_script_of(alloc: Global, world: &World) -> Result<Option<Script>, AllocError>
+/// The script of the file that the first start word names; `None` where there is none. `AllocError` means
+/// want of memory alone.
+pub(crate) fn start_script_of(alloc: Global, world: &World) -> Result<Option<Script>, AllocError>
     requires { has_small_files world.now ≡ true }
     ensures { IfOk result (λ script. option_map (λ s. s.instructions) script ≡ start_script world.now) }
 {
@@ -81,7 +88,8 @@ fn answer_script(alloc: Global, world: &World, script: &Script) -> Result<Answer
     }
 }
 
-fn answer_world(alloc: Global, world: &World) -> Result<Answer, AllocError>
+/// What the run of a world comes to. `AllocError` means want of memory alone.
+pub(crate) fn answer_world(alloc: Global, world: &World) -> Result<Answer, AllocError>
     requires { has_small_files world.now ≡ true }
     ensures { IfOk result (λ answer. answer_due answer ≡ due_world world.now) }
 {

@@ -8,6 +8,10 @@ ghost use Rattle.ldv_top.specs.Due.{command_of};
 pub enum Command {
     /// `run`: the input is a world document, the output its outcome.
     Run,
+    /// `record`: the input is a world document, the output the package of its run.
+    Record,
+    /// `replay`: the input is a package, the output the outcome of the world in it.
+    Replay,
 }
 
 /// The command that the words are, `None` where they are none.
@@ -25,6 +29,10 @@ fn command_named(word: &str) -> Option<Command>
 {
     if word == "run" {
         Some(Command::Run)
+    } else if word == "record" {
+        Some(Command::Record)
+    } else if word == "replay" {
+        Some(Command::Replay)
     } else {
         None
     }

@@ -57,7 +57,17 @@ fn passes_limit(printed: usize, more: usize) -> bool
 }
 
 impl Shown {
-    ghost use Rattle.ldv_top.specs.Plain.{shown_line, Took, take_step, finish_of};
+    ghost use Rattle.ldv_top.specs.Plain.{shown_line, Took, take_step, finish_of, shown_as};
+
+    /// Nothing printed and no reply. It takes no memory.
+    pub fn new(alloc: Global) -> Self
+        ensures { result ≡ shown_as [] [] }
+    {
+        Shown {
+            printed: Bytes::new(alloc),
+            replies: Replies::new(alloc),
+        }
+    }
 
     // Prints a line, or gives the status of misuse where too much would be printed.
     fn print(&mut self, line: &Bytes) -> Result<Option<u8>, AllocError>
@@ -83,8 +93,9 @@ impl Shown {
         self.replies.push(reply_to(alloc, selection, tables)?)
     }
 
-    // Takes a step, and gives the status where the step ends the process.
-    fn take(
+    /// Takes a step, and gives the status where the step ends the process. `AllocError` means want of
+    /// memory alone.
+    pub fn take(
         &mut self,
         alloc: Global,
         step: &PlainStep,
@@ -132,10 +143,7 @@ fn small_or_misuse(number: i64) -> u8
 pub fn run_steps(alloc: Global, steps: &PlainSteps, tables: &[Table]) -> Result<Finish, AllocError>
     ensures { IfOk result (λ end. end ≡ finish_of tables.now steps.now) }
 {
-    let mut shown = Shown {
-        printed: Bytes::new(alloc),
-        replies: Replies::new(alloc),
-    };
+    let mut shown = Shown::new(alloc);
     for step in steps.items() {
         match shown.take(alloc, step, tables)? {
             Some(status) => return Ok(Finish { status, shown }),

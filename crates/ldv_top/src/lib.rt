@@ -1,4 +1,18 @@
-//! The top call.
+//! The program without its streams: `ldv` reads a source, and writes what the words ask for to a sink.
+//!
+//! The commands are `run`, `record` and `replay`. It promises, in the clauses of `ldv`:
+//! - the exit and the bytes are those that are due for the words and the input (`specs/Due.antt`); only a
+//!   fault of a stream, where its count of faults rose, or want of memory comes in their place;
+//! - where all is written, what `record` wrote is the package of the document's world. It is read back as
+//!   that package, has exactly the files, tables and rows that the run needed, each row with the first
+//!   statement that needed it and its rule, and its replay comes to what `run` comes to
+//!   (`specs/Headline.antt`, `Recorded`);
+//! - the package of any valid world whose run ends is replayed as the world is run (`IsPackageOf`): the
+//!   package's own world is run again, and its trace isn't asked;
+//! - bytes that are no package, a package that would be too long and one that can't be replayed yet are
+//!   refused, and then nothing is written.
+//!
+//! `ldv_main` says the same of the exit of which it tells the line and gives the status.
 #![tactic(auto)]
 
 mod answer;
@@ -6,12 +20,21 @@ mod answers;
 mod command;
 mod exit;
 mod finish;
+mod headline;
 mod lines;
+mod needs;
+#[cfg(test)]
+mod package_tests;
 mod plain;
+mod record;
+mod replay;
+#[cfg(test)]
+mod samples;
 mod selection;
 #[cfg(test)]
 mod tests;
 mod top;
+mod trace;
 
 pub use command::Command;
 pub use exit::{Exit, status};

@@ -12,20 +12,20 @@ use std::test::Fail;
 
 // What a call of the program left: its status, what was written, and its line.
 #[derive(Drop)]
-struct Ended {
-    status: u8,
-    written: Vec<u8>,
-    line: Vec<u8>,
+pub(crate) struct Ended {
+    pub(crate) status: u8,
+    pub(crate) written: Vec<u8>,
+    pub(crate) line: Vec<u8>,
 }
 
 // A call of which the reads and writes with these numbers fail; 0 is none.
 #[derive(Clone, Copy)]
-struct Faults {
-    read: u64,
-    write: u64,
+pub(crate) struct Faults {
+    pub(crate) read: u64,
+    pub(crate) write: u64,
 }
 
-const NONE: Faults = Faults { read: 0, write: 0 };
+pub(crate) const NONE: Faults = Faults { read: 0, write: 0 };
 
 fn calls(alloc: Global, number: u64) -> Result<Calls, AllocError> {
     let mut calls = Calls::new(alloc);
@@ -41,7 +41,12 @@ fn words_of(alloc: Global, words: &[&str]) -> Result<Vec<String>, AllocError> {
     Ok(all)
 }
 
-fn call(alloc: Global, words: &[&str], input: Bytes, faults: Faults) -> Result<Ended, AllocError> {
+pub(crate) fn call(
+    alloc: Global,
+    words: &[&str],
+    input: Bytes,
+    faults: Faults,
+) -> Result<Ended, AllocError> {
     let words = words_of(alloc, words)?;
     let mut source = MemorySource::new(input, 10_000, calls(alloc, faults.read)?);
     let mut sink = MemorySink::new(alloc, 1_048_576, 10, calls(alloc, faults.write)?)?;
@@ -55,7 +60,7 @@ fn call(alloc: Global, words: &[&str], input: Bytes, faults: Faults) -> Result<E
 }
 
 // A world of one script, whose quotes and ends of lines are written as in JSON.
-fn of_script(alloc: Global, script: &str) -> Result<Bytes, AllocError> {
+pub(crate) fn of_script(alloc: Global, script: &str) -> Result<Bytes, AllocError> {
     let mut text = String::from_str(alloc, r#"{"start":["main"],"files":{"main":""#)?;
     text.push_str(script)?;
     text.push_str(r#""}}"#)?;
@@ -63,7 +68,7 @@ fn of_script(alloc: Global, script: &str) -> Result<Bytes, AllocError> {
 }
 
 // The same with the table t: v INT, g TEXT and the rows (1, 'a'), (2, 'b') and (2, NULL).
-fn over_table(alloc: Global, script: &str) -> Result<Bytes, AllocError> {
+pub(crate) fn over_table(alloc: Global, script: &str) -> Result<Bytes, AllocError> {
     let mut text = String::from_str(alloc, r#"{"start":["main"],"files":{"main":""#)?;
     text.push_str(script)?;
     text.push_str(
@@ -251,6 +256,9 @@ fn judges_the_words_first(rt: HostRuntime) -> Result<(), Fail> {
     expect_usage(&rt, alloc, &["run", "run"])?;
     expect_usage(&rt, alloc, &["Run"])?;
     expect_usage(&rt, alloc, &["--help"])?;
+    expect_usage(&rt, alloc, &["record", "x"])?;
+    expect_usage(&rt, alloc, &["record", "--excluded"])?;
+    expect_usage(&rt, alloc, &["replay", "replay"])?;
     expect_usage(&rt, alloc, &[""])?;
     Ok(())
 }

@@ -1,0 +1,146 @@
+//! From a package to the outcome of its own world.
+
+ghost use Rattle.std.specs.Prelude.{◌≡◌, ◌≤◌, ◌++◌, true, map, length, IfOk};
+ghost use Rattle.run_model.specs.Slice.{or_empty, own_file, own_row, own_table, own_world};
+ghost use Rattle.run_model.specs.Start.{has_small_files};
+ghost use Rattle.ldv_top.specs.Due.{answer_due, due_world, replayed_by, due_replay};
+
+use crate::answers::{Answer, answer_world};
+use ldv_value::{Bytes, File, Files};
+use package_layout::{PackageStop, read_package};
+use run_model::{
+    Mode, Package, PackedFile, PackedFiles, PackedRow, PackedRows, PackedTable, PackedTables, World,
+};
+use sql_model::{Table, TableRow, TableRows, Tables};
+use std::alloc::{AllocError, Global};
+
+fn or_empty(alloc: Global, content: Option<Bytes>) -> Bytes
+    ensures { result ≡ or_empty content }
+{
+    match content {
+        None => Bytes::new(alloc),
+        Some(bytes) => bytes,
+    }
+}
+
+fn own_file(alloc: Global, file: PackedFile) -> File
+    ensures { result ≡ own_file file }
+{
+    let PackedFile { path, content } = file;
+    File {
+        path,
+        content: or_empty(alloc, content),
+    }
+}
+
+fn own_files(alloc: Global, packed: PackedFiles) -> Result<Files, AllocError>
+    ensures { IfOk result (λ files. files ≡ map own_file packed) }
+{
+    let mut files = Files::new(alloc);
+    for file in packed.into_vec() {
+        files.push(own_file(alloc, file))?;
+    }
+    Ok(files)
+}
+
+fn own_row(row: PackedRow) -> TableRow
+    ensures { result ≡ own_row row }
+{
+    let PackedRow {
+        number,
+        statement: _,
+        rule: _,
+        values,
+    } = row;
+    TableRow { number, values }
+}
+
+fn own_rows(alloc: Global, packed: PackedRows) -> Result<TableRows, AllocError>
+    ensures { IfOk result (λ rows. rows ≡ map own_row packed) }
+{
+    let mut rows = TableRows::new(alloc);
+    for row in packed.into_vec() {
+        rows.push(own_row(row))?;
+    }
+    Ok(rows)
+}
+
+fn own_table(alloc: Global, table: PackedTable) -> Result<Table, AllocError>
+    ensures { IfOk result (λ own. own ≡ own_table table) }
+{
+    let PackedTable {
+        name,
+        schema,
+        next,
+        rows,
+    } = table;
+    Ok(Table {
+        name,
+        schema,
+        rows: own_rows(alloc, rows)?,
+        next,
+    })
+}
+
+fn own_tables(alloc: Global, packed: PackedTables) -> Result<Tables, AllocError>
+    ensures { IfOk result (λ tables. tables ≡ map own_table packed) }
+{
+    let mut tables = Tables::new(alloc);
+    for table in packed.into_vec() {
+        tables.push(own_table(alloc, table)?)?;
+    }
+    Ok(tables)
+}
+
+// The world of what is packed. The recorded trace and the logs are let go.
+fn own_world(alloc: Global, package: Package) -> Result<World, AllocError>
+    ensures { IfOk result (λ world. world ≡ own_world «package») }
+{
+    let Package {
+        mode: _,
+        start,
+        seed,
+        steps: _,
+        files,
+        tables,
+        logs: _,
+        events: _,
+    } = package;
+    Ok(World {
+        start,
+        seed,
+        files: own_files(alloc, files)?,
+        tables: own_tables(alloc, tables)?,
+    })
+}
+
+fn replay_included(alloc: Global, package: Package) -> Result<Answer, AllocError>
+    requires { has_small_files (own_world «package») ≡ true }
+    ensures { IfOk result (λ answer. answer_due answer ≡ due_world (own_world «package»)) }
+{
+    let world = own_world(alloc, package)?;
+    answer_world(alloc, &world)
+}
+
+fn replay_package(alloc: Global, package: Package) -> Result<Answer, AllocError>
+    requires { has_small_files (own_world «package») ≡ true }
+    ensures { IfOk result (λ answer. answer_due answer ≡ replayed_by «package».mode «package») }
+{
+    match package.mode {
+        Mode::Excluded => Ok(Answer::NotBuilt),
+        Mode::Included => replay_included(alloc, package),
+    }
+}
+
+/// What `replay` comes to for an input. `AllocError` means want of memory alone.
+#[tactic(auto, using(crate::proofs::ReplayLaws::own_small))]
+pub fn answer_replay(alloc: Global, input: &Bytes) -> Result<Answer, AllocError>
+    requires { length input.now ≤ 67108864 }
+    ensures { IfOk result (λ answer. answer_due answer ≡ due_replay input.now) }
+{
+    match read_package(alloc, input.as_slice()) {
+        Ok(package) => replay_package(alloc, package),
+        Err(PackageStop::Damaged(kind)) => Ok(Answer::Damaged(kind)),
+        Err(PackageStop::NoMemory) => Err(AllocError),
+    }
+}
