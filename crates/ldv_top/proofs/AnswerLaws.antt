@@ -11,6 +11,7 @@ use Rattle.run_model.specs.Start.{file_at, start_file, has_small_files}
 use Rattle.ldv_top.specs.declared.plain.PlainStep.{PlainStep}
 use Rattle.ldv_top.specs.Due.{default_budget, due_plain, due_outcome}
 use Rattle.ldv_top.specs.Plain.{plain_script, finish_of, outcome_from}
+use Rattle.ldv_top.proofs.BuiltLaw.{plain_steps_built}
 use Rattle.ldv_top.proofs.RunLaw.{plain_law}
 
 cases_option : {A : Type 0} (o : Option A) → (o ≡ None) ⊎ ((x : A) × (o ≡ Some x))
@@ -48,3 +49,5 @@ start_small w file small is = elim (cases_option (slice_get w.start 0)) [
 
 pub plain_due : (w : World) (script : List Instr) (sts : List PlainStep) → plain_script script ≡ Some sts → due_outcome (Some (outcome_from (finish_of w.tables sts))) ≡ due_plain (plain_script script) w script
 plain_due w script sts is = ap due_outcome (sym (plain_law w script sts default_budget (lit≤ tt) is)) ∙ ap (λ (o : Option (List PlainStep)). due_plain o w script) (sym is)
+
+pub ruleset plain_runs = (plain_due, plain_steps_built)

@@ -19,6 +19,8 @@ use Rattle.run_model.specs.declared.package.PackedFile.{PackedFile}
 use Rattle.run_model.specs.declared.package.PackedRow.{PackedRow}
 use Rattle.run_model.specs.declared.package.PackedTable.{PackedTable}
 use Rattle.run_model.specs.declared.world.World.{World}
+use Rattle.sql_model.specs.Keys.{repeats, has_two_of_a_key}
+use Rattle.sql_model.proofs.Seen.{repeats_map}
 use Rattle.package_layout.specs.Order as order
 use Rattle.package_layout.specs.Order.{is_below, file_below, row_below, table_below, is_below_next}
 use Rattle.package_layout.specs.Room.{few, key_room, row_room, table_room}
@@ -53,19 +55,6 @@ twice h g (x ∷ xs) = ap (λ zs. h (g x) ∷ zs) (twice h g xs)
 length_of_map : {X Y : Type 0} (h : X → Y) (xs : List X) → length (map h xs) ≡ length xs
 length_of_map h [] = refl
 length_of_map h (x ∷ xs) = ap suc (length_of_map h xs)
-
--- both know whether an item stands twice
-repeats_same : {X : Type 0} (same : X → X → Bool) (xs : List X) → order.repeats same xs ≡ faults.repeats same xs
-repeats_same same [] = refl
-repeats_same same (x ∷ xs) = ap (λ b. list_any (same x) xs || b) (repeats_same same xs)
-
-any_mapped : {X Y : Type 0} (p : Y → Bool) (h : X → Y) (xs : List X) → list_any p (map h xs) ≡ list_any (λ x. p (h x)) xs
-any_mapped p h [] = refl
-any_mapped p h (x ∷ xs) = ap (λ b. p (h x) || b) (any_mapped p h xs)
-
-repeats_mapped : {X Y : Type 0} (same : Y → Y → Bool) (h : X → Y) (xs : List X) → faults.repeats same (map h xs) ≡ order.repeats (λ a b. same (h a) (h b)) xs
-repeats_mapped same h [] = refl
-repeats_mapped same h (x ∷ xs) = λ j. any_mapped (same (h x)) h xs j || repeats_mapped same h xs j
 
 all_of : {X Y : Type 0} (P : X → Type 0) (p : Y → Bool) (h : X → Y) → ((x : X) → P x → p (h x) ≡ true) → (xs : List X) → AllByRecursion P xs → list_all p (map h xs) ≡ true
 all_of P p h keeps [] all = refl
@@ -105,16 +94,16 @@ module _ (n : ℕ) where
       ]
 
   abbrev are_different : List ℕ → Type 0
-  are_different xs = order.repeats (λ a b. a == b) xs ≡ false
+  are_different xs = repeats (λ a b. a == b) xs ≡ false
 
   different_without : (xs : List ℕ) → are_different xs → are_different (without xs)
   different_without [] none = refl
   different_without (x ∷ xs) none =
-      let both = or_parts (list_any (λ y. x == y) xs) (order.repeats (λ a b. a == b) xs) none in
+      let both = or_parts (list_any (λ y. x == y) xs) (repeats (λ a b. a == b) xs) none in
       let rest : are_different (without xs) = different_without xs both.1 in
       elim (cases_Bool (x == n)) [
         | inl hit ↦ rw hit rest
-        | inr miss ↦ rw miss (or_from (list_any (λ y. x == y) (without xs)) (order.repeats (λ a b. a == b) (without xs)) (any_without (λ y. x == y) xs both.0) rest)
+        | inr miss ↦ rw miss (or_from (list_any (λ y. x == y) (without xs)) (repeats (λ a b. a == b) (without xs)) (any_without (λ y. x == y) xs both.0) rest)
       ]
 
   lower : (x : ℕ) → nat_lt x (suc n) ≡ true → (x == n) ≡ false → nat_lt x n ≡ true
@@ -143,7 +132,7 @@ module _ (n : ℕ) where
   one_without : (xs : List ℕ) → are_different xs → length xs ≤ suc (length (without xs))
   one_without [] none = omega arith
   one_without (x ∷ xs) none =
-      let both = or_parts (list_any (λ y. x == y) xs) (order.repeats (λ a b. a == b) xs) none in
+      let both = or_parts (list_any (λ y. x == y) xs) (repeats (λ a b. a == b) xs) none in
       elim (cases_Bool (x == n)) [
         | inl hit ↦
             let here : x ≡ n = (Decides-eqb x n).0 hit in
@@ -158,7 +147,7 @@ none_below : (xs : List ℕ) → list_all (λ x. nat_lt x 0) xs ≡ true → len
 none_below [] all = omega arith
 none_below (x ∷ xs) all = let both = and_parts (nat_lt x 0) (list_all (λ x. nat_lt x 0) xs) all in let none : x < 0 = ltb-true x 0 both.0 in omega arith
 
-at_most : (n : ℕ) (xs : List ℕ) → list_all (λ x. nat_lt x n) xs ≡ true → order.repeats (λ a b. a == b) xs ≡ false → length xs ≤ n
+at_most : (n : ℕ) (xs : List ℕ) → list_all (λ x. nat_lt x n) xs ≡ true → repeats (λ a b. a == b) xs ≡ false → length xs ≤ n
 at_most zero xs all none = none_below xs all
 at_most (suc n) xs all none =
     let rest : length (without n xs) ≤ n = at_most n (without n xs) (below_without n xs all) (different_without n xs none) in
@@ -215,12 +204,12 @@ module _ (columns : List Column) where
       (different_place a b one there.0 apart.0) (no_other_place a one names there.1 apart.1)
 
   -- names that differ have places that differ
-  different_places : (names : List (List ℕ)) → list_all (is_column columns) names ≡ true → faults.repeats bytes_eq names ≡ false → order.repeats (λ a b. a == b) (key_places columns names) ≡ false
+  different_places : (names : List (List ℕ)) → list_all (is_column columns) names ≡ true → repeats bytes_eq names ≡ false → repeats (λ a b. a == b) (key_places columns names) ≡ false
   different_places [] all none = refl
   different_places (a ∷ names) all none =
       let there = and_parts (is_column columns a) (list_all (is_column columns) names) all in
-      let apart = or_parts (list_any (bytes_eq a) names) (faults.repeats bytes_eq names) none in
-      or_from (list_any (λ y. place_in columns a == y) (map (place_in columns) names)) (order.repeats (λ a b. a == b) (key_places columns names))
+      let apart = or_parts (list_any (bytes_eq a) names) (repeats bytes_eq names) none in
+      or_from (list_any (λ y. place_in columns a == y) (map (place_in columns) names)) (repeats (λ a b. a == b) (key_places columns names))
       (no_other_place a there.0 names there.1 apart.0) (different_places names there.1 apart.1)
 
   places_below : (limit : ℕ) → length columns ≤ limit → (names : List (List ℕ)) → list_all (is_column columns) names ≡ true → list_all (λ place. nat_lt place limit) (key_places columns names) ≡ true
@@ -239,10 +228,10 @@ any_named name (c ∷ columns) any = elim (cases_Bool (bytes_eq name c.name)) [
   | inr miss ↦ rw miss (any_named name columns (rw miss at any))
 ]
 
-only_column : (name : List ℕ) (columns : List Column) → faults.is_not_null columns name ≡ true → order.repeats valid.has_same_name columns ≡ false → valid.is_not_null (find (has_name name) columns) ≡ true
+only_column : (name : List ℕ) (columns : List Column) → faults.is_not_null columns name ≡ true → repeats valid.has_same_name columns ≡ false → valid.is_not_null (find (has_name name) columns) ≡ true
 only_column name [] any none = cc
 only_column name (c ∷ columns) any none =
-    let apart = or_parts (list_any (valid.has_same_name c) columns) (order.repeats valid.has_same_name columns) none in
+    let apart = or_parts (list_any (valid.has_same_name c) columns) (repeats valid.has_same_name columns) none in
     elim (cases_Bool (bytes_eq name c.name)) [
       | inl hit ↦ elim (cases_Bool c.not_null) [
         | inl filled ↦ rw hit filled
@@ -259,7 +248,7 @@ not_null_at : (o : Option Column) → valid.is_not_null o ≡ true → (c : Colu
 not_null_at None filled = cc
 not_null_at (Some c) filled = (c, refl)
 
-places_filled : (columns : List Column) → order.repeats valid.has_same_name columns ≡ false → (names : List (List ℕ)) → list_all (faults.is_not_null columns) names ≡ true
+places_filled : (columns : List Column) → repeats valid.has_same_name columns ≡ false → (names : List (List ℕ)) → list_all (faults.is_not_null columns) names ≡ true
     → list_all (λ place. valid.is_not_null (slice_get columns place)) (key_places columns names) ≡ true
 places_filled columns none [] all = refl
 places_filled columns none (name ∷ names) all =
@@ -344,23 +333,23 @@ record FitDraft (draft : Draft) : Type 0 where
 record Parts (draft : Draft) : Type 0 where
   name : sql_name_test draft.name ≡ true
   column_names : list_all (λ column. sql_name_test column.name) draft.columns ≡ true
-  unlike : order.repeats valid.has_same_name draft.columns ≡ false
+  unlike : repeats valid.has_same_name draft.columns ≡ false
   key_known : list_all (is_column draft.columns) draft.key ≡ true
-  key_unlike : faults.repeats bytes_eq draft.key ≡ false
+  key_unlike : repeats bytes_eq draft.key ≡ false
   some_columns : nat_le 1 (length draft.columns) ≡ true
   few_columns : nat_le (length draft.columns) 64 ≡ true
   short : list_all (list_all is_value_short) draft.rows ≡ true
   numbers : nat_le (length draft.rows) draft.next ≡ true
   key_filled : list_all (faults.is_not_null draft.columns) draft.key ≡ true
-  key_once : not (faults.has_two_of_a_key (key_places draft.columns draft.key) draft.rows) ≡ true
+  key_once : not (has_two_of_a_key (key_places draft.columns draft.key) draft.rows) ≡ true
 
 parts_of : (draft : Draft) → FitDraft draft → Parts draft
 parts_of draft fit =
     let columns : List Column = draft.columns in
     let names : Bool = list_all (λ column. sql_name_test column.name) columns in
-    let columns_differ : Bool = not (faults.repeats bytes_eq (map (λ (column : Column). column.name) columns)) in
+    let columns_differ : Bool = not (repeats bytes_eq (map (λ (column : Column). column.name) columns)) in
     let known : Bool = list_all (is_column columns) draft.key in
-    let key_differs : Bool = not (faults.repeats bytes_eq draft.key) in
+    let key_differs : Bool = not (repeats bytes_eq draft.key) in
     let least : Bool = nat_le 1 (length columns) in
     let most : Bool = nat_le (length columns) 64 in
     let count : Bool = nat_le (length draft.rows) 1000000 in
@@ -376,13 +365,13 @@ parts_of draft fit =
     let w3 = and_parts (least && most) count w2.0 in
     let w4 = and_parts least most w3.0 in
     let w5 = and_parts above top w1.1 in
-    let k = and_parts (list_all (faults.is_not_null columns) draft.key) (not (faults.has_two_of_a_key (key_places columns draft.key) draft.rows)) fit.keyed in
+    let k = and_parts (list_all (faults.is_not_null columns) draft.key) (not (has_two_of_a_key (key_places columns draft.key) draft.rows)) fit.keyed in
     record {
       name = n2.0;
       column_names = n3.0;
-      unlike = sym (repeats_mapped bytes_eq (λ (column : Column). column.name) columns) ∙ not-true (faults.repeats bytes_eq (map (λ (column : Column). column.name) columns)) n3.1;
+      unlike = sym (repeats_map bytes_eq (λ (column : Column). column.name) columns) ∙ not-true (repeats bytes_eq (map (λ (column : Column). column.name) columns)) n3.1;
       key_known = n4.0;
-      key_unlike = not-true (faults.repeats bytes_eq draft.key) n4.1;
+      key_unlike = not-true (repeats bytes_eq draft.key) n4.1;
       some_columns = w4.0;
       few_columns = w4.1;
       short = w2.1;
@@ -403,15 +392,15 @@ module _ (draft : Draft) (fit : FitDraft draft) where
       let least : Bool = nat_le 1 (length draft.columns) in
       let most : Bool = nat_le (length draft.columns) 64 in
       let names : Bool = list_all (λ column. sql_name_test column.name) draft.columns in
-      let once : not (order.repeats valid.has_same_name draft.columns) ≡ true = not_from_false (order.repeats valid.has_same_name draft.columns) p.unlike in
-      and_from (least && most && names) (not (order.repeats valid.has_same_name draft.columns)) (and_from (least && most) names (and_from least most p.some_columns p.few_columns) p.column_names) once
+      let once : not (repeats valid.has_same_name draft.columns) ≡ true = not_from_false (repeats valid.has_same_name draft.columns) p.unlike in
+      and_from (least && most && names) (not (repeats valid.has_same_name draft.columns)) (and_from (least && most) names (and_from least most p.some_columns p.few_columns) p.column_names) once
 
   key_met : Parts draft → valid.key_rule packed.schema ≡ true
   key_met p =
       let places : List ℕ = key_places draft.columns draft.key in
-      let once : order.repeats (λ a b. a == b) places ≡ false = different_places draft.columns draft.key p.key_known p.key_unlike in
-      and_from (list_all (λ place. valid.is_not_null (slice_get draft.columns place)) places) (not (order.repeats (λ a b. a == b) places))
-      (places_filled draft.columns p.unlike draft.key p.key_filled) (not_from_false (order.repeats (λ a b. a == b) places) once)
+      let once : repeats (λ a b. a == b) places ≡ false = different_places draft.columns draft.key p.key_known p.key_unlike in
+      and_from (list_all (λ place. valid.is_not_null (slice_get draft.columns place)) places) (not (repeats (λ a b. a == b) places))
+      (places_filled draft.columns p.unlike draft.key p.key_filled) (not_from_false (repeats (λ a b. a == b) places) once)
 
   table_met : valid.table_rule packed ≡ true
   table_met =
@@ -434,7 +423,7 @@ module _ (draft : Draft) (fit : FitDraft draft) where
       let places : List ℕ = key_places draft.columns draft.key in
       let wide : length draft.columns ≤ 64 = leb-true (length draft.columns) 64 p.few_columns in
       let below : list_all (λ place. nat_lt place 64) places ≡ true = places_below draft.columns 64 wide draft.key p.key_known in
-      let once : order.repeats (λ a b. a == b) places ≡ false = different_places draft.columns draft.key p.key_known p.key_unlike in
+      let once : repeats (λ a b. a == b) places ≡ false = different_places draft.columns draft.key p.key_known p.key_unlike in
       let few_places : length places ≤ 64 = at_most 64 places below once in
       let far_below : length draft.columns ≤ 256 = omega arith in
       let key : key_room places ≡ true = and_from (few places) (list_all (λ place. nat_lt place 256) places) (lt-ltb (length places) 256 (omega arith)) (places_below draft.columns 256 far_below draft.key p.key_known) in
@@ -445,9 +434,7 @@ module _ (draft : Draft) (fit : FitDraft draft) where
   once_met =
       let p : Parts draft = parts_of draft fit in
       let places : List ℕ = key_places draft.columns draft.key in
-      let keys : List (List Value) → List (List Value) = λ rows. map (valid.values_at places) rows in
-      ap (λ (rows : List (List Value)). not (valid.has_two_of_a_key places rows)) (values_back 0 draft.rows)
-      ∙ ap (λ (b : Bool). not (not (length places == 0) && b)) (repeats_same valid.is_same_key (keys draft.rows)) ∙ p.key_once
+      ap (λ (rows : List (List Value)). not (has_two_of_a_key places rows)) (values_back 0 draft.rows) ∙ p.key_once
 
 -- ---- rows are as wide as their table
 

@@ -7,6 +7,7 @@ use Rattle.script_parse.specs.declared.script.Instr.{Instr}
 use Rattle.run_model.specs.declared.outcome.Outcome.{Outcome}
 use Rattle.run_model.specs.declared.package.Package.{Package}
 use Rattle.run_model.specs.declared.world.World.{World}
+use Rattle.run_model.specs.Built.{built_within}
 use Rattle.run_model.specs.Ends.{outcome_within}
 use Rattle.run_model.specs.Run.{all_ended, run}
 use Rattle.run_model.specs.Slice.{own_world}
@@ -22,6 +23,7 @@ use Rattle.ldv_top.specs.declared.plain.PlainStep.{PlainStep}
 use Rattle.ldv_top.specs.Due.{Due, default_budget, due_outcome, due_plain, due_script, due_world, due_reading, due_run, is_too_long, due_spelling, recorded_outcome, recorded_plain, recorded_script, recorded_world, recorded_reading, due_record, replayed_reading, due_replay}
 use Rattle.ldv_top.specs.Headline.{IsPackageOf, Recorded, package_now}
 use Rattle.ldv_top.specs.Plain.{plain_script}
+use Rattle.ldv_top.proofs.BuiltLaw.{plain_built}
 
 cases_option : {A : Type 0} (o : Option A) → (o ≡ None) ⊎ ((x : A) × (o ≡ Some x))
 cases_option None = inl refl
@@ -29,9 +31,12 @@ cases_option (Some x) = inr (x, refl)
 
 -- ---- runs that end
 
--- a run that ended, by the script that it starts with
-abbrev Ran : World → Type 0
-Ran w = (script : List Instr) × (start_script w ≡ Some script) × (all_ended (run default_budget (start_state w script)) ≡ true)
+-- a run that ended and asked what can be run alone, by the script that it starts with
+pub record Ran (w : World) : Type 0 where
+  pub script : List Instr
+  pub starts : start_script w ≡ Some script
+  pub built : built_within default_budget w ≡ true
+  pub ended : all_ended (run default_budget (start_state w script)) ≡ true
 
 outcome_ends : (w : World) (script : List Instr) (outcome : Outcome) → outcome_within default_budget (start_state w script) ≡ Some outcome → all_ended (run default_budget (start_state w script)) ≡ true
 outcome_ends w script outcome is = elim (cases_Bool (all_ended (run default_budget (start_state w script)))) [
@@ -39,11 +44,11 @@ outcome_ends w script outcome is = elim (cases_Bool (all_ended (run default_budg
   | inr going ↦ let never : None ≡ Some outcome = rw going at is in cc
 ]
 
-plain_ends : (o : Option (List PlainStep)) (w : World) (script : List Instr) → (due_plain o w script).exit ≡ Done → (outcome : Outcome) × (outcome_within default_budget (start_state w script) ≡ Some outcome)
+plain_ends : (o : Option (List PlainStep)) (w : World) (script : List Instr) → (due_plain o w script).exit ≡ Done → ((steps : List PlainStep) × (o ≡ Some steps)) × ((outcome : Outcome) × (outcome_within default_budget (start_state w script) ≡ Some outcome))
 plain_ends None w script done = let never : NotBuilt ≡ Done = done in cc
 plain_ends (Some steps) w script done = elim (cases_option (outcome_within default_budget (start_state w script))) [
   | inl none ↦ let never : NotEnded default_budget ≡ Done = subst (λ (o : Option Outcome). (due_outcome o).exit ≡ Done) none done in cc
-  | inr outcome ↦ outcome
+  | inr outcome ↦ ((steps, refl), outcome)
 ]
 
 world_ends : (w : World) → (due_world w).exit ≡ Done → Ran w
@@ -51,8 +56,13 @@ world_ends w done = elim (cases_option (start_script w)) [
   | inl none ↦ let never : NotBuilt ≡ Done = subst (λ (o : Option (List Instr)). (due_script o w).exit ≡ Done) none done in cc
   | inr script ↦
       let plain : (due_plain (plain_script script.0) w script.0).exit ≡ Done = subst (λ (o : Option (List Instr)). (due_script o w).exit ≡ Done) script.1 done in
-      let outcome = plain_ends (plain_script script.0) w script.0 plain in
-      (script.0, script.1, outcome_ends w script.0 outcome.0 outcome.1)
+      let ends = plain_ends (plain_script script.0) w script.0 plain in
+      record {
+        script = script.0;
+        starts = script.1;
+        built = plain_built default_budget w script.0 ends.0.0 script.1 ends.0.1;
+        ended = outcome_ends w script.0 ends.1.0 ends.1.1;
+      }
 ]
 
 -- worlds with one script and one outcome come to the same
@@ -110,12 +120,12 @@ world_packed w done =
 
 module _ (again : (p : Package) → IsTyped p → Valid p → length (spelling p) ≤ 67108864 → reading (spelling p) ≡ Ok p) (valid : ValidPackageLaw) (replay : ReplayLaw) where
   read_back : (w : World) → Ran w → IsTrue (world_rules w) → IsTyped (package_now w) → length (spelling (package_now w)) ≤ 67108864 → reading (spelling (package_now w)) ≡ Ok (package_now w)
-  read_back w ran ruled typed short = again (package_now w) typed (valid default_budget w ran.0 ran.1 ruled (lit≤ tt) ran.2) short
+  read_back w ran ruled typed short = again (package_now w) typed (valid default_budget w ran.script ran.starts ran.built ruled (lit≤ tt) ran.ended) short
 
   own_due : (w : World) → Ran w → due_world (own_world (package_now w)) ≡ due_world w
   own_due w ran =
-      let same : SameRun default_budget (own_world (package_now w)) w ran.0 = replay default_budget w ran.0 ran.1 in
-      same_due (own_world (package_now w)) w ran.0 same.script_same ran.1 same.outcome
+      let same : SameRun default_budget (own_world (package_now w)) w ran.script = replay default_budget w ran.script ran.starts ran.built in
+      same_due (own_world (package_now w)) w ran.script same.script_same ran.starts same.outcome
 
   spelling_due : (w : World) → Ran w → IsTrue (world_rules w) → IsTyped (package_now w) → length (spelling (package_now w)) ≤ 67108864 → due_replay (spelling (package_now w)) ≡ due_world w
   spelling_due w ran ruled typed short =
@@ -126,7 +136,7 @@ module _ (again : (p : Package) → IsTyped p → Valid p → length (spelling p
   replay_due typed w input package_of =
       let ran : Ran w = world_ends w package_of.ends in
       ap due_replay package_of.same
-      ∙ spelling_due w ran package_of.valid.ruled (typed default_budget w ran.0 ran.1 package_of.valid (lit≤ tt) ran.2) package_of.short
+      ∙ spelling_due w ran package_of.valid.ruled (typed default_budget w ran.script ran.starts ran.built package_of.valid (lit≤ tt) ran.ended) package_of.short
 
   -- the package that is recorded of a document
   pub recorded_due : (document : List ℕ) (w : World) → length document ≤ 67108864 → world_reading document ≡ Ok w → IsTrue (world_rules w) → IsTyped (package_now w) → (due_record document).exit ≡ Done → Recorded document (due_record document).bytes

@@ -1,11 +1,10 @@
 pub mod AnswerLaws
-pub mod CutLemmas
+pub mod AskLaw
+pub mod BuiltLaw
 pub mod DocumentWorlds
 pub mod HeadlineLaw
-pub mod NeedLaw
 pub mod RecordLaws
 pub mod ReplayLaws
-pub mod ReplyLaw
 pub mod RisingRows
 pub mod RunLaw
 pub mod TopLaws

@@ -1,5 +1,5 @@
 -- What recording a world comes to.
-use Rattle.std.proofs.Common.{◌≡◌, ℕ, ◌≤◌, ◌<◌, List, length, refl, sym, ap, ◌∙◌, subst, true, false, IsTrue, arith, inl, inr, lit≤}
+use Rattle.std.proofs.Common.{◌≡◌, ℕ, ◌≤◌, ◌<◌, List, length, refl, sym, ap, ◌∙◌, subst, true, false, arith, inl, inr, lit≤}
 use Rattle.std.specs.Prelude.{[], Option, Some, None, Result, Ok, Err, OnOk, nat_lt}
 use Rattle.std.proofs.lemmas.Bool.Decides.{nat_tests}
 use Rattle.script_parse.specs.declared.script.Instr.{Instr}
@@ -11,7 +11,6 @@ use Rattle.run_model.specs.Slice.{files_needed, tables_needed, world_steps}
 use Rattle.run_model.specs.Start.{start_script}
 use Rattle.run_model.specs.State.{start_state}
 use Rattle.package_layout.specs.Whole.{spelling, IsTyped}
-use Rattle.replay_db.specs.Worlds.{world_rules}
 use Rattle.ldv_top.specs.declared.exit.Exit.TheVariants.{Done, PackageTooLong}
 use Rattle.ldv_top.specs.declared.plain.PlainStep.{PlainStep}
 use Rattle.ldv_top.specs.Due.{default_budget, refused, done, is_too_long, due_spelling, recorded_outcome, recorded_plain, recorded_world, recorded_reading, due_record}
@@ -21,10 +20,11 @@ use Rattle.ldv_top.specs.Packages.{plain_package}
 use Rattle.ldv_top.specs.Plain.{plain_script, finish_of, outcome_from}
 use Rattle.ldv_top.specs.Traces.{plain_events, plain_count}
 use Rattle.world_json.proofs.WorldFiles.{small_files}
+use Rattle.ldv_top.proofs.BuiltLaw.{plain_steps_built}
 use Rattle.ldv_top.proofs.DocumentWorlds.{document_world}
 use Rattle.ldv_top.proofs.RisingRows.{world_rises}
 use Rattle.ldv_top.proofs.RunLaw.{plain_law}
-use Rattle.ldv_top.proofs.TraceLaw.{events_law, steps_law}
+use Rattle.ldv_top.proofs.TraceLaw.{events_law, steps_law, plain_short}
 
 -- ---- the limit of a spelling
 
@@ -44,16 +44,16 @@ pub ruleset spelling_ends = (spelled_whole, spelled_long)
 
 -- ---- the package of a plain script's run
 
-pub packed_law : (w : World) (script : List Instr) (sts : List PlainStep) → IsTrue (world_rules w) → start_script w ≡ Some script → plain_script script ≡ Some sts → plain_package w sts ≡ package_now w
-packed_law w script sts ruled is plain =
-    let events : events_within default_budget w ≡ plain_events w sts = events_law w script sts default_budget (lit≤ tt) is plain (world_rises w ruled) in
+pub packed_law : (w : World) (script : List Instr) (sts : List PlainStep) → start_script w ≡ Some script → plain_script script ≡ Some sts → plain_package w sts ≡ package_now w
+packed_law w script sts is plain =
+    let events : events_within default_budget w ≡ plain_events w sts = events_law w script sts default_budget (lit≤ tt) is plain in
     let steps : world_steps default_budget w (start_script w) ≡ plain_count w.tables sts = steps_law w script sts default_budget (lit≤ tt) is plain in
     sym (λ j. record { mode = Included; start = w.start; seed = w.seed; steps = steps j; files = files_needed (events j) w.files; tables = tables_needed (events j) w.tables; logs = []; events = events j })
 
 -- the run of a plain script ends, and its package is the one that its steps make
-pub recorded_law : (w : World) (script : List Instr) (sts : List PlainStep) → IsTrue (world_rules w) → start_script w ≡ Some script → plain_script script ≡ Some sts → due_spelling (spelling (plain_package w sts)) ≡ recorded_plain (plain_script script) w script
-recorded_law w script sts ruled is plain =
-    ap (λ p. due_spelling (spelling p)) (packed_law w script sts ruled is plain)
+pub recorded_law : (w : World) (script : List Instr) (sts : List PlainStep) → start_script w ≡ Some script → plain_script script ≡ Some sts → due_spelling (spelling (plain_package w sts)) ≡ recorded_plain (plain_script script) w script
+recorded_law w script sts is plain =
+    ap (λ p. due_spelling (spelling p)) (packed_law w script sts is plain)
     ∙ ap (λ o. recorded_outcome o w) (sym (plain_law w script sts default_budget (lit≤ tt) plain))
     ∙ ap (λ (o : Option (List PlainStep)). recorded_plain o w script) (sym plain)
 
@@ -71,3 +71,5 @@ recorded_on (Ok x) document w short is law typed = λ done. law (typed (ap (λ d
 recorded_on (Err x) document w short is law typed = tt
 
 pub ruleset document_worlds = (small_files, document_world)
+
+pub ruleset recorded_scripts = (plain_short, plain_steps_built, world_rises)

@@ -12,7 +12,7 @@ use Rattle.package_layout.specs.Order.{rises, row_below, table_below}
 use Rattle.package_layout.specs.Room.{table_room}
 use Rattle.package_layout.specs.Valid.{start_rule, files_rule, columns_rule, key_rule, row_rule, table_rule, tables_rule, keys_rule, script_rule}
 use Rattle.replay_db.specs.Worlds.{all_of_file, all_of_row, all_of_table, world_rules}
-use Rattle.ldv_top.proofs.NeedLaw.{Above, RowsRise, TablesRise}
+use Rattle.ldv_top.specs.Rising.{Above, RowsRise, TablesRise}
 
 both : (a b : Bool) → (a && b) ≡ true → (a ≡ true) × (b ≡ true)
 both true b h = (refl, h)

@@ -12,21 +12,21 @@ use Rattle.script_parse.specs.declared.script.Instr.{Instr}
 use Rattle.script_parse.specs.declared.script.Instr.TheVariants.{Print, Exit, Sql, Wait}
 use Rattle.sql_model.specs.declared.reply.Reply.{Reply}
 use Rattle.sql_model.specs.declared.table.Table.{Table}
-use Rattle.sql_model.specs.Reading.{Parts, parts_of, reads, selection}
+use Rattle.sql_model.specs.declared.statement.Statement.{Statement}
+use Rattle.sql_model.specs.Built.{is_built}
 use Rattle.sql_model.specs.Statements.{reply_of}
+use Rattle.sql_model.specs.Texts.{statement_of}
 use Rattle.run_model.specs.declared.world.World.{World}
 use Rattle.run_model.specs.Ends.{by_name, outcome_of_process, outcome_of_path, outcome_of, outcome_within}
 use Rattle.run_model.specs.State.{Process, State, start_state, new_process, after_first_word}
 use Rattle.run_model.specs.Step.{operand_value, operand_values, ended, went_on, with_process, printed_line, print_line, exit_status, with_reply, ask, execute, execute_next, step}
 use Rattle.run_model.specs.Run.{has_ended, all_ended, is_runnable, is_waiting, runnable, pick, pick_of, round_robin, at_random, moved_x, scheduled, step_on, advanced, run}
+use Rattle.replay_db.proofs.BuiltStatements.{built_after}
 use Rattle.ldv_top.specs.declared.finish.Finish.{Finish}
 use Rattle.ldv_top.specs.declared.finish.Shown.{Shown}
 use Rattle.ldv_top.specs.declared.plain.PlainStep.{PlainStep}
 use Rattle.ldv_top.specs.declared.plain.PlainStep.TheVariants.{Show, Stop, Ask, Misuse}
 use Rattle.ldv_top.specs.Plain.{constant_in, constants_onto, constants_in, plain_ask, plain_sql, plain_step, steps_onto, plain_steps, shown_as, Went, Goes, Stops, shown_line, take_step, go_on, finish, finish_as, finish_of, outcome_from, plain_script}
-use Rattle.ldv_top.specs.Replies.{selection_reply}
-use Rattle.ldv_top.specs.Selections.{selection_of, selection_from}
-use Rattle.ldv_top.proofs.ReplyLaw.{reply_law}
 
 pub cases_option : {A : Type 0} (o : Option A) → (o ≡ None) ⊎ ((x : A) × (o ≡ Some x))
 cases_option None = inl refl
@@ -65,18 +65,13 @@ prints values s p = elim (cases_Bool (nat_lt 16777216 (length p.printed + length
   | inr short ↦ rw short (_, refl, refl, refl, refl, refl, refl, refl)
 ]
 
-asks : (cursor text : List ℕ) (parts : Parts) → parts_of text ≡ Some parts → (s : State) (p : Process)
-    → Becomes (Goes (shown_as p.printed (p.replies ++ selection_reply (selection_from parts) s.tables ∷ []))) s p (ask 0 cursor (Text text) [] p (solo s p))
-asks cursor text parts is s p = (
-  with_reply cursor (reply_of (reads text []) s.tables) p,
-  refl,
-  refl,
-  refl,
-  refl,
-  refl,
-  refl,
-  ap (λ (r : Reply). p.replies ++ r ∷ []) (ap (λ (o : Option Parts). reply_of (option_map (λ found. selection found.table found.pick) o) s.tables) is ∙ reply_law parts s.tables),
-)
+-- a statement that can be run so far changes no table
+asks : (cursor text : List ℕ) (params : List Value) → is_built (statement_of text params) ≡ true → (s : State) (p : Process)
+    → Becomes (Goes (shown_as p.printed (p.replies ++ reply_of (statement_of text params) s.tables ∷ []))) s p (ask 0 cursor (Text text) params p (solo s p))
+asks cursor text params built s p =
+    let q : Process = with_reply cursor (reply_of (statement_of text params) s.tables) p in
+    let tables : ask 0 cursor (Text text) params p (solo s p) ≡ solo s q = λ j. with_process 0 q (record (solo s p) { tables = built_after (statement_of text params) s.tables built j }) in
+    (q, tables, refl, refl, refl, refl, refl, refl)
 
 -- ---- one instruction
 
@@ -103,13 +98,12 @@ asked cursor Null params st is s p =
 asked cursor (Int n) params st is s p =
     let same : Misuse ≡ st = cc in
     subst (λ (x : PlainStep). Becomes (take_step s.tables x (shown_as p.printed p.replies)) s p (ask 0 cursor (Int n) params p (solo s p))) same refl
-asked cursor (Text text) (v ∷ params) st is s p = cc
-asked cursor (Text text) [] st is s p = elim (cases_option (parts_of text)) [
-  | inl none ↦ let never : None ≡ Some st = rw none at is in cc
-  | inr found ↦
-      let e : Some (Ask (selection_from found.0)) ≡ Some st = rw found.1 at is in
-      let same : Ask (selection_from found.0) ≡ st = cc in
-      subst (λ (x : PlainStep). Becomes (take_step s.tables x (shown_as p.printed p.replies)) s p (ask 0 cursor (Text text) [] p (solo s p))) same (asks cursor text found.0 found.1 s p)
+asked cursor (Text text) params st is s p = elim (cases_Bool (is_built (statement_of text params))) [
+  | inr other ↦ let never : None ≡ Some st = rw other at is in cc
+  | inl built ↦
+      let e : Some (Ask (statement_of text params)) ≡ Some st = rw built at is in
+      let same : Ask (statement_of text params) ≡ st = cc in
+      subst (λ (x : PlainStep). Becomes (take_step s.tables x (shown_as p.printed p.replies)) s p (ask 0 cursor (Text text) params p (solo s p))) same (asks cursor text params built s p)
 ]
 
 sqls : (cursor : List ℕ) (o : Operand) (os : List Operand) (st : PlainStep) → plain_sql (constant_in o) os ≡ Some st → (s : State) (p : Process) → Becomes (take_step s.tables st (shown_as p.printed p.replies)) s p (execute (Sql cursor o os) 0 p (solo s p))

@@ -11,47 +11,56 @@ use Rattle.script_parse.specs.declared.script.Instr.{Instr}
 use Rattle.script_parse.specs.declared.script.Instr.TheVariants.{Print, Exit, Sql}
 use Rattle.sql_model.specs.declared.statement.Statement.{Statement}
 use Rattle.sql_model.specs.declared.table.Table.{Table}
-use Rattle.sql_model.specs.Reading.{Parts, parts_of, reads, selection}
+use Rattle.sql_model.specs.declared.need.Member.{Member}
+use Rattle.sql_model.specs.declared.need.Need.{Need}
+use Rattle.sql_model.specs.Answers.{Origin}
+use Rattle.sql_model.specs.Built.{is_built}
+use Rattle.sql_model.specs.Needs.{asked_tables, updated_rows}
+use Rattle.sql_model.specs.Statements.{reply_of}
+use Rattle.sql_model.specs.Texts.{statement_of}
 use Rattle.run_model.specs.declared.event.Act.TheVariants.{Asked}
 use Rattle.run_model.specs.declared.event.Event.{Event}
 use Rattle.run_model.specs.declared.world.World.{World}
-use Rattle.run_model.specs.Events.{Question, question_of, question_by, question_at, next_question, Past, past_after, asked_act, question_acts, status_acts, end_acts, acts_between, event_at, events_of_step, events_from, steps_within, start_events, script_events, events_within}
+use Rattle.run_model.specs.Events.{Question, question_of, question_by, question_at, next_question, Past, version_of, past_after, asked_act, question_acts, status_acts, end_acts, acts_between, event_at, events_of_step, events_from, steps_within, start_events, script_events, events_within}
 use Rattle.run_model.specs.Run.{all_ended, is_waiting, pick, advanced}
 use Rattle.run_model.specs.Slice.{world_steps}
 use Rattle.run_model.specs.Start.{start_script}
 use Rattle.run_model.specs.State.{Process, State, start_state, new_process, after_first_word}
 use Rattle.run_model.specs.Step.{operand_values, ended, execute, execute_next, printed_line}
+use Rattle.replay_db.proofs.BuiltStatements.{built_made, built_updated}
 use Rattle.ldv_top.specs.declared.finish.Shown.{Shown}
 use Rattle.ldv_top.specs.declared.plain.PlainStep.{PlainStep}
 use Rattle.ldv_top.specs.declared.plain.PlainStep.TheVariants.{Show, Stop, Ask, Misuse}
-use Rattle.ldv_top.specs.declared.selection.Selection.{Selection}
 use Rattle.ldv_top.specs.Plain.{constant_in, constants_in, plain_ask, plain_sql, plain_step, plain_steps, plain_script, shown_as, Went, Goes, Stops, take_step}
-use Rattle.ldv_top.specs.Replies.{selection_reply}
-use Rattle.ldv_top.specs.Selections.{selection_from}
-use Rattle.ldv_top.specs.Traces.{asked_events, ended_event, events_on, step_events, plain_events, last_on, last_step, plain_count}
-use Rattle.ldv_top.proofs.NeedLaw.{TablesRise, past_of, needs_law, tables_law}
+use Rattle.ldv_top.specs.Traces.{reads_of, asked_event, asked_events, ended_event, events_on, step_events, plain_events, last_on, last_step, plain_count}
 use Rattle.ldv_top.proofs.RunLaw.{cases_option, constant_values, solo, Becomes, effect, goes_on, picks_it, moved, advances, Does, does_them, first_of_rest, none_of_rest, short_or_none, plain_length}
+
+-- ---- the past of a run in which no row was ever changed
+
+abbrev past_with : ℕ → List Origin → Past
+past_with asked updated = record { asked = asked; updated = updated }
+
+abbrev pub past_of : ℕ → Past
+past_of asked = past_with asked []
 
 -- ---- what a step asks
 
-abbrev IsAsked : PlainStep → Option Question → Type 0
+abbrev pub IsAsked : PlainStep → Option Question → Type 0
 IsAsked (Show values) q = q ≡ None
 IsAsked (Stop status) q = q ≡ None
-IsAsked (Ask s) q = (parts : Parts) × (asked : Question) × (q ≡ Some asked) × (reads asked.text asked.params ≡ Some (selection parts.table parts.pick)) × (s ≡ selection_from parts)
+IsAsked (Ask reading) q = (asked : Question) × (q ≡ Some asked) × (statement_of asked.text asked.params ≡ reading) × (is_built reading ≡ true)
 IsAsked Misuse q = q ≡ None
 
 asked_value : (v : Value) (params : List Value) (st : PlainStep) → plain_ask v params ≡ Some st → IsAsked st (question_of v params)
 asked_value Null params st is = let same : Misuse ≡ st = cc in subst (λ (x : PlainStep). IsAsked x None) same refl
 asked_value (Int n) params st is = let same : Misuse ≡ st = cc in subst (λ (x : PlainStep). IsAsked x None) same refl
-asked_value (Text text) (v ∷ params) st is = cc
-asked_value (Text text) [] st is = elim (cases_option (parts_of text)) [
-  | inl none ↦ let never : None ≡ Some st = rw none at is in cc
-  | inr found ↦
-      let e : Some (Ask (selection_from found.0)) ≡ Some st = rw found.1 at is in
-      let same : Ask (selection_from found.0) ≡ st = cc in
-      let q : Question = record { text = text; params = [] } in
-      let read : reads text [] ≡ Some (selection found.0.table found.0.pick) = ap (option_map (λ (parts : Parts). selection parts.table parts.pick)) found.1 in
-      subst (λ (x : PlainStep). IsAsked x (Some q)) same (found.0, q, refl, read, refl)
+asked_value (Text text) params st is = elim (cases_Bool (is_built (statement_of text params))) [
+  | inr other ↦ let never : None ≡ Some st = rw other at is in cc
+  | inl built ↦
+      let e : Some (Ask (statement_of text params)) ≡ Some st = rw built at is in
+      let same : Ask (statement_of text params) ≡ st = cc in
+      let q : Question = record { text = text; params = params } in
+      subst (λ (x : PlainStep). IsAsked x (Some q)) same (q, refl, refl, built)
 ]
 
 asked_sql : (p : Process) (cursor : List ℕ) (o : Operand) (os : List Operand) (st : PlainStep) → plain_sql (constant_in o) os ≡ Some st → IsAsked st (question_by (Some (Sql cursor o os)) p)
@@ -77,7 +86,7 @@ asked_exit : (o : Operand) (st : PlainStep) → option_map Stop (constant_in o) 
 asked_exit (Constant v) st is = let same : Stop v ≡ st = cc in subst (λ (x : PlainStep). IsAsked x None) same refl
 asked_exit (Variable name) st is = cc
 
-asked_by : (p : Process) (i : Instr) (st : PlainStep) → plain_step i ≡ Some st → IsAsked st (question_by (Some i) p)
+pub asked_by : (p : Process) (i : Instr) (st : PlainStep) → plain_step i ≡ Some st → IsAsked st (question_by (Some i) p)
 asked_by p (Print os) st is = asked_print os st is
 asked_by p (Exit o) st is = asked_exit o st is
 asked_by p (Sql cursor o os) st is = asked_sql p cursor o os st is
@@ -85,15 +94,18 @@ asked_by p other st is = cc
 
 -- ---- what the question tells
 
-asked_acts : (k number : ℕ) (st : PlainStep) (q : Option Question) (db : List Table) → TablesRise db → IsAsked st q → map (event_at number 0) (question_acts (past_of k) q db) ≡ asked_events number k st db
-asked_acts k number (Show values) q db rise is = ap (λ (o : Option Question). map (event_at number 0) (question_acts (past_of k) o db)) is
-asked_acts k number (Stop status) q db rise is = ap (λ (o : Option Question). map (event_at number 0) (question_acts (past_of k) o db)) is
-asked_acts k number Misuse q db rise is = ap (λ (o : Option Question). map (event_at number 0) (question_acts (past_of k) o db)) is
-asked_acts k number (Ask s) q db rise (parts, asked, same, read, from) =
-    ap (λ (o : Option Question). map (event_at number 0) (question_acts (past_of k) o db)) same
-    ∙ ap (λ (o : Option Statement). event_at number 0 (asked_act (past_of k) o db) ∷ []) read
-    ∙ (λ j. event_at number 0 (Asked k (tables_law parts db j) (needs_law k parts db rise j) []) ∷ [])
-    ∙ ap (λ (x : Selection). asked_events number k (Ask x) db) (sym from)
+module _ (k number : ℕ) (db : List Table) where
+  built_acts : (reading : Option Statement) → is_built reading ≡ true → event_at number 0 (asked_act (past_of k) reading db) ≡ asked_event number k reading db
+  built_acts reading built = ap (λ (made : List Member). event_at number 0 (Asked k (asked_tables reading db) (reads_of reading db) made)) (built_made (version_of (past_of k)) reading db built)
+
+  asked_acts : (st : PlainStep) (q : Option Question) → IsAsked st q → map (event_at number 0) (question_acts (past_of k) q db) ≡ asked_events number k st db
+  asked_acts (Show values) q is = ap (λ (o : Option Question). map (event_at number 0) (question_acts (past_of k) o db)) is
+  asked_acts (Stop status) q is = ap (λ (o : Option Question). map (event_at number 0) (question_acts (past_of k) o db)) is
+  asked_acts Misuse q is = ap (λ (o : Option Question). map (event_at number 0) (question_acts (past_of k) o db)) is
+  asked_acts (Ask reading) q (asked, same, read, built) =
+      ap (λ (o : Option Question). map (event_at number 0) (question_acts (past_of k) o db)) same
+      ∙ ap (λ (o : Option Statement). event_at number 0 (asked_act (past_of k) o db) ∷ []) read
+      ∙ ap (λ (e : Event). e ∷ []) (built_acts reading built)
 
 -- how many statements were asked after a step
 abbrev asked_after : PlainStep → ℕ → ℕ
@@ -106,7 +118,10 @@ past_asked : (k : ℕ) (st : PlainStep) (q : Option Question) (db : List Table) 
 past_asked k (Show values) q db is = ap (λ (o : Option Question). past_after (past_of k) o db) is
 past_asked k (Stop status) q db is = ap (λ (o : Option Question). past_after (past_of k) o db) is
 past_asked k Misuse q db is = ap (λ (o : Option Question). past_after (past_of k) o db) is
-past_asked k (Ask s) q db (parts, asked, same, read, from) = ap (λ (o : Option Question). past_after (past_of k) o db) same
+past_asked k (Ask reading) q db (asked, same, read, built) =
+    ap (λ (o : Option Question). past_after (past_of k) o db) same
+    ∙ ap (λ (o : Option Statement). past_with (k + 1) (updated_rows o db ++ [])) read
+    ∙ ap (λ (rows : List Origin). past_with (k + 1) (rows ++ [])) (built_updated reading db built)
 
 -- each statement asked has its reply
 asked_replies : (db : List Table) (st : PlainStep) (s next : Shown) → take_step db st s ≡ Goes next → length next.replies ≡ asked_after st (length s.replies)
@@ -119,8 +134,8 @@ asked_replies db (Show values) s next is = elim (cases_Bool (nat_lt 16777216 (le
 ]
 asked_replies db (Stop status) s next is = cc
 asked_replies db (Ask a) s next is =
-    let same : shown_as s.printed (s.replies ++ selection_reply a db ∷ []) ≡ next = cc in
-    ap (λ (x : Shown). length x.replies) (sym same) ∙ length-append s.replies (selection_reply a db ∷ [])
+    let same : shown_as s.printed (s.replies ++ reply_of a db ∷ []) ≡ next = cc in
+    ap (λ (x : Shown). length x.replies) (sym same) ∙ length-append s.replies (reply_of a db ∷ [])
 asked_replies db Misuse s next is = cc
 
 asked_least : (st : PlainStep) (k : ℕ) → asked_after st k ≤ k + 1
@@ -210,19 +225,19 @@ module _ (is : List Instr) (sts : List PlainStep) (st : PlainStep) (n number : �
 
 -- ---- the steps that are left
 
-events_left : (is : List Instr) (sts : List PlainStep) → Does is sts → (n number : ℕ) (s : State) (p : Process) → length is < n → TablesRise s.tables → p.status ≡ None → drop p.place p.script ≡ is
+events_left : (is : List Instr) (sts : List PlainStep) → Does is sts → (n number : ℕ) (s : State) (p : Process) → length is < n → p.status ≡ None → drop p.place p.script ≡ is
     → events_from n number (past_of (length p.replies)) (solo s p) ≡ step_events s.tables number sts (shown_as p.printed p.replies)
-events_left is sts does zero number s p enough rise going rest = absurd (omega (arith, enough))
-events_left [] [] does (suc n) number s p enough rise going rest =
+events_left is sts does zero number s p enough going rest = absurd (omega (arith, enough))
+events_left [] [] does (suc n) number s p enough going rest =
     let none : slice_get p.script p.place ≡ None = none_of_rest p.script p.place rest in
     let free : is_waiting (slice_get p.script p.place) p (p ∷ []) ≡ false = rw none refl in
     let new : State = solo (moved s p) (ended 0 p) in
     let one : advanced (solo s p) ≡ new = advances s p going free ∙ rw none refl in
     solo_events n s p going free new one number (past_of (length p.replies)) None (ap (λ (o : Option Instr). question_by o p) none)
     ∙ ap (λ (es : List Event). ended_event number 0 ∷ es) (events_ended n (number + 1) (past_of (length p.replies)) new refl)
-events_left [] (st ∷ sts) does (suc n) number s p enough rise going rest = absurd does
-events_left (i ∷ is) [] does (suc n) number s p enough rise going rest = absurd does
-events_left (i ∷ is) (st ∷ sts) does (suc n) number s p enough rise going rest =
+events_left [] (st ∷ sts) does (suc n) number s p enough going rest = absurd does
+events_left (i ∷ is) [] does (suc n) number s p enough going rest = absurd does
+events_left (i ∷ is) (st ∷ sts) does (suc n) number s p enough going rest =
     let here = first_of_rest p.script p.place i is rest in
     let free : is_waiting (slice_get p.script p.place) p (p ∷ []) ≡ false = rw here.0 (goes_on i st does.0 p (p ∷ [])) in
     let new : State = execute i 0 p (solo (moved s p) p) in
@@ -235,10 +250,10 @@ events_left (i ∷ is) (st ∷ sts) does (suc n) number s p enough rise going re
     solo_events n s p going free new one number (past_of k) q (ap (λ (o : Option Instr). question_by o p) here.0)
     ∙ ap (λ (es : List Event). es ++ later) (map-append (event_at number 0) (question_acts (past_of k) q s.tables) (end_acts (slice_get new.processes 0)))
     ∙ append_assoc (map (event_at number 0) (question_acts (past_of k) q s.tables)) (map (event_at number 0) (end_acts (slice_get new.processes 0))) later
-    ∙ ap (λ (es : List Event). es ++ (map (event_at number 0) (end_acts (slice_get new.processes 0)) ++ later)) (asked_acts k number st q s.tables rise asks)
+    ∙ ap (λ (es : List Event). es ++ (map (event_at number 0) (end_acts (slice_get new.processes 0)) ++ later)) (asked_acts k number s.tables st q asks)
     ∙ ap (λ (past : Past). asked_events number k st s.tables ++ (map (event_at number 0) (end_acts (slice_get new.processes 0)) ++ events_from n (number + 1) past new)) (past_asked k st q s.tables asks)
     ∙ ap (λ (es : List Event). asked_events number k st s.tables ++ es)
-    (went_events is sts st n number s p going here.1 (λ q q_going q_rest. events_left is sts does.1 n (number + 1) (moved s p) q shorter rise q_going q_rest) (take_step s.tables st (shown_as p.printed p.replies)) new refl (effect i st does.0 (moved s p) p))
+    (went_events is sts st n number s p going here.1 (λ q q_going q_rest. events_left is sts does.1 n (number + 1) (moved s p) q shorter q_going q_rest) (take_step s.tables st (shown_as p.printed p.replies)) new refl (effect i st does.0 (moved s p) p))
 
 steps_left : (is : List Instr) (sts : List PlainStep) → Does is sts → (n number : ℕ) (s : State) (p : Process) → length is < n → p.status ≡ None → drop p.place p.script ≡ is
     → steps_within n (solo s p) + number ≡ suc (last_step s.tables number sts (shown_as p.printed p.replies))
@@ -273,7 +288,7 @@ does_length [] (st ∷ sts) does = absurd does
 does_length (i ∷ is) [] does = absurd does
 does_length (i ∷ is) (st ∷ sts) does = ap suc (does_length is sts does.1)
 
-plain_does : (script : List Instr) (sts : List PlainStep) → plain_script script ≡ Some sts → Does script sts
+pub plain_does : (script : List Instr) (sts : List PlainStep) → plain_script script ≡ Some sts → Does script sts
 plain_does script sts is =
     let steps : plain_steps script ≡ Some sts = (short_or_none (nat_lt 1000 (length script)) (plain_steps script) sts is).1 in
     let them = does_them script [] sts steps in
@@ -290,11 +305,11 @@ module _ (w : World) (script : List Instr) (sts : List PlainStep) (n : ℕ) (eno
   within : length script < n
   within = let short : length script ≤ 1000 = plain_length script sts is in omega (arith, enough, short)
 
-  -- within any budget of at least 1,001 steps, where the numbers of each table's rows rise
-  pub events_law : TablesRise w.tables → events_within n w ≡ plain_events w sts
-  events_law rise =
+  -- within any budget of at least 1,001 steps
+  pub events_law : events_within n w ≡ plain_events w sts
+  events_law =
       ap (script_events n w) starts
-      ∙ ap (λ (es : List Event). start_events (slice_get w.start 0) ++ es) (events_left script sts (plain_does script sts is) n 1 (start_state w script) first within rise refl refl)
+      ∙ ap (λ (es : List Event). start_events (slice_get w.start 0) ++ es) (events_left script sts (plain_does script sts is) n 1 (start_state w script) first within refl refl)
 
   pub steps_law : world_steps n w (start_script w) ≡ plain_count w.tables sts
   steps_law =

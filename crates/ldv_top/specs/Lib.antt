@@ -1,11 +1,10 @@
+pub mod Asks
 pub mod Comes
-pub mod Cuts
 pub mod Due
 pub mod Exits
 pub mod Headline
 pub mod Packages
 pub mod Plain
-pub mod Replies
-pub mod Selections
+pub mod Rising
 pub mod Traces
 pub mod Written

@@ -1,7 +1,8 @@
 -- Plain scripts: the scripts that can be run so far. Each instruction is `print`, `exit` or `sql` with
--- constant operands alone, and an `sql` whose first operand is a text has a selection's text and no
--- parameter.
-use Rattle.std.specs.Prelude.{◌≡◌, ℕ, ◌+◌, List, [], ◌∷◌, ◌++◌, length, Bool, nat_lt, if◌then◌else◌, Option, Some, None, option_map, option_and_then}
+-- constant operands alone, and an `sql` whose first operand is a text reads as a statement that can be run
+-- so far, or as none.
+use Rattle.std.specs.Prelude.{◌≡◌, ℕ, ◌+◌, List, [], ◌∷◌, ◌++◌, length, Bool, true, nat_lt, if◌then◌else◌, Option, Some, None, option_map, option_and_then}
+use Rattle.std.specs.List.{list_all}
 use Rattle.ldv_value.specs.declared.value.Value.{Value}
 use Rattle.ldv_value.specs.declared.value.Value.TheVariants.{Null, Int, Text}
 use Rattle.script_parse.specs.declared.script.Operand.{Operand}
@@ -9,7 +10,11 @@ use Rattle.script_parse.specs.declared.script.Operand.TheVariants.{Constant, Var
 use Rattle.script_parse.specs.declared.script.Instr.{Instr}
 use Rattle.script_parse.specs.declared.script.Instr.TheVariants.{Print, Exit, Sql}
 use Rattle.sql_model.specs.declared.reply.Reply.{Reply}
+use Rattle.sql_model.specs.declared.statement.Statement.{Statement}
 use Rattle.sql_model.specs.declared.table.Table.{Table}
+use Rattle.sql_model.specs.Built.{is_built}
+use Rattle.sql_model.specs.Statements.{reply_of}
+use Rattle.sql_model.specs.Texts.{statement_of}
 use Rattle.run_model.specs.declared.outcome.Outcome.{Outcome}
 use Rattle.run_model.specs.declared.outcome.ProcOutcome.{ProcOutcome}
 use Rattle.run_model.specs.Step.{printed_line, exit_status}
@@ -17,8 +22,6 @@ use Rattle.ldv_top.specs.declared.finish.Finish.{Finish}
 use Rattle.ldv_top.specs.declared.finish.Shown.{Shown}
 use Rattle.ldv_top.specs.declared.plain.PlainStep.{PlainStep}
 use Rattle.ldv_top.specs.declared.plain.PlainStep.TheVariants.{Show, Stop, Ask, Misuse}
-use Rattle.ldv_top.specs.Replies.{selection_reply}
-use Rattle.ldv_top.specs.Selections.{selection_of}
 
 -- ---- which scripts are plain
 
@@ -34,11 +37,15 @@ constants_onto vs (o ∷ os) = option_and_then (λ v. constants_onto (vs ++ v �
 abbrev pub constants_in : List Operand → Option (List Value)
 constants_in os = constants_onto [] os
 
+-- a text asks the statement as which it reads with its parameters, or none; with one that can't be run yet
+-- the script isn't plain, wherever it stands
+abbrev pub built_ask : Option Statement → Option PlainStep
+built_ask reading = if is_built reading then Some (Ask reading) else None
+
 abbrev pub plain_ask : Value → List Value → Option PlainStep
 plain_ask Null params = Some Misuse
 plain_ask (Int n) params = Some Misuse
-plain_ask (Text text) [] = option_map Ask (selection_of text)
-plain_ask (Text text) (p ∷ params) = None
+plain_ask (Text text) params = built_ask (statement_of text params)
 
 abbrev pub plain_sql : Option Value → List Operand → Option PlainStep
 plain_sql None params = None
@@ -62,6 +69,16 @@ plain_steps is = steps_onto [] is
 abbrev pub plain_script : List Instr → Option (List PlainStep)
 plain_script script = if nat_lt 1000 (length script) then None else plain_steps script
 
+-- what the steps of a plain script ask can be run
+abbrev pub asks_built : PlainStep → Bool
+asks_built (Show values) = true
+asks_built (Stop status) = true
+asks_built (Ask reading) = is_built reading
+asks_built Misuse = true
+
+abbrev pub all_built : List PlainStep → Bool
+all_built steps = list_all asks_built steps
+
 -- ---- what a plain script comes to
 
 abbrev pub shown_as : List ℕ → List Reply → Shown
@@ -78,7 +95,7 @@ shown_line text s = if nat_lt 16777216 (length s.printed + length text) then Sto
 abbrev pub take_step : List Table → PlainStep → Shown → Went
 take_step db (Show values) s = shown_line (printed_line values) s
 take_step db (Stop status) s = Stops (exit_status status)
-take_step db (Ask selection) s = Goes (shown_as s.printed (s.replies ++ selection_reply selection db ∷ []))
+take_step db (Ask reading) s = Goes (shown_as s.printed (s.replies ++ reply_of reading db ∷ []))
 take_step db Misuse s = Stops 240
 
 abbrev pub finish_as : ℕ → Shown → Finish

@@ -4,7 +4,7 @@ ghost use Rattle.std.specs.Prelude.{◌≡◌, ◌<◌, ◌≤◌, ◌^◌, true
 ghost use Rattle.run_model.specs.Start.{file_at, start_file, start_script, has_small_files};
 ghost use Rattle.script_parse.specs.Script.{script_of};
 ghost use Rattle.ldv_top.specs.Due.{answer_due, due_outcome, due_plain, due_script, due_world, due_run};
-ghost use Rattle.ldv_top.specs.Plain.{finish_of, outcome_from, plain_script};
+ghost use Rattle.ldv_top.specs.Plain.{all_built, finish_of, outcome_from, plain_script};
 
 use crate::finish::{outcome_of, run_steps};
 use crate::plain::{PlainSteps, plain_of};
@@ -69,15 +69,16 @@ pub(crate) fn start_script_of(alloc: Global, world: &World) -> Result<Option<Scr
 }
 
 fn answer_steps(alloc: Global, world: &World, steps: &PlainSteps) -> Result<Answer, AllocError>
+    requires { all_built steps.now ≡ true }
     ensures { IfOk result (λ answer. answer_due answer ≡ due_outcome (Some
         (outcome_from (finish_of world.now.tables steps.now)))) }
 {
-    let end = run_steps(alloc, steps, world.tables.items())?;
+    let end = run_steps(alloc, steps, &world.tables)?;
     let outcome = outcome_of(alloc, end)?;
     Ok(Answer::Written(outcome_text(alloc, &outcome)?))
 }
 
-#[tactic(auto, using(crate::proofs::AnswerLaws::plain_due))]
+#[tactic(auto, using(crate::proofs::AnswerLaws::plain_runs))]
 fn answer_script(alloc: Global, world: &World, script: &Script) -> Result<Answer, AllocError>
     ensures { IfOk result (λ answer. answer_due answer
         ≡ due_plain (plain_script script.now.instructions) world.now script.now.instructions) }

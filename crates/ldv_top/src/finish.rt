@@ -1,19 +1,20 @@
 //! The run of a plain script.
 
-ghost use Rattle.std.specs.Prelude.{◌≡◌, ◌+◌, ◌++◌, ◌∷◌, [], nat_lt, IfOk, OnOk};
+ghost use Rattle.std.specs.Prelude.{◌≡◌, ◌+◌, ◌++◌, ◌∷◌, [], true, nat_lt, IfOk, OnOk};
 ghost use Rattle.std.specs.List.{flat_map};
 ghost use Rattle.ldv_value.specs.Shown.{shown};
 ghost use Rattle.run_model.specs.Step.{printed_line, exit_status};
-ghost use Rattle.ldv_top.specs.Replies.{selection_reply};
+ghost use Rattle.sql_model.specs.Built.{is_built};
+ghost use Rattle.sql_model.specs.Scope.{catalog_of};
+ghost use Rattle.sql_model.specs.Statements.{reply_of};
 ghost use Rattle.ldv_value.specs.declared.value.Value.TheVariants.{Int};
-ghost use Rattle.ldv_top.specs.Plain.{finish_of, outcome_from};
+ghost use Rattle.ldv_top.specs.Plain.{asks_built, all_built, finish_of, outcome_from};
 
-use crate::answer::reply_to;
+use crate::ask::reply_to;
 use crate::plain::{PlainStep, PlainSteps};
-use crate::selection::Selection;
 use ldv_value::{Bytes, FILE_LIMIT, Parts, Value, append_text};
 use run_model::{Outcome, PathOutcomes, ProcName, ProcOutcome, ProcOutcomes};
-use sql_model::{Replies, Table};
+use sql_model::{Catalog, Replies, Statement, Table, Tables};
 use std::alloc::{AllocError, Global};
 
 /// What a process has printed, and the replies that it had.
@@ -83,24 +84,31 @@ impl Shown {
     fn answer(
         &mut self,
         alloc: Global,
-        selection: &Selection,
+        reading: &Option<Statement>,
+        catalog: &Catalog,
         tables: &[Table],
     ) -> Result<(), AllocError>
+        requires built { is_built reading.now ≡ true }
+        requires catalog { catalog.now ≡ catalog_of tables.now }
         ensures replies { OnOk result (self.new.replies
-            ≡ self.old.replies ++ selection_reply selection.now tables.now ∷ []) }
+            ≡ self.old.replies ++ reply_of reading.now tables.now ∷ []) }
         ensures printed { OnOk result (self.new.printed ≡ self.old.printed) }
     {
-        self.replies.push(reply_to(alloc, selection, tables)?)
+        self.replies
+            .push(reply_to(alloc, reading, catalog, tables)?)
     }
 
-    /// Takes a step, and gives the status where the step ends the process. `AllocError` means want of
-    /// memory alone.
+    /// Takes a step, and gives the status where the step ends the process. The catalog is that of the
+    /// tables. `AllocError` means want of memory alone.
     pub fn take(
         &mut self,
         alloc: Global,
         step: &PlainStep,
+        catalog: &Catalog,
         tables: &[Table],
     ) -> Result<Option<u8>, AllocError>
+        requires built { asks_built step.now ≡ true }
+        requires catalog { catalog.now ≡ catalog_of tables.now }
         ensures { IfOk result (λ status. Took (take_step tables.now step.now self.old) status self.old self.new) }
     {
         match step {
@@ -109,8 +117,8 @@ impl Shown {
                 self.print(&line)
             }
             PlainStep::Stop(value) => Ok(Some(status_of(value))),
-            PlainStep::Ask(selection) => {
-                self.answer(alloc, selection, tables)?;
+            PlainStep::Ask(reading) => {
+                self.answer(alloc, reading, catalog, tables)?;
                 Ok(None)
             }
             PlainStep::Misuse => Ok(Some(240)),
@@ -140,12 +148,15 @@ fn small_or_misuse(number: i64) -> u8
 }
 
 /// Runs a plain script to its end. `AllocError` means want of memory alone.
-pub fn run_steps(alloc: Global, steps: &PlainSteps, tables: &[Table]) -> Result<Finish, AllocError>
+#[tactic(auto, using(crate::proofs::BuiltLaw::first_steps))]
+pub fn run_steps(alloc: Global, steps: &PlainSteps, tables: &Tables) -> Result<Finish, AllocError>
+    requires { all_built steps.now ≡ true }
     ensures { IfOk result (λ end. end ≡ finish_of tables.now steps.now) }
 {
+    let catalog = Catalog::of(alloc, tables)?;
     let mut shown = Shown::new(alloc);
     for step in steps.items() {
-        match shown.take(alloc, step, tables)? {
+        match shown.take(alloc, step, &catalog, tables.items())? {
             Some(status) => return Ok(Finish { status, shown }),
             None => {}
         }

@@ -1,6 +1,11 @@
 //! The program without its streams: `ldv` reads a source, and writes what the words ask for to a sink.
 //!
-//! The commands are `run`, `record` and `replay`. It promises, in the clauses of `ldv`:
+//! The commands are `run`, `record` and `replay`. What can be run so far are scripts of one process that
+//! print, exit and ask constant texts with constant parameters (`specs/Plain.antt`): a text that is no
+//! statement is refused, `SELECT * FROM` one table with any WHERE is answered, and a script with any other
+//! statement isn't run. Which texts are statements, and what they mean, `sql_model` says.
+//!
+//! It promises, in the clauses of `ldv`:
 //! - the exit and the bytes are those that are due for the words and the input (`specs/Due.antt`); only a
 //!   fault of a stream, where its count of faults rose, or want of memory comes in their place;
 //! - where all is written, what `record` wrote is the package of the document's world. It is read back as
@@ -15,14 +20,14 @@
 //! `ldv_main` says the same of the exit of which it tells the line and gives the status.
 #![tactic(auto)]
 
-mod answer;
 mod answers;
+mod ask;
+mod built;
 mod command;
 mod exit;
 mod finish;
 mod headline;
 mod lines;
-mod needs;
 #[cfg(test)]
 mod package_tests;
 mod plain;
@@ -30,7 +35,8 @@ mod record;
 mod replay;
 #[cfg(test)]
 mod samples;
-mod selection;
+#[cfg(test)]
+mod sql_tests;
 #[cfg(test)]
 mod tests;
 mod top;

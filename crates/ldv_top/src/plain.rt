@@ -1,13 +1,16 @@
 //! Plain scripts: the scripts that can be run so far.
 
-ghost use Rattle.std.specs.Prelude.{◌≡◌, [], IfOk, option_map};
+ghost use Rattle.std.specs.Prelude.{◌≡◌, true, IfOk, IfSome, option_map};
 ghost use Rattle.ldv_value.specs.declared.value.Value.TheVariants.{Text};
 ghost use Rattle.ldv_top.specs.declared.plain.PlainStep.TheVariants.{Show, Stop};
+ghost use Rattle.sql_model.specs.Texts.{statement_of};
 ghost use Rattle.ldv_top.specs.Plain.{constant_in, constants_in, plain_ask, plain_sql, plain_step, plain_steps, plain_script};
 
-use crate::selection::{Selection, read_selection};
+use crate::built::is_built;
 use ldv_value::{CopyItem, List, Utf8, Value, Values};
 use script_parse::{Instr, Operand, Operands, Script};
+use sql_model::Statement;
+use sql_parse::{ParseStop, parse};
 use std::alloc::{AllocError, Global};
 
 /// What an instruction of a plain script does.
@@ -17,8 +20,8 @@ pub enum PlainStep {
     Show(Values),
     /// It ends the process, with the status that the value is.
     Stop(Value),
-    /// It asks.
-    Ask(Selection),
+    /// It asks this statement, or a text that is none.
+    Ask(Option<Statement>),
     /// It asks what is no text.
     Misuse,
 }
@@ -49,21 +52,25 @@ fn constants_of(alloc: Global, operands: &[Operand]) -> Result<Option<Values>, A
     Ok(Some(values))
 }
 
-fn ask_of(alloc: Global, text: &Utf8, params: &Values) -> Result<Option<PlainStep>, AllocError>
-    ensures { IfOk result (λ step. step ≡ plain_ask (Text text.now) params.now) }
+// The statement that a text is with these parameters, `None` where it is none.
+fn reading_of(alloc: Global, text: &Utf8, params: &Values) -> Result<Option<Statement>, AllocError>
+    ensures { IfOk result (λ reading. reading ≡ statement_of text.now params.now) }
 {
-    match params.items() {
-        [] => asked_text(alloc, text),
-        [_, ..] => Ok(None),
+    match parse(alloc, text.as_str(), params) {
+        Ok(statement) => Ok(Some(statement)),
+        Err(ParseStop::Syntax) => Ok(None),
+        Err(ParseStop::NoMemory) => Err(AllocError),
     }
 }
 
-fn asked_text(alloc: Global, text: &Utf8) -> Result<Option<PlainStep>, AllocError>
-    ensures { IfOk result (λ step. step ≡ plain_ask (Text text.now) []) }
+fn ask_of(alloc: Global, text: &Utf8, params: &Values) -> Result<Option<PlainStep>, AllocError>
+    ensures { IfOk result (λ step. step ≡ plain_ask (Text text.now) params.now) }
 {
-    match read_selection(alloc, text.as_str())? {
-        None => Ok(None),
-        Some(selection) => Ok(Some(PlainStep::Ask(selection))),
+    let reading = reading_of(alloc, text, params)?;
+    if is_built(&reading) {
+        Ok(Some(PlainStep::Ask(reading)))
+    } else {
+        Ok(None)
     }
 }
 
@@ -77,7 +84,7 @@ fn sql_of(alloc: Global, text: &Value, params: &Values) -> Result<Option<PlainSt
     }
 }
 
-fn statement_of(
+fn asking_of(
     alloc: Global,
     text: &Operand,
     params: &Operands,
@@ -122,7 +129,7 @@ fn step_of(alloc: Global, instr: &Instr) -> Result<Option<PlainStep>, AllocError
             cursor: _,
             text,
             params,
-        } => statement_of(alloc, text, params),
+        } => asking_of(alloc, text, params),
         _ => Ok(None),
     }
 }

@@ -7,7 +7,8 @@ ghost use Rattle.replay_db.specs.Worlds.{world_rules};
 ghost use Rattle.ldv_top.specs.Due.{answer_due, due_spelling, recorded_plain, recorded_world, due_record};
 ghost use Rattle.ldv_top.specs.Headline.{package_now, Recorded};
 ghost use Rattle.ldv_top.specs.Packages.{plain_package};
-ghost use Rattle.ldv_top.specs.Plain.{plain_script};
+ghost use Rattle.ldv_top.specs.Plain.{all_built, plain_script};
+ghost use Rattle.ldv_top.specs.Rising.{TablesRise};
 ghost use Rattle.ldv_top.specs.declared.exit.Exit.{Exit};
 
 use crate::answers::{Answer, start_script_of};
@@ -24,7 +25,9 @@ use world_json::{WorldStop, world_of};
 
 // The package of a plain script's run.
 fn pack(alloc: Global, world: World, plain: &PlainSteps) -> Result<Package, AllocError>
-    requires { length plain.now ≤ 1000 }
+    requires short { length plain.now ≤ 1000 }
+    requires built { all_built plain.now ≡ true }
+    requires rising { TablesRise world.tables }
     ensures { IfOk result (λ p. p ≡ plain_package world plain.now) }
 {
     let Traced { events, steps } = trace_steps(alloc, &world, plain)?;
@@ -61,7 +64,9 @@ fn spell_answer(alloc: Global, package: &Package) -> Result<Answer, AllocError>
 }
 
 fn record_steps(alloc: Global, world: World, plain: &PlainSteps) -> Result<Answer, AllocError>
-    requires { length plain.now ≤ 1000 }
+    requires short { length plain.now ≤ 1000 }
+    requires built { all_built plain.now ≡ true }
+    requires rising { TablesRise world.tables }
     ensures due { IfOk result (λ answer. answer_due answer
         ≡ due_spelling (spelling (plain_package world plain.now))) }
     ensures typed { OnOk result ((due_spelling (spelling (plain_package world plain.now))).exit
@@ -71,7 +76,7 @@ fn record_steps(alloc: Global, world: World, plain: &PlainSteps) -> Result<Answe
     spell_answer(alloc, &package)
 }
 
-#[tactic(auto, using(crate::proofs::TraceLaw::plain_short))]
+#[tactic(auto, using(crate::proofs::RecordLaws::recorded_scripts))]
 fn record_script(alloc: Global, world: World, script: &Script) -> Result<Answer, AllocError>
     requires start { start_script world ≡ Some script.now.instructions }
     requires ruled { IsTrue (world_rules world) }

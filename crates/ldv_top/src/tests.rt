@@ -143,6 +143,79 @@ fn answers_selections(rt: HostRuntime) -> Result<(), Fail> {
     Ok(())
 }
 
+// The same with the table t: k INT NOT NULL, g TEXT and v INT, with the key k and five rows.
+fn over_rows(alloc: Global, script: &str) -> Result<Bytes, AllocError> {
+    let mut text = String::from_str(alloc, r#"{"start":["main"],"files":{"main":""#)?;
+    text.push_str(script)?;
+    text.push_str(
+        r#""},"tables":{"t":{"columns":[["k","INT NOT NULL"],["g","TEXT"],["v","INT"]],"key":["k"],"rows":[[1,"a",10],[2,"a",20],[3,"b",5],[4,"b",null],[5,"c",10]]}}}"#,
+    )?;
+    Bytes::of_slice(alloc, text.as_bytes())
+}
+
+fn expect_reply(
+    rt: &impl Abort,
+    alloc: Global,
+    statement: &str,
+    params: &str,
+    reply: &str,
+) -> Result<(), AllocError> {
+    let mut script = String::from_str(alloc, "sql q \\\"")?;
+    script.push_str(statement)?;
+    script.push_str("\\\" ")?;
+    script.push_str(params)?;
+    let mut want = String::from_str(alloc, "outcome 1 0\nprocess 0 0 0 1\n\n")?;
+    want.push_str(reply)?;
+    let ended = call(alloc, &["run"], over_rows(alloc, script.as_str())?, NONE)?;
+    assert_eq!(rt; ended.status, 0, "{statement}");
+    assert_eq!(rt; ended.written.as_slice(), want.as_bytes(), "{statement}");
+    Ok(())
+}
+
+const THIRD: &str = "rows 1\nrow 3\nint 3\ntext 1\nb\nint 5\n";
+
+const TENS: &str = "rows 2\nrow 3\nint 1\ntext 1\na\nint 10\nrow 3\nint 5\ntext 1\nc\nint 10\n";
+
+#[test]
+fn answers_any_where(rt: HostRuntime) -> Result<(), Fail> {
+    let alloc = rt.alloc();
+    for (statement, params, reply) in [
+        ("SELECT * FROM t WHERE NOT (v > 5 OR g IS NULL)", "", THIRD),
+        (
+            "SELECT * FROM t WHERE v * 922337203685477581 = 0",
+            "",
+            "rows 0\n",
+        ),
+        ("SELECT * FROM t WHERE v = ?", "10", TENS),
+        ("SELECT * FROM t WHERE v = ?", "null", "rows 0\n"),
+        (
+            "SELECT * FROM t WHERE g = ? AND v < ?",
+            "\\\"b\\\" 6",
+            THIRD,
+        ),
+        ("select * from t as x where x.v = 2 + 3;", "", THIRD),
+        ("SELECT * FROM t u WHERE u.v = 10", "", TENS),
+        ("SELECT * FROM t", "1", "refused 1\n"),
+        ("SELECT * FROM t WHERE v = ?", "", "refused 1\n"),
+        ("SELECT * FROM select", "", "refused 1\n"),
+        (
+            "SELECT * FROM t WHERE v = 9223372036854775808",
+            "",
+            "refused 1\n",
+        ),
+        ("", "", "refused 1\n"),
+        ("SELECT * FROM u", "", "refused 2\n"),
+        ("SELECT * FROM t WHERE z = 1", "", "refused 3\n"),
+        ("SELECT * FROM t u WHERE t.v = 1", "", "refused 3\n"),
+        ("SELECT * FROM t WHERE g = 1", "", "refused 4\n"),
+        ("SELECT * FROM t WHERE COUNT(*) > 1", "", "refused 4\n"),
+        ("SELECT * FROM t WHERE NULL", "", "refused 4\n"),
+    ] {
+        expect_reply(&rt, alloc, statement, params, reply)?;
+    }
+    Ok(())
+}
+
 #[test]
 fn refuses_what_it_cannot_run(rt: HostRuntime) -> Result<(), Fail> {
     let alloc = rt.alloc();
@@ -206,17 +279,12 @@ fn refuses_what_it_cannot_run(rt: HostRuntime) -> Result<(), Fail> {
             "ldv: not built\n",
         ),
         (
-            r#"{"start":["main"],"files":{"main":"sql q \"SELECT * FROM t\" 1"}}"#,
+            r#"{"start":["main"],"files":{"main":"exit 0\nsql q \"SELECT k FROM t\""}}"#,
             13,
             "ldv: not built\n",
         ),
         (
-            r#"{"start":["main"],"files":{"main":"sql q \"SELECT * FROM t WHERE v = 9223372036854775808\""}}"#,
-            13,
-            "ldv: not built\n",
-        ),
-        (
-            r#"{"start":["main"],"files":{"main":"sql q \"SELECT * FROM select\""}}"#,
+            r#"{"start":["main"],"files":{"main":"sql q \"INSERT INTO t VALUES (9, 'n', ?)\" 1"}}"#,
             13,
             "ldv: not built\n",
         ),

@@ -1,16 +1,19 @@
 //! The events of a plain script's run.
 
-ghost use Rattle.std.specs.Prelude.{◌≡◌, ◌≤◌, ◌++◌, ◌∷◌, [], length, IfOk, OnOk, slice_get};
+ghost use Rattle.std.specs.Prelude.{◌≡◌, ◌≤◌, ◌++◌, ◌∷◌, [], true, length, IfOk, OnOk, slice_get};
 ghost use Rattle.run_model.specs.Events.{start_events};
+ghost use Rattle.sql_model.specs.Built.{is_built};
+ghost use Rattle.sql_model.specs.Scope.{catalog_of};
+ghost use Rattle.ldv_top.specs.Plain.{asks_built, all_built};
+ghost use Rattle.ldv_top.specs.Rising.{TablesRise};
 ghost use Rattle.ldv_top.specs.Traces.{asked_event, asked_events, ended_event, plain_events, plain_count};
 
+use crate::ask::{rows_read, tables_asked};
 use crate::finish::Shown;
-use crate::needs::{rows_read, tables_asked};
 use crate::plain::{PlainStep, PlainSteps};
-use crate::selection::Selection;
 use ldv_value::Words;
 use run_model::{Act, Event, Events, World};
-use sql_model::{Members, Table};
+use sql_model::{Catalog, Members, Statement, Table};
 use std::alloc::{AllocError, Global};
 
 /// What is told of a run that has ended: its events, and the number of its steps.
@@ -40,19 +43,23 @@ fn asking(
     alloc: Global,
     number: u32,
     statement: u32,
-    selection: &Selection,
+    reading: &Option<Statement>,
+    catalog: &Catalog,
     tables: &[Table],
 ) -> Result<Event, AllocError>
+    requires built { is_built reading.now ≡ true }
+    requires catalog { catalog.now ≡ catalog_of tables.now }
+    requires rising { TablesRise tables.now }
     ensures { IfOk result (λ event. event
-        ≡ asked_event number statement selection.now tables.now) }
+        ≡ asked_event number statement reading.now tables.now) }
 {
     Ok(Event {
         step: number,
         process: 0,
         act: Act::Asked {
             statement,
-            tables: tables_asked(alloc, selection, tables)?,
-            reads: rows_read(alloc, selection, tables)?,
+            tables: tables_asked(alloc, reading, tables)?,
+            reads: rows_read(alloc, reading, catalog, tables)?,
             made: Members::new(alloc),
         },
     })
@@ -65,14 +72,18 @@ fn push_asked(
     number: u32,
     statement: u32,
     step: &PlainStep,
+    catalog: &Catalog,
     tables: &[Table],
 ) -> Result<(), AllocError>
+    requires built { asks_built step.now ≡ true }
+    requires catalog { catalog.now ≡ catalog_of tables.now }
+    requires rising { TablesRise tables.now }
     ensures { OnOk result (events.new
         ≡ events.old ++ asked_events number statement step.now tables.now) }
 {
     match step {
-        PlainStep::Ask(selection) => {
-            events.push(asking(alloc, number, statement, selection, tables)?)
+        PlainStep::Ask(reading) => {
+            events.push(asking(alloc, number, statement, reading, catalog, tables)?)
         }
         PlainStep::Show(_) => Ok(()),
         PlainStep::Stop(_) => Ok(()),
@@ -97,20 +108,24 @@ fn ended(mut events: Events, number: u32, status: u8) -> Result<Traced, AllocErr
 }
 
 /// Runs a plain script of at most 1,000 instructions to its end, and tells its events and the number of its
-/// steps. `AllocError` means want of memory alone.
+/// steps. The rows of the tables rise by number. `AllocError` means want of memory alone.
+#[tactic(auto, using(crate::proofs::BuiltLaw::first_steps))]
 pub fn trace_steps(alloc: Global, world: &World, steps: &PlainSteps) -> Result<Traced, AllocError>
-    requires { length steps.now ≤ 1000 }
+    requires short { length steps.now ≤ 1000 }
+    requires built { all_built steps.now ≡ true }
+    requires rising { TablesRise world.now.tables }
     ensures events { IfOk result (λ t. t.events ≡ plain_events world.now steps.now) }
     ensures steps { IfOk result (λ t. t.steps ≡ plain_count world.now.tables steps.now) }
 {
     let tables = world.tables.items();
+    let catalog = Catalog::of(alloc, &world.tables)?;
     let mut events = started(alloc, &world.start)?;
     let mut shown = Shown::new(alloc);
     let mut number: u32 = 1;
     for step in steps.items() {
         let asked = shown.replies.len() as u32;
-        push_asked(alloc, &mut events, number, asked, step, tables)?;
-        match shown.take(alloc, step, tables)? {
+        push_asked(alloc, &mut events, number, asked, step, &catalog, tables)?;
+        match shown.take(alloc, step, &catalog, tables)? {
             Some(status) => return ended(events, number, status),
             None => number += 1,
         }

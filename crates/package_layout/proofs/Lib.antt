@@ -6,7 +6,6 @@ pub mod Logs
 pub mod Numbers
 pub mod Package
 pub mod Placed
-pub mod Seen
 pub mod Tables
 pub mod Tags
 pub mod Texts

@@ -2,7 +2,6 @@ pub mod Answers
 pub mod Events
 pub mod Fields
 pub mod Groups
-pub mod KeyOrder
 pub mod Order
 pub mod Parts
 pub mod Reading

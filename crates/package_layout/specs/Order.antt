@@ -1,6 +1,5 @@
--- Lists that rise, and lists in which an item stands twice.
-use Rattle.std.specs.Prelude.{ℕ, List, [], ◌∷◌, Bool, true, false, ◌&&◌, ◌||◌, nat_lt}
-use Rattle.std.specs.List.{list_any}
+-- Lists that rise.
+use Rattle.std.specs.Prelude.{ℕ, List, [], ◌∷◌, Bool, true, false, ◌&&◌, nat_lt}
 use Rattle.std.specs.declared.cmp.Ordering.{Ordering}
 use Rattle.std.specs.declared.cmp.Ordering.TheVariants.{Less, Equal, Greater}
 use Rattle.std.specs.Ordering.{nat_cmp, is_lt}
@@ -20,11 +19,6 @@ is_below_next below x (y ∷ ys) = below x y
 abbrev pub rises : {X : Type 0} → (X → X → Bool) → List X → Bool
 rises below [] = true
 rises below (x ∷ xs) = is_below_next below x xs && rises below xs
-
--- some item is the same as a later one
-abbrev pub repeats : {X : Type 0} → (X → X → Bool) → List X → Bool
-repeats same [] = false
-repeats same (x ∷ xs) = list_any (same x) xs || repeats same xs
 
 -- by bytes, or number by number
 abbrev pub is_below : List ℕ → List ℕ → Bool

@@ -1,11 +1,8 @@
 -- What a valid package meets, a test for each rule.
-use Rattle.std.specs.Prelude.{◌≡◌, ◌≢◌, ◌≤◌, ◌-◌, ℕ, List, [], ◌∷◌, length, map, take, drop, if◌then◌else◌, Result, Ok, Err, Bool, true, false, not, ◌&&◌, ◌==◌, nat_lt, nat_le, Option, Some, None, IsTrue, bytes_eq, find, slice_get, slice_index_or}
+use Rattle.std.specs.Prelude.{◌≡◌, ◌≢◌, ◌≤◌, ◌-◌, ℕ, List, [], ◌∷◌, length, map, take, drop, if◌then◌else◌, Result, Ok, Err, Bool, true, false, not, ◌&&◌, ◌==◌, nat_lt, nat_le, Option, Some, None, IsTrue, bytes_eq, find, slice_get}
 use Rattle.std.specs.Option.{is_some}
 use Rattle.std.specs.List.{list_all, zip}
-use Rattle.std.specs.Ordering.{is_eq}
-use Rattle.std.specs.Cmp.Lexicographic.{slice_cmp}
 use Rattle.ldv_value.specs.Names.{path_test}
-use Rattle.ldv_value.specs.Order.{order}
 use Rattle.ldv_value.specs.declared.value.Value.{Value}
 use Rattle.ldv_value.specs.declared.value.Value.TheVariants.{Null, Int, Text}
 use Rattle.sql_model.specs.SqlNames.{sql_name_test}
@@ -25,7 +22,8 @@ use Rattle.run_model.specs.declared.package.PackedTable.{PackedTable}
 use Rattle.run_model.specs.declared.package.Entry.{Entry}
 use Rattle.run_model.specs.declared.package.Log.{Log}
 use Rattle.run_model.specs.declared.package.Package.{Package}
-use Rattle.package_layout.specs.Order.{rises, repeats, file_below, row_below, table_below, log_below}
+use Rattle.sql_model.specs.Keys.{repeats, has_two_of_a_key}
+use Rattle.package_layout.specs.Order.{rises, file_below, row_below, table_below, log_below}
 use Rattle.package_layout.specs.Trace.{trace_test, asked_count}
 use Rattle.sha2.specs.Sha256.{sha256}
 use Rattle.package_layout.specs.declared.damage.DamageKind.{DamageKind}
@@ -97,16 +95,6 @@ abbrev pub tables_rule : List PackedTable → Bool
 tables_rule tables = nat_le (length tables) 256 && list_all table_rule tables && rises table_below tables
 
 -- ---- keys: no two rows of a table with a key have the same
-
--- a row's values at some places
-abbrev pub values_at : List ℕ → List Value → List Value
-values_at places row = map (λ place. slice_index_or row place Null) places
-
-abbrev pub is_same_key : List Value → List Value → Bool
-is_same_key a b = is_eq (slice_cmp order a b)
-
-abbrev pub has_two_of_a_key : List ℕ → List (List Value) → Bool
-has_two_of_a_key places rows = not (length places == 0) && repeats is_same_key (map (values_at places) rows)
 
 abbrev pub is_keyed : PackedTable → Bool
 is_keyed table = not (has_two_of_a_key table.schema.key (map (λ row. row.values) table.rows))

@@ -30,7 +30,6 @@ mod log;
 mod number;
 mod order;
 mod part;
-mod repeats;
 mod rules;
 mod sections;
 mod spelled;

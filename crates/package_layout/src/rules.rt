@@ -3,7 +3,7 @@
 ghost use Rattle.std.specs.Prelude.{◌≡◌, ◌==◌, slice_get};
 ghost use Rattle.std.specs.List.{list_all, list_any, zip};
 ghost use Rattle.sql_model.specs.SqlNames.{sql_name_test};
-ghost use Rattle.package_layout.specs.Order.{repeats};
+ghost use Rattle.sql_model.specs.Keys.{repeats};
 ghost use Rattle.package_layout.specs.Valid.{is_short_text, start_rule, content_rule, file_rule, files_rule, has_same_name, columns_rule, is_not_null, key_rule, is_short, value_rule, values_rule, row_rule, table_rule, tables_rule, refusal_rule, reply_rule, entry_rule, is_of_first, log_rule, logs_rule};
 
 use crate::order::rises;

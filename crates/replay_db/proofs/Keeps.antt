@@ -4,7 +4,9 @@ use Rattle.std.specs.Prelude.{Some, map, find, ◌&&◌, ◌||◌, ◌==◌, if�
 use Rattle.std.proofs.lemmas.Bool.{cases_Bool}
 use Rattle.std.proofs.lemmas.Bool.Decides.{Decides-eqb}
 use Rattle.std.proofs.lemmas.Slice.Eq.{bytes_eq-Decides}
-use Rattle.sql_model.specs.Needs.{NeededRow, is_same_row, is_earlier_row, put_row, rising_rows}
+use Rattle.sql_model.specs.declared.need.Rule.{Rule}
+use Rattle.sql_model.specs.Answers.{Origin}
+use Rattle.sql_model.specs.Needs.{NeededRow, needed_by, is_same_row, is_earlier_row, put_row, rising_rows}
 use Rattle.sql_model.specs.Scope.{same_text}
 use Rattle.run_model.specs.Events.{Past, read_of}
 use Rattle.run_model.specs.Slice.{Cut, KeepsReads}
@@ -44,7 +46,15 @@ module _ (cut : Cut) where
   rows_of_reads past [] k = tt
   rows_of_reads past (n ∷ ns) k = (k.0, rows_of_reads past ns k.1)
 
-  pub keeps_split : (xs ys : List NeededRow) → KeepsRows (xs ++ ys) → KeepsRows xs × KeepsRows ys
+  abbrev pub KeepsOrigins : List Origin → Type 0
+  KeepsOrigins [] = Unit {0}
+  KeepsOrigins (o ∷ os) = (cut.row o.table o.row ≡ true) × KeepsOrigins os
+
+  pub origins_of_rows : (rule : Rule) (os : List Origin) → KeepsRows (map (needed_by rule) os) → KeepsOrigins os
+  origins_of_rows rule [] k = tt
+  origins_of_rows rule (o ∷ os) k = (k.0, origins_of_rows rule os k.1)
+
+  pub keeps_split : (xs ys : List Origin) → KeepsOrigins (xs ++ ys) → KeepsOrigins xs × KeepsOrigins ys
   keeps_split [] ys k = (tt, k)
   keeps_split (x ∷ xs) ys k = let more = keeps_split xs ys k.1 in ((k.0, more.0), more.1)
 

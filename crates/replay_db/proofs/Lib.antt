@@ -18,5 +18,6 @@ mod TraceRun
 mod TraceState
 mod TraceTables
 mod WorldLaws
+pub mod BuiltStatements
 pub mod SelectionNeeds
 pub mod TraceValid

@@ -12,6 +12,7 @@ use Rattle.run_model.specs.declared.event.Act.TheVariants.{Started}
 use Rattle.run_model.specs.declared.event.Event.{Event}
 use Rattle.run_model.specs.declared.package.Package.{Package}
 use Rattle.run_model.specs.declared.world.World.{World}
+use Rattle.run_model.specs.Built.{built_within}
 use Rattle.run_model.specs.Events.{event_at, events_from, no_past, start_events, script_events, events_within}
 use Rattle.run_model.specs.Run.{all_ended, run}
 use Rattle.run_model.specs.Slice.{Whole, file_need, files_needed, tables_needed, world_steps, included_package}
@@ -97,20 +98,20 @@ module _ (n : ℕ) (w : World) (script : List Instr) (is : start_script w ≡ So
   steps_valid : n ≤ 10000000 → all_ended (run n (start_state w script)) ≡ true → steps_rule (world_steps n w (start_script w)) ≡ true
   steps_valid less end = steps_between (world_steps n w (start_script w)) n (steps_at_least_one n w script is end) (steps_at_most n w) less
 
-  room_valid : IsTrue (world_rules w) → all_ended (run n (start_state w script)) ≡ true → Ruled (all_of_world w) → tables_rule (tables_needed (events_within n w) w.tables) ≡ true → has_room (included_package n w) ≡ true
-  room_valid met end ruled tables =
+  room_valid : built_within n w ≡ true → IsTrue (world_rules w) → all_ended (run n (start_state w script)) ≡ true → Ruled (all_of_world w) → tables_rule (tables_needed (events_within n w) w.tables) ≡ true → has_room (included_package n w) ≡ true
+  room_valid built met end ruled tables =
       let p : Package = included_package n w in
       let few : Bool = nat_le (length p.tables) 256 in
       let parts = and_parts (few && list_all table_rule p.tables) (rises table_below p.tables) tables in
       let count = and_parts few (list_all table_rule p.tables) parts.0 in
       let room : tables_room p ≡ true = and_from (some_thousands p.tables) (list_all table_room p.tables) (tables_few (length p.tables) count.0) (rooms_valid p.events w.tables ruled.room) in
       and_from (some_thousands p.start) (tables_room p && (list_all log_room p.logs && list_all event_room p.events)) (start_room p.start ruled.start)
-      (and_from (tables_room p) (list_all log_room p.logs && list_all event_room p.events) room (trace_room n w script is met end))
+      (and_from (tables_room p) (list_all log_room p.logs && list_all event_room p.events) room (trace_room n w script is built met end))
 
 -- ---- the laws
 
 pub valid_package : ValidPackageLaw
-valid_package n w script is met less end =
+valid_package n w script is built met less end =
     let p : Package = included_package n w in
     let events : List Event = p.events in
     let ruled : Ruled (all_of_world w) = ruled_by (all_of_world w) met in
@@ -119,20 +120,20 @@ valid_package n w script is met less end =
     let parts : parts_rule p ≡ true = and_from (start_rule p.start && files_rule p.files && tables_rule p.tables) true
     (and_from (start_rule p.start && files_rule p.files) (tables_rule p.tables) (and_from (start_rule p.start) (files_rule p.files) ruled.start files) tables) refl in
     let steps : steps_rule p.steps ≡ true = steps_valid n w script is less end in
-    let trace : trace_rule p.start p.steps events ≡ true = trace_valid n w script is met end in
-    let reasons : reasons_rule (asked_count events) p.tables ≡ true = reasons_valid n w script is met end in
+    let trace : trace_rule p.start p.steps events ≡ true = trace_valid n w script is built met end in
+    let reasons : reasons_rule (asked_count events) p.tables ≡ true = reasons_valid n w script is built met end in
     let whole : whole_rule p ≡ true = and_from (steps_rule p.steps && trace_rule p.start p.steps events) (reasons_rule (asked_count events) p.tables)
     (and_from (steps_rule p.steps) (trace_rule p.start p.steps events) steps trace) reasons in
     let keys : keys_rule p.tables ≡ true = keys_valid events w.tables ruled.keys in
     let starts : script_rule p.start p.files ≡ true = script_still w.start (events_from n 1 no_past (start_state w script)) events w.files (begins n w script is) ruled.script in
     let all : rules p ≡ true = and_from (parts_rule p && whole_rule p && keys_rule p.tables) (script_rule p.start p.files)
     (and_from (parts_rule p && whole_rule p) (keys_rule p.tables) (and_from (parts_rule p) (whole_rule p) parts whole) keys) starts in
-    and_from (has_room p) (rules p) (room_valid n w script is met end ruled tables) all
+    and_from (has_room p) (rules p) (room_valid n w script is built met end ruled tables) all
 
 pub typed_package : TypedPackageLaw
-typed_package n w script is valid less end =
+typed_package n w script is built valid less end =
     let events : List Event = events_within n w in
-    let asked : AllByRecursion TypedEvent events = trace_typed n w script is valid less end in
+    let asked : AllByRecursion TypedEvent events = trace_typed n w script is built valid less end in
     let few : world_steps n w (start_script w) ≤ n = steps_at_most n w in
     let t : IsTyped (all_of_world w) = valid.typed in
     (t.0, (t.1.0, (steps_small (world_steps n w (start_script w)) n few less, (files_typed events w.files t.1.1.1.0, (tables_typed events asked w.tables t.1.1.1.1.0, (tt, asked))))))

@@ -16,9 +16,10 @@ use Rattle.run_model.specs.declared.package.PackedFile.{PackedFile}
 use Rattle.run_model.specs.declared.package.PackedRow.{PackedRow}
 use Rattle.run_model.specs.declared.package.PackedTable.{PackedTable}
 use Rattle.run_model.specs.Slice.{FileNeed, Whole, Present, file_need, packed_as, packed_file, files_needed, Reason, first_reason, packed_because, packed_row, rows_needed, is_table_needed, packed_table, tables_needed}
-use Rattle.package_layout.specs.Order.{rises, repeats, is_below, file_below, row_below, table_below}
+use Rattle.sql_model.specs.Keys.{repeats, same_values, values_at}
+use Rattle.package_layout.specs.Order.{rises, is_below, file_below, row_below, table_below}
 use Rattle.package_layout.specs.Room.{few, key_room, row_room, table_room}
-use Rattle.package_layout.specs.Valid.{content_rule, file_rule, files_rule, columns_rule, key_rule, values_rule, row_rule, table_rule, tables_rule, values_at, is_same_key, is_keyed, keys_rule}
+use Rattle.package_layout.specs.Valid.{content_rule, file_rule, files_rule, columns_rule, key_rule, values_rule, row_rule, table_rule, tables_rule, is_keyed, keys_rule}
 use Rattle.replay_db.specs.Worlds.{all_of_file, all_of_row, all_of_table}
 use Rattle.replay_db.proofs.PackageValidLists.{kept_if, Chains, tests_stay, within_still, rises_still, unique_still, some_kept, map_twice}
 
@@ -117,14 +118,14 @@ module _ (events : List Event) (table : Table) where
   keeps_row : (row : TableRow) (y : PackedRow) → packed_row events table.name row ≡ Some y → KeptRow row (first_reason table.name row.number events) y
   keeps_row row y is = row_kept row (first_reason table.name row.number events) y is
 
-  same_values : (row : TableRow) (y : PackedRow) → packed_row events table.name row ≡ Some y → y.values ≡ row.values
-  same_values row y is = (keeps_row row y is).values
+  values_stay : (row : TableRow) (y : PackedRow) → packed_row events table.name row ≡ Some y → y.values ≡ row.values
+  values_stay row y is = (keeps_row row y is).values
 
   same_number : (row : TableRow) (y : PackedRow) → packed_row events table.name row ≡ Some y → y.number ≡ row.number
   same_number row y is = (keeps_row row y is).number
 
   row_valid : (row : TableRow) (y : PackedRow) → packed_row events table.name row ≡ Some y → row_rule (all_of_table table) (all_of_row row) ≡ true → row_rule (packed_table events table) y ≡ true
-  row_valid row y is met = (λ j. nat_lt (same_number row y is j) table.next && values_rule table.schema.columns (same_values row y is j)) ∙ met
+  row_valid row y is met = (λ j. nat_lt (same_number row y is j) table.next && values_rule table.schema.columns (values_stay row y is j)) ∙ met
 
   pub table_valid : table_rule (all_of_table table) ≡ true → table_rule (packed_table events table) ≡ true
   table_valid met =
@@ -142,25 +143,25 @@ module _ (events : List Event) (table : Table) where
       let first = and_parts (few table.schema.columns) (key_room table.schema.key && list_all (row_room wide) all_rows) met in
       let second = and_parts (key_room table.schema.key) (list_all (row_room wide) all_rows) first.1 in
       let each : list_all (row_room wide) kept_rows ≡ true =
-      tests_stay all_of_row (packed_row events table.name) (row_room wide) (row_room wide) (λ row y is fits. ap (λ (vs : List Value). length vs == wide) (same_values row y is) ∙ fits) table.rows second.1 in
+      tests_stay all_of_row (packed_row events table.name) (row_room wide) (row_room wide) (λ row y is fits. ap (λ (vs : List Value). length vs == wide) (values_stay row y is) ∙ fits) table.rows second.1 in
       and_from (few table.schema.columns) (key_room table.schema.key && list_all (row_room wide) kept_rows) first.0
       (and_from (key_room table.schema.key) (list_all (row_room wide) kept_rows) second.0 each)
 
   abbrev keys_of : List PackedRow → List (List Value)
   keys_of rows = map (values_at table.schema.key) (map (λ row. row.values) rows)
 
-  keys_unique : repeats is_same_key (keys_of all_rows) ≡ false → repeats is_same_key (keys_of kept_rows) ≡ false
+  keys_unique : repeats same_values (keys_of all_rows) ≡ false → repeats same_values (keys_of kept_rows) ≡ false
   keys_unique none =
       let at : (rows : List PackedRow) → keys_of rows ≡ map (λ row. values_at table.schema.key row.values) rows = λ rows. map_twice (values_at table.schema.key) (λ row. row.values) rows in
-      ap (repeats is_same_key) (at kept_rows)
-      ∙ unique_still all_of_row (packed_row events table.name) (λ y. y.values) same_values (values_at table.schema.key) is_same_key table.rows (sym (ap (repeats is_same_key) (at all_rows)) ∙ none)
+      ap (repeats same_values) (at kept_rows)
+      ∙ unique_still all_of_row (packed_row events table.name) (λ y. y.values) values_stay (values_at table.schema.key) same_values table.rows (sym (ap (repeats same_values) (at all_rows)) ∙ none)
 
   no_two : (b r s : Bool) → (r ≡ false → s ≡ false) → not (b && r) ≡ true → not (b && s) ≡ true
   no_two false r s keeps met = refl
   no_two true r s keeps met = not_from_false s (keeps (not-true r met))
 
   pub table_keyed : is_keyed (all_of_table table) ≡ true → is_keyed (packed_table events table) ≡ true
-  table_keyed met = no_two (not (length table.schema.key == 0)) (repeats is_same_key (keys_of all_rows)) (repeats is_same_key (keys_of kept_rows)) keys_unique met
+  table_keyed met = no_two (not (length table.schema.key == 0)) (repeats same_values (keys_of all_rows)) (repeats same_values (keys_of kept_rows)) keys_unique met
 
 module _ (events : List Event) where
   each_table : (p : PackedTable → Bool) → ((table : Table) → p (all_of_table table) ≡ true → p (packed_table events table) ≡ true) → (tables : List Table) → list_all p (map all_of_table tables) ≡ true → list_all p (tables_needed events tables) ≡ true

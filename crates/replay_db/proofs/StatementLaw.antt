@@ -1,30 +1,49 @@
 -- A statement answers and needs the same of tables from which nothing was cut that it needs.
-use Rattle.std.proofs.Common.{◌≡◌, ℕ, List, [], ◌∷◌, ◌++◌, refl, sym, ap, ◌∙◌, Bool, true, false, inl, inr}
-use Rattle.std.specs.Prelude.{Option, Some, None, option_map, is_none, map, filter, not, ◌&&◌, ◌||◌, ◌⊎◌, if◌then◌else◌}
+use Rattle.std.proofs.Common.{◌≡◌, ℕ, List, [], ◌∷◌, ◌++◌, refl, sym, ap, ◌∙◌, subst, Bool, true, false, inl, inr}
+use Rattle.std.specs.Prelude.{Option, Some, None, option_map, option_and_then, is_none, map, filter, find, zip, not, ◌&&◌, ◌||◌, if◌then◌else◌}
 use Rattle.std.specs.List.{flat_map, list_any, list_all}
 use Rattle.std.proofs.lemmas.Bool.{cases_Bool}
 use Rattle.std.proofs.lemmas.List.Elements.{filter-append}
+use Rattle.sql_model.specs.declared.catalog.Catalog.{Catalog}
+use Rattle.sql_model.specs.declared.expr.Expr.{Expr}
+use Rattle.sql_model.specs.declared.kind.Kind.{Kind}
+use Rattle.sql_model.specs.declared.need.Rule.TheVariants.{L}
 use Rattle.sql_model.specs.declared.reply.Reply.TheVariants.{Rows}
 use Rattle.sql_model.specs.declared.reply.SqlRefusal.{SqlRefusal}
 use Rattle.sql_model.specs.declared.reply.SqlRefusal.TheVariants.{NoTable, NoColumn, TypeClash}
 use Rattle.sql_model.specs.declared.statement.Core.{Core}
 use Rattle.sql_model.specs.declared.statement.FromItem.{FromItem}
+use Rattle.sql_model.specs.declared.statement.Order.{Order}
+use Rattle.sql_model.specs.declared.statement.Query.{Query}
 use Rattle.sql_model.specs.declared.statement.Statement.{Statement}
-use Rattle.sql_model.specs.declared.statement.Statement.TheVariants.{Query as TheQuery, Insert as TheInsert, Update as TheUpdate, Delete as TheDelete}
+use Rattle.sql_model.specs.declared.statement.Statement.TheVariants.{Query as TheQuery}
 use Rattle.sql_model.specs.declared.table.Column.{Column}
+use Rattle.sql_model.specs.declared.table.Schema.{Schema}
 use Rattle.sql_model.specs.declared.table.Table.{Table}
 use Rattle.sql_model.specs.declared.table.TableRow.{TableRow}
-use Rattle.sql_model.specs.Answers.{Combination, combinations, joined_values, meets_all, picked, core_rows}
-use Rattle.sql_model.specs.Kinds.{names_in, row_kind, is_condition}
-use Rattle.sql_model.specs.Needs.{rising_rows, combination_rows, core_lineage, lineage_rows, need_unless, need_of, is_named, table_name, asked_tables}
-use Rattle.sql_model.specs.Scope.{InScope, is_table, table_at, columns_of, rows_of, scope_of, environment, resolves}
-use Rattle.sql_model.specs.Statements.{tables_of_core, tables_of, cores_of, is_doubled, lacks_table, lacks_column, clashes, refusal_of, accepted_reply, reply_or, reply_of}
+use Rattle.sql_model.specs.Answers.{Origin, answer_values, lineage_of, Combination, combinations, combination_rows, meets_all, row_environment, picked, rows_in_scope, once, core_rows, answer}
+use Rattle.sql_model.specs.Built.{is_built}
+use Rattle.sql_model.specs.Changes.{or_else}
+use Rattle.sql_model.specs.Needs.{Versions, needed_by, rising_rows, accepted_needs, needs_by, need_of, is_named, table_name, asked_tables, made_by, updated_rows}
+use Rattle.sql_model.specs.Refusals.{tables_of_core, tables_of, is_missing, doubles_source, lacks_table, lacks_in_scope, core_lacks_column, item_titles, answer_titles, is_order_key, lacks_column, kinds_in_scope, core_kinds, union_kinds, kinds_after, query_kinds, is_limit, clashes}
+use Rattle.sql_model.specs.Scope.{InScope, is_table, table_at, rows_of, catalog_of, is_schema, schema_in, schema_at, columns_of, scope_of}
+use Rattle.sql_model.specs.Statements.{refusal_of, reply_or, reply_of, after}
 use Rattle.run_model.specs.Slice.{Cut, cut_table, cut_tables, KeepsTables}
-use Rattle.replay_db.proofs.Keeps.{or_second, same_text_is, found_passes, KeepsRows, keeps_split, keeps_rising}
+use Rattle.replay_db.proofs.BuiltStatements.{plain_core, plain_query, built_cases, reply_is, need_none, need_is, refused_needs, built_after, built_made, built_updated, plain_answer, plain_needs}
+use Rattle.replay_db.proofs.Keeps.{or_second, same_text_is, found_passes, KeepsRows, KeepsOrigins, origins_of_rows, keeps_split, keeps_rising}
 
-cases_option : {A : Type 0} (o : Option A) → (o ≡ None) ⊎ ((x : A) × (o ≡ Some x))
-cases_option None = inl refl
-cases_option (Some x) = inr (x, refl)
+abbrev table_schema : Table → Schema
+table_schema table = table.schema
+
+-- the schema of a name is that of the table of the name
+module _ (t : Table) (o : Option (List ℕ × Schema)) (p : Option Table) where
+  one_more : (b : Bool) → option_map schema_in o ≡ option_map table_schema p → option_map schema_in (if b then Some (t.name, t.schema) else o) ≡ option_map table_schema (if b then Some t else p)
+  one_more true same = refl
+  one_more false same = same
+
+schema_found : (name : List ℕ) (db : List Table) → schema_at name (catalog_of db) ≡ option_map table_schema (table_at name db)
+schema_found name [] = refl
+schema_found name (t ∷ ts) = one_more t (find (is_schema name) (zip (map (λ table. table.name) ts) (map (λ table. table.schema) ts))) (table_at name ts) (is_table name t) (schema_found name ts)
 
 module _ (cut : Cut) where
   -- ---- tables by name
@@ -87,13 +106,12 @@ module _ (cut : Cut) where
 
   -- ---- schemas
 
-  columns_cut : (o : Option Table) → columns_of (option_map (cut_table cut) o) ≡ columns_of o
-  columns_cut None = refl
-  columns_cut (Some t) = refl
+  schema_cut : (o : Option Table) → option_map table_schema (option_map (cut_table cut) o) ≡ option_map table_schema o
+  schema_cut None = refl
+  schema_cut (Some t) = refl
 
-  none_cut : (o : Option Table) → is_none (option_map (cut_table cut) o) ≡ is_none o
-  none_cut None = refl
-  none_cut (Some t) = refl
+  schema_same : (name : List ℕ) (db : List Table) → table_at name (cut_tables cut db) ≡ option_map (cut_table cut) (table_at name db) → schema_at name (catalog_of (cut_tables cut db)) ≡ schema_at name (catalog_of db)
+  schema_same name db found = schema_found name (cut_tables cut db) ∙ ap (option_map table_schema) found ∙ schema_cut (table_at name db) ∙ sym (schema_found name db)
 
   abbrev from_tables : List FromItem → List (List ℕ)
   from_tables from = map (λ item. item.table) from
@@ -101,47 +119,62 @@ module _ (cut : Cut) where
   abbrev entry : FromItem → Column → InScope
   entry item column = record { source = item.name; column = column }
 
-  scope_same : (from : List FromItem) (db : List Table) → Agrees db (from_tables from) → scope_of from (cut_tables cut db) ≡ scope_of from db
+  scope_same : (from : List FromItem) (db : List Table) → Agrees db (from_tables from) → scope_of from (catalog_of (cut_tables cut db)) ≡ scope_of from (catalog_of db)
   scope_same [] db k = refl
   scope_same (item ∷ from) db k =
-      let columns : columns_of (table_at item.table (cut_tables cut db)) ≡ columns_of (table_at item.table db) = ap columns_of k.0 ∙ columns_cut (table_at item.table db) in
-      λ j. map (entry item) (columns j) ++ scope_same from db k.1 j
+      let schema : schema_at item.table (catalog_of (cut_tables cut db)) ≡ schema_at item.table (catalog_of db) = schema_same item.table db k.0 in
+      λ j. map (entry item) (columns_of (schema j)) ++ scope_same from db k.1 j
 
-  tables_same : (names : List (List ℕ)) (db : List Table) → Agrees db names → list_any (λ name. is_none (table_at name (cut_tables cut db))) names ≡ list_any (λ name. is_none (table_at name db)) names
-  tables_same [] db k = refl
-  tables_same (name ∷ names) db k =
-      let there : is_none (table_at name (cut_tables cut db)) ≡ is_none (table_at name db) = ap is_none k.0 ∙ none_cut (table_at name db) in
-      λ j. there j || tables_same names db k.1 j
+  missing_same : (names : List (List ℕ)) (db : List Table) → Agrees db names → list_any (is_missing (catalog_of (cut_tables cut db))) names ≡ list_any (is_missing (catalog_of db)) names
+  missing_same [] db k = refl
+  missing_same (name ∷ names) db k =
+      let schema : schema_at name (catalog_of (cut_tables cut db)) ≡ schema_at name (catalog_of db) = schema_same name db k.0 in
+      λ j. is_none (schema j) || missing_same names db k.1 j
 
   -- a test of cores that looks at the scope alone
-  cores_same : (test : List InScope → Core → Bool) (db : List Table) (cores : List Core) → Agrees db (flat_map tables_of_core cores) → list_any (λ core. test (scope_of core.from (cut_tables cut db)) core) cores ≡ list_any (λ core. test (scope_of core.from db) core) cores
+  cores_same : (test : List InScope → Core → Bool) (db : List Table) (cores : List Core) → Agrees db (flat_map tables_of_core cores) → list_any (λ core. test (scope_of core.from (catalog_of (cut_tables cut db))) core) cores ≡ list_any (λ core. test (scope_of core.from (catalog_of db)) core) cores
   cores_same test db [] k = refl
   cores_same test db (core ∷ cores) k =
       let both = agree_split db (tables_of_core core) (flat_map tables_of_core cores) k in
-      let scope : scope_of core.from (cut_tables cut db) ≡ scope_of core.from db = scope_same core.from db both.0 in
+      let scope : scope_of core.from (catalog_of (cut_tables cut db)) ≡ scope_of core.from (catalog_of db) = scope_same core.from db both.0 in
       λ j. test (scope j) core || cores_same test db cores both.1 j
 
-  -- ---- refusals
+  -- ---- the refusal of a query
 
-  abbrev unresolved : List InScope → Core → Bool
-  unresolved scope core = not (list_all (resolves scope) (flat_map names_in core.picks))
+  titles_same : (cores : List Core) (db : List Table) → Agrees db (flat_map tables_of_core cores) → answer_titles (catalog_of (cut_tables cut db)) cores ≡ answer_titles (catalog_of db) cores
+  titles_same [] db k = refl
+  titles_same (core ∷ cores) db k =
+      let both = agree_split db (tables_of_core core) (flat_map tables_of_core cores) k in
+      ap (λ (scope : List InScope). item_titles scope core.items) (scope_same core.from db both.0)
 
-  abbrev unfit : List InScope → Core → Bool
-  unfit scope core = not (list_all (λ e. is_condition (row_kind scope e)) core.picks)
+  kinds_more : (kinds : Option (List Kind)) (cores : List Core) (db : List Table) → Agrees db (flat_map tables_of_core cores) → kinds_after (catalog_of (cut_tables cut db)) kinds cores ≡ kinds_after (catalog_of db) kinds cores
+  kinds_more kinds [] db k = refl
+  kinds_more kinds (core ∷ cores) db k =
+      let both = agree_split db (tables_of_core core) (flat_map tables_of_core cores) k in
+      let scope : scope_of core.from (catalog_of (cut_tables cut db)) ≡ scope_of core.from (catalog_of db) = scope_same core.from db both.0 in
+      (λ j. kinds_after (catalog_of (cut_tables cut db)) (option_and_then (λ (ks : List Kind). option_and_then (union_kinds ks) (kinds_in_scope (scope j) core)) kinds) cores)
+      ∙ kinds_more (option_and_then (λ (ks : List Kind). option_and_then (union_kinds ks) (core_kinds (catalog_of db) core)) kinds) cores db both.1
 
-  agree_cores : (statement : Statement) (db : List Table) → Agrees db (tables_of statement) → Agrees db (flat_map tables_of_core (cores_of statement))
-  agree_cores (TheQuery query) db k = k
-  agree_cores (TheInsert insert) db k = tt
-  agree_cores (TheUpdate update) db k = tt
-  agree_cores (TheDelete delete) db k = tt
+  kinds_same : (cores : List Core) (db : List Table) → Agrees db (flat_map tables_of_core cores) → query_kinds (catalog_of (cut_tables cut db)) cores ≡ query_kinds (catalog_of db) cores
+  kinds_same [] db k = refl
+  kinds_same (core ∷ cores) db k =
+      let both = agree_split db (tables_of_core core) (flat_map tables_of_core cores) k in
+      let scope : scope_of core.from (catalog_of (cut_tables cut db)) ≡ scope_of core.from (catalog_of db) = scope_same core.from db both.0 in
+      (λ j. kinds_after (catalog_of (cut_tables cut db)) (kinds_in_scope (scope j) core) cores)
+      ∙ kinds_more (core_kinds (catalog_of db) core) cores db both.1
 
-  refusal_same : (statement : Statement) (db : List Table) → Agrees db (tables_of statement) → refusal_of (Some statement) (cut_tables cut db) ≡ refusal_of (Some statement) db
-  refusal_same statement db k =
-      let names : list_any (λ name. is_none (table_at name (cut_tables cut db))) (tables_of statement) ≡ list_any (λ name. is_none (table_at name db)) (tables_of statement) = tables_same (tables_of statement) db k in
-      let two : lacks_table statement (cut_tables cut db) ≡ lacks_table statement db = λ j. names j || list_any (λ core. list_any (is_doubled core) core.from) (cores_of statement) in
-      let three : lacks_column statement (cut_tables cut db) ≡ lacks_column statement db = cores_same unresolved db (cores_of statement) (agree_cores statement db k) in
-      let four : clashes statement (cut_tables cut db) ≡ clashes statement db = cores_same unfit db (cores_of statement) (agree_cores statement db k) in
-      λ j. if two j then Some NoTable else (if three j then Some NoColumn else (if four j then Some TypeClash else None))
+  refusal_same : (query : Query) (db : List Table) → Agrees db (tables_of (TheQuery query)) → refusal_of (Some (TheQuery query)) (cut_tables cut db) ≡ refusal_of (Some (TheQuery query)) db
+  refusal_same query db k =
+      let small : Catalog = catalog_of (cut_tables cut db) in
+      let whole : Catalog = catalog_of db in
+      let missing : list_any (is_missing small) (tables_of (TheQuery query)) ≡ list_any (is_missing whole) (tables_of (TheQuery query)) = missing_same (tables_of (TheQuery query)) db k in
+      let two : lacks_table (TheQuery query) small ≡ lacks_table (TheQuery query) whole = λ j. missing j || list_any doubles_source query.cores in
+      let lacks : list_any (core_lacks_column small) query.cores ≡ list_any (core_lacks_column whole) query.cores = cores_same lacks_in_scope db query.cores k in
+      let titles : answer_titles small query.cores ≡ answer_titles whole query.cores = titles_same query.cores db k in
+      let three : lacks_column (TheQuery query) small ≡ lacks_column (TheQuery query) whole = λ j. lacks j || not (list_all (λ (order : Order). is_order_key (titles j) order.key) query.order) in
+      let kinds : query_kinds small query.cores ≡ query_kinds whole query.cores = kinds_same query.cores db k in
+      let four : clashes (TheQuery query) small ≡ clashes (TheQuery query) whole = λ j. is_none (kinds j) || not (is_limit query.limit) in
+      λ j. or_else (if two j then Some NoTable else (if three j then Some NoColumn else (if four j then Some TypeClash else None))) None
 
   -- ---- combinations
 
@@ -189,22 +222,22 @@ module _ (cut : Cut) where
       (λ j. flat_map (λ row. with_row row (combinations_cut from db k.1 j)) (rows_cut item.table db k.0 j))
       ∙ product_cut item from (combinations from db) (rows_of (table_at item.table db))
 
-  combo_kept : (from : List FromItem) (rows : Combination) → KeepsRows cut (combination_rows from rows) → kept_combo from rows ≡ true
+  combo_kept : (from : List FromItem) (rows : Combination) → KeepsOrigins cut (combination_rows from rows) → kept_combo from rows ≡ true
   combo_kept [] rows k = refl
   combo_kept (item ∷ from) [] k = refl
   combo_kept (item ∷ from) (row ∷ rows) k = rw k.0 (combo_kept from rows k.1)
 
   -- what is picked stays, so nothing of it is cut
-  picked_kept : (p : Combination → Bool) (from : List FromItem) (combos : List Combination) → KeepsRows cut (flat_map (combination_rows from) (filter p combos)) → filter p (filter (kept_combo from) combos) ≡ filter p combos
+  picked_kept : (p : Combination → Bool) (from : List FromItem) (combos : List Combination) → KeepsOrigins cut (flat_map (combination_rows from) (filter p combos)) → filter p (filter (kept_combo from) combos) ≡ filter p combos
   picked_kept p from [] k = refl
   picked_kept p from (rows ∷ combos) k = elim (cases_Bool (p rows)) [
     | inl hit ↦
-        let kk : KeepsRows cut (combination_rows from rows ++ flat_map (combination_rows from) (filter p combos)) = rw hit at k in
+        let kk : KeepsOrigins cut (combination_rows from rows ++ flat_map (combination_rows from) (filter p combos)) = rw hit at k in
         let both = keeps_split cut (combination_rows from rows) (flat_map (combination_rows from) (filter p combos)) kk in
         let stays : kept_combo from rows ≡ true = combo_kept from rows both.0 in
         rw (stays, hit) (ap (λ (l : List Combination). rows ∷ l) (picked_kept p from combos both.1))
     | inr miss ↦
-        let kk : KeepsRows cut (flat_map (combination_rows from) (filter p combos)) = rw miss at k in
+        let kk : KeepsOrigins cut (flat_map (combination_rows from) (filter p combos)) = rw miss at k in
         elim (cases_Bool (kept_combo from rows)) [
           | inl stays ↦ rw (stays, miss) (picked_kept p from combos kk)
           | inr goes ↦ rw (goes, miss) (picked_kept p from combos kk)
@@ -212,53 +245,97 @@ module _ (cut : Cut) where
   ]
 
   abbrev picks : Core → List InScope → Combination → Bool
-  picks core scope rows = meets_all core.picks (environment scope (joined_values rows))
+  picks core scope rows = meets_all core.picks (row_environment scope rows)
 
-  picked_same : (core : Core) (db : List Table) → Agrees db (tables_of_core core) → KeepsRows cut (core_lineage db core) → picked core (cut_tables cut db) ≡ picked core db
+  picked_same : (core : Core) (db : List Table) → Agrees db (tables_of_core core) → KeepsOrigins cut (flat_map (combination_rows core.from) (picked core db)) → picked core (cut_tables cut db) ≡ picked core db
   picked_same core db k keeps =
-      let scope : scope_of core.from (cut_tables cut db) ≡ scope_of core.from db = scope_same core.from db k in
+      let scope : scope_of core.from (catalog_of (cut_tables cut db)) ≡ scope_of core.from (catalog_of db) = scope_same core.from db k in
       let combos : combinations core.from (cut_tables cut db) ≡ filter (kept_combo core.from) (combinations core.from db) = combinations_cut core.from db k in
       (λ j. filter (picks core (scope j)) (combos j))
-      ∙ picked_kept (picks core (scope_of core.from db)) core.from (combinations core.from db) keeps
+      ∙ picked_kept (picks core (scope_of core.from (catalog_of db))) core.from (combinations core.from db) keeps
 
-  -- ---- cores
+  -- a core gives the same rows
+  core_rows_same : (core : Core) (db : List Table) → Agrees db (tables_of_core core) → KeepsOrigins cut (flat_map (combination_rows core.from) (picked core db)) → core_rows (cut_tables cut db) core ≡ core_rows db core
+  core_rows_same core db k keeps =
+      let scope : scope_of core.from (catalog_of (cut_tables cut db)) ≡ scope_of core.from (catalog_of db) = scope_same core.from db k in
+      let same : picked core (cut_tables cut db) ≡ picked core db = picked_same core db k keeps in
+      λ j. once core.distinct (rows_in_scope (scope j) core (same j))
 
-  answers_same : (db : List Table) (cores : List Core) → Agrees db (flat_map tables_of_core cores) → KeepsRows cut (flat_map (core_lineage db) cores)
-      → (flat_map (core_rows (cut_tables cut db)) cores ≡ flat_map (core_rows db) cores) × (flat_map (core_lineage (cut_tables cut db)) cores ≡ flat_map (core_lineage db) cores)
-  answers_same db [] k keeps = (refl, refl)
-  answers_same db (core ∷ cores) k keeps =
-      let both = agree_split db (tables_of_core core) (flat_map tables_of_core cores) k in
-      let rows = keeps_split cut (core_lineage db core) (flat_map (core_lineage db) cores) keeps in
-      let same : picked core (cut_tables cut db) ≡ picked core db = picked_same core db both.0 rows.0 in
-      let more = answers_same db cores both.1 rows.1 in
-      (λ j. map joined_values (same j) ++ more.0 j, λ j. flat_map (combination_rows core.from) (same j) ++ more.1 j)
+  -- ---- a plain query
 
-  -- ---- the law
+  module _ (joined : Bool) (item : FromItem) (sought : List Expr) (db : List Table) (k : Agrees db (item.table ∷ [])) where
+    abbrev core : Core
+    core = plain_core joined item sought
 
-  accepted_same : (statement : Statement) (db : List Table) → Agrees db (tables_of statement) → KeepsRows cut (lineage_rows statement db)
-      → (accepted_reply statement (cut_tables cut db) ≡ accepted_reply statement db) × (lineage_rows statement (cut_tables cut db) ≡ lineage_rows statement db)
-  accepted_same (TheQuery query) db k keeps = let same = answers_same db query.cores k keeps in (ap Rows same.0, same.1)
-  accepted_same (TheInsert insert) db k keeps = (refl, refl)
-  accepted_same (TheUpdate update) db k keeps = (refl, refl)
-  accepted_same (TheDelete delete) db k keeps = (refl, refl)
+    abbrev query : Query
+    query = plain_query joined item sought
 
-  -- with the refusal, or the want of one, that both databases give
-  settled_same : (statement : Statement) (db : List Table) → Agrees db (tables_of statement) → (refusal : Option SqlRefusal) → KeepsRows cut (need_unless refusal (Some statement) db)
-      → (reply_or refusal (Some statement) (cut_tables cut db) ≡ reply_or refusal (Some statement) db) × (need_unless refusal (Some statement) (cut_tables cut db) ≡ need_unless refusal (Some statement) db)
-  settled_same statement db k (Some refusal) keeps = (refl, refl)
-  settled_same statement db k None keeps =
-      let same = accepted_same statement db k (keeps_rising cut (lineage_rows statement db) keeps) in
-      (same.0, ap rising_rows same.1)
+    answer_same : KeepsRows cut (accepted_needs (TheQuery query) db) → answer query (cut_tables cut db) ≡ answer query db
+    answer_same keeps =
+        let all : List Origin = flat_map (combination_rows (item ∷ [])) (picked core db) in
+        let kept : KeepsRows cut (map (needed_by L) all) = subst (KeepsRows cut) (plain_needs joined item sought db) keeps in
+        plain_answer joined item sought (cut_tables cut db)
+        ∙ core_rows_same core db k (origins_of_rows cut L all kept)
+        ∙ sym (plain_answer joined item sought db)
 
-  -- the same reply, needs and tables
-  pub statement_law : (reading : Option Statement) (db : List Table) → KeepsTables cut (asked_tables reading db) → KeepsRows cut (need_of reading db)
-      → (reply_of reading (cut_tables cut db) ≡ reply_of reading db) × (need_of reading (cut_tables cut db) ≡ need_of reading db) × (asked_tables reading (cut_tables cut db) ≡ asked_tables reading db)
-  statement_law None db tables keeps = (refl, refl, refl)
-  statement_law (Some statement) db tables keeps =
-      let k : Agrees db (tables_of statement) = agree_all (tables_of statement) db tables in
-      let refusal : refusal_of (Some statement) (cut_tables cut db) ≡ refusal_of (Some statement) db = refusal_same statement db k in
-      let same = settled_same statement db k (refusal_of (Some statement) db) keeps in (
-        ap (λ (r : Option SqlRefusal). reply_or r (Some statement) (cut_tables cut db)) refusal ∙ same.0,
-        ap (λ (r : Option SqlRefusal). need_unless r (Some statement) (cut_tables cut db)) refusal ∙ same.1,
-        asked_same (is_named statement) (λ t. refl) db tables,
-      )
+    -- with the refusal, or the want of one, that both databases give
+    settled_same : (refusal : Option SqlRefusal) → KeepsRows cut (rising_rows (needs_by refusal (TheQuery query) db))
+        → (reply_or refusal (Some (TheQuery query)) (cut_tables cut db) ≡ reply_or refusal (Some (TheQuery query)) db) × (needs_by refusal (TheQuery query) (cut_tables cut db) ≡ needs_by refusal (TheQuery query) db)
+    settled_same (Some refusal) keeps = (refl, refused_needs query (cut_tables cut db) refusal ∙ sym (refused_needs query db refusal))
+    settled_same None keeps =
+        let same : answer query (cut_tables cut db) ≡ answer query db = answer_same (keeps_rising cut (accepted_needs (TheQuery query) db) keeps) in
+        (λ j. Rows (map answer_values (same j)), λ j. map (needed_by L) (lineage_of (same j)) ++ [])
+
+    plain_law : KeepsRows cut (need_of (Some (TheQuery query)) db)
+        → (reply_of (Some (TheQuery query)) (cut_tables cut db) ≡ reply_of (Some (TheQuery query)) db) × (need_of (Some (TheQuery query)) (cut_tables cut db) ≡ need_of (Some (TheQuery query)) db)
+    plain_law keeps =
+        let refusal : refusal_of (Some (TheQuery query)) (cut_tables cut db) ≡ refusal_of (Some (TheQuery query)) db = refusal_same query db k in
+        let same = settled_same (refusal_of (Some (TheQuery query)) db) (subst (KeepsRows cut) (need_is (TheQuery query) db) keeps) in (
+          reply_is (Some (TheQuery query)) (cut_tables cut db)
+              ∙ ap (λ (r : Option SqlRefusal). reply_or r (Some (TheQuery query)) (cut_tables cut db)) refusal
+              ∙ same.0
+              ∙ sym (reply_is (Some (TheQuery query)) db),
+          need_is (TheQuery query) (cut_tables cut db)
+              ∙ ap (λ (r : Option SqlRefusal). rising_rows (needs_by r (TheQuery query) (cut_tables cut db))) refusal
+              ∙ ap rising_rows same.1
+              ∙ sym (need_is (TheQuery query) db),
+        )
+
+-- ---- the law
+
+-- a statement answers, needs, asks, makes and updates the same, and changes what is left alike
+pub record SameStatement (cut : Cut) (reading : Option Statement) (db : List Table) : Type 0 where
+  pub reply : reply_of reading (cut_tables cut db) ≡ reply_of reading db
+  pub needs : need_of reading (cut_tables cut db) ≡ need_of reading db
+  pub tables : asked_tables reading (cut_tables cut db) ≡ asked_tables reading db
+  pub versions : (had : Versions) → made_by had reading (cut_tables cut db) ≡ made_by had reading db
+  pub updates : updated_rows reading (cut_tables cut db) ≡ updated_rows reading db
+  pub changes : after reading (cut_tables cut db) ≡ cut_tables cut (after reading db)
+
+module _ (cut : Cut) (db : List Table) where
+  -- what a built statement leaves is the same whatever its reply
+  same_by : (reading : Option Statement) → is_built reading ≡ true → reply_of reading (cut_tables cut db) ≡ reply_of reading db → need_of reading (cut_tables cut db) ≡ need_of reading db → asked_tables reading (cut_tables cut db) ≡ asked_tables reading db → SameStatement cut reading db
+  same_by reading built reply needs tables = record {
+    reply = reply;
+    needs = needs;
+    tables = tables;
+    versions = λ had. built_made had reading (cut_tables cut db) built ∙ sym (built_made had reading db built);
+    updates = built_updated reading (cut_tables cut db) built ∙ sym (built_updated reading db built);
+    changes = built_after reading (cut_tables cut db) built ∙ ap (cut_tables cut) (sym (built_after reading db built));
+  }
+
+  abbrev Law : Option Statement → Type 0
+  Law reading = is_built reading ≡ true → KeepsTables cut (asked_tables reading db) → KeepsRows cut (need_of reading db) → SameStatement cut reading db
+
+  none_law : Law None
+  none_law built tables keeps = same_by None refl (reply_is None (cut_tables cut db) ∙ sym (reply_is None db)) (need_none (cut_tables cut db) ∙ sym (need_none db)) refl
+
+  query_law : (joined : Bool) (item : FromItem) (sought : List Expr) → Law (Some (TheQuery (plain_query joined item sought)))
+  query_law joined item sought built tables keeps =
+      let statement : Statement = TheQuery (plain_query joined item sought) in
+      let k : Agrees cut db (item.table ∷ []) = agree_all cut (item.table ∷ []) db tables in
+      let same = plain_law cut joined item sought db k keeps in
+      same_by (Some statement) built same.0 same.1 (asked_same cut (is_named statement) (λ t. refl) db tables)
+
+  pub statement_law : (reading : Option Statement) → is_built reading ≡ true → KeepsTables cut (asked_tables reading db) → KeepsRows cut (need_of reading db) → SameStatement cut reading db
+  statement_law reading built tables keeps = built_cases Law none_law query_law reading built built tables keeps

@@ -1,7 +1,7 @@
 -- The rows that a statement needs rise, and what holds of the rows of tables holds of them.
-use Rattle.std.proofs.Common.{◌≡◌, ℕ, List, [], ◌∷◌, refl, sym, ap, ◌∙◌, Bool, true, false, arith, inl, inr}
+use Rattle.std.proofs.Common.{◌≡◌, ℕ, List, [], ◌∷◌, refl, sym, ap, ◌∙◌, subst, Bool, true, false, arith, inl, inr}
 use Rattle.std.specs.Prelude.{Option, Some, None, map, ◌&&◌, ◌==◌, nat_lt, if◌then◌else◌}
-use Rattle.std.specs.List.{AllByRecursion}
+use Rattle.std.specs.List.{flat_map, AllByRecursion}
 use Rattle.std.specs.declared.cmp.Ordering.{Ordering}
 use Rattle.std.specs.declared.cmp.Ordering.TheVariants.{Less, Equal, Greater}
 use Rattle.std.specs.Ordering.{nat_cmp, is_lt, is_eq, ordering_reverse}
@@ -11,22 +11,26 @@ use Rattle.std.proofs.lemmas.Bool.Decides.{nat_tests}
 use Rattle.std.proofs.lemmas.Cmp.{nat_list_cmp_total}
 use Rattle.std.proofs.lemmas.Map.Text.{is_eq-slice_cmp}
 use Rattle.sql_model.specs.declared.need.Rule.TheVariants.{L}
+use Rattle.sql_model.specs.declared.expr.Expr.{Expr}
 use Rattle.sql_model.specs.declared.reply.SqlRefusal.{SqlRefusal}
 use Rattle.sql_model.specs.declared.statement.Core.{Core}
 use Rattle.sql_model.specs.declared.statement.FromItem.{FromItem}
+use Rattle.sql_model.specs.declared.statement.Query.{Query}
 use Rattle.sql_model.specs.declared.statement.Statement.{Statement}
-use Rattle.sql_model.specs.declared.statement.Statement.TheVariants.{Query as TheQuery, Insert as TheInsert, Update as TheUpdate, Delete as TheDelete}
+use Rattle.sql_model.specs.declared.statement.Statement.TheVariants.{Query as TheQuery}
 use Rattle.sql_model.specs.declared.table.Table.{Table}
 use Rattle.sql_model.specs.declared.table.TableRow.{TableRow}
-use Rattle.sql_model.specs.Answers.{Combination, combinations, joined_values, meets_all, picked}
-use Rattle.sql_model.specs.Needs.{NeededRow, needed_row, is_same_row, is_earlier_row, put_row, rising_rows, combination_rows, core_lineage, lineage_rows, need_unless, need_of}
-use Rattle.sql_model.specs.Scope.{same_text, table_at, rows_of, scope_of, environment}
+use Rattle.sql_model.specs.Answers.{Origin, Combination, combinations, combination_rows, meets_all, row_environment, picked}
+use Rattle.sql_model.specs.Built.{is_built}
+use Rattle.sql_model.specs.Needs.{NeededRow, needed_row, needed_by, is_same_row, is_earlier_row, put_row, rising_rows, needs_by, need_of}
+use Rattle.sql_model.specs.Scope.{same_text, table_at, rows_of, catalog_of, scope_of}
 use Rattle.sql_model.specs.Statements.{refusal_of}
 use Rattle.run_model.specs.Events.{Past, read_of}
 use Rattle.package_layout.specs.Order.{is_below_next, rises, row_after_table, need_below}
 use Rattle.package_layout.proofs.Laws.{both_true, and_true}
+use Rattle.replay_db.proofs.BuiltStatements.{plain_core, plain_query, built_cases, need_none, need_is, refused_needs, plain_needs}
 use Rattle.replay_db.proofs.Keeps.{and_first, and_second, same_text_is, number_is}
-use Rattle.replay_db.proofs.TraceLists.{all_filter, all_flat_map, less_of, equal_itself, rises_map}
+use Rattle.replay_db.proofs.TraceLists.{all_filter, all_flat_map, all_map, less_of, equal_itself, rises_map}
 
 -- ---- one row below another
 
@@ -117,20 +121,22 @@ rows_rise : (ns : List NeededRow) → rises row_under (rising_rows ns) ≡ true
 rows_rise [] = refl
 rows_rise (n ∷ ns) = put_rises n (rising_rows ns) (rows_rise ns)
 
-needs_unless_rise : (refusal : Option SqlRefusal) (reading : Option Statement) (db : List Table) → rises row_under (need_unless refusal reading db) ≡ true
-needs_unless_rise (Some refusal) reading db = refl
-needs_unless_rise None None db = refl
-needs_unless_rise None (Some statement) db = rows_rise (lineage_rows statement db)
+needs_rise : (reading : Option Statement) (db : List Table) → rises row_under (need_of reading db) ≡ true
+needs_rise None db = ap (rises row_under) (need_none db)
+needs_rise (Some statement) db = ap (rises row_under) (need_is statement db) ∙ rows_rise (needs_by (refusal_of (Some statement) db) statement db)
 
 -- what an event reads rises
 pub reads_rise : (past : Past) (reading : Option Statement) (db : List Table) → rises need_below (map (read_of past) (need_of reading db)) ≡ true
-reads_rise past reading db = rises_map need_below (read_of past) (need_of reading db) ∙ needs_unless_rise (refusal_of reading db) reading db
+reads_rise past reading db = rises_map need_below (read_of past) (need_of reading db) ∙ needs_rise reading db
 
 -- ---- what holds of the rows of each table holds of the needed ones
 
 module _ (P : NeededRow → Type 0) (db : List Table) (sound : (name : List ℕ) → AllByRecursion (λ row. P (needed_row L name row.number)) (rows_of (table_at name db))) where
+  abbrev Lineage : List Origin → Type 0
+  Lineage rows = AllByRecursion (λ origin. P (needed_by L origin)) rows
+
   abbrev AllOf : List FromItem → Combination → Type 0
-  AllOf from combo = AllByRecursion P (combination_rows from combo)
+  AllOf from combo = Lineage (combination_rows from combo)
 
   abbrev with_row : TableRow → List Combination → List Combination
   with_row row others = map (λ rows. row ∷ rows) others
@@ -149,20 +155,12 @@ module _ (P : NeededRow → Type 0) (db : List Table) (sound : (name : List ℕ)
       let rows : List TableRow = rows_of (table_at item.table db) in
       all_flat_map (AllOf (item ∷ from)) (λ row. with_row row (combinations from db)) rows (each_begun item from (combinations from db) (combinations_good from) rows (sound item.table))
 
-  core_good : (core : Core) → AllByRecursion P (core_lineage db core)
+  core_good : (core : Core) → AllByRecursion P (map (needed_by L) (flat_map (combination_rows core.from) (picked core db)))
   core_good core =
-      all_flat_map P (combination_rows core.from) (picked core db)
-      (all_filter (AllOf core.from) (λ rows. meets_all core.picks (environment (scope_of core.from db) (joined_values rows))) (combinations core.from db) (combinations_good core.from))
-
-  cores_good : (cores : List Core) → AllByRecursion (λ core. AllByRecursion P (core_lineage db core)) cores
-  cores_good [] = tt
-  cores_good (core ∷ cores) = (core_good core, cores_good cores)
-
-  lineage_good : (statement : Statement) → AllByRecursion P (lineage_rows statement db)
-  lineage_good (TheQuery query) = all_flat_map P (core_lineage db) query.cores (cores_good query.cores)
-  lineage_good (TheInsert insert) = tt
-  lineage_good (TheUpdate update) = tt
-  lineage_good (TheDelete delete) = tt
+      let all : Lineage (flat_map (combination_rows core.from) (picked core db)) =
+      all_flat_map (λ origin. P (needed_by L origin)) (combination_rows core.from) (picked core db)
+      (all_filter (AllOf core.from) (λ rows. meets_all core.picks (row_environment (scope_of core.from (catalog_of db)) rows)) (combinations core.from db) (combinations_good core.from)) in
+      all_map P (needed_by L) (flat_map (combination_rows core.from) (picked core db)) all
 
   put_good : (n : NeededRow) → P n → (ms : List NeededRow) → AllByRecursion P ms → AllByRecursion P (put_row n ms)
   put_good n good [] h = (good, tt)
@@ -178,10 +176,18 @@ module _ (P : NeededRow → Type 0) (db : List Table) (sound : (name : List ℕ)
   rising_good [] h = tt
   rising_good (n ∷ ns) h = put_good n h.0 (rising_rows ns) (rising_good ns h.1)
 
-  needs_unless_good : (refusal : Option SqlRefusal) (reading : Option Statement) → AllByRecursion P (need_unless refusal reading db)
-  needs_unless_good (Some refusal) reading = tt
-  needs_unless_good None None = tt
-  needs_unless_good None (Some statement) = rising_good (lineage_rows statement db) (lineage_good statement)
+  module _ (joined : Bool) (item : FromItem) (picks : List Expr) where
+    abbrev query : Query
+    query = plain_query joined item picks
 
-  pub needs_good : (reading : Option Statement) → AllByRecursion P (need_of reading db)
-  needs_good reading = needs_unless_good (refusal_of reading db) reading
+    query_good : (refusal : Option SqlRefusal) → AllByRecursion P (needs_by refusal (TheQuery query) db)
+    query_good (Some refusal) = subst (AllByRecursion P) (sym (refused_needs query db refusal)) tt
+    query_good None = subst (AllByRecursion P) (sym (plain_needs joined item picks db)) (core_good (plain_core joined item picks))
+
+    plain_good : AllByRecursion P (need_of (Some (TheQuery query)) db)
+    plain_good =
+        let refusal : Option SqlRefusal = refusal_of (Some (TheQuery query)) db in
+        subst (AllByRecursion P) (sym (need_is (TheQuery query) db)) (rising_good (needs_by refusal (TheQuery query) db) (query_good refusal))
+
+  pub needs_good : (reading : Option Statement) → is_built reading ≡ true → AllByRecursion P (need_of reading db)
+  needs_good reading built = built_cases (λ r. AllByRecursion P (need_of r db)) (subst (AllByRecursion P) (sym (need_none db)) tt) plain_good reading built

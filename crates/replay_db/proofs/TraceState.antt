@@ -6,13 +6,14 @@ use Rattle.ldv_value.specs.declared.value.Value.{Value}
 use Rattle.ldv_value.specs.declared.value.Value.TheVariants.{Null, Int, Text}
 use Rattle.script_parse.specs.declared.script.Instr.{Instr}
 use Rattle.script_parse.specs.declared.script.Instr.TheVariants.{Print, Exit, Sql}
-use Rattle.sql_model.specs.declared.statement.Statement.{Statement}
-use Rattle.sql_model.specs.declared.table.Table.{Table}
-use Rattle.sql_model.specs.Reading.{reads}
+use Rattle.sql_model.specs.Texts.{statement_of}
 use Rattle.sql_model.specs.Statements.{reply_of, after}
+use Rattle.run_model.specs.Built.{question_built}
+use Rattle.run_model.specs.Events.{question_of, question_by, question_in, next_question}
 use Rattle.run_model.specs.Run.{all_ended, is_runnable, runnable_from, runnable, next_or_least, pick_of, moved_x, pick, scheduled, step_on, advanced}
 use Rattle.run_model.specs.State.{Process, State}
 use Rattle.run_model.specs.Step.{operand_value, operand_values, printed_line, print_line, exit_status, ended, with_process, with_reply, ask, execute, execute_next, step_of, step}
+use Rattle.replay_db.proofs.BuiltStatements.{built_after}
 
 -- none yet, or a byte
 abbrev pub IsStatus : Option ℕ → Type 0
@@ -74,8 +75,8 @@ asks_alone : (cursor : List ℕ) (v : Value) (params : List Value) (p : Process)
 asks_alone cursor Null params p s one status = with_alone (ended 240 p) s one (omega arith)
 asks_alone cursor (Int n) params p s one status = with_alone (ended 240 p) s one (omega arith)
 asks_alone cursor (Text text) params p s one status =
-    let after_it : State = record s { tables = after (reads text params) s.tables } in
-    with_alone (with_reply cursor (reply_of (reads text params) s.tables) p) after_it (record { process = one.process; only = one.only; status = one.status }) status
+    let after_it : State = record s { tables = after (statement_of text params) s.tables } in
+    with_alone (with_reply cursor (reply_of (statement_of text params) s.tables) p) after_it (record { process = one.process; only = one.only; status = one.status }) status
 
 executes_alone : (i : Instr) (p : Process) (s : State) → Alone s → IsStatus p.status → Alone (execute i 0 p s)
 executes_alone (Print operands) p s one status = with_alone (print_line (printed_line (operand_values p operands)) p) s one (line_status (printed_line (operand_values p operands)) p status)
@@ -105,31 +106,28 @@ advanced_alone s one = elim (cases_Bool (all_ended s)) [
 
 -- ---- the tables
 
--- no statement that is read so far changes a table
-pub tables_after : (reading : Option Statement) (db : List Table) → after reading db ≡ db
-tables_after reading db = refl
+-- no built statement changes a table
+asks_tables : (number : ℕ) (cursor : List ℕ) (v : Value) (params : List Value) (p : Process) (s : State) → question_built (question_of v params) ≡ true → (ask number cursor v params p s).tables ≡ s.tables
+asks_tables number cursor Null params p s built = refl
+asks_tables number cursor (Int n) params p s built = refl
+asks_tables number cursor (Text text) params p s built = built_after (statement_of text params) s.tables built
 
-asks_tables : (number : ℕ) (cursor : List ℕ) (v : Value) (params : List Value) (p : Process) (s : State) → (ask number cursor v params p s).tables ≡ s.tables
-asks_tables number cursor Null params p s = refl
-asks_tables number cursor (Int n) params p s = refl
-asks_tables number cursor (Text text) params p s = tables_after (reads text params) s.tables
+executes_tables : (i : Instr) (number : ℕ) (p : Process) (s : State) → question_built (question_by (Some i) p) ≡ true → (execute i number p s).tables ≡ s.tables
+executes_tables (Print operands) number p s built = refl
+executes_tables (Exit status) number p s built = refl
+executes_tables (Sql cursor text params) number p s built = asks_tables number cursor (operand_value p text) (operand_values p params) p s built
+executes_tables other number p s built = refl
 
-executes_tables : (i : Instr) (number : ℕ) (p : Process) (s : State) → (execute i number p s).tables ≡ s.tables
-executes_tables (Print operands) number p s = refl
-executes_tables (Exit status) number p s = refl
-executes_tables (Sql cursor text params) number p s = asks_tables number cursor (operand_value p text) (operand_values p params) p s
-executes_tables other number p s = refl
+next_tables : (i : Option Instr) (number : ℕ) (p : Process) (s : State) → question_built (question_by i p) ≡ true → (execute_next i number p s).tables ≡ s.tables
+next_tables None number p s built = refl
+next_tables (Some i) number p s built = executes_tables i number p s built
 
-next_tables : (i : Option Instr) (number : ℕ) (p : Process) (s : State) → (execute_next i number p s).tables ≡ s.tables
-next_tables None number p s = refl
-next_tables (Some i) number p s = executes_tables i number p s
+step_tables : (o : Option Process) (number : ℕ) (s : State) → question_built (question_in o) ≡ true → (step_of o number s).tables ≡ s.tables
+step_tables None number s built = refl
+step_tables (Some p) number s built = next_tables (slice_get p.script p.place) number p s built
 
-step_tables : (o : Option Process) (number : ℕ) (s : State) → (step_of o number s).tables ≡ s.tables
-step_tables None number s = refl
-step_tables (Some p) number s = next_tables (slice_get p.script p.place) number p s
-
-pub advanced_tables : (s : State) → (advanced s).tables ≡ s.tables
-advanced_tables s = elim (cases_Bool (all_ended s)) [
+pub advanced_tables : (s : State) → question_built (next_question s) ≡ true → (advanced s).tables ≡ s.tables
+advanced_tables s built = elim (cases_Bool (all_ended s)) [
   | inl all ↦ ap (λ (b : Bool). (if b then s else step_on s).tables) all
-  | inr going ↦ ap (λ (b : Bool). (if b then s else step_on s).tables) going ∙ step_tables (slice_get s.processes (pick s)) (pick s) (scheduled s)
+  | inr going ↦ ap (λ (b : Bool). (if b then s else step_on s).tables) going ∙ step_tables (slice_get s.processes (pick s)) (pick s) (scheduled s) built
 ]

@@ -11,10 +11,13 @@ use Rattle.sql_model.specs.declared.need.Rule.TheVariants.{L}
 use Rattle.sql_model.specs.declared.statement.Statement.{Statement}
 use Rattle.sql_model.specs.declared.table.Table.{Table}
 use Rattle.sql_model.specs.declared.table.TableRow.{TableRow}
+use Rattle.sql_model.specs.Answers.{Origin}
+use Rattle.sql_model.specs.Built.{is_built}
 use Rattle.sql_model.specs.Needs.{NeededRow, needed_row, need_of, is_named, table_name, asked_tables}
 use Rattle.sql_model.specs.Scope.{same_text, is_table, table_at, rows_of}
 use Rattle.run_model.specs.declared.package.PackedTable.{PackedTable}
 use Rattle.run_model.specs.declared.world.World.{World}
+use Rattle.run_model.specs.declared.event.Act.TheVariants.{Asked}
 use Rattle.run_model.specs.Events.{Past, is_row_of, version_of, read_of, asked_act}
 use Rattle.package_layout.specs.Events.{need_groups, needs_room, act_room, TypedNeed, TypedAct}
 use Rattle.package_layout.specs.Order.{rises, is_below, row_below, table_below, need_below}
@@ -25,6 +28,7 @@ use Rattle.package_layout.specs.Typed.{IsU32, TypedTable, TypedRow}
 use Rattle.package_layout.specs.Valid.{start_rule, files_rule, columns_rule, key_rule, row_rule, table_rule, tables_rule, keys_rule, script_rule}
 use Rattle.package_layout.proofs.Laws.{both_true, and_true}
 use Rattle.replay_db.specs.Worlds.{all_of_file, all_of_row, all_of_table, world_rules, TypedWorld}
+use Rattle.replay_db.proofs.BuiltStatements.{built_made}
 use Rattle.replay_db.proofs.Keeps.{same_text_is, found_passes, or_second}
 use Rattle.replay_db.proofs.TraceGroups.{is_name_of, groups_few}
 use Rattle.replay_db.proofs.TraceLists.{all_filter, all_found, all_map, all_of_map, all_weaker, all_tested, test_all, rises_map, filter_rises, filter_most}
@@ -90,6 +94,10 @@ found_named name (u ∷ us) t is = elim (cases_Bool (is_table name u)) [
   | inr miss ↦ or_second (same_text u.name name) (is_name_of (map table_name us) name) (found_named name us t (rw miss at is))
 ]
 
+-- no built statement makes a version
+made_none : (past : Past) (reading : Option Statement) (db : List Table) → is_built reading ≡ true → asked_act past reading db ≡ Asked past.asked (asked_tables reading db) (map (read_of past) (need_of reading db)) []
+made_none past reading db built = λ j. Asked past.asked (asked_tables reading db) (map (read_of past) (need_of reading db)) (built_made (version_of past) reading db built j)
+
 module _ (db : List Table) (ruled : RuledTables db) where
   sound_named : (name : List ℕ) → AllByRecursion (λ row. NamedRow db (needed_row L name row.number)) (rows_of (table_at name db))
   sound_named name = by (table_at name db) refl
@@ -101,8 +109,8 @@ module _ (db : List Table) (ruled : RuledTables db) where
           let named : IsTrue (sql_name_test name) = sym (ap sql_name_test same) ∙ all_found (λ u. IsTrue (sql_name_test u.name)) (is_table name) db t ruled.named is in
           each_row (IsTrue (sql_name_test name) × IsTrue (is_name_of (map table_name db) name)) (named, found_named name db t is) t.rows
 
-  rows_named : (reading : Option Statement) → AllByRecursion (NamedRow db) (need_of reading db)
-  rows_named reading = needs_good (NamedRow db) db sound_named reading
+  rows_named : (reading : Option Statement) → is_built reading ≡ true → AllByRecursion (NamedRow db) (need_of reading db)
+  rows_named reading built = needs_good (NamedRow db) db sound_named reading built
 
   asked_named : (reading : Option Statement) → list_all sql_name_test (asked_tables reading db) ≡ true
   asked_named None = refl
@@ -119,32 +127,33 @@ module _ (db : List Table) (ruled : RuledTables db) where
   asked_few (Some statement) = omega (arith, length-map (filter (is_named statement) db) table_name, filter_most (is_named statement) db, ruled.few)
 
   -- the event of a statement meets the rule of its act
-  pub asked_ruled : (past : Past) (reading : Option Statement) (made step : ℕ) → act_rule (record { made = made; asked = past.asked; step = step }) (asked_act past reading db) ≡ true
-  asked_ruled past reading made step =
+  pub asked_ruled : (past : Past) (reading : Option Statement) → is_built reading ≡ true → (made step : ℕ) → act_rule (record { made = made; asked = past.asked; step = step }) (asked_act past reading db) ≡ true
+  asked_ruled past reading built made step =
       let tables : List (List ℕ) = asked_tables reading db in
       let reads : List Need = map (read_of past) (need_of reading db) in
       let number : (past.asked == past.asked) ≡ true = eq-eqb past.asked past.asked refl in
       let two = and_true (past.asked == past.asked) (list_all sql_name_test tables) number (asked_named reading) in
       let three = and_true ((past.asked == past.asked) && list_all sql_name_test tables) (rises is_below tables) two (asked_rise reading) in
       let four = and_true ((past.asked == past.asked) && list_all sql_name_test tables && rises is_below tables) (rises need_below reads) three (reads_rise past reading db) in
-      and_true ((past.asked == past.asked) && list_all sql_name_test tables && rises is_below tables && rises need_below reads) true four refl
+      ap (act_rule (record { made = made; asked = past.asked; step = step })) (made_none past reading db built)
+      ∙ and_true ((past.asked == past.asked) && list_all sql_name_test tables && rises is_below tables && rises need_below reads) true four refl
 
   -- the format has room for it
-  pub asked_room : (past : Past) (reading : Option Statement) → act_room (asked_act past reading db) ≡ true
-  asked_room past reading =
+  pub asked_room : (past : Past) (reading : Option Statement) → is_built reading ≡ true → act_room (asked_act past reading db) ≡ true
+  asked_room past reading built =
       let tables : List (List ℕ) = asked_tables reading db in
       let reads : List Need = map (read_of past) (need_of reading db) in
       let named : AllByRecursion (λ n. IsTrue (sql_name_test (need_table n))) reads =
       all_map (λ n. IsTrue (sql_name_test (need_table n))) (read_of past) (need_of reading db)
-      (all_weaker (NamedRow db) (λ n. IsTrue (sql_name_test n.table)) (λ n h. h.0) (need_of reading db) (rows_named reading)) in
+      (all_weaker (NamedRow db) (λ n. IsTrue (sql_name_test n.table)) (λ n h. h.0) (need_of reading db) (rows_named reading built)) in
       let among : AllByRecursion (λ n. IsTrue (is_name_of (map table_name db) (need_table n))) reads =
       all_map (λ n. IsTrue (is_name_of (map table_name db) (need_table n))) (read_of past) (need_of reading db)
-      (all_weaker (NamedRow db) (λ n. IsTrue (is_name_of (map table_name db) n.table)) (λ n h. h.1) (need_of reading db) (rows_named reading)) in
+      (all_weaker (NamedRow db) (λ n. IsTrue (is_name_of (map table_name db) n.table)) (λ n h. h.1) (need_of reading db) (rows_named reading built)) in
       let groups : length (need_groups reads) ≤ length (map table_name db) = groups_few (map table_name db) reads (reads_rise past reading db) among in
       let some_tables : some_thousands tables ≡ true = lt-ltb (length tables) (2 ^ 16) (omega (arith, asked_few reading)) in
       let some_groups : some_thousands (need_groups reads) ≡ true = lt-ltb (length (need_groups reads)) (2 ^ 16) (omega (arith, groups, length-map db table_name, ruled.few)) in
       let needs : needs_room reads ≡ true = and_true (some_thousands (need_groups reads)) (list_all (λ n. sql_name_test (need_table n)) reads) some_groups (test_all (λ n. sql_name_test (need_table n)) reads named) in
-      and_true (some_thousands tables) (needs_room reads && true) some_tables (and_true (needs_room reads) true needs refl)
+      ap act_room (made_none past reading db built) ∙ and_true (some_thousands tables) (needs_room reads && true) some_tables (and_true (needs_room reads) true needs refl)
 
 -- ---- tables of the types that they have in memory
 
@@ -171,8 +180,8 @@ module _ (db : List Table) (typed : TypedTables db) where
           let good : IsUtf8 t.name × AllByRecursion (λ row. IsU32 row.number) t.rows = all_found (λ u. IsUtf8 u.name × AllByRecursion (λ row. IsU32 row.number) u.rows) (is_table name) db t typed is in
           all_weaker (λ row. IsU32 row.number) (λ row. IsUtf8 name × IsU32 row.number) (λ row h. (subst IsUtf8 same good.0, h)) t.rows good.1
 
-  rows_typed : (reading : Option Statement) → AllByRecursion TypedNeeded (need_of reading db)
-  rows_typed reading = needs_good TypedNeeded db sound_typed reading
+  rows_typed : (reading : Option Statement) → is_built reading ≡ true → AllByRecursion TypedNeeded (need_of reading db)
+  rows_typed reading built = needs_good TypedNeeded db sound_typed reading built
 
   asked_utf8 : (reading : Option Statement) → AllByRecursion IsUtf8 (asked_tables reading db)
   asked_utf8 None = tt
@@ -182,10 +191,11 @@ module _ (db : List Table) (typed : TypedTables db) where
 
   read_typed : (past : Past) → past.updated ≡ [] → (n : NeededRow) → TypedNeeded n → TypedNeed (read_of past n)
   read_typed past none n h =
-      let version : version_of past n.table n.row ≡ 0 = ap (λ (ns : List NeededRow). length (filter (is_row_of n.table n.row) ns)) none in
+      let version : version_of past n.table n.row ≡ 0 = ap (λ (rows : List Origin). length (filter (is_row_of n.table n.row) rows)) none in
       (h.0, (h.1, omega arith))
 
   -- the event of a statement is typed, where so many were asked before and no row was updated
-  pub asked_typed : (past : Past) (reading : Option Statement) → IsU32 past.asked → past.updated ≡ [] → TypedAct (asked_act past reading db)
-  asked_typed past reading number none =
-      (number, (asked_utf8 reading, (all_map TypedNeed (read_of past) (need_of reading db) (all_weaker TypedNeeded (λ n. TypedNeed (read_of past n)) (read_typed past none) (need_of reading db) (rows_typed reading)), tt)))
+  pub asked_typed : (past : Past) (reading : Option Statement) → is_built reading ≡ true → IsU32 past.asked → past.updated ≡ [] → TypedAct (asked_act past reading db)
+  asked_typed past reading built number none =
+      subst TypedAct (sym (made_none past reading db built))
+      (number, (asked_utf8 reading, (all_map TypedNeed (read_of past) (need_of reading db) (all_weaker TypedNeeded (λ n. TypedNeed (read_of past n)) (read_typed past none) (need_of reading db) (rows_typed reading built)), tt)))

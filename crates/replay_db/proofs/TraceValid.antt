@@ -10,6 +10,7 @@ use Rattle.script_parse.specs.declared.script.Instr.{Instr}
 use Rattle.run_model.specs.declared.event.Act.TheVariants.{Started}
 use Rattle.run_model.specs.declared.event.Event.{Event}
 use Rattle.run_model.specs.declared.world.World.{World}
+use Rattle.run_model.specs.Built.{built_from, script_built, built_within}
 use Rattle.run_model.specs.Events.{no_past, event_at, events_from, steps_within, start_events, script_events, events_within}
 use Rattle.run_model.specs.Run.{all_ended, advanced, run}
 use Rattle.run_model.specs.Slice.{tables_needed, world_steps}
@@ -70,11 +71,14 @@ module _ (n : ℕ) (w : World) (script : List Instr) (is : start_script w ≡ So
   events_are : events_within n w ≡ start_events (slice_get w.start 0) ++ later_events
   events_are = ap (script_events n w) is
 
+  built_run : built_within n w ≡ true → built_from n start ≡ true
+  built_run built = sym (ap (script_built n w) is) ∙ built
+
   -- ---- the trace
 
-  module _ (ruled : IsTrue (world_rules w)) where
+  module _ (built : built_within n w ≡ true) (ruled : IsTrue (world_rules w)) where
     follows_start : follows (steps_within n start) at_start later_events ≡ true
-    follows_start = run_follows (steps_within n start) n 1 no_past start start_alone (world_tables w ruled) (omega arith) 1 (omega arith)
+    follows_start = run_follows (steps_within n start) n 1 no_past start (built_run built) start_alone (world_tables w ruled) (omega arith) 1 (omega arith)
 
     starts_run : (words : List (List ℕ)) → start_rule words ≡ true → trace_rule words (steps_within n start) (start_events (slice_get words 0) ++ later_events) ≡ true
     starts_run [] rule = cc
@@ -94,8 +98,8 @@ module _ (n : ℕ) (w : World) (script : List Instr) (is : start_script w ≡ So
     run_room : AllByRecursion (λ e. IsTrue (event_room e)) later_events
     run_room =
         run_good (λ e. IsTrue (event_room e)) (steps_within n start) RuledTables
-        (λ number past reading db within few none tables. asked_room db tables past reading) (λ number status within byte. refl)
-        n 1 no_past start start_alone (world_tables w ruled) (omega arith) (omega arith) refl
+        (λ number past reading db asks within few none tables. asked_room db tables past reading asks) (λ number status within byte. refl)
+        n 1 no_past start (built_run built) start_alone (world_tables w ruled) (omega arith) (omega arith) refl
 
     room_is : list_all event_room (events_within n w) ≡ true
     room_is =
@@ -106,34 +110,34 @@ module _ (n : ℕ) (w : World) (script : List Instr) (is : start_script w ≡ So
   start_typed [] typed = tt
   start_typed (word ∷ words) typed = ((omega arith, (omega arith, typed.0)), tt)
 
-  run_typed : TypedTables w.tables → n ≤ 10000000 → AllByRecursion TypedEvent later_events
-  run_typed tables small =
+  run_typed : built_within n w ≡ true → TypedTables w.tables → n ≤ 10000000 → AllByRecursion TypedEvent later_events
+  run_typed built tables small =
       let steps : steps_within n start ≤ n = few_steps n start in
       let u32 : (number : ℕ) → number ≤ steps_within n start → IsU32 number = λ number within. omega arith in
       let first : IsU32 0 = omega arith in
       run_good TypedEvent (steps_within n start) TypedTables
-      (λ number past reading db within few none typed. (u32 number within, (first, asked_typed db typed past reading (omega arith) none)))
+      (λ number past reading db asks within few none typed. (u32 number within, (first, asked_typed db typed past reading asks (omega arith) none)))
       (λ number status within byte. (u32 number within, (first, byte)))
-      n 1 no_past start start_alone tables (omega arith) (omega arith) refl
+      n 1 no_past start (built_run built) start_alone tables (omega arith) (omega arith) refl
 
-  typed_is : ValidWorld w → n ≤ 10000000 → AllByRecursion TypedEvent (events_within n w)
-  typed_is valid small =
+  typed_is : built_within n w ≡ true → ValidWorld w → n ≤ 10000000 → AllByRecursion TypedEvent (events_within n w)
+  typed_is built valid small =
       subst (AllByRecursion TypedEvent) (sym events_are)
-      (all_append TypedEvent (start_events (slice_get w.start 0)) later_events (start_typed w.start valid.typed.0) (run_typed (world_typed w valid.typed) small))
+      (all_append TypedEvent (start_events (slice_get w.start 0)) later_events (start_typed w.start valid.typed.0) (run_typed built (world_typed w valid.typed) small))
 
 -- ---- what the trace of a world meets
 
-pub trace_valid : (n : ℕ) (w : World) (script : List Instr) → start_script w ≡ Some script → IsTrue (world_rules w) → all_ended (run n (start_state w script)) ≡ true → IsTrue (trace_rule w.start (world_steps n w (start_script w)) (events_within n w))
-trace_valid n w script is ruled end = trace_is n w script is ruled
+pub trace_valid : (n : ℕ) (w : World) (script : List Instr) → start_script w ≡ Some script → built_within n w ≡ true → IsTrue (world_rules w) → all_ended (run n (start_state w script)) ≡ true → IsTrue (trace_rule w.start (world_steps n w (start_script w)) (events_within n w))
+trace_valid n w script is built ruled end = trace_is n w script is built ruled
 
 -- a reason's statement is one that was asked
-pub reasons_valid : (n : ℕ) (w : World) (script : List Instr) → start_script w ≡ Some script → IsTrue (world_rules w) → all_ended (run n (start_state w script)) ≡ true → IsTrue (reasons_rule (asked_count (events_within n w)) (tables_needed (events_within n w) w.tables))
-reasons_valid n w script is ruled end = reasons_asked w.start (world_steps n w (start_script w)) (events_within n w) (trace_is n w script is ruled) w.tables
+pub reasons_valid : (n : ℕ) (w : World) (script : List Instr) → start_script w ≡ Some script → built_within n w ≡ true → IsTrue (world_rules w) → all_ended (run n (start_state w script)) ≡ true → IsTrue (reasons_rule (asked_count (events_within n w)) (tables_needed (events_within n w) w.tables))
+reasons_valid n w script is built ruled end = reasons_asked w.start (world_steps n w (start_script w)) (events_within n w) (trace_is n w script is built ruled) w.tables
 
 -- the format has room for each event
-pub trace_room : (n : ℕ) (w : World) (script : List Instr) → start_script w ≡ Some script → IsTrue (world_rules w) → all_ended (run n (start_state w script)) ≡ true → IsTrue (list_all event_room (events_within n w))
-trace_room n w script is ruled end = room_is n w script is ruled
+pub trace_room : (n : ℕ) (w : World) (script : List Instr) → start_script w ≡ Some script → built_within n w ≡ true → IsTrue (world_rules w) → all_ended (run n (start_state w script)) ≡ true → IsTrue (list_all event_room (events_within n w))
+trace_room n w script is built ruled end = room_is n w script is built ruled
 
 -- numbers are those of their types, and texts are UTF-8
-pub trace_typed : (n : ℕ) (w : World) (script : List Instr) → start_script w ≡ Some script → ValidWorld w → n ≤ 10000000 → all_ended (run n (start_state w script)) ≡ true → AllByRecursion TypedEvent (events_within n w)
-trace_typed n w script is valid small end = typed_is n w script is valid small
+pub trace_typed : (n : ℕ) (w : World) (script : List Instr) → start_script w ≡ Some script → built_within n w ≡ true → ValidWorld w → n ≤ 10000000 → all_ended (run n (start_state w script)) ≡ true → AllByRecursion TypedEvent (events_within n w)
+trace_typed n w script is built valid small end = typed_is n w script is built valid small

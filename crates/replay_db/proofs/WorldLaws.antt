@@ -9,12 +9,13 @@ use Rattle.sql_model.specs.Scope.{same_text}
 use Rattle.run_model.specs.declared.event.Event.{Event}
 use Rattle.run_model.specs.declared.package.Mode.TheVariants.{Included}
 use Rattle.run_model.specs.declared.world.World.{World}
+use Rattle.run_model.specs.Built.{script_built, built_within}
 use Rattle.run_model.specs.Events.{no_past, events_from, steps_within, start_events, script_events, events_within}
 use Rattle.run_model.specs.Run.{run}
-use Rattle.run_model.specs.Slice.{FileNeed, Whole, file_need, files_needed, tables_needed, world_steps, included_package, own_world, Cut, Kept, Gone, Same, Other, cut_world, cut_state, cut_files, KeepsFile, KeepsEvents, KeepsNeeded, slice_cut, slice_of, Between}
+use Rattle.run_model.specs.Slice.{FileNeed, Whole, file_need, files_needed, tables_needed, world_steps, Cut, Kept, Gone, Same, Other, cut_world, cut_state, cut_files, KeepsFile, KeepsEvents, KeepsNeeded, slice_cut, slice_of, Between}
 use Rattle.run_model.specs.Start.{file_at, start_script}
 use Rattle.run_model.specs.State.{State, start_state}
-use Rattle.replay_db.specs.Laws.{SameRun}
+use Rattle.replay_db.specs.Laws.{SameRun, BetweenLaw, ReplayLaw}
 use Rattle.replay_db.proofs.FileLaws.{file_same}
 use Rattle.replay_db.proofs.PackageLaws.{files_same, tables_same}
 use Rattle.replay_db.proofs.RunSame.{keeps_events_split, run_law, outcome_law}
@@ -51,7 +52,7 @@ script_law w script is cut events keeps = elim (cases_option (slice_get w.start 
       ap (option_and_then (λ (file : File). script_of file.content)) (at_word (cut_files cut [] w.files) ∙ found ∙ sym (at_word w.files)) ∙ is
 ]
 
-module _ (n : ℕ) (w : World) (script : List Instr) (is : start_script w ≡ Some script) (cut : Cut) (keeps : KeepsNeeded cut (events_within n w)) where
+module _ (n : ℕ) (w : World) (script : List Instr) (is : start_script w ≡ Some script) (built : built_within n w ≡ true) (cut : Cut) (keeps : KeepsNeeded cut (events_within n w)) where
   abbrev start : State
   start = start_state w script
 
@@ -66,7 +67,7 @@ module _ (n : ℕ) (w : World) (script : List Instr) (is : start_script w ≡ So
       (keeps_events_split cut (start_events (slice_get w.start 0)) (events_from n 1 no_past start) (subst (KeepsEvents cut) events_are keeps.rows)).1
 
   runs_same : (run n (cut_state cut start) ≡ cut_state cut (run n start)) × (events_from n 1 no_past (cut_state cut start) ≡ events_from n 1 no_past start) × (steps_within n (cut_state cut start) ≡ steps_within n start)
-  runs_same = run_law cut n 1 no_past start keeps_run
+  runs_same = run_law cut n 1 no_past start (sym (ap (script_built n w) is) ∙ built) keeps_run
 
   events_stay : events_within n (cut_world cut w) ≡ events_within n w
   events_stay =
@@ -91,11 +92,11 @@ module _ (n : ℕ) (w : World) (script : List Instr) (is : start_script w ≡ So
     packed = λ j. record { mode = Included; start = w.start; seed = w.seed; steps = steps_stay j; files = files_stay j; tables = tables_stay j; logs = []; events = events_stay j };
   }
 
-pub between_law : (n : ℕ) (w v : World) (script : List Instr) → start_script w ≡ Some script → Between n v w → SameRun n v w script
-between_law n w v script is between = subst (λ (x : World). SameRun n x w script) (sym between.2) (cut_law n w script is between.0 between.1)
+pub between_law : BetweenLaw
+between_law n w v script is built between = subst (λ (x : World). SameRun n x w script) (sym between.2) (cut_law n w script is built between.0 between.1)
 
 pub slice_law : (n : ℕ) (w : World) → Between n (slice_of n w) w
 slice_law n w = (slice_cut (events_within n w), slice_keeps (events_within n w), refl)
 
-pub replay_law : (n : ℕ) (w : World) (script : List Instr) → start_script w ≡ Some script → SameRun n (own_world (included_package n w)) w script
-replay_law n w script is = subst (λ (x : World). SameRun n x w script) (sym (own_law n w)) (between_law n w (slice_of n w) script is (slice_law n w))
+pub replay_law : ReplayLaw
+replay_law n w script is built = subst (λ (x : World). SameRun n x w script) (sym (own_law n w)) (between_law n w (slice_of n w) script is built (slice_law n w))

@@ -2,9 +2,12 @@
 -- does, and comes to the same package.
 --
 -- Where a package's own world lies between, replay of the package gives what the recorded run gave.
+--
+-- The laws speak of runs that ask built statements alone, until all statements are run.
 use Rattle.std.specs.Prelude.{◌≡◌, ℕ, ◌≤◌, List, Some}
 use Rattle.script_parse.specs.declared.script.Instr.{Instr}
 use Rattle.run_model.specs.declared.world.World.{World}
+use Rattle.run_model.specs.Built.{built_within, world_built_by}
 use Rattle.run_model.specs.Ends.{outcome_within}
 use Rattle.run_model.specs.Events.{events_within}
 use Rattle.run_model.specs.Run.{all_ended, run}
@@ -23,7 +26,7 @@ pub record SameRun (n : ℕ) (v w : World) (script : List Instr) : Type 0 where
 
 -- any world between the slice and the world
 abbrev pub BetweenLaw : Type 0
-BetweenLaw = (n : ℕ) (w v : World) (script : List Instr) → start_script w ≡ Some script → Between n v w → SameRun n v w script
+BetweenLaw = (n : ℕ) (w v : World) (script : List Instr) → start_script w ≡ Some script → built_within n w ≡ true → Between n v w → SameRun n v w script
 
 -- the same where both runs go by one list of picks, whatever they are; needs and slice are those of that run
 pub record SameRunBy (picks : List ℕ) (v w : World) (script : List Instr) : Type 0 where
@@ -33,7 +36,7 @@ pub record SameRunBy (picks : List ℕ) (v w : World) (script : List Instr) : Ty
   pub events : world_events_by picks v ≡ world_events_by picks w
 
 abbrev pub InterleavingLaw : Type 0
-InterleavingLaw = (picks : List ℕ) (w v : World) (script : List Instr) → start_script w ≡ Some script → CutOf (world_events_by picks w) v w → SameRunBy picks v w script
+InterleavingLaw = (picks : List ℕ) (w v : World) (script : List Instr) → start_script w ≡ Some script → world_built_by picks w ≡ true → CutOf (world_events_by picks w) v w → SameRunBy picks v w script
 
 -- the slice is itself between, and is the package's own world
 abbrev pub SliceLaw : Type 0
@@ -44,7 +47,7 @@ OwnLaw = (n : ℕ) (w : World) → own_world (included_package n w) ≡ slice_of
 
 -- the package's own world has the outcome of the recorded run, and that very package
 abbrev pub ReplayLaw : Type 0
-ReplayLaw = (n : ℕ) (w : World) (script : List Instr) → start_script w ≡ Some script → SameRun n (own_world (included_package n w)) w script
+ReplayLaw = (n : ℕ) (w : World) (script : List Instr) → start_script w ≡ Some script → built_within n w ≡ true → SameRun n (own_world (included_package n w)) w script
 
 -- a run that has ended stays as it is: with more steps it comes to the same
 abbrev pub EndedLaw : Type 0

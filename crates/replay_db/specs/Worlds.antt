@@ -11,6 +11,7 @@ use Rattle.run_model.specs.declared.package.PackedFile.{PackedFile}
 use Rattle.run_model.specs.declared.package.PackedRow.{PackedRow}
 use Rattle.run_model.specs.declared.package.PackedTable.{PackedTable}
 use Rattle.run_model.specs.declared.world.World.{World}
+use Rattle.run_model.specs.Built.{built_within}
 use Rattle.run_model.specs.Run.{all_ended, run}
 use Rattle.run_model.specs.Slice.{included_package}
 use Rattle.run_model.specs.Start.{start_script}
@@ -53,10 +54,11 @@ pub record ValidWorld (w : World) : Type 0 where
 
 -- ---- the package of a run
 
--- the package of a world that meets the rules is valid, where its run ends within so many steps
+-- the package of a world that meets the rules is valid, where its run ends within so many steps and asks
+-- built statements alone
 abbrev pub ValidPackageLaw : Type 0
-ValidPackageLaw = (n : ℕ) (w : World) (script : List Instr) → start_script w ≡ Some script → IsTrue (world_rules w) → n ≤ 10000000 → all_ended (run n (start_state w script)) ≡ true → Valid (included_package n w)
+ValidPackageLaw = (n : ℕ) (w : World) (script : List Instr) → start_script w ≡ Some script → built_within n w ≡ true → IsTrue (world_rules w) → n ≤ 10000000 → all_ended (run n (start_state w script)) ≡ true → Valid (included_package n w)
 
 -- its numbers are those of their types and its texts are UTF-8
 abbrev pub TypedPackageLaw : Type 0
-TypedPackageLaw = (n : ℕ) (w : World) (script : List Instr) → start_script w ≡ Some script → ValidWorld w → n ≤ 10000000 → all_ended (run n (start_state w script)) ≡ true → IsTyped (included_package n w)
+TypedPackageLaw = (n : ℕ) (w : World) (script : List Instr) → start_script w ≡ Some script → built_within n w ≡ true → ValidWorld w → n ≤ 10000000 → all_ended (run n (start_state w script)) ≡ true → IsTyped (included_package n w)

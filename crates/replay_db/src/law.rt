@@ -4,7 +4,8 @@ ghost use Rattle.replay_db.specs.Laws.{BetweenLaw, InterleavingLaw, SliceLaw, Ow
 ghost use Rattle.replay_db.specs.Worlds.{ValidPackageLaw, TypedPackageLaw};
 
 /// A world from which nothing was cut that a run needs runs as the whole world does; the own world of
-/// the run's package is such a world. It says so of every world, and does nothing.
+/// the run's package is such a world. It says so of every world, and does nothing. `between`,
+/// `interleaved` and `replay` speak of runs whose statements are built, the others of all runs.
 pub fn between_law()
     ensures between { BetweenLaw }
     ensures interleaved { InterleavingLaw }
@@ -15,7 +16,7 @@ pub fn between_law()
 {}
 
 /// The package of a valid world's run that has ended is itself valid, so its spelling is read back as it.
-/// It says so of every world, and does nothing.
+/// It says so of every world whose run asks built statements alone, and does nothing.
 pub fn package_law()
     ensures valid { ValidPackageLaw }
     ensures typed { TypedPackageLaw }

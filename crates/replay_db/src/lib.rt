@@ -8,6 +8,9 @@
 //! - the slice lies between, and is the own world of the run's package, so replay of the package gives
 //!   what the run gave, and its own package is that very package;
 //! - a run that has ended comes to the same with more steps.
+//!
+//! What is said there of two runs, and in `package_law` of a run's package, is said of runs whose statements
+//! are all built (`specs/Built.antt` of `sql_model`).
 #![tactic(auto)]
 
 mod law;

@@ -7,8 +7,9 @@ use Rattle.script_parse.specs.declared.script.Instr.TheVariants.{Sql}
 use Rattle.sql_model.specs.declared.need.Need.{Need}
 use Rattle.sql_model.specs.declared.statement.Statement.{Statement}
 use Rattle.sql_model.specs.declared.table.Table.{Table}
+use Rattle.sql_model.specs.Answers.{Origin}
 use Rattle.sql_model.specs.Needs.{NeededRow, need_of, asked_tables, updated_rows, made_by}
-use Rattle.sql_model.specs.Reading.{reads}
+use Rattle.sql_model.specs.Texts.{statement_of}
 use Rattle.sql_model.specs.Scope.{same_text}
 use Rattle.run_model.specs.declared.event.Act.{Act}
 use Rattle.run_model.specs.declared.event.Act.TheVariants.{Started, Ended, Asked}
@@ -54,17 +55,17 @@ pub record Past : Type 0 where
   -- how many statements were asked
   pub asked : ℕ
   -- each row once for each accepted UPDATE that matched it
-  pub updated : List NeededRow
+  pub updated : List Origin
 
 abbrev pub no_past : Past
 no_past = record { asked = 0; updated = [] }
 
 abbrev pub past_after : Past → Option Question → List Table → Past
 past_after past None db = past
-past_after past (Some q) db = record { asked = past.asked + 1; updated = updated_rows (reads q.text q.params) db ++ past.updated }
+past_after past (Some q) db = record { asked = past.asked + 1; updated = updated_rows (statement_of q.text q.params) db ++ past.updated }
 
-abbrev pub is_row_of : List ℕ → ℕ → NeededRow → Bool
-is_row_of table row n = same_text n.table table && n.row == row
+abbrev pub is_row_of : List ℕ → ℕ → Origin → Bool
+is_row_of table row origin = same_text origin.table table && origin.row == row
 
 -- how many accepted UPDATEs matched the row
 abbrev pub version_of : Past → List ℕ → ℕ → ℕ
@@ -76,11 +77,11 @@ read_of past n = record { member = record { table = n.table; row = n.row; versio
 -- ---- the acts of a step
 
 abbrev pub asked_act : Past → Option Statement → List Table → Act
-asked_act past statement db = Asked past.asked (asked_tables statement db) (map (read_of past) (need_of statement db)) (made_by statement db)
+asked_act past statement db = Asked past.asked (asked_tables statement db) (map (read_of past) (need_of statement db)) (made_by (version_of past) statement db)
 
 abbrev pub question_acts : Past → Option Question → List Table → List Act
 question_acts past None db = []
-question_acts past (Some q) db = asked_act past (reads q.text q.params) db ∷ []
+question_acts past (Some q) db = asked_act past (statement_of q.text q.params) db ∷ []
 
 abbrev pub status_acts : Option ℕ → List Act
 status_acts None = []

@@ -12,7 +12,7 @@ use Rattle.script_parse.specs.declared.script.Operand.TheVariants.{Constant, Var
 use Rattle.script_parse.specs.declared.script.Instr.{Instr}
 use Rattle.script_parse.specs.declared.script.Instr.TheVariants.{Print, Exit, Sql}
 use Rattle.sql_model.specs.declared.reply.Reply.{Reply}
-use Rattle.sql_model.specs.Reading.{reads}
+use Rattle.sql_model.specs.Texts.{statement_of}
 use Rattle.sql_model.specs.Statements.{reply_of, after}
 use Rattle.run_model.specs.State.{Binding, lookup, bind, Cursor, Process, State}
 
@@ -66,7 +66,7 @@ with_reply cursor reply p = went_on (record p { cursors = bind cursor (record { 
 abbrev pub ask : ℕ → List ℕ → Value → List Value → Process → State → State
 ask number cursor Null params p s = with_process number (ended 240 p) s
 ask number cursor (Int n) params p s = with_process number (ended 240 p) s
-ask number cursor (Text text) params p s = with_process number (with_reply cursor (reply_of (reads text params) s.tables) p) (record s { tables = after (reads text params) s.tables })
+ask number cursor (Text text) params p s = with_process number (with_reply cursor (reply_of (statement_of text params) s.tables) p) (record s { tables = after (statement_of text params) s.tables })
 
 -- ---- the instruction
 

@@ -1,22 +1,28 @@
 -- What a statement needs of the tables: the rows that its reply rests on, and the tables that it names.
+-- What it makes of them: versions of rows.
 --
 -- A row that is needed by several rules has the first of them.
-use Rattle.std.specs.Prelude.{ℕ, List, [], ◌∷◌, map, filter, Bool, ◌&&◌, ◌==◌, if◌then◌else◌, Option, Some, None}
-use Rattle.std.specs.List.{flat_map, list_any}
+use Rattle.std.specs.Prelude.{ℕ, ◌+◌, List, [], ◌∷◌, ◌++◌, map, filter, Bool, false, not, ◌&&◌, ◌||◌, ◌==◌, if◌then◌else◌, Option, Some, None}
+use Rattle.std.specs.List.{flat_map, list_any, list_all}
 use Rattle.std.specs.Ordering.{nat_cmp, is_lt}
 use Rattle.std.specs.Cmp.Lexicographic.{slice_cmp}
+use Rattle.sql_model.specs.declared.catalog.Catalog.{Catalog}
 use Rattle.sql_model.specs.declared.need.Member.{Member}
 use Rattle.sql_model.specs.declared.need.Rule.{Rule}
-use Rattle.sql_model.specs.declared.need.Rule.TheVariants.{L}
+use Rattle.sql_model.specs.declared.need.Rule.TheVariants.{L, H, K}
 use Rattle.sql_model.specs.declared.reply.SqlRefusal.{SqlRefusal}
+use Rattle.sql_model.specs.declared.reply.SqlRefusal.TheVariants.{Syntax, NoTable, NoColumn, TypeClash, NotNull, KeyTaken, Full}
 use Rattle.sql_model.specs.declared.statement.Core.{Core}
-use Rattle.sql_model.specs.declared.statement.FromItem.{FromItem}
+use Rattle.sql_model.specs.declared.statement.Query.{Query}
 use Rattle.sql_model.specs.declared.statement.Statement.{Statement}
 use Rattle.sql_model.specs.declared.statement.Statement.TheVariants.{Query as TheQuery, Insert as TheInsert, Update as TheUpdate, Delete as TheDelete}
 use Rattle.sql_model.specs.declared.table.Table.{Table}
-use Rattle.sql_model.specs.Answers.{Combination, picked}
-use Rattle.sql_model.specs.Scope.{same_text, is_table}
-use Rattle.sql_model.specs.Statements.{tables_of, refusal_of}
+use Rattle.sql_model.specs.declared.table.TableRow.{TableRow}
+use Rattle.sql_model.specs.Answers.{Origin, lineage_of, rejected, answer, cut}
+use Rattle.sql_model.specs.Changes.{KeyClash, key_clash, changed, matched, inserted}
+use Rattle.sql_model.specs.Refusals.{tables_of, groups}
+use Rattle.sql_model.specs.Scope.{same_text, is_table, catalog_of}
+use Rattle.sql_model.specs.Statements.{target, refusal_of}
 
 -- a row of a table by its number, and the rule by which it is needed
 pub record NeededRow : Type 0 where
@@ -26,6 +32,9 @@ pub record NeededRow : Type 0 where
 
 abbrev pub needed_row : Rule → List ℕ → ℕ → NeededRow
 needed_row rule table row = record { table = table; row = row; rule = rule }
+
+abbrev pub needed_by : Rule → Origin → NeededRow
+needed_by rule origin = needed_row rule origin.table origin.row
 
 -- ---- rising lists of needed rows
 
@@ -46,39 +55,77 @@ abbrev pub rising_rows : List NeededRow → List NeededRow
 rising_rows [] = []
 rising_rows (n ∷ ns) = put_row n (rising_rows ns)
 
--- ---- rule L: the row is in the lineage of an answer row
+-- ---- rule L: the row is in the lineage of an answer row, or is matched
 
--- the rows of a combination, one of each source
-abbrev pub combination_rows : List FromItem → Combination → List NeededRow
-combination_rows [] rows = []
-combination_rows (item ∷ from) [] = []
-combination_rows (item ∷ from) (row ∷ rows) = needed_row L item.table row.number ∷ combination_rows from rows
+abbrev pub lineage_rows : Query → List Table → List NeededRow
+lineage_rows query db = map (needed_by L) (lineage_of (answer query db))
 
--- each picked combination makes an answer row
-abbrev pub core_lineage : List Table → Core → List NeededRow
-core_lineage db core = flat_map (combination_rows core.from) (picked core db)
+abbrev pub matched_row : Table → TableRow → NeededRow
+matched_row table row = needed_row L table.name row.number
 
-abbrev pub lineage_rows : Statement → List Table → List NeededRow
-lineage_rows (TheQuery query) db = flat_map (core_lineage db) query.cores
-lineage_rows (TheInsert insert) db = []
-lineage_rows (TheUpdate update) db = []
-lineage_rows (TheDelete delete) db = []
+abbrev pub matched_rows : Statement → Catalog → Option Table → List NeededRow
+matched_rows statement catalog None = []
+matched_rows statement catalog (Some table) = map (matched_row table) (matched statement catalog table)
+
+-- ---- rule H: the row is in the lineage of a group that HAVING rejected; or of a row that LIMIT cut,
+-- where a row of the answer may stand for several
+
+abbrev pub has_merging : List Core → Bool
+has_merging [] = false
+has_merging (core ∷ cores) = not (list_all (λ other. other.joined_all) cores)
+
+-- a core groups, a core has DISTINCT, or UNION without ALL occurs
+abbrev pub sums_up : List Core → Bool
+sums_up cores = list_any (λ core. groups core || core.distinct) cores || has_merging cores
+
+abbrev pub cut_rows : Query → List Table → List NeededRow
+cut_rows query db = if sums_up query.cores then map (needed_by H) (lineage_of (cut query db)) else []
+
+abbrev pub hidden_rows : Query → List Table → List NeededRow
+hidden_rows query db = map (needed_by H) (flat_map (rejected db) query.cores) ++ cut_rows query db
+
+-- ---- rule K: the row is one of the two of a refused key, where it stood before
+
+abbrev pub stood : Table → TableRow → Bool
+stood table row = list_any (λ old. old.number == row.number) table.rows
+
+abbrev pub clash_rows : Option KeyClash → List TableRow
+clash_rows None = []
+clash_rows (Some clash) = clash.earlier ∷ clash.later ∷ []
+
+abbrev pub key_row : Table → TableRow → NeededRow
+key_row table row = needed_row K table.name row.number
+
+abbrev pub key_rows : Statement → Catalog → Option Table → List NeededRow
+key_rows statement catalog None = []
+key_rows statement catalog (Some table) = map (key_row table) (filter (stood table) (clash_rows (key_clash (changed statement catalog table))))
 
 -- ---- needs
 
--- no statement that is read so far has a row that is needed otherwise, the first rule first
 abbrev pub accepted_needs : Statement → List Table → List NeededRow
-accepted_needs statement db = rising_rows (lineage_rows statement db)
+accepted_needs (TheQuery query) db = lineage_rows query db ++ hidden_rows query db
+accepted_needs (TheInsert insert) db = []
+accepted_needs (TheUpdate update) db = matched_rows (TheUpdate update) (catalog_of db) (target (TheUpdate update) db)
+accepted_needs (TheDelete delete) db = matched_rows (TheDelete delete) (catalog_of db) (target (TheDelete delete) db)
 
--- what the statement and the schemas alone refuse needs no row
-abbrev pub need_unless : Option SqlRefusal → Option Statement → List Table → List NeededRow
-need_unless (Some refusal) statement db = []
-need_unless None None db = []
-need_unless None (Some statement) db = accepted_needs statement db
+-- what the text, the schemas or the row limit refuse needs no row
+abbrev pub needs_by : Option SqlRefusal → Statement → List Table → List NeededRow
+needs_by None statement db = accepted_needs statement db
+needs_by (Some Syntax) statement db = []
+needs_by (Some NoTable) statement db = []
+needs_by (Some NoColumn) statement db = []
+needs_by (Some TypeClash) statement db = []
+needs_by (Some NotNull) statement db = matched_rows statement (catalog_of db) (target statement db)
+needs_by (Some (KeyTaken table key)) statement db = matched_rows statement (catalog_of db) (target statement db) ++ key_rows statement (catalog_of db) (target statement db)
+needs_by (Some Full) statement db = []
+
+abbrev pub needs_of_reading : Option Statement → List Table → List NeededRow
+needs_of_reading None db = []
+needs_of_reading (Some statement) db = rising_rows (needs_by (refusal_of (Some statement) db) statement db)
 
 -- the rows that a reading needs, rising, each once
-abbrev pub need_of : Option Statement → List Table → List NeededRow
-need_of statement db = need_unless (refusal_of statement db) statement db
+unfoldable pub need_of : Option Statement → List Table → List NeededRow
+need_of statement db = needs_of_reading statement db
 
 -- ---- tables
 
@@ -95,10 +142,48 @@ asked_tables (Some statement) db = map table_name (filter (is_named statement) d
 
 -- ---- versions
 
--- the rows that an accepted UPDATE matches; none is read so far
-abbrev pub updated_rows : Option Statement → List Table → List NeededRow
-updated_rows statement db = []
+-- the version of a row of a table, by the table's name and the row's number
+abbrev pub Versions : Type 0
+Versions = List ℕ → ℕ → ℕ
 
--- the versions that a statement makes; none that is read so far makes one
-abbrev pub made_by : Option Statement → List Table → List Member
-made_by statement db = []
+abbrev pub new_member : Table → TableRow → Member
+new_member table row = record { table = table.name; row = row.number; version = 0 }
+
+abbrev pub next_member : Versions → Table → TableRow → Member
+next_member versions table row = record { table = table.name; row = row.number; version = versions table.name row.number + 1 }
+
+-- INSERT makes version 0, and UPDATE and DELETE one more than the row's version
+abbrev pub members_made : Versions → Statement → Catalog → Option Table → List Member
+members_made versions statement catalog None = []
+members_made versions (TheQuery query) catalog (Some table) = []
+members_made versions (TheInsert insert) catalog (Some table) = map (new_member table) (inserted insert table)
+members_made versions (TheUpdate update) catalog (Some table) = map (next_member versions table) (matched (TheUpdate update) catalog table)
+members_made versions (TheDelete delete) catalog (Some table) = map (next_member versions table) (matched (TheDelete delete) catalog table)
+
+abbrev pub made_unless : Option SqlRefusal → Versions → Option Statement → List Table → List Member
+made_unless (Some refusal) versions statement db = []
+made_unless None versions None db = []
+made_unless None versions (Some statement) db = members_made versions statement (catalog_of db) (target statement db)
+
+-- the versions that a statement makes, from those that the rows have; a refused one makes none
+unfoldable pub made_by : Versions → Option Statement → List Table → List Member
+made_by versions statement db = made_unless (refusal_of statement db) versions statement db
+
+abbrev pub updated_origin : Table → TableRow → Origin
+updated_origin table row = record { table = table.name; row = row.number }
+
+abbrev pub updated_in : Statement → Catalog → Option Table → List Origin
+updated_in statement catalog None = []
+updated_in (TheQuery query) catalog (Some table) = []
+updated_in (TheInsert insert) catalog (Some table) = []
+updated_in (TheUpdate update) catalog (Some table) = map (updated_origin table) (matched (TheUpdate update) catalog table)
+updated_in (TheDelete delete) catalog (Some table) = []
+
+abbrev pub updated_unless : Option SqlRefusal → Option Statement → List Table → List Origin
+updated_unless (Some refusal) statement db = []
+updated_unless None None db = []
+updated_unless None (Some statement) db = updated_in statement (catalog_of db) (target statement db)
+
+-- the rows that an accepted UPDATE matches
+unfoldable pub updated_rows : Option Statement → List Table → List Origin
+updated_rows statement db = updated_unless (refusal_of statement db) statement db

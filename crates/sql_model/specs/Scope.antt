@@ -1,18 +1,22 @@
--- Tables by name, and which column a name means.
-use Rattle.std.specs.Prelude.{ℕ, List, [], ◌∷◌, ◌++◌, map, find, position, filter, length, Bool, true, false, ◌&&◌, ◌==◌, Option, Some, None, option_map, option_and_then, unwrap_or, nat_eq, slice_get}
-use Rattle.std.specs.List.{flat_map}
+-- Tables and schemas by name, and which column a name means.
+use Rattle.std.specs.Prelude.{ℕ, List, [], ◌∷◌, map, find, filter, zip, length, Bool, true, ◌&&◌, ◌==◌, Option, Some, None, option_map, unwrap_or, nat_eq, slice_get}
+use Rattle.std.specs.List.{flat_map, list_any, position_or_len}
 use Rattle.std.specs.Cmp.Lexicographic.{pointwise}
 use Rattle.ldv_value.specs.declared.value.Value.{Value}
 use Rattle.ldv_value.specs.declared.value.Value.TheVariants.{Null}
+use Rattle.sql_model.specs.declared.catalog.Catalog.{Catalog}
 use Rattle.sql_model.specs.declared.expr.ColumnName.{ColumnName}
 use Rattle.sql_model.specs.declared.statement.FromItem.{FromItem}
 use Rattle.sql_model.specs.declared.table.Column.{Column}
+use Rattle.sql_model.specs.declared.table.Schema.{Schema}
 use Rattle.sql_model.specs.declared.table.Table.{Table}
 use Rattle.sql_model.specs.declared.table.TableRow.{TableRow}
 use Rattle.sql_model.specs.Sense.{Environment}
 
 abbrev pub same_text : List ℕ → List ℕ → Bool
 same_text a b = pointwise nat_eq a b
+
+-- ---- tables
 
 abbrev pub is_table : List ℕ → Table → Bool
 is_table name table = same_text table.name name
@@ -21,25 +25,58 @@ is_table name table = same_text table.name name
 abbrev pub table_at : List ℕ → List Table → Option Table
 table_at name db = find (is_table name) db
 
-abbrev pub columns_of : Option Table → List Column
-columns_of None = []
-columns_of (Some table) = table.schema.columns
-
 abbrev pub rows_of : Option Table → List TableRow
 rows_of None = []
 rows_of (Some table) = table.rows
+
+-- ---- schemas
+
+-- the schemas of the tables, by their names
+abbrev pub catalog_of : List Table → Catalog
+catalog_of db = record { names = map (λ table. table.name) db; schemas = map (λ table. table.schema) db }
+
+abbrev pub is_schema : List ℕ → List ℕ × Schema → Bool
+is_schema name named = same_text named.0 name
+
+abbrev pub schema_in : List ℕ × Schema → Schema
+schema_in named = named.1
+
+-- the schema of a table's name
+abbrev pub schema_at : List ℕ → Catalog → Option Schema
+schema_at name catalog = option_map schema_in (find (is_schema name) (zip catalog.names catalog.schemas))
+
+abbrev pub columns_of : Option Schema → List Column
+columns_of None = []
+columns_of (Some schema) = schema.columns
+
+abbrev pub is_column : List ℕ → Column → Bool
+is_column name column = same_text column.name name
+
+-- a column has the name
+abbrev pub has_column : List Column → List ℕ → Bool
+has_column columns name = list_any (is_column name) columns
+
+-- ---- what is in scope
 
 -- a column that can be meant, under the name of its source
 pub record InScope : Type 0 where
   pub source : List ℕ
   pub column : Column
 
-abbrev pub in_source : List Table → FromItem → List InScope
-in_source db item = map (λ column. record { source = item.name; column = column }) (columns_of (table_at item.table db))
+abbrev pub in_source : Catalog → FromItem → List InScope
+in_source catalog item = map (λ column. record { source = item.name; column = column }) (columns_of (schema_at item.table catalog))
 
 -- the columns of the joined row, in FROM order
-abbrev pub scope_of : List FromItem → List Table → List InScope
-scope_of from db = flat_map (in_source db) from
+abbrev pub scope_of : List FromItem → Catalog → List InScope
+scope_of from catalog = flat_map (in_source catalog) from
+
+-- a table under its own name
+abbrev pub own_source : List ℕ → FromItem
+own_source name = record { table = name; name = name }
+
+-- an UPDATE and a DELETE have their table in scope
+abbrev pub own_scope : List ℕ → Catalog → List InScope
+own_scope name catalog = scope_of (own_source name ∷ []) catalog
 
 abbrev pub names_source : Option (List ℕ) → List ℕ → Bool
 names_source None source = true
@@ -49,13 +86,21 @@ names_source (Some name) source = same_text source name
 abbrev pub is_meant : ColumnName → InScope → Bool
 is_meant c entry = same_text entry.column.name c.name && names_source c.table entry.source
 
-abbrev pub place_of : List InScope → ColumnName → Option ℕ
-place_of scope c = position (is_meant c) scope
-
 -- one column alone is meant
 abbrev pub resolves : List InScope → ColumnName → Bool
 resolves scope c = length (filter (is_meant c) scope) == 1
 
+-- the place of the column meant in the joined row, or that row's length where none is
+abbrev pub place_of : List InScope → ColumnName → ℕ
+place_of scope c = position_or_len (is_meant c) scope
+
+abbrev pub places_in : List InScope → List ColumnName → List ℕ
+places_in scope names = map (place_of scope) names
+
+-- the value at a place of a row
+abbrev pub value_at : List Value → ℕ → Value
+value_at values place = unwrap_or (slice_get values place) Null
+
 -- a joined row as an environment
 abbrev pub environment : List InScope → List Value → Environment
-environment scope values = λ c. unwrap_or (option_and_then (slice_get values) (place_of scope c)) Null
+environment scope values = λ c. value_at values (place_of scope c)

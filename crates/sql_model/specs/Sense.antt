@@ -5,7 +5,7 @@
 -- row, and an aggregate folds over the group. No expression fails: arithmetic over NULL or outside 64
 -- bits is NULL. An expression of the kind TRUTH has a truth, and every other one a value; what the
 -- other half says there isn't looked at.
-use Rattle.std.specs.Prelude.{ℕ, ◌^◌, ℤ, pos, negsuc, ◌+ℤ◌, ◌-ℤ◌, ◌*ℤ◌, neg_ℤ, List, [], ◌∷◌, length, map, filter, Bool, true, false, not, nat_lt, if◌then◌else◌, Option, Some, None}
+use Rattle.std.specs.Prelude.{◌^◌, ℤ, pos, negsuc, ◌+ℤ◌, ◌-ℤ◌, ◌*ℤ◌, neg_ℤ, List, [], ◌∷◌, length, map, filter, Bool, true, false, not, nat_lt, if◌then◌else◌, Option, Some, None}
 use Rattle.std.specs.List.{reduce}
 use Rattle.std.specs.Ordering.{is_lt, is_gt}
 use Rattle.ldv_value.specs.declared.value.Value.{Value}
@@ -78,13 +78,26 @@ is_null Null = true
 is_null (Int n) = false
 is_null (Text t) = false
 
+-- a comparison and a connective have a truth and no value
+abbrev pub value_both : Operator → Value → Value → Value
+value_both Add a b = with_numbers (λ m n. m +ℤ n) a b
+value_both Subtract a b = with_numbers (λ m n. m -ℤ n) a b
+value_both Multiply a b = with_numbers (λ m n. m *ℤ n) a b
+value_both (Compare c) a b = Null
+value_both And a b = Null
+value_both Or a b = Null
+
+-- arithmetic has a value and no truth
+abbrev pub truth_both : Operator → Sense → Sense → Truth
+truth_both Add a b = Unknown
+truth_both Subtract a b = Unknown
+truth_both Multiply a b = Unknown
+truth_both (Compare c) a b = test_of c a.value b.value
+truth_both And a b = truth_and a.truth b.truth
+truth_both Or a b = truth_or a.truth b.truth
+
 abbrev pub both : Operator → Sense → Sense → Sense
-both Add a b = of_value (with_numbers (λ m n. m +ℤ n) a.value b.value)
-both Subtract a b = of_value (with_numbers (λ m n. m -ℤ n) a.value b.value)
-both Multiply a b = of_value (with_numbers (λ m n. m *ℤ n) a.value b.value)
-both (Compare c) a b = of_truth (test_of c a.value b.value)
-both And a b = of_truth (truth_and a.truth b.truth)
-both Or a b = of_truth (truth_or a.truth b.truth)
+both op a b = record { value = value_both op a.value b.value; truth = truth_both op a b }
 
 -- IS NULL, or IS NOT NULL where the flag is set
 abbrev pub null_test : Bool → Value → Truth
@@ -126,6 +139,10 @@ known_values vs = filter (λ v. not (is_null v)) vs
 -- COUNT(*) counts the rows
 abbrev pub counted : List Environment → Value
 counted group = number_value (pos (length group))
+
+-- over one row
+abbrev pub counted_one : Value
+counted_one = Int (pos 1)
 
 -- ---- expressions
 

@@ -1,8 +1,12 @@
 //! The schemas that a statement is checked against, and what a check gives.
 
+ghost use Rattle.std.specs.Prelude.{◌≡◌, IfOk, map};
+ghost use Rattle.sql_model.specs.Scope.{catalog_of};
+
 use crate::statement::Statement;
-use crate::table::Schemas;
-use ldv_value::{Names, PlaceLists};
+use crate::table::{Schemas, Table, Tables};
+use ldv_value::{CopyItem, List, Names, PlaceLists};
+use std::alloc::{AllocError, Global};
 
 /// The names of the tables, rising, and their schemas in the same order.
 #[derive(Drop)]
@@ -11,11 +15,44 @@ pub struct Catalog {
     pub schemas: Schemas,
 }
 
-/// A checked statement and the places of its columns, from 0. A query has one list a core, with the
-/// place of each column name in the joined row, and a last one with the places of the ORDER BY keys in
-/// the answer row. Any other statement has one list, of places in the table's row.
+/// A checked statement and the places of its columns, from 0. A query has one list per core, with the
+/// place of each column name in the joined row, left to right over the items, ON and WHERE, GROUP BY and
+/// HAVING, and then one more list, with the places of the ORDER BY keys in the answer row. Any other
+/// statement has one list, of places in the table's row: of an UPDATE the new values' and then WHERE's.
 #[derive(Drop)]
 pub struct Checked {
     pub statement: Statement,
     pub places: PlaceLists,
+}
+
+impl Catalog {
+    /// The names and schemas of tables, in their order. `AllocError` means want of memory alone.
+    pub fn of(alloc: Global, tables: &Tables) -> Result<Catalog, AllocError>
+        ensures { IfOk result (λ catalog. catalog ≡ catalog_of tables.now) }
+    {
+        Ok(Catalog {
+            names: names_of(alloc, tables.items())?,
+            schemas: schemas_of(alloc, tables.items())?,
+        })
+    }
+}
+
+fn names_of(alloc: Global, tables: &[Table]) -> Result<Names, AllocError>
+    ensures { IfOk result (λ names. names ≡ map (λ table. table.name) tables.now) }
+{
+    let mut names = Vec::with_capacity(alloc, tables.len())?;
+    for table in tables {
+        names.push(table.name.copy()?)?;
+    }
+    Ok(List::of_vec(names))
+}
+
+fn schemas_of(alloc: Global, tables: &[Table]) -> Result<Schemas, AllocError>
+    ensures { IfOk result (λ schemas. schemas ≡ map (λ table. table.schema) tables.now) }
+{
+    let mut schemas = Vec::with_capacity(alloc, tables.len())?;
+    for table in tables {
+        schemas.push(table.schema.copy_item(alloc)?)?;
+    }
+    Ok(List::of_vec(schemas))
 }

@@ -8,7 +8,8 @@ use std::alloc::{AllocError, Global};
 pub enum Rule {
     /// It is in the lineage of an answer row, or matched by an UPDATE or DELETE.
     L,
-    /// It is in the lineage of a group that HAVING rejected, or of a row that LIMIT cut.
+    /// It is in the lineage of a group that HAVING rejected; or of a row that LIMIT cut, in a query that
+    /// groups, has DISTINCT, or has UNION without ALL.
     H,
     /// It is one of the two rows of a refused key.
     K,

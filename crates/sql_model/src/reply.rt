@@ -5,22 +5,26 @@ ghost use Rattle.std.specs.Prelude.{◌≡◌};
 use ldv_value::{CopyItem, List, RowList, Utf8, Values};
 use std::alloc::{AllocError, Global};
 
-/// Why a statement is refused. The refusals are tried in this order.
+/// Why a statement is refused. The refusals are tried in this order, each over the whole statement;
+/// `docs/SQL.md` says exactly when each comes.
 #[derive(Drop)]
 pub enum SqlRefusal {
     /// The text, with its parameters, has no reading.
     Syntax,
-    /// A table isn't there, or two sources have one name.
+    /// A named table isn't there, or two sources of one SELECT have the same name.
     NoTable,
-    /// A column isn't there, or isn't one alone.
+    /// A column isn't there or means two; one stands ungrouped in a core that groups; a key of ORDER BY
+    /// isn't exactly one answer column.
     NoColumn,
-    /// Kinds or counts don't fit.
+    /// Kinds or counts of columns don't fit; an aggregate stands where none may; a column is set or named
+    /// twice; a parameter of LIMIT isn't a number of at least 0.
     TypeClash,
-    /// A NULL would stand in a NOT NULL column.
+    /// A row that is inserted or matched would have NULL in a NOT NULL column.
     NotNull,
-    /// Two rows would have one key.
+    /// Two rows of the table would have the same key. `key` is that of the first row, by number, whose
+    /// key an earlier row has.
     KeyTaken { table: Utf8, key: Values },
-    /// There is no number for a new row.
+    /// A new row would have a number above 4,294,967,294.
     Full,
 }
 
@@ -41,7 +45,7 @@ pub type Replies = List<Reply>;
 impl SqlRefusal {
     ghost use Rattle.sql_model.specs.Codes.{code_of};
 
-    /// The refusal's code, 1 to 7.
+    /// The refusal's code, 1 to 7, in the order of the refusals.
     pub fn code(&self) -> u8
         ensures { result ≡ code_of self.now }
     {

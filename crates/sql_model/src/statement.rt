@@ -35,7 +35,9 @@ pub struct Core {
     pub from: FromItems,
     /// The ON conditions and then WHERE, in the order of the text.
     pub picks: Exprs,
+    /// The columns of GROUP BY.
     pub group: ColumnNames,
+    /// The condition of HAVING.
     pub having: Option<Expr>,
 }
 
@@ -75,6 +77,7 @@ pub struct Insert {
     pub table: Utf8,
     /// The columns that it names; `None` is all, in order.
     pub columns: Option<Names>,
+    /// The rows of VALUES.
     pub rows: ExprRows,
 }
 
@@ -83,6 +86,7 @@ pub struct Insert {
 pub struct Update {
     pub table: Utf8,
     pub sets: Sets,
+    /// The condition of WHERE.
     pub pick: Option<Expr>,
 }
 
@@ -97,6 +101,7 @@ pub struct Set {
 #[derive(Drop)]
 pub struct Delete {
     pub table: Utf8,
+    /// The condition of WHERE.
     pub pick: Option<Expr>,
 }
 

@@ -11,21 +11,22 @@ pub struct Column {
     pub not_null: bool,
 }
 
-/// The columns of a table, 1 to 64, and the places of its key, which may be none.
+/// The columns of a table, 1 to 64, and the places of its key's columns, from 0; none is no key.
 #[derive(Drop)]
 pub struct Schema {
     pub columns: Columns,
     pub key: Places,
 }
 
-/// A row with its number, which it keeps as long as it stands.
+/// A row with its number, at most 4,294,967,294, which it keeps as long as it stands.
 #[derive(Drop)]
 pub struct TableRow {
     pub number: u32,
     pub values: Values,
 }
 
-/// A table. Its row numbers rise and are below `next`, the number of the next new row.
+/// A table. Its row numbers rise and are below `next`, at most 4,294,967,295, the number of the next new
+/// row.
 #[derive(Drop)]
 pub struct Table {
     pub name: Utf8,

@@ -3,18 +3,18 @@ use Rattle.std.proofs.Common.{◌≡◌, ℕ, zero, suc, ◌+◌, ◌≤◌, Lis
 use Rattle.std.specs.Prelude.{Option, codes, max, nat_le, if◌then◌else◌}
 use Rattle.std.proofs.lemmas.Bool.{leb-true}
 use Rattle.sql_model.specs.declared.expr.Expr.TheVariants as expr
-use Rattle.sql_parse.specs.declared.deep.Deep.{Deep}
-use Rattle.sql_parse.specs.declared.opening.Opening.{Opening}
-use Rattle.sql_parse.specs.declared.opening.Opening.TheVariants.{Leaf, Around}
-use Rattle.sql_parse.specs.declared.opening.Wrap.{Wrap}
-use Rattle.sql_parse.specs.declared.opening.Wrap.TheVariants.{Not, Minus, Bracket, FoldOf}
-use Rattle.sql_parse.specs.declared.operator.Joint.{Joint}
-use Rattle.sql_parse.specs.declared.operator.Joint.TheVariants.{Both, IsNull}
-use Rattle.sql_parse.specs.declared.token.Token.{Token}
-use Rattle.sql_parse.specs.Expressions.{opening, inside_level, closed, null_test, pair, operand_at, operand, joined, joined_within, goes_on, joins_more, within}
-use Rattle.sql_parse.specs.Gives.{◌>>=◌}
-use Rattle.sql_parse.specs.Operators.{right_of, joins}
-use Rattle.sql_parse.specs.Reader.{starts, passed, behind, tail, repeat}
+use Rattle.sql_model.specs.declared.reading.Deep.{Deep}
+use Rattle.sql_model.specs.declared.reading.Opening.{Opening}
+use Rattle.sql_model.specs.declared.reading.Opening.TheVariants.{Leaf, Around}
+use Rattle.sql_model.specs.declared.reading.Wrap.{Wrap}
+use Rattle.sql_model.specs.declared.reading.Wrap.TheVariants.{Not, Minus, Bracket, FoldOf}
+use Rattle.sql_model.specs.declared.reading.Joint.{Joint}
+use Rattle.sql_model.specs.declared.reading.Joint.TheVariants.{Both, IsNull}
+use Rattle.sql_model.specs.declared.token.Token.{Token}
+use Rattle.sql_model.specs.Expressions.{opening, inside_level, closed, null_test, pair, operand_at, operand, joined, joined_within, goes_on, joins_more, within}
+use Rattle.sql_model.specs.Then.{◌>>=◌}
+use Rattle.sql_model.specs.Operators.{right_of, joins}
+use Rattle.sql_model.specs.Reader.{starts, passed, behind, tail, repeat}
 use Rattle.sql_parse.proofs.Options.{bind_some, only_if_some, some_same}
 use Rattle.sql_parse.proofs.Repeat.{after, repeat_none, repeat_suc}
 use Rattle.sql_parse.proofs.Within.{within_none, within_suc}

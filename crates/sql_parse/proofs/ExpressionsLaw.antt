@@ -12,24 +12,24 @@ use Rattle.sql_model.specs.declared.expr.Expr.{Expr}
 use Rattle.sql_model.specs.declared.expr.Expr.TheVariants as expr
 use Rattle.sql_model.specs.declared.expr.Fold.{Fold}
 use Rattle.sql_model.specs.declared.expr.Fold.TheVariants as fold
-use Rattle.sql_parse.specs.declared.deep.Deep.{Deep}
-use Rattle.sql_parse.specs.declared.opening.Opening.{Opening}
-use Rattle.sql_parse.specs.declared.opening.Opening.TheVariants.{Leaf, Around}
-use Rattle.sql_parse.specs.declared.opening.Wrap.{Wrap}
-use Rattle.sql_parse.specs.declared.opening.Wrap.TheVariants.{Not, Minus, Bracket, FoldOf}
-use Rattle.sql_parse.specs.declared.operator.Joint.{Joint}
-use Rattle.sql_parse.specs.declared.operator.Joint.TheVariants.{Both, IsNull}
-use Rattle.sql_parse.specs.Operators.{comparison_of, compared, joint_in, joint_of, level_of, left_of, right_of, may_join, joins}
+use Rattle.sql_model.specs.declared.reading.Deep.{Deep}
+use Rattle.sql_model.specs.declared.reading.Opening.{Opening}
+use Rattle.sql_model.specs.declared.reading.Opening.TheVariants.{Leaf, Around}
+use Rattle.sql_model.specs.declared.reading.Wrap.{Wrap}
+use Rattle.sql_model.specs.declared.reading.Wrap.TheVariants.{Not, Minus, Bracket, FoldOf}
+use Rattle.sql_model.specs.declared.reading.Joint.{Joint}
+use Rattle.sql_model.specs.declared.reading.Joint.TheVariants.{Both, IsNull}
+use Rattle.sql_model.specs.Operators.{comparison_of, compared, joint_in, joint_of, level_of, left_of, right_of, may_join, joins}
 use Rattle.sql_model.specs.declared.expr.Operator.{Operator}
 use Rattle.sql_model.specs.declared.expr.Operator.TheVariants.{Add, Subtract, Multiply, Compare, And, Or}
 use Rattle.ldv_value.specs.declared.value.Cmp.{Cmp}
-use Rattle.sql_parse.specs.declared.token.Token.{Token}
-use Rattle.sql_parse.specs.declared.token.Token.TheVariants.{Word, Number, Quoted, Given}
-use Rattle.sql_parse.specs.Expressions.{leaf, negation, fold_opening, count_inside, count_opening, column_opening, word_opening, opening, inside_level, closed, null_test, pair, operand_at, operand, joined, joined_within, goes_on, joins_more, within, reads_expr}
-use Rattle.sql_parse.specs.Columns.{column_behind}
-use Rattle.sql_parse.specs.Gives.{◌>>=◌}
-use Rattle.sql_parse.specs.Grammar.{word, fold_word, Writes, IsName, IsConstant, IsColumn, IsExpr}
-use Rattle.sql_parse.specs.Reader.{only_if, starts, tail, behind, name_in, reads_name, repeat}
+use Rattle.sql_model.specs.declared.token.Token.{Token}
+use Rattle.sql_model.specs.declared.token.Token.TheVariants.{Word, Number, Quoted, Given}
+use Rattle.sql_model.specs.Expressions.{leaf, negation, fold_opening, count_inside, count_opening, column_opening, word_opening, opening, inside_level, closed, null_test, pair, operand_at, operand, joined, joined_within, goes_on, joins_more, within, reads_expr}
+use Rattle.sql_model.specs.Columns.{column_behind}
+use Rattle.sql_model.specs.Then.{◌>>=◌}
+use Rattle.sql_model.specs.Grammar.{word, fold_word, Writes, IsName, IsConstant, IsColumn, IsExpr}
+use Rattle.sql_model.specs.Reader.{only_if, starts, tail, behind, name_in, reads_name, repeat}
 use Rattle.sql_parse.proofs.Repeat.{after, repeat_none, repeat_suc}
 use Rattle.sql_parse.proofs.ExpressionsDepth.{within_depth}
 use Rattle.sql_parse.proofs.Within.{within_none, within_suc}

@@ -2,13 +2,13 @@
 use Rattle.std.proofs.Common.{◌≡◌, ℕ, List, [], ◌∷◌, ◌++◌, refl, sym, ap, ◌∙◌, subst, Bool, true, false, Some, None, inl, inr, ◌⊎◌, append_assoc}
 use Rattle.std.specs.Prelude.{Option, if◌then◌else◌, codes}
 use Prim.Native.String.{String}
-use Rattle.sql_parse.specs.declared.token.Token.{Token}
-use Rattle.sql_parse.specs.declared.token.Token.TheVariants.{Word, Number, Quoted, Given}
-use Rattle.sql_parse.specs.Gives.{◌>>=◌}
+use Rattle.sql_model.specs.declared.token.Token.{Token}
+use Rattle.sql_model.specs.declared.token.Token.TheVariants.{Word, Number, Quoted, Given}
+use Rattle.sql_model.specs.Then.{◌>>=◌}
 use Rattle.sql_model.specs.SqlNames.{sql_name_test}
-use Rattle.sql_parse.specs.Grammar.{word, IsName}
-use Rattle.sql_parse.specs.GrammarOfStatements.{Then, Behind, Flag, Optionally, Named}
-use Rattle.sql_parse.specs.Reader.{only_if, starts, tail, passed, behind, reads_token, name_of, reads_name}
+use Rattle.sql_model.specs.Grammar.{word, IsName}
+use Rattle.sql_model.specs.GrammarOfStatements.{Then, Behind, Flag, Optionally, Named}
+use Rattle.sql_model.specs.Reader.{only_if, starts, tail, passed, behind, reads_token, name_of, reads_name}
 use Rattle.sql_parse.proofs.Choices.{choose}
 use Rattle.sql_parse.proofs.ExpressionsLaw.{starts_is, behind_is}
 use Rattle.sql_parse.proofs.Follows.{all_words, among, ends_by, lacks, ends_lack, ends_more, Follows, starts_self, behind_self}

@@ -1,8 +1,8 @@
 -- What an option that is known to be there came from.
 use Rattle.std.proofs.Common.{◌≡◌, Bool, true, false, refl, Some, None, inl, inr, ◌⊎◌}
 use Rattle.std.specs.Prelude.{Option, if◌then◌else◌}
-use Rattle.sql_parse.specs.Gives.{◌>>=◌}
-use Rattle.sql_parse.specs.Reader.{only_if}
+use Rattle.sql_model.specs.Then.{◌>>=◌}
+use Rattle.sql_model.specs.Reader.{only_if}
 
 pub bind_some : {A B : Type 0} (o : Option A) (f : A → Option B) (y : B) → (o >>= f) ≡ Some y → (x : A) × (o ≡ Some x) × (f x ≡ Some y)
 bind_some None f y h = cc

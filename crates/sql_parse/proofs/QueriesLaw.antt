@@ -8,13 +8,13 @@ use Rattle.sql_model.specs.declared.statement.Order.{Order}
 use Rattle.sql_model.specs.declared.statement.OrderKey.{OrderKey}
 use Rattle.sql_model.specs.declared.statement.OrderKey.TheVariants.{Name, Place}
 use Rattle.sql_model.specs.declared.statement.Query.{Query}
-use Rattle.sql_parse.specs.declared.token.Token.{Token}
-use Rattle.sql_parse.specs.declared.token.Token.TheVariants.{Word, Number, Quoted, Given}
-use Rattle.sql_parse.specs.Gives.{◌>>=◌}
-use Rattle.sql_parse.specs.Grammar.{word, IsName}
-use Rattle.sql_parse.specs.GrammarOfStatements.{Then, Behind, Optionally, Listed, AreCores, IsKey, IsDirection, IsOrder, AreOrders, IsBound, IsQuery}
-use Rattle.sql_parse.specs.Queries.{place_of, key_of, reads_key, directed, reads_order, reads_orders, bound_of, reads_bound, reads_limit, reads_query}
-use Rattle.sql_parse.specs.Reader.{only_if, starts, tail, passed, name_in}
+use Rattle.sql_model.specs.declared.token.Token.{Token}
+use Rattle.sql_model.specs.declared.token.Token.TheVariants.{Word, Number, Quoted, Given}
+use Rattle.sql_model.specs.Then.{◌>>=◌}
+use Rattle.sql_model.specs.Grammar.{word, IsName}
+use Rattle.sql_model.specs.GrammarOfStatements.{Then, Behind, Optionally, Listed, AreCores, IsKey, IsDirection, IsOrder, AreOrders, IsBound, IsQuery}
+use Rattle.sql_model.specs.Queries.{place_of, key_of, reads_key, directed, reads_order, reads_orders, bound_of, reads_bound, reads_limit, reads_query}
+use Rattle.sql_model.specs.Reader.{only_if, starts, tail, passed, name_in}
 use Rattle.sql_parse.proofs.ExpressionsLaw.{starts_is}
 use Rattle.sql_parse.proofs.Follows.{ends_by, ends_lack, Follows, follows_behind, follows_nothing, follows_optional, follows_then}
 use Rattle.sql_parse.proofs.Laws.{Law, state_law, same_law, nothing_law, token_law, token_read, behind_law, then_law, made_law, either_law, name_is}

@@ -3,11 +3,11 @@ use Rattle.std.proofs.Common.{◌≡◌, ℕ, zero, suc, ◌<◌, ◌≤◌, Lis
 use Rattle.std.specs.Prelude.{Option, if◌then◌else◌, codes}
 use Prim.Native.String.{String}
 use Rattle.std.proofs.lemmas.List.{length-append}
-use Rattle.sql_parse.specs.declared.token.Token.{Token}
-use Rattle.sql_parse.specs.Gives.{◌>>=◌}
-use Rattle.sql_parse.specs.Grammar.{word}
-use Rattle.sql_parse.specs.GrammarOfStatements.{Behind, Repeated, Separated}
-use Rattle.sql_parse.specs.Reader.{starts, tail, repeat}
+use Rattle.sql_model.specs.declared.token.Token.{Token}
+use Rattle.sql_model.specs.Then.{◌>>=◌}
+use Rattle.sql_model.specs.Grammar.{word}
+use Rattle.sql_model.specs.GrammarOfStatements.{Behind, Repeated, Separated}
+use Rattle.sql_model.specs.Reader.{starts, tail, repeat}
 use Rattle.sql_parse.proofs.Choices.{choose}
 use Rattle.sql_parse.proofs.ExpressionsLaw.{starts_is}
 use Rattle.sql_parse.proofs.Follows.{all_words, among, ends_by, lacks, ends_lack, follows_repeated, starts_self}

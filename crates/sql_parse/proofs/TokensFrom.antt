@@ -3,10 +3,11 @@ use Rattle.std.proofs.Common.{◌≡◌, ℕ, ◌+◌, ◌<◌, List, ◌++◌, 
 use Rattle.std.specs.Prelude.{Option, option_to_list}
 use Rattle.sql_parse.specs.declared.stop.ParseStop.{ParseStop}
 use Rattle.sql_parse.specs.declared.stop.ParseStop.TheVariants.{Syntax, NoMemory}
-use Rattle.sql_parse.specs.declared.token.Token.{Token}
-use Rattle.sql_parse.specs.declared.scan.Place.{Place}
-use Rattle.sql_parse.specs.Gives.{◌>>=◌, Fails}
-use Rattle.sql_parse.specs.Tokens.{step, before, tokens_from}
+use Rattle.sql_model.specs.declared.token.Token.{Token}
+use Rattle.sql_model.specs.declared.reading.Place.{Place}
+use Rattle.sql_model.specs.Then.{◌>>=◌}
+use Rattle.sql_parse.specs.Gives.{Fails}
+use Rattle.sql_model.specs.Tokens.{step, before, tokens_from}
 
 pub tokens_at : (place : Place) (bs : List ℕ) (i : ℕ) → i < length bs → tokens_from (drop i bs) place ≡ (step place (get_or bs i 0) >>= λ s. before (option_to_list s.1) (tokens_from (drop (i + 1) bs) s.0))
 tokens_at place bs i h = rw (add-one, drop-cons bs i 0 h) refl

@@ -7,13 +7,13 @@ use Rattle.std.proofs.lemmas.Bool.{cases_Bool, eqb-true, leb-true, le-leb, lt-lt
 use Rattle.std.proofs.lemmas.List.{length-map}
 use Rattle.std.proofs.lemmas.Str.{is_utf8-from_IsUtf8, IsUtf8-from_ascii}
 use Rattle.std.proofs.lemmas.Str.Ascii.{IsAscii-nil, IsAscii-cons}
-use Rattle.sql_parse.specs.declared.token.Token.{Token}
-use Rattle.sql_parse.specs.declared.token.Token.TheVariants.{Word, Number, Quoted, Given}
-use Rattle.sql_parse.specs.declared.scan.Place.{Place}
-use Rattle.sql_parse.specs.declared.scan.Place.TheVariants.{Between, InWord, InNumber, InText, InSymbol, Ended}
-use Rattle.sql_parse.specs.Gives.{◌>>=◌}
-use Rattle.sql_parse.specs.GrammarOfTokens.{AreBlanks, BeginsNot, is_inside, is_quote, digits_from, doubled, IsSymbol, IsWhole, IsToken, Spells}
-use Rattle.sql_parse.specs.Tokens.{is_blank, is_letter, is_upper, is_digit, begins_symbol, folded, is_pair, longer, text_of, word_token, number_token, text_token, symbol_token, short_symbol, start, before, tokens_from, tokens_of}
+use Rattle.sql_model.specs.declared.token.Token.{Token}
+use Rattle.sql_model.specs.declared.token.Token.TheVariants.{Word, Number, Quoted, Given}
+use Rattle.sql_model.specs.declared.reading.Place.{Place}
+use Rattle.sql_model.specs.declared.reading.Place.TheVariants.{Between, InWord, InNumber, InText, InSymbol, Ended}
+use Rattle.sql_model.specs.Then.{◌>>=◌}
+use Rattle.sql_model.specs.GrammarOfTokens.{AreBlanks, BeginsNot, is_inside, is_quote, digits_from, doubled, IsSymbol, IsWhole, IsToken, Spells}
+use Rattle.sql_model.specs.Tokens.{is_blank, is_letter, is_upper, is_digit, begins_symbol, folded, is_pair, longer, text_of, word_token, number_token, text_token, symbol_token, short_symbol, start, before, tokens_from, tokens_of}
 use Rattle.sql_parse.proofs.Choices.{or_go, and_true, not_false}
 use Rattle.sql_parse.proofs.Symbols.{pair_symbol, symbol_low}
 use Rattle.sql_parse.proofs.TokensSteps.{put, start_goes, word_closes, number_closes, quote_closes, symbol_closes, ended_closes, word_goes, number_goes, text_goes, text_quote, quote_quote, pair_goes}

@@ -6,13 +6,13 @@ use Rattle.std.specs.Str.{is_utf8}
 use Rattle.std.proofs.lemmas.Bool.{cases_Bool, eqb-true, leb-true, ltb-true, false≢true}
 use Rattle.std.proofs.lemmas.Option.{cond_some}
 use Rattle.std.proofs.lemmas.List.{length-map}
-use Rattle.sql_parse.specs.declared.token.Token.{Token}
-use Rattle.sql_parse.specs.declared.token.Token.TheVariants.{Word, Number, Quoted}
-use Rattle.sql_parse.specs.declared.scan.Place.{Place}
-use Rattle.sql_parse.specs.declared.scan.Place.TheVariants.{Between, InWord, InNumber, InText, BehindQuote, InSymbol, Ended}
-use Rattle.sql_parse.specs.Gives.{◌>>=◌}
-use Rattle.sql_parse.specs.GrammarOfTokens.{BeginsNot, is_inside, is_quote, digits_from, doubled, IsSymbol, IsWhole, IsToken, Spells}
-use Rattle.sql_parse.specs.Tokens.{is_blank, is_letter, is_digit, is_whole_symbol, begins_symbol, folded, is_pair, longer, text_of, word_token, number_token, text_token, symbol_token, short_symbol, start, tokens_from}
+use Rattle.sql_model.specs.declared.token.Token.{Token}
+use Rattle.sql_model.specs.declared.token.Token.TheVariants.{Word, Number, Quoted}
+use Rattle.sql_model.specs.declared.reading.Place.{Place}
+use Rattle.sql_model.specs.declared.reading.Place.TheVariants.{Between, InWord, InNumber, InText, BehindQuote, InSymbol, Ended}
+use Rattle.sql_model.specs.Then.{◌>>=◌}
+use Rattle.sql_model.specs.GrammarOfTokens.{BeginsNot, is_inside, is_quote, digits_from, doubled, IsSymbol, IsWhole, IsToken, Spells}
+use Rattle.sql_model.specs.Tokens.{is_blank, is_letter, is_digit, is_whole_symbol, begins_symbol, folded, is_pair, longer, text_of, word_token, number_token, text_token, symbol_token, short_symbol, start, tokens_from}
 use Rattle.sql_parse.proofs.Choices.{choose, and_true, false_not}
 use Rattle.sql_parse.proofs.Options.{bind_some, some_same}
 use Rattle.sql_parse.proofs.Symbols.{symbol_form, whole_cases, begins_cases, whole_symbol, less_symbol, more_symbol, pair_symbol}

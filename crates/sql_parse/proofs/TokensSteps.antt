@@ -1,12 +1,12 @@
 -- How the reading of a text goes on at a byte, and where it ends a token.
 use Rattle.std.proofs.Common.{◌≡◌, ℕ, List, [], ◌∷◌, ◌++◌, refl, sym, ap, ◌∙◌, cond, true, false, Some, None}
 use Rattle.std.specs.Prelude.{Option, option_to_list}
-use Rattle.sql_parse.specs.declared.token.Token.{Token}
-use Rattle.sql_parse.specs.declared.scan.Place.{Place}
-use Rattle.sql_parse.specs.declared.scan.Place.TheVariants.{Between, InWord, InNumber, InText, BehindQuote, InSymbol, Ended}
-use Rattle.sql_parse.specs.Gives.{◌>>=◌}
-use Rattle.sql_parse.specs.GrammarOfTokens.{BeginsNot, is_inside, is_quote}
-use Rattle.sql_parse.specs.Tokens.{is_letter, is_digit, folded, is_pair, longer, word_token, number_token, text_token, symbol_token, short_symbol, start, ends, before, tokens_from}
+use Rattle.sql_model.specs.declared.token.Token.{Token}
+use Rattle.sql_model.specs.declared.reading.Place.{Place}
+use Rattle.sql_model.specs.declared.reading.Place.TheVariants.{Between, InWord, InNumber, InText, BehindQuote, InSymbol, Ended}
+use Rattle.sql_model.specs.Then.{◌>>=◌}
+use Rattle.sql_model.specs.GrammarOfTokens.{BeginsNot, is_inside, is_quote}
+use Rattle.sql_model.specs.Tokens.{is_letter, is_digit, folded, is_pair, longer, word_token, number_token, text_token, symbol_token, short_symbol, start, ends, before, tokens_from}
 use Rattle.sql_parse.proofs.Choices.{not_false, or_false}
 use Rattle.sql_parse.proofs.Options.{bind_some, some_same}
 

@@ -4,7 +4,7 @@ use Rattle.std.specs.Prelude.{IsUtf8, String, string_bytes}
 use Rattle.std.specs.Str.{is_utf8}
 use Rattle.std.proofs.lemmas.Bool.{cases_Bool}
 use Rattle.std.proofs.lemmas.Str.{IsUtf8-from_is_utf8, is_utf8-from_IsUtf8, IsUtf8-string_bytes}
-use Rattle.sql_parse.specs.Tokens.{text_of}
+use Rattle.sql_model.specs.Tokens.{text_of}
 
 pub not_utf8 : (bs : List ℕ) → ¬ (IsUtf8 bs) → is_utf8 bs ≡ false
 not_utf8 bs h = elim (cases_Bool (is_utf8 bs)) [

@@ -1,12 +1,8 @@
 -- How a call that may want memory answers what a definition gives.
-use Rattle.std.specs.Prelude.{◌≡◌, List, Option, Some, None, Result, Ok, Err, option_and_then}
+use Rattle.std.specs.Prelude.{◌≡◌, List, Option, Some, None, Result, Ok, Err}
 use Rattle.sql_parse.specs.declared.stop.ParseStop.{ParseStop}
 use Rattle.sql_parse.specs.declared.stop.ParseStop.TheVariants.{Syntax, NoMemory}
-use Rattle.sql_parse.specs.declared.token.Token.{Token}
-
-infixl 10 ◌>>=◌
-abbrev pub ◌>>=◌ : {A B : Type 0} → Option A → (A → Option B) → Option B
-o >>= f = option_and_then f o
+use Rattle.sql_model.specs.declared.token.Token.{Token}
 
 abbrev pub Fails : {X : Type 0} → ParseStop → Option X → Type 0
 Fails Syntax due = due ≡ None

@@ -1,12 +1,1 @@
-pub mod Columns
-pub mod Expressions
 pub mod Gives
-pub mod Grammar
-pub mod GrammarOfStatements
-pub mod GrammarOfTokens
-pub mod Operators
-pub mod Parts
-pub mod Queries
-pub mod Reader
-pub mod Statements
-pub mod Tokens

@@ -2,15 +2,14 @@
 
 ghost use Rattle.std.specs.Prelude.{◌≡◌, ◌≤◌, ◌<◌, ◌+◌, ◌-◌, IfOk, Some};
 ghost use Rattle.sql_parse.specs.Gives.{Gives, Reads};
-ghost use Rattle.sql_parse.specs.Expressions.{whole, closed, null_test, pair, operand_at, operand, joined, joined_within, goes_on, joins_more, within, reads_expr};
-ghost use Rattle.sql_parse.specs.Reader.{repeat};
+ghost use Rattle.sql_model.specs.Expressions.{whole, closed, null_test, pair, operand_at, operand, joined, joined_within, goes_on, joins_more, within, reads_expr};
+ghost use Rattle.sql_model.specs.Reader.{repeat};
 
-use crate::deep::Deep;
-use crate::opening::{Opening, Wrap, inside_level, read_opening};
-use crate::operator::{Joint, joins, operator_level, right_of};
+use crate::opening::{inside_level, read_opening};
+use crate::operator::{joins, operator_level, right_of};
 use crate::reader::Reader;
 use crate::stop::ParseStop;
-use sql_model::{Expr, Operator};
+use sql_model::{Deep, Expr, Joint, Opening, Operator, Wrap};
 use sqlite_items::Boxed;
 use std::alloc::Global;
 

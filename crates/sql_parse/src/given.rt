@@ -1,12 +1,13 @@
 //! The values of parameters in the places of their `?`.
 
 ghost use Rattle.sql_parse.specs.Gives.{Gives};
-ghost use Rattle.sql_parse.specs.Statements.{placed_token, placed};
+ghost use Rattle.sql_model.specs.Texts.{placed_token, placed};
 
 use crate::reader::is_word;
 use crate::stop::ParseStop;
-use crate::token::{Token, Tokens};
+use crate::token::Tokens;
 use ldv_value::{CopyItem, Values};
+use sql_model::Token;
 use std::alloc::Global;
 
 /// Tokens with the k-th parameter in the place of the k-th `?`.

@@ -1,14 +1,15 @@
-//! SQL's grammar and its parser.
+//! SQL's parser.
 //!
-//! It promises to the layers above that `parse` gives the statement that `statement_of` gives for the text
-//! and its parameters, and `Syntax` exactly where it gives none (`specs/Statements.antt`, over `Queries`,
-//! `Parts`, `Columns`, `Expressions`, `Operators` and `Tokens`).
+//! It promises to the layers above that `parse` gives the statement that `statement_of` of `sql_model` gives
+//! for the text and its parameters, and `Syntax` exactly where it gives none (its `specs/Texts.antt`, over
+//! `Queries`, `Parts`, `Columns`, `Expressions`, `Operators` and `Tokens`). Want of memory alone is free
+//! (`specs/Gives.antt`).
 //!
-//! What SQL is stands apart from how it is read: relations say form by form how bytes spell tokens
-//! (`specs/GrammarOfTokens.antt`), and which tokens are an expression (`specs/Grammar.antt`) or a statement
-//! (`specs/GrammarOfStatements.antt`, at last `Reads`). `reading_law` says that `statement_of` gives exactly
-//! the statement as which the text with its parameters reads by this grammar, and that there is at most one.
-//! `token_law` and `expression_law` say the same of tokens and of expressions.
+//! What SQL is stands apart from how it is read: relations of `sql_model` say form by form how bytes spell
+//! tokens (`specs/GrammarOfTokens.antt`), and which tokens are an expression (`specs/Grammar.antt`) or a
+//! statement (`specs/GrammarOfStatements.antt`, at last `Reads`). `reading_law` says that `statement_of` gives
+//! exactly the statement as which the text with its parameters reads by this grammar, and that there is at
+//! most one. `token_law` and `expression_law` say the same of tokens and of expressions.
 //!
 //! The way of the text: `scan` cuts it into tokens, `given` puts the parameters into the places of their
 //! `?`, and the other modules read the tokens from left to right, each its part of the grammar.
@@ -16,7 +17,6 @@
 
 mod change;
 mod column;
-mod deep;
 mod expression;
 mod given;
 mod law;
@@ -36,5 +36,7 @@ pub use law::{expression_law, reading_law, token_law};
 pub use reading::parse;
 pub use stop::ParseStop;
 
+#[cfg(test)]
+mod shown;
 #[cfg(test)]
 mod tests;

@@ -2,37 +2,14 @@
 
 ghost use Rattle.std.specs.Prelude.{◌≡◌};
 ghost use Rattle.sql_parse.specs.Gives.{Gives, Reads};
-ghost use Rattle.sql_parse.specs.Expressions.{negation, fold_opening, count_inside, count_opening, column_opening, word_opening, opens, opening, inside_level};
+ghost use Rattle.sql_model.specs.Expressions.{negation, fold_opening, count_inside, count_opening, column_opening, word_opening, opens, opening, inside_level};
 
 use crate::column::column_behind;
 use crate::reader::{Reader, name_in};
 use crate::stop::ParseStop;
-use crate::token::Token;
 use ldv_value::{Utf8, Value};
-use sql_model::{Expr, Fold};
+use sql_model::{Expr, Fold, Opening, Token, Wrap};
 use std::alloc::Global;
-
-/// How an operand begins.
-#[derive(Drop)]
-pub(crate) enum Opening {
-    /// It is this constant, column or COUNT(*).
-    Leaf(Expr),
-    /// It is this form around another expression.
-    Around(Wrap),
-}
-
-/// A form around one expression, which begins with a token of its own.
-#[derive(Clone, Copy, Debug, PartialEq, Eq)]
-pub(crate) enum Wrap {
-    /// NOT.
-    Not,
-    /// Unary minus.
-    Minus,
-    /// A pair of parentheses.
-    Bracket,
-    /// An aggregate.
-    FoldOf(Fold),
-}
 
 /// The beginning of an operand of at least a level.
 pub(crate) fn read_opening(

@@ -1,21 +1,11 @@
 //! What may stand between operands, and how strongly it binds.
 
 ghost use Rattle.std.specs.Prelude.{◌≡◌};
-ghost use Rattle.sql_parse.specs.Operators.{comparison_of, compared, joint_in, joint_of, operator_level, level_of, operator_left, left_of, right_of, may_join, joins};
+ghost use Rattle.sql_model.specs.Operators.{comparison_of, compared, joint_in, joint_of, operator_level, level_of, operator_left, left_of, right_of, may_join, joins};
 
 use crate::reader::Reader;
-use crate::token::Token;
 use ldv_value::Cmp;
-use sql_model::Operator;
-
-/// What may stand behind an operand.
-#[derive(Clone, Copy, Debug, PartialEq, Eq)]
-pub enum Joint {
-    /// An operator, and then a second operand.
-    Both(Operator),
-    /// IS, and then NULL or NOT NULL.
-    IsNull,
-}
+use sql_model::{Joint, Operator, Token};
 
 /// What stands next, where it may go on with an operand of a level in a whole of at least the least
 /// level.

@@ -2,12 +2,12 @@
 
 ghost use Rattle.std.specs.Prelude.{◌≡◌, ◌∷◌, [], length, MatchOption};
 ghost use Rattle.sql_parse.specs.Gives.{Gives, Reads, Passes};
-ghost use Rattle.sql_parse.specs.Reader.{is_word, starts, tail, passed, behind, reads_token, name_in, name_of, reads_name};
+ghost use Rattle.sql_model.specs.Reader.{is_word, starts, tail, passed, behind, reads_token, name_in, name_of, reads_name};
 
 use crate::stop::ParseStop;
-use crate::token::{Token, Tokens};
+use crate::token::Tokens;
 use ldv_value::{CopyItem, Utf8};
-use sql_model::is_sql_name;
+use sql_model::{Token, is_sql_name};
 use std::alloc::Global;
 use std::marker::Model;
 
@@ -20,7 +20,7 @@ pub(crate) struct Reader {
 
 impl Model for Reader {
     ghost use Rattle.std.specs.Prelude.{List, drop};
-    ghost use Rattle.sql_parse.specs.declared.token.Token.{Token};
+    ghost use Rattle.sql_model.specs.declared.token.Token.{Token};
 
     ghost Value = { List Token };
 

@@ -3,7 +3,7 @@
 ghost use Rattle.std.specs.Prelude.{◌≡◌, IfOk, IsErrOf, Some, None};
 ghost use Rattle.sql_parse.specs.declared.stop.ParseStop.TheVariants.{Syntax};
 ghost use Rattle.sql_parse.specs.Gives.{Gives, Reads};
-ghost use Rattle.sql_parse.specs.Statements.{reads_statement, is_end, whole_statement, statement_of};
+ghost use Rattle.sql_model.specs.Texts.{reads_statement, is_end, whole_statement, statement_of};
 
 use crate::change::{delete, insert, update};
 use crate::given::placed;
@@ -16,8 +16,9 @@ use sql_model::Statement;
 use std::alloc::Global;
 
 /// Reads a statement, in one pass over the tokens of the text. The k-th `?` stands for the k-th parameter.
-/// `Syntax` comes where the text with these parameters has no reading: also where it has more or fewer `?`
-/// than there are parameters.
+/// `Syntax` comes exactly where the text with these parameters has no reading by the grammar of
+/// `docs/SQL.md`: also where it has more or fewer `?` than there are parameters, an expression deeper than
+/// 64, or more than 8 sources in a core. `NoMemory` means want of memory alone.
 pub fn parse(alloc: Global, text: &str, params: &Values) -> Result<Statement, ParseStop>
     ensures statement { IfOk result (λ statement. statement_of text.now params.now ≡ Some statement) }
     ensures syntax { IsErrOf result Syntax → statement_of text.now params.now ≡ None }

@@ -2,31 +2,13 @@
 
 ghost use Rattle.std.specs.Prelude.{◌≡◌, ◌-◌, ◌++◌, OnOk, IsTrue, option_to_list};
 ghost use Rattle.sql_parse.specs.Gives.{Gives};
-ghost use Rattle.sql_parse.specs.Tokens.{is_blank, is_digit, is_upper, is_letter, folded, is_whole_symbol, begins_symbol, is_pair, short_symbol, longer, start, ends, step_between, step_in_word, step_in_number, step_in_text, step_behind_quote, step_in_symbol, step, finish, tokens_of};
+ghost use Rattle.sql_model.specs.Tokens.{is_blank, is_digit, is_upper, is_letter, folded, is_whole_symbol, begins_symbol, is_pair, short_symbol, longer, start, ends, step_between, step_in_word, step_in_number, step_in_text, step_behind_quote, step_in_symbol, step, finish, tokens_of};
 
 use crate::stop::ParseStop;
-use crate::token::{Token, Tokens, number_token, symbol_token, text_token, word_token};
+use crate::token::{Tokens, number_token, symbol_token, text_token, word_token};
 use ldv_value::Bytes;
+use sql_model::{Place, Token};
 use std::alloc::{AllocError, Global};
-
-/// Where the reading of a text stands.
-#[derive(Drop)]
-pub(crate) enum Place {
-    /// Between two tokens, or before the first one.
-    Between,
-    /// In a word, of which these are the bytes, folded.
-    InWord(Bytes),
-    /// In a number, of which this is the value, or 2^64 - 1 where it is more.
-    InNumber(u64),
-    /// In a text between quotes, of which this is the content.
-    InText(Bytes),
-    /// The same behind a quote, which ends the text or is the first of two.
-    BehindQuote(Bytes),
-    /// Behind a byte that begins a symbol of two bytes.
-    InSymbol(u8),
-    /// Behind a token that is whole.
-    Ended(Token),
-}
 
 /// The tokens of a text.
 #[tactic(auto, using(crate::proofs::TokensFrom::scan_rules))]

@@ -2,23 +2,15 @@
 
 ghost use Rattle.std.specs.Prelude.{◌≡◌};
 ghost use Rattle.sql_parse.specs.Gives.{Reads};
-ghost use Rattle.sql_parse.specs.Queries.{is_name, names, second_name, reads_source, plain_source, joined_source, another_source, reads_sources};
-ghost use Rattle.sql_parse.specs.Reader.{repeat};
+ghost use Rattle.sql_model.specs.Queries.{is_name, names, second_name, reads_source, plain_source, joined_source, another_source, reads_sources};
+ghost use Rattle.sql_model.specs.Reader.{repeat};
 
 use crate::expression::expression;
 use crate::reader::Reader;
 use crate::stop::ParseStop;
-use crate::token::Token;
 use ldv_value::Utf8;
-use sql_model::{Exprs, FromItem, FromItems, is_sql_name};
+use sql_model::{Exprs, FromItem, FromItems, Sources, Token, is_sql_name};
 use std::alloc::Global;
-
-/// Sources, and the conditions that stand behind ON.
-#[derive(Drop)]
-pub(crate) struct Sources {
-    pub from: FromItems,
-    pub picks: Exprs,
-}
 
 /// The sources of a core, at most so many.
 pub(crate) fn all_sources(

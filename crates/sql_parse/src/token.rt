@@ -1,43 +1,18 @@
 //! Tokens of a text.
 
-ghost use Rattle.std.specs.Prelude.{◌≡◌, IfOk};
 ghost use Rattle.std.specs.Str.{is_utf8};
 ghost use Rattle.sql_parse.specs.Gives.{Gives};
-ghost use Rattle.sql_parse.specs.Tokens.{text_of, word_token, number_token, text_token, symbol_token};
+ghost use Rattle.sql_model.specs.Tokens.{text_of, word_token, number_token, text_token, symbol_token};
 
 use crate::stop::ParseStop;
-use ldv_value::{Bytes, CopyItem, List, TEXT_LIMIT, Utf8, Value};
-use std::alloc::{AllocError, Global};
+use ldv_value::{Bytes, List, TEXT_LIMIT, Utf8};
+use sql_model::Token;
 
 /// The most bytes of a word.
 const WORD_LIMIT: usize = 63;
 
-/// A token of a text.
-#[derive(Drop)]
-pub enum Token {
-    /// A word, its letters in lower case, or a symbol.
-    Word(Utf8),
-    /// A number.
-    Number(i64),
-    /// A text between quotes: its content.
-    Quoted(Utf8),
-    /// The value of the parameter for which a `?` stands.
-    Given(Value),
-}
-
 /// Tokens, in the order of the text.
 pub(crate) type Tokens = List<Token>;
-
-impl CopyItem for Token {
-    fn copy_item(&self, alloc: Global) -> Result<Self, AllocError> {
-        match self {
-            Token::Word(word) => Ok(Token::Word(word.copy()?)),
-            Token::Number(number) => Ok(Token::Number(*number)),
-            Token::Quoted(text) => Ok(Token::Quoted(text.copy()?)),
-            Token::Given(value) => Ok(Token::Given(value.copy_item(alloc)?)),
-        }
-    }
-}
 
 /// The token of a word's bytes.
 pub(crate) fn word_token(bytes: Bytes) -> Result<Token, ParseStop>

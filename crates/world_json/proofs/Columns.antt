@@ -9,8 +9,9 @@ use Rattle.std.specs.Cmp.Lexicographic.{slice_cmp}
 use Rattle.std.specs.List.{list_any, list_all}
 use Rattle.std.specs.Ordering.{nat_cmp, is_eq, eq_by_cmp}
 use Rattle.sql_model.specs.declared.table.Column.{Column}
-use Rattle.world_json.specs.Faults.{repeats, is_column, is_key_named}
-use Rattle.world_json.proofs.Seen.{repeats_map}
+use Rattle.world_json.specs.Faults.{is_column, is_key_named}
+use Rattle.sql_model.specs.Keys.{repeats}
+use Rattle.sql_model.proofs.Seen.{repeats_map}
 
 abbrev pub text_order : Bor (List ℕ) → Bor (List ℕ) → Ordering
 text_order a b = slice_cmp nat_cmp a.now b.now

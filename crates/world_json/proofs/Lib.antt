@@ -5,5 +5,4 @@ pub mod JsonText
 pub mod Lookups
 pub mod Readings
 pub mod Rises
-pub mod Seen
 pub mod WorldFiles

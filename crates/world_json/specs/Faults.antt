@@ -1,22 +1,15 @@
 -- The faults of a document whose parts have their types, each a test over all of it.
-use Rattle.std.specs.Prelude.{ℕ, List, [], ◌∷◌, length, map, ◌==◌, slice_get, slice_index_or, find, position, Bool, true, false, not, ◌&&◌, ◌||◌, nat_le, Option, Some, None, option_map, option_and_then, unwrap_or, bytes_eq}
+use Rattle.std.specs.Prelude.{ℕ, List, [], ◌∷◌, length, map, slice_get, find, position, Bool, true, false, not, ◌&&◌, nat_le, Option, option_and_then, unwrap_or, bytes_eq}
 use Rattle.std.specs.List.{list_any, list_all, zip}
-use Rattle.std.specs.Ordering.{is_eq}
-use Rattle.std.specs.Cmp.Lexicographic.{slice_cmp}
 use Rattle.ldv_value.specs.Names.{path_test}
-use Rattle.ldv_value.specs.Order.{order}
 use Rattle.ldv_value.specs.declared.file.File.{File}
 use Rattle.ldv_value.specs.declared.value.Value.{Value}
 use Rattle.ldv_value.specs.declared.value.Value.TheVariants.{Null, Int, Text}
+use Rattle.sql_model.specs.Keys.{repeats, has_two_of_a_key}
 use Rattle.sql_model.specs.SqlNames.{sql_name_test}
 use Rattle.sql_model.specs.declared.table.Column.{Column}
 use Rattle.world_json.specs.declared.document.Document.{Document}
 use Rattle.world_json.specs.declared.document.Draft.{Draft}
-
--- some item is the same as a later one
-abbrev pub repeats : {X : Type 0} → (X → X → Bool) → List X → Bool
-repeats same [] = false
-repeats same (x ∷ xs) = list_any (same x) xs || repeats same xs
 
 -- ---- Name: every path and every name meets its rule
 
@@ -96,17 +89,6 @@ place_in columns name = unwrap_or (position (λ column. bytes_eq name column.nam
 
 abbrev pub key_places : List Column → List (List ℕ) → List ℕ
 key_places columns key = map (place_in columns) key
-
--- a row's values at some places
-abbrev pub values_at : List ℕ → List Value → List Value
-values_at places row = map (λ place. slice_index_or row place Null) places
-
--- the same value at each place
-abbrev pub is_same_key : List Value → List Value → Bool
-is_same_key a b = is_eq (slice_cmp order a b)
-
-abbrev pub has_two_of_a_key : List ℕ → List (List Value) → Bool
-has_two_of_a_key places rows = not (length places == 0) && repeats is_same_key (map (values_at places) rows)
 
 abbrev pub is_table_keyed : Draft → Bool
 is_table_keyed table = list_all (is_not_null table.columns) table.key && not (has_two_of_a_key (key_places table.columns table.key) table.rows)

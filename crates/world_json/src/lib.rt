@@ -22,7 +22,6 @@ mod members;
 mod names;
 mod parse;
 mod parts;
-mod repeats;
 mod shape;
 mod start;
 #[cfg(test)]

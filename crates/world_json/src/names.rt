@@ -10,9 +10,8 @@ ghost use Rattle.ldv_value.specs.Names.{path_test};
 ghost use Rattle.world_json.specs.Faults.{is_named, is_table_named, is_start_named, are_columns_named, is_key_named, is_column};
 
 use crate::document::{Document, Draft, Drafts};
-use crate::repeats::has_twice;
 use ldv_value::{Files, Names, Words, is_path};
-use sql_model::{Columns, is_sql_name};
+use sql_model::{Columns, has_twice, is_sql_name};
 use std::alloc::{AllocError, Global};
 use std::collections::BTreeSet;
 

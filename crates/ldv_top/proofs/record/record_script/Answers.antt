@@ -12,12 +12,12 @@ pub returns-in-Some-clause-due : goal.returns-in-Some-clause-due
 returns-in-Some-clause-due c =
     let plain : plain_script c.args.script.now.instructions ≡ Some c.in-Some.plain = sym c.in_ok-plain_of.ensures ∙ c.in-Some.is in
     subst (λ (d : Due). IfOk c.record_steps.result (λ answer. answer_due answer ≡ d))
-    (recorded_law c.args.world c.args.script.now.instructions c.in-Some.plain c.requires.ruled c.requires.start plain) c.record_steps.ensures.due
+    (recorded_law c.args.world c.args.script.now.instructions c.in-Some.plain c.requires.start plain) c.record_steps.ensures.due
 
 pub returns-in-Some-clause-typed : goal.returns-in-Some-clause-typed
 returns-in-Some-clause-typed c =
     let plain : plain_script c.args.script.now.instructions ≡ Some c.in-Some.plain = sym c.in_ok-plain_of.ensures ∙ c.in-Some.is in
     subst (λ (p : Package). OnOk c.record_steps.result ((recorded_plain (plain_script c.args.script.now.instructions) c.args.world c.args.script.now.instructions).exit ≡ Done → IsTyped p))
-    (packed_law c.args.world c.args.script.now.instructions c.in-Some.plain c.requires.ruled c.requires.start plain)
+    (packed_law c.args.world c.args.script.now.instructions c.in-Some.plain c.requires.start plain)
     (subst (λ (d : Due). OnOk c.record_steps.result (d.exit ≡ Done → IsTyped (plain_package c.args.world c.in-Some.plain)))
-    (recorded_law c.args.world c.args.script.now.instructions c.in-Some.plain c.requires.ruled c.requires.start plain) c.record_steps.ensures.typed)
+    (recorded_law c.args.world c.args.script.now.instructions c.in-Some.plain c.requires.start plain) c.record_steps.ensures.typed)

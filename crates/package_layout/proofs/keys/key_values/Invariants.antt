@@ -1,5 +1,5 @@
 use Rattle.std.proofs.Common.{◌≡◌, take}
-use Rattle.package_layout.specs.Valid.{values_at}
+use Rattle.sql_model.specs.Keys.{values_at}
 use Rattle.package_layout.proofs.keys.key_values.Given as goal
 
 abbrev pub invariant-loop-place : goal.invariant-loop-place

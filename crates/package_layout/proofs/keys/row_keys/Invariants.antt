@@ -1,5 +1,5 @@
 use Rattle.std.proofs.Common.{◌≡◌, take, map}
-use Rattle.package_layout.specs.Valid.{values_at}
+use Rattle.sql_model.specs.Keys.{values_at}
 use Rattle.package_layout.proofs.keys.row_keys.Given as goal
 
 abbrev pub invariant-loop-row : goal.invariant-loop-row

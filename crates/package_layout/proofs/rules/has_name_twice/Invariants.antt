@@ -1,5 +1,5 @@
 use Rattle.std.proofs.Common.{◌≡◌, length}
-use Rattle.package_layout.specs.Order.{repeats}
+use Rattle.sql_model.specs.Keys.{repeats}
 use Rattle.package_layout.specs.Valid.{has_same_name}
 use Rattle.package_layout.proofs.rules.has_name_twice.Given as goal
 

@@ -1,6 +1,6 @@
 use Rattle.std.proofs.Common.{◌≡◌, length}
 use Rattle.std.specs.Prelude.{◌==◌}
-use Rattle.package_layout.specs.Order.{repeats}
+use Rattle.sql_model.specs.Keys.{repeats}
 use Rattle.package_layout.proofs.rules.has_place_twice.Given as goal
 
 abbrev pub invariant-loop-left : goal.invariant-loop-left

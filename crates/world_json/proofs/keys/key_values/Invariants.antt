@@ -1,5 +1,5 @@
 use Rattle.std.proofs.Common.{◌≡◌, take}
-use Rattle.world_json.specs.Faults.{values_at}
+use Rattle.sql_model.specs.Keys.{values_at}
 use Rattle.world_json.proofs.keys.key_values.Given as goal
 
 abbrev pub invariant-loop-place : goal.invariant-loop-place

@@ -1,5 +1,5 @@
 use Rattle.std.proofs.Common.{◌≡◌, take, map}
-use Rattle.world_json.specs.Faults.{values_at}
+use Rattle.sql_model.specs.Keys.{values_at}
 use Rattle.world_json.proofs.keys.row_keys.Given as goal
 
 abbrev pub invariant-loop-row : goal.invariant-loop-row

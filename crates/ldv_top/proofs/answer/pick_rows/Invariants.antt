@@ -1,7 +1,0 @@
-use Rattle.std.proofs.Common.{◌≡◌, take}
-use Rattle.std.specs.Prelude.{map, filter}
-use Rattle.ldv_top.specs.Replies.{row_values, is_picked}
-use Rattle.ldv_top.proofs.answer.pick_rows.Given as goal
-
-abbrev pub invariant-loop-row : goal.invariant-loop-row
-invariant-loop-row l = l.copies ≡ map row_values (filter (is_picked l.place l.constant) (take l.row-index l.rows))

@@ -1,6 +1,0 @@
-use Rattle.std.proofs.Common.{◌≡◌, take}
-use Rattle.ldv_top.specs.Traces.{picked_needs}
-use Rattle.ldv_top.proofs.needs.needs_of_picked.Given as goal
-
-abbrev pub invariant-loop-row : goal.invariant-loop-row
-invariant-loop-row l = l.needs ≡ picked_needs l.name (take l.row-index l.rows) l.place l.constant

@@ -1,0 +1,19 @@
+-- How a check answers what the definition of a check gives.
+use Rattle.std.specs.Prelude.{◌≡◌, Result, Ok, Err}
+use Rattle.sql_check.specs.declared.stop.CheckStop.{CheckStop}
+use Rattle.sql_check.specs.declared.stop.CheckStop.TheVariants.{NoTable, NoColumn, TypeClash, NoMemory}
+use Rattle.sql_model.specs.declared.catalog.Checked.{Checked}
+use Rattle.sql_model.specs.declared.reply.SqlRefusal.{SqlRefusal}
+use Rattle.sql_model.specs.declared.reply.SqlRefusal.TheVariants.{NoTable as NoTableRefusal, NoColumn as NoColumnRefusal, TypeClash as TypeClashRefusal}
+
+abbrev pub Stops : CheckStop → Result Checked SqlRefusal → Type 0
+Stops NoTable due = due ≡ Err NoTableRefusal
+Stops NoColumn due = due ≡ Err NoColumnRefusal
+Stops TypeClash due = due ≡ Err TypeClashRefusal
+Stops NoMemory due = Unit {0}
+
+-- the answer is the checked statement that is due, or the refusal that is due; want of memory may come
+-- in the place of either
+abbrev pub Gives : Result Checked CheckStop → Result Checked SqlRefusal → Type 0
+Gives (Ok checked) due = due ≡ Ok checked
+Gives (Err stop) due = Stops stop due

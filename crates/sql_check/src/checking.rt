@@ -1,0 +1,36 @@
+//! The check of a statement.
+
+ghost use Rattle.sql_model.specs.Places.{checked_of};
+ghost use Rattle.sql_check.specs.Gives.{Gives};
+
+use crate::clash::clashes;
+use crate::columns::lacks_column;
+use crate::places::places_of;
+use crate::stop::CheckStop;
+use crate::tables::lacks_table;
+use ldv_value::CopyItem;
+use sql_model::{Catalog, Checked, Statement};
+use std::alloc::Global;
+
+/// A copy of a statement with the places of its columns, where the catalog has what the statement names
+/// and its kinds fit. The names of the catalog rise, each with its schema. The refusals are tried in the
+/// order of `CheckStop`, each over the whole statement: `NoTable`, `NoColumn` and `TypeClash` come exactly
+/// where `specs/Refusals.antt` of `sql_model` has them, as `docs/SQL.md` says in words. `NoMemory` means
+/// want of memory alone, as which a joined row of 2^32 columns and more counts too.
+pub fn check(alloc: Global, statement: &Statement, catalog: &Catalog) -> Result<Checked, CheckStop>
+    ensures { Gives result (checked_of statement.now catalog.now) }
+{
+    if lacks_table(statement, catalog) {
+        return Err(CheckStop::NoTable);
+    }
+    if lacks_column(alloc, statement, catalog)? {
+        return Err(CheckStop::NoColumn);
+    }
+    if clashes(alloc, statement, catalog)? {
+        return Err(CheckStop::TypeClash);
+    }
+    Ok(Checked {
+        statement: statement.copy_item(alloc)?,
+        places: places_of(alloc, statement, catalog)?,
+    })
+}

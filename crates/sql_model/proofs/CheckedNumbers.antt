@@ -1,0 +1,23 @@
+-- Checked arithmetic gives a number within 64 bits, or NULL.
+use Rattle.std.proofs.Common.{◌≡◌, ◌^◌, refl, sym, ap, ◌∙◌, arith, true, false, w64}
+use Rattle.std.specs.Prelude.{ℤ, pos, negsuc, Option, Some, None, SomeIff, FitsSigned, nat_lt}
+use Rattle.std.proofs.lemmas.Bool.Decides.{nat_tests}
+use Rattle.std.proofs.lemmas.Int.{to_z-of_z}
+use Rattle.ldv_value.specs.declared.value.Value.TheVariants.{Null, Int}
+use Rattle.sql_model.specs.Evaluation.{number_or_null}
+use Rattle.sql_model.specs.Sense.{number_value}
+
+fits : (z : ℤ) → FitsSigned w64 z → number_value z ≡ Int z
+fits (pos n) h = let t : nat_lt n (2 ^ 63) ≡ true = grind (arith, nat_tests) in rw t refl
+fits (negsuc n) h = let t : nat_lt n (2 ^ 63) ≡ true = grind (arith, nat_tests) in rw t refl
+
+outside : (z : ℤ) → ¬ FitsSigned w64 z → number_value z ≡ Null
+outside (pos n) h = let t : nat_lt n (2 ^ 63) ≡ false = grind (arith, nat_tests) in rw t refl
+outside (negsuc n) h = let t : nat_lt n (2 ^ 63) ≡ false = grind (arith, nat_tests) in rw t refl
+
+pub checked : (z : ℤ) (r : Option ℤ) → SomeIff r (FitsSigned w64 z) z → number_or_null r ≡ number_value z
+checked z None h = sym (outside z h)
+checked z (Some x) h = ap Int h.1 ∙ sym (fits z h.0)
+
+-- with the way in which a number is passed
+pub ruleset checked_numbers = (checked, to_z-of_z)

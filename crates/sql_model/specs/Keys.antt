@@ -1,0 +1,25 @@
+-- Lists of values that are the same, and keys of rows.
+use Rattle.std.specs.Prelude.{ℕ, List, [], ◌∷◌, length, map, ◌==◌, Bool, false, not, ◌&&◌, ◌||◌}
+use Rattle.std.specs.List.{list_any}
+use Rattle.std.specs.Ordering.{is_eq}
+use Rattle.std.specs.Cmp.Lexicographic.{slice_cmp}
+use Rattle.ldv_value.specs.Order.{order}
+use Rattle.ldv_value.specs.declared.value.Value.{Value}
+use Rattle.sql_model.specs.Scope.{value_at}
+
+-- the same value at each place
+abbrev pub same_values : List Value → List Value → Bool
+same_values a b = is_eq (slice_cmp order a b)
+
+-- some item is the same as a later one
+abbrev pub repeats : {X : Type 0} → (X → X → Bool) → List X → Bool
+repeats same [] = false
+repeats same (x ∷ xs) = list_any (same x) xs || repeats same xs
+
+-- a row's values at some places
+abbrev pub values_at : List ℕ → List Value → List Value
+values_at places row = map (value_at row) places
+
+-- two rows have the same values in the key's columns; without a key column there is no key
+abbrev pub has_two_of_a_key : List ℕ → List (List Value) → Bool
+has_two_of_a_key places rows = not (length places == 0) && repeats same_values (map (values_at places) rows)

@@ -1,0 +1,68 @@
+//! Arithmetic on values: NULL where a side isn't a number, or the result is outside 64 bits.
+
+ghost use Rattle.std.specs.Prelude.{◌≡◌, ◌+ℤ◌, ◌-ℤ◌, ◌*ℤ◌, neg_ℤ};
+ghost use Rattle.sql_model.specs.Sense.{number_value, with_numbers};
+ghost use Rattle.sql_model.specs.Evaluation.{number_or_null as number_given};
+
+use ldv_value::Value;
+
+pub(crate) fn number_or_null(number: Option<i64>) -> Value
+    ensures { result ≡ number_given number }
+{
+    match number {
+        None => Value::Null,
+        Some(number) => Value::Int(number),
+    }
+}
+
+#[tactic(auto, using(crate::proofs::CheckedNumbers::checked_numbers))]
+pub(crate) fn sum(left: &Value, right: &Value) -> Value
+    ensures { result ≡ with_numbers (λ m n. m +ℤ n) left.now right.now }
+{
+    match left {
+        Value::Null => Value::Null,
+        Value::Int(m) => match right {
+            Value::Null => Value::Null,
+            Value::Int(n) => number_or_null(m.checked_add(*n)),
+            Value::Text(_) => Value::Null,
+        },
+        Value::Text(_) => Value::Null,
+    }
+}
+
+#[tactic(auto, using(crate::proofs::CheckedNumbers::checked_numbers))]
+pub(crate) fn difference(left: &Value, right: &Value) -> Value
+    ensures { result ≡ with_numbers (λ m n. m -ℤ n) left.now right.now }
+{
+    match left {
+        Value::Null => Value::Null,
+        Value::Int(m) => match right {
+            Value::Null => Value::Null,
+            Value::Int(n) => number_or_null(m.checked_sub(*n)),
+            Value::Text(_) => Value::Null,
+        },
+        Value::Text(_) => Value::Null,
+    }
+}
+
+#[tactic(auto, using(crate::proofs::CheckedNumbers::checked_numbers))]
+pub(crate) fn product(left: &Value, right: &Value) -> Value
+    ensures { result ≡ with_numbers (λ m n. m *ℤ n) left.now right.now }
+{
+    match left {
+        Value::Null => Value::Null,
+        Value::Int(m) => match right {
+            Value::Null => Value::Null,
+            Value::Int(n) => number_or_null(m.checked_mul(*n)),
+            Value::Text(_) => Value::Null,
+        },
+        Value::Text(_) => Value::Null,
+    }
+}
+
+#[tactic(auto, using(crate::proofs::CheckedNumbers::checked_numbers))]
+pub(crate) fn opposite(number: i64) -> Value
+    ensures { result ≡ number_value (neg_ℤ number) }
+{
+    number_or_null(number.checked_neg())
+}

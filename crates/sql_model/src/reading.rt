@@ -1,0 +1,76 @@
+//! What the reading of a text speaks of on its way: where it stands among the bytes, how an operand begins,
+//! what joins operands, and an expression with its depth.
+
+use crate::expr::{Expr, Exprs, Fold, Operator};
+use crate::statement::FromItems;
+use crate::token::Token;
+use ldv_value::Bytes;
+
+/// Where the reading of a text stands.
+#[derive(Drop)]
+pub enum Place {
+    /// Between two tokens, or before the first one.
+    Between,
+    /// In a word, of which these are the bytes, folded.
+    InWord(Bytes),
+    /// In a number, of which this is the value, or 2^64 - 1 where it is more.
+    InNumber(u64),
+    /// In a text between quotes, of which this is the content.
+    InText(Bytes),
+    /// The same behind a quote, which ends the text or is the first of two.
+    BehindQuote(Bytes),
+    /// Behind a byte that begins a symbol of two bytes.
+    InSymbol(u8),
+    /// Behind a token that is whole.
+    Ended(Token),
+}
+
+/// How an operand begins.
+#[derive(Drop)]
+pub enum Opening {
+    /// It is this constant, column or COUNT(*).
+    Leaf(Expr),
+    /// It is this form around another expression.
+    Around(Wrap),
+}
+
+/// A form around one expression, which begins with a token of its own.
+#[derive(Clone, Copy, Debug, PartialEq, Eq)]
+pub enum Wrap {
+    /// NOT.
+    Not,
+    /// Unary minus.
+    Minus,
+    /// A pair of parentheses.
+    Bracket,
+    /// An aggregate.
+    FoldOf(Fold),
+}
+
+/// What may stand behind an operand.
+#[derive(Clone, Copy, Debug, PartialEq, Eq)]
+pub enum Joint {
+    /// An operator, and then a second operand.
+    Both(Operator),
+    /// IS, and then NULL or NOT NULL.
+    IsNull,
+}
+
+/// An expression as it is read.
+#[derive(Drop)]
+pub struct Deep {
+    /// What is read.
+    pub expr: Expr,
+    /// Its depth, from 1, with the parentheses that it stands in.
+    pub depth: usize,
+    /// The level of its form: 1 OR, 2 AND, 3 NOT, 4 a comparison or IS NULL, 5 plus and minus, 6 times,
+    /// 7 unary minus, 8 a constant, a column, an aggregate or parentheses.
+    pub level: u8,
+}
+
+/// Sources, and the conditions that stand behind ON.
+#[derive(Drop)]
+pub struct Sources {
+    pub from: FromItems,
+    pub picks: Exprs,
+}

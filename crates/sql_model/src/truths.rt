@@ -1,0 +1,91 @@
+//! Three-valued logic.
+
+ghost use Rattle.std.specs.Prelude.{◌≡◌};
+ghost use Rattle.ldv_value.specs.Order.{known, test_of};
+ghost use Rattle.sql_model.specs.Sense.{truth_not, truth_and, truth_or, is_null, null_test};
+
+use ldv_value::{Cmp, Truth, Value, holds};
+
+pub(crate) fn not_truth(truth: Truth) -> Truth
+    ensures { result ≡ truth_not truth }
+{
+    match truth {
+        Truth::True => Truth::False,
+        Truth::False => Truth::True,
+        Truth::Unknown => Truth::Unknown,
+    }
+}
+
+pub(crate) fn and_truth(left: Truth, right: Truth) -> Truth
+    ensures { result ≡ truth_and left right }
+{
+    match left {
+        Truth::True => right,
+        Truth::False => Truth::False,
+        Truth::Unknown => match right {
+            Truth::True => left,
+            Truth::False => right,
+            Truth::Unknown => left,
+        },
+    }
+}
+
+pub(crate) fn or_truth(left: Truth, right: Truth) -> Truth
+    ensures { result ≡ truth_or left right }
+{
+    match left {
+        Truth::True => Truth::True,
+        Truth::False => right,
+        Truth::Unknown => match right {
+            Truth::True => right,
+            Truth::False => left,
+            Truth::Unknown => left,
+        },
+    }
+}
+
+// Unknown where a side is NULL.
+pub(crate) fn compared(test: Cmp, left: &Value, right: &Value) -> Truth
+    ensures { result ≡ test_of test left.now right.now }
+{
+    match left {
+        Value::Null => Truth::Unknown,
+        Value::Int(_) => match right {
+            Value::Null => Truth::Unknown,
+            Value::Int(_) => known_truth(holds(test, left, right)),
+            Value::Text(_) => known_truth(holds(test, left, right)),
+        },
+        Value::Text(_) => match right {
+            Value::Null => Truth::Unknown,
+            Value::Int(_) => known_truth(holds(test, left, right)),
+            Value::Text(_) => known_truth(holds(test, left, right)),
+        },
+    }
+}
+
+// IS NULL, or IS NOT NULL where the flag is set.
+pub(crate) fn null_truth(negative: bool, value: &Value) -> Truth
+    ensures { result ≡ null_test negative value.now }
+{
+    if negative {
+        known_truth(!is_null_value(value))
+    } else {
+        known_truth(is_null_value(value))
+    }
+}
+
+fn is_null_value(value: &Value) -> bool
+    ensures { result ≡ is_null value.now }
+{
+    match value {
+        Value::Null => true,
+        Value::Int(_) => false,
+        Value::Text(_) => false,
+    }
+}
+
+fn known_truth(test: bool) -> Truth
+    ensures { result ≡ known test }
+{
+    if test { Truth::True } else { Truth::False }
+}

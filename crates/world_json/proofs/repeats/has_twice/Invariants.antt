@@ -1,8 +1,0 @@
-use Rattle.std.specs.BTreeSet.{contains}
-use Rattle.std.specs.Ordering.{eq_by_cmp}
-use Rattle.world_json.specs.Faults.{repeats}
-use Rattle.world_json.proofs.Seen.{IsRest}
-use Rattle.world_json.proofs.repeats.has_twice.Given as goal
-
-abbrev pub invariant-loop-key : goal.invariant-loop-key
-invariant-loop-key g l = IsRest (eq_by_cmp g.K.Ord.cmp) (repeats (eq_by_cmp g.K.Ord.cmp) l.fn.keys.items) (contains g.K.Ord.cmp l.seen) l.key-iterator.rest.items
