@@ -1,8 +1,8 @@
 #!/bin/sh
 # How long the proved program takes for a world of one table, and how much memory: tables of 1,000 to
-# 1,000,000 rows, with an equality that picks one row of a hundred and one that picks all. Beside it the
-# same SELECT by the program `sqlite3`, where it is installed: alone on a database that stands in a
-# file, and together with the import of the rows from CSV.
+# 1,000,000 rows, with an equality that picks one row of a hundred, one that picks all, and a condition of
+# five tests that picks one of a hundred again. Beside it the same SELECT by the program `sqlite3`, where it
+# is installed: alone on a database that stands in a file, and together with the import of the rows from CSV.
 #
 # LDV names another program than the one of this checkout, SIZES other numbers of rows.
 set -eu
@@ -70,6 +70,9 @@ else
     echo "sqlite3 isn't installed, so nothing stands beside ldv"
 fi
 
+# Five tests, True where part is 7.
+many="NOT (part * 2 - one > 14 OR name IS NULL) AND part + one >= 8 AND (id <> 5 OR name < 'o')"
+
 printf '%-22s %8s %8s %9s %9s %12s %12s\n' program rows picked seconds MiB rows/s 'in bytes/s'
 for rows in $sizes; do
     make_rows "$rows"
@@ -77,7 +80,7 @@ for rows in $sizes; do
         rm -f "$work/db"
         sqlite3 -csv "$work/db" "$create" ".import $work/rows.csv t"
     fi
-    for where in 'part = 7' 'one = 1'; do
+    for where in 'part = 7' 'one = 1' "$many"; do
         make_world "$where"
         bytes=$(wc -c <"$work/world.json")
         measure "$work/world.json" "$ldv" run
