@@ -1,0 +1,17 @@
+pub mod EitherTest
+pub mod FewerTables
+pub mod FewerTablesChanges
+pub mod FewerTablesQueries
+pub mod KeptClash
+pub mod LeftRows
+pub mod LeftRowsRefusals
+pub mod LeftRowsStatements
+pub mod OtherRows
+pub mod QueryCombinations
+pub mod QueryKeeps
+pub mod QueryLaws
+pub mod QueryMerging
+pub mod QueryRows
+pub mod QuerySorting
+pub mod StatementLaws
+pub mod StatementParts

@@ -1,0 +1,106 @@
+-- A statement is refused, answers, needs and asks the same over a database from which rows were left out that
+-- it doesn't need, and tables that it doesn't ask, and the tables after it are those without the same.
+use Rattle.std.proofs.Common.{◌≡◌, List, refl, sym, ap, ◌∙◌, subst, true}
+use Rattle.std.specs.Prelude.{Some, None}
+use Rattle.sql_model.specs.declared.statement.Statement.{Statement}
+use Rattle.sql_model.specs.declared.statement.Statement.TheVariants.{Query as TheQuery, Insert as TheInsert, Update as TheUpdate, Delete as TheDelete}
+use Rattle.sql_model.specs.declared.table.Table.{Table}
+use Rattle.sql_model.specs.Needs.{need_of, is_named, asked_tables}
+use Rattle.sql_laws.specs.QueryLaw.{Keep, cut_tables, KeepsNeeded}
+use Rattle.sql_model.specs.Refusals.{tables_of}
+use Rattle.sql_model.specs.Statements.{refusal_of, reply_of, after}
+use Rattle.sql_laws.specs.StatementLaw.{KeepTables, cut_database, KeepsAsked, keep_others, SameStatement, StatementLaw}
+use Rattle.sql_model.specs.Tables.{is_database}
+use Rattle.sql_laws.proofs.FewerTables.{fewer, Agrees, agree_all, asked_same}
+use Rattle.sql_laws.proofs.FewerTablesChanges.{change_fewer, after_fewer}
+use Rattle.sql_laws.proofs.FewerTablesQueries.{query_fewer}
+use Rattle.sql_laws.proofs.LeftRowsStatements.{KeepsAllNew, change_cut, after_cut, asked_cut}
+use Rattle.sql_laws.proofs.OtherRows.{needed_others, database_same, new_others}
+use Rattle.sql_laws.proofs.QueryLaws.{query_law}
+use Rattle.sql_laws.proofs.StatementParts.{after_is, reply_none, need_none, Same, insert_change, update_change, delete_change}
+
+-- ---- rows left out
+
+rows_left : (s : Statement) (db : List Table) (keep : Keep) → KeepsAllNew keep db
+    → KeepsNeeded keep (need_of (Some s) db)
+    → Same (Some s) (cut_tables keep db) db
+rows_left (TheQuery query) db keep new k = let same = query_law query db keep k in record {
+  refusal = same.refusal;
+  reply = same.reply;
+  needs = same.needs;
+}
+rows_left (TheInsert insert) db keep new k = change_cut keep (TheInsert insert) (insert_change insert) db new k
+rows_left (TheUpdate update) db keep new k = change_cut keep (TheUpdate update) (update_change update) db new k
+rows_left (TheDelete delete) db keep new k = change_cut keep (TheDelete delete) (delete_change delete) db new k
+
+-- ---- tables left out
+
+tables_left : (s : Statement) (db : List Table) (tables : KeepTables) → Agrees tables db (tables_of s)
+    → Same (Some s) (fewer tables db) db
+tables_left (TheQuery query) db tables k = query_fewer tables db query k
+tables_left (TheInsert insert) db tables k = change_fewer tables (TheInsert insert) db k (insert_change insert)
+tables_left (TheUpdate update) db tables k = change_fewer tables (TheUpdate update) db k (update_change update)
+tables_left (TheDelete delete) db tables k = change_fewer tables (TheDelete delete) db k (delete_change delete)
+
+-- ---- both
+
+module _ (s : Statement) (db : List Table) (tables : KeepTables) (keep : Keep) where
+  abbrev mid : List Table
+  mid = cut_tables keep db
+
+  abbrev small : List Table
+  small = cut_database tables keep db
+
+  both_left : KeepsAllNew keep db → KeepsNeeded keep (need_of (Some s) db)
+      → KeepsAsked tables (asked_tables (Some s) db)
+      → Same (Some s) small db × (asked_tables (Some s) small ≡ asked_tables (Some s) db) × (after (Some s) small ≡ cut_database tables keep (after (Some s) db))
+  both_left new needed asked =
+      let there : KeepsAsked tables (asked_tables (Some s) mid) = subst (KeepsAsked tables) (sym (asked_cut keep s db)) asked in
+      let agrees : Agrees tables mid (tables_of s) = agree_all tables s mid there in
+      let rows : Same (Some s) mid db = rows_left s db keep new needed in
+      let fewer_tables : Same (Some s) small mid = tables_left s mid tables agrees in
+      let same : Same (Some s) small db = record {
+        refusal = fewer_tables.refusal ∙ rows.refusal;
+        reply = fewer_tables.reply ∙ rows.reply;
+        needs = fewer_tables.needs ∙ rows.needs;
+      } in (
+        same,
+        asked_same tables (is_named s) mid there ∙ asked_cut keep s db,
+        after_is (Some s) small
+            ∙ after_fewer tables s mid agrees
+            ∙ ap (fewer tables) (after_cut keep s db new rows.refusal)
+            ∙ sym (ap (cut_database tables keep) (after_is (Some s) db)),
+      )
+
+-- the want of a statement is refused, and changes nothing
+same_none : (db : List Table) (tables : KeepTables) (keep : Keep)
+    → cut_tables (keep_others keep db) db ≡ cut_tables keep db → SameStatement None tables keep db
+same_none db tables keep same = record {
+  refusal = refl;
+  reply = reply_none (cut_database tables keep db) db;
+  needs = need_none (cut_database tables keep db) db;
+  asked = refl;
+  changes =
+      after_is None (cut_database tables keep db)
+      ∙ sym (ap (fewer tables) same)
+      ∙ sym (ap (cut_database tables (keep_others keep db)) (after_is None db));
+}
+
+same_some : (s : Statement) (db : List Table) (tables : KeepTables) (keep : Keep) → is_database db ≡ true
+    → KeepsNeeded keep (need_of (Some s) db) → KeepsAsked tables (asked_tables (Some s) db)
+    → SameStatement (Some s) tables keep db
+same_some s db tables keep valid needed asked =
+    let others : Keep = keep_others keep db in
+    let same : cut_database tables others db ≡ cut_database tables keep db = ap (fewer tables) (database_same keep db) in
+    let law = both_left s db tables others (new_others keep db valid) (needed_others keep db (need_of (Some s) db) needed) asked in
+    record {
+      refusal = sym (ap (refusal_of (Some s)) same) ∙ law.0.refusal;
+      reply = sym (ap (reply_of (Some s)) same) ∙ law.0.reply;
+      needs = sym (ap (need_of (Some s)) same) ∙ law.0.needs;
+      asked = sym (ap (asked_tables (Some s)) same) ∙ law.1;
+      changes = sym (ap (after (Some s)) same) ∙ law.2;
+    }
+
+pub statement_law : StatementLaw
+statement_law None db tables keep valid needed asked = same_none db tables keep (database_same keep db)
+statement_law (Some s) db tables keep valid needed asked = same_some s db tables keep valid needed asked

@@ -1,0 +1,2 @@
+pub mod QueryLaw
+pub mod StatementLaw

@@ -1,0 +1,60 @@
+-- The law of a statement's needed rows: over a database from which rows were left out that a statement
+-- doesn't need, and tables that it doesn't ask, it is refused, answers, needs and asks the same, and the
+-- tables after it are those after it over the whole database without the same rows and tables.
+use Rattle.std.specs.Prelude.{◌≡◌, ℕ, ◌==◌, List, [], ◌∷◌, filter, Bool, true, not, ◌&&◌, ◌||◌, Option}
+use Rattle.std.specs.List.{list_any}
+use Rattle.sql_model.specs.declared.statement.Statement.{Statement}
+use Rattle.sql_model.specs.declared.table.Table.{Table}
+use Rattle.sql_model.specs.Needs.{need_of, asked_tables}
+use Rattle.sql_laws.specs.QueryLaw.{Keep, cut_tables, KeepsNeeded}
+use Rattle.sql_model.specs.Scope.{is_table}
+use Rattle.sql_model.specs.Statements.{refusal_of, reply_of, after}
+use Rattle.sql_model.specs.Tables.{is_database}
+
+-- which tables stay, by their names
+abbrev pub KeepTables : Type 0
+KeepTables = List ℕ → Bool
+
+abbrev pub table_stays : KeepTables → Table → Bool
+table_stays tables table = tables table.name
+
+-- the tables that stay, with the rows that stay
+abbrev pub cut_database : KeepTables → Keep → List Table → List Table
+cut_database tables keep db = filter (table_stays tables) (cut_tables keep db)
+
+-- each of the names stays
+abbrev pub KeepsAsked : KeepTables → List (List ℕ) → Type 0
+KeepsAsked tables [] = Unit {0}
+KeepsAsked tables (name ∷ names) = (tables name ≡ true) × KeepsAsked tables names
+
+-- a table of the name has a row of the number
+abbrev pub has_row : List ℕ → ℕ → Table → Bool
+has_row name number table = is_table name table && list_any (λ row. row.number == number) table.rows
+
+-- only rows of the database are left out: a row that a statement appends stays, and an updated row goes
+-- with its number
+abbrev pub keep_others : Keep → List Table → Keep
+keep_others keep db = λ name number. keep name number || not (list_any (has_row name number) db)
+
+-- a statement is refused, answers, needs and asks the same, and changes what is left alike
+pub record SameStatement (statement : Option Statement) (tables : KeepTables) (keep : Keep) (db : List Table)
+    : Type 0 where
+  pub refusal : refusal_of statement (cut_database tables keep db) ≡ refusal_of statement db
+  pub reply : reply_of statement (cut_database tables keep db) ≡ reply_of statement db
+  pub needs : need_of statement (cut_database tables keep db) ≡ need_of statement db
+  pub asked : asked_tables statement (cut_database tables keep db) ≡ asked_tables statement db
+  pub changes :
+      after statement (cut_database tables keep db)
+      ≡ cut_database tables (keep_others keep db) (after statement db)
+
+-- of each statement, and of the want of one, and of all databases, whichever rows and tables are left out
+-- that aren't needed or asked
+--
+-- `keep` is asked of rows of the database alone, so any choice among them can be given by one. That the
+-- tables that are left are a database too needn't be asked.
+abbrev pub StatementLaw : Type 0
+StatementLaw = (statement : Option Statement) (db : List Table) (tables : KeepTables) (keep : Keep)
+    → is_database db ≡ true
+    → KeepsNeeded keep (need_of statement db)
+    → KeepsAsked tables (asked_tables statement db)
+    → SameStatement statement tables keep db
