@@ -1,0 +1,10 @@
+pub mod ChangesByParts
+pub mod TermChanges
+pub mod TermQueries
+pub mod TermReplies
+pub mod TermStatements
+pub mod Terms
+pub mod WorkedAnswers
+pub mod WorkedChanges
+pub mod WorkedClashes
+pub mod WorkedTerms

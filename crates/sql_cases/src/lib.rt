@@ -1,0 +1,6 @@
+//! Worked cases of what statements mean, as closed equations: the reply to a statement over one small table,
+//! the rows that it needs, and the table after it, value by value.
+//!
+//! It has no code and promises nothing to other crates. Its lemmas (`proofs/`) are checked against the
+//! definitions of `sql_model`, so that a definition which comes to mean something else is refused here.
+#![tactic(auto)]
