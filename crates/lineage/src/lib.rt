@@ -1,0 +1,17 @@
+//! Lineage: the rows of tables that an answer row comes from, each at one version.
+//!
+//! It promises to the layers above that a `LineageSet` is a finite map from rows to versions
+//! (`specs/Lineage.antt`), whatever lies in memory:
+//! - `empty`, `add` and `union` leave exactly the rows that their names say, and a row that is in a set keeps
+//!   its version there;
+//! - `members` lists all of them, rising, with the names of their tables;
+//! - after want of memory a set is as it was.
+//!
+//! Laws of these definitions, for layers that reason by them, stand in `proofs/Laws.antt`.
+#![tactic(auto)]
+
+mod set;
+#[cfg(test)]
+mod tests;
+
+pub use set::LineageSet;

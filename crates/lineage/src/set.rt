@@ -1,0 +1,180 @@
+//! The set of rows that an answer row comes from.
+
+ghost use Rattle.std.specs.Prelude.{◌≡◌, ◌<◌, length, IfOk, OnOk, OnErr};
+ghost use Rattle.std.specs.List.Sorted.{IsStrictlySortedBy};
+ghost use Rattle.std.specs.Ordering.{nat_cmp};
+ghost use Rattle.std.specs.Cmp.Lexicographic.{slice_cmp};
+ghost use Rattle.std.specs.FinMap as finmap;
+ghost use Rattle.lineage.specs.Lineage.{has_row, added, IsUnion, IsNamed, member, members_of, member_cmp};
+ghost use Rattle.lineage.specs.Undo.{without};
+
+use ldv_value::Names;
+use sql_model::{Member, Members};
+use std::alloc::{AllocError, Global};
+use std::collections::BTreeMap;
+use std::marker::Model;
+
+// A row: the place of its table among the names of all tables, and its number.
+type Row = (u32, u32);
+
+/// Rows of tables, each at one version. A table is given by its place, from 0, among the names of all
+/// tables.
+#[derive(Drop)]
+pub struct LineageSet {
+    alloc: Global,
+    versions: BTreeMap<Row, u32>,
+}
+
+impl Model for LineageSet {
+    ghost use Rattle.std.specs.FinMap as finmap;
+    ghost use Rattle.lineage.specs.Lineage.{Lineage, lineage_code};
+
+    ghost Value = { Lineage };
+
+    ghost coded = { lineage_code };
+
+    ghost view = { λ a. finmap.from_entries a.versions.entries };
+}
+
+impl LineageSet {
+    /// The set of no row. It takes no memory.
+    pub fn empty(alloc: Global) -> LineageSet
+        ensures { result ≡ finmap.empty }
+    {
+        LineageSet {
+            alloc,
+            versions: BTreeMap::new(alloc),
+        }
+    }
+
+    /// Adds a row of a table at a version. A row that is in the set keeps its version. `AllocError` means
+    /// want of memory alone, and the set is as it was.
+    pub fn add(&mut self, table: u32, row: u32, version: u32) -> Result<(), AllocError>
+        ensures ok { OnOk result (self.new ≡ added self.old (table, row) version) }
+        ensures err { OnErr result (self.new ≡ self.old) }
+    {
+        if self.has((table, row)) {
+            Ok(())
+        } else {
+            self.put((table, row), version)
+        }
+    }
+
+    /// Adds the rows of another set. A row that is in both keeps the version that it has here. `AllocError`
+    /// means want of memory alone, and the set is as it was.
+    pub fn union(&mut self, other: &LineageSet) -> Result<(), AllocError>
+        ensures ok { OnOk result (IsUnion self.old other.now self.new) }
+        ensures err { OnErr result (self.new ≡ self.old) }
+    {
+        let mut new_rows = Vec::new(self.alloc);
+        match self.add_all(&mut new_rows, other) {
+            Ok(()) => Ok(()),
+            Err(stop) => {
+                self.take_back(new_rows);
+                Err(stop)
+            }
+        }
+    }
+
+    /// The members of the set with the names of their tables, rising by name and row. The names are those
+    /// of all tables, rising. `AllocError` means want of memory alone.
+    pub fn members(&self, names: &Names) -> Result<Members, AllocError>
+        requires named { IsNamed names.now self.now }
+        requires rising { IsStrictlySortedBy (slice_cmp nat_cmp) names.now }
+        ensures members { IfOk result (λ members. members ≡ members_of names.now self.now) }
+        ensures rising { IfOk result (IsStrictlySortedBy member_cmp) }
+    {
+        self.list(names)
+    }
+
+    // Whether a row is in the set.
+    fn has(&self, row: Row) -> bool
+        ensures { result ≡ has_row self.now row }
+    {
+        self.versions.contains_key(&row)
+    }
+
+    // Puts a row at a version into the set.
+    fn put(&mut self, row: Row, version: u32) -> Result<(), AllocError>
+        ensures ok { OnOk result (self.new ≡ finmap.insert self.old row version) }
+        ensures err { OnErr result (self.new ≡ self.old) }
+    {
+        self.versions.insert(row, version)?;
+        Ok(())
+    }
+
+    // Takes a row out of the set.
+    fn remove(&mut self, row: Row)
+        ensures { self.new ≡ finmap.remove self.old row }
+    {
+        self.versions.remove(&row);
+    }
+
+    // Adds a row, and notes it where it is new.
+    fn add_noted(
+        &mut self,
+        new_rows: &mut Vec<Row>,
+        row: Row,
+        version: u32,
+    ) -> Result<(), AllocError>
+        ensures ok { OnOk result (self.new ≡ added self.old row version) }
+        ensures undo { without self.new new_rows.new.items ≡ without self.old new_rows.old.items }
+    {
+        if self.has(row) {
+            Ok(())
+        } else {
+            new_rows.push(row)?;
+            self.put(row, version)
+        }
+    }
+
+    // Adds the rows of another set, and notes those that are new.
+    fn add_all(&mut self, new_rows: &mut Vec<Row>, other: &LineageSet) -> Result<(), AllocError>
+        ensures ok { OnOk result (IsUnion self.old other.now self.new) }
+        ensures undo { without self.new new_rows.new.items ≡ without self.old new_rows.old.items }
+    {
+        for (row, version) in other.versions.iter() {
+            match self.add_noted(new_rows, *row, *version) {
+                Ok(()) => {}
+                Err(stop) => return Err(stop),
+            }
+        }
+        Ok(())
+    }
+
+    // Takes rows out of the set.
+    fn take_back(&mut self, new_rows: Vec<Row>)
+        ensures { self.new ≡ without self.old new_rows.items }
+    {
+        for row in new_rows {
+            self.remove(row);
+        }
+    }
+
+    // The members, in the order of their rows.
+    fn list(&self, names: &Names) -> Result<Members, AllocError>
+        requires named { IsNamed names.now self.now }
+        ensures members { IfOk result (λ members. members ≡ members_of names.now self.now) }
+    {
+        let mut members = Members::new(self.alloc);
+        for (row, version) in self.versions.iter() {
+            members.push(member_of(names, *row, *version)?)?;
+        }
+        Ok(members)
+    }
+}
+
+// A row at a version, with the name of its table.
+fn member_of(names: &Names, row: Row, version: u32) -> Result<Member, AllocError>
+    requires { row.0 < length names.now }
+    ensures { IfOk result (λ made. made ≡ member names.now (row, version)) }
+{
+    match names.get(row.0 as usize) {
+        Some(name) => Ok(Member {
+            table: name.copy()?,
+            row: row.1,
+            version,
+        }),
+        None => unreachable!(),
+    }
+}
