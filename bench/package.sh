@@ -8,16 +8,8 @@
 set -eu
 
 here=$(CDPATH='' cd -- "$(dirname "$0")" && pwd -P)
-ldv=${LDV:-$here/../crates/ldv/out/ldv}
+. "$here/common.sh"
 sizes=${SIZES:-1000 10000 100000 1000000}
-work=$(mktemp -d)
-trap 'rm -rf "$work"' EXIT
-trap 'exit 1' HUP INT TERM
-
-# Builds the program of this checkout, where it isn't built. It is measured without the script.
-if [ -z "${LDV:-}" ]; then
-    printf '{"start":["main"],"files":{"main":"exit 0"}}' | "$here/../ldv" run >"$work/out"
-fi
 
 # usage: make_world ROWS; each row has an id, a number below 100 and a text.
 make_world() {

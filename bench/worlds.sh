@@ -6,16 +6,8 @@
 set -eu
 
 here=$(CDPATH='' cd -- "$(dirname "$0")" && pwd -P)
-ldv=${LDV:-$here/../crates/ldv/out/ldv}
+. "$here/common.sh"
 sizes=${SIZES:-1 4 16 60}
-work=$(mktemp -d)
-trap 'rm -rf "$work"' EXIT
-trap 'exit 1' HUP INT TERM
-
-# Builds the program of this checkout, where it isn't built. It is measured without the script.
-if [ -z "${LDV:-}" ]; then
-    printf '{"start":["main"],"files":{"main":"exit 0"}}' | "$here/../ldv" run >"$work/out"
-fi
 
 # usage: make_world KIND MIB; a world of about so many MiB, whose tables and files keep their limits.
 make_world() {

@@ -1,0 +1,14 @@
+# What the benches share: the program that is measured and a folder of their own. A bench sets `here`, the
+# folder of the benches, before it takes this in.
+#
+# LDV names another program than the one of this checkout.
+
+ldv=${LDV:-$here/../crates/ldv/out/ldv}
+work=$(mktemp -d)
+trap 'rm -rf "$work"' EXIT
+trap 'exit 1' HUP INT TERM
+
+# Builds the program of this checkout, where it isn't built. It is measured without the script.
+if [ -z "${LDV:-}" ]; then
+    printf '{"start":["main"],"files":{"main":"exit 0"}}' | "$here/../ldv" run >"$work/out"
+fi
