@@ -15,8 +15,6 @@ mod contents;
 mod line;
 mod marks;
 mod stop;
-#[cfg(test)]
-mod tests;
 mod tree;
 
 pub use line::LineRead;

@@ -16,8 +16,6 @@ mod merge;
 mod plain;
 mod select;
 mod sets;
-#[cfg(test)]
-mod tests;
 
 pub use members::{count, next_one};
 pub use plain::{

@@ -17,8 +17,6 @@ mod sink;
 mod source;
 mod standard;
 mod steady;
-#[cfg(test)]
-mod tests;
 mod whole;
 
 pub use memory::{MemorySink, MemorySource};

@@ -28,17 +28,9 @@ mod exit;
 mod finish;
 mod headline;
 mod lines;
-#[cfg(test)]
-mod package_tests;
 mod plain;
 mod record;
 mod replay;
-#[cfg(test)]
-mod samples;
-#[cfg(test)]
-mod sql_tests;
-#[cfg(test)]
-mod tests;
 mod top;
 mod trace;
 

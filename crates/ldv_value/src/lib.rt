@@ -16,8 +16,6 @@ mod list;
 mod names;
 mod order;
 mod show;
-#[cfg(test)]
-mod tests;
 mod utf8;
 mod value;
 

@@ -11,7 +11,5 @@
 #![tactic(auto)]
 
 mod set;
-#[cfg(test)]
-mod tests;
 
 pub use set::LineageSet;

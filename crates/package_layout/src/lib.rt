@@ -43,8 +43,3 @@ mod width;
 
 pub use damage::DamageKind;
 pub use layout::{PackageStop, SpellStop, read_package, round_trip_law, spell};
-
-#[cfg(test)]
-mod samples;
-#[cfg(test)]
-mod tests;

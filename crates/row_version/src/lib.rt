@@ -10,8 +10,6 @@
 #![tactic(auto)]
 
 mod chain;
-#[cfg(test)]
-mod tests;
 mod versions;
 
 pub use chain::Chain;

@@ -30,6 +30,3 @@ pub use law::reading_law;
 pub use number::read_number;
 pub use parse::{ScriptStop, parse_script};
 pub use script::{CalcOp, Instr, Instrs, Operand, Operands, Script};
-
-#[cfg(test)]
-mod tests;

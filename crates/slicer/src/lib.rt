@@ -12,6 +12,3 @@ mod reasons;
 mod tables;
 
 pub use needed::{Sliced, slice};
-
-#[cfg(test)]
-mod tests;

@@ -28,6 +28,3 @@ mod walk;
 
 pub use checking::check;
 pub use stop::CheckStop;
-
-#[cfg(test)]
-mod tests;

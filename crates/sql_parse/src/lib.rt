@@ -35,8 +35,3 @@ mod token;
 pub use law::{expression_law, reading_law, token_law};
 pub use reading::parse;
 pub use stop::ParseStop;
-
-#[cfg(test)]
-mod shown;
-#[cfg(test)]
-mod tests;

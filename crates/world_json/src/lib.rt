@@ -24,8 +24,6 @@ mod parse;
 mod parts;
 mod shape;
 mod start;
-#[cfg(test)]
-mod tests;
 mod world;
 
 pub use fault::{WorldFault, WorldStop};

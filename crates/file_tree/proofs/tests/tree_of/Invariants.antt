@@ -1,6 +1,0 @@
-use Rattle.std.specs.List.{All}
-use Rattle.file_tree.specs.State.{IsFile}
-use Rattle.file_tree.proofs.tests.tree_of.Given as goal
-
-abbrev pub invariant-loop-path : goal.invariant-loop-path
-invariant-loop-path g l = All (λ f. IsFile f.path f.content) l.files

@@ -1,7 +1,0 @@
-use Rattle.std.proofs.Common.{sym, subst}
-use Rattle.lineage.specs.Lineage.{IsNamed}
-use Rattle.lineage.proofs.Laws.{IsNamed-empty}
-use Rattle.lineage.proofs.tests.set_of.Goals as goal
-
-pub loop-entry-init : goal.loop-entry-init
-loop-entry-init g c = subst (IsNamed c.args.names.now) (sym c.empty-set.ensures) (IsNamed-empty c.args.names.now)

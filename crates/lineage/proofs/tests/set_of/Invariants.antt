@@ -1,5 +1,0 @@
-use Rattle.lineage.specs.Lineage.{IsNamed}
-use Rattle.lineage.proofs.tests.set_of.Given as goal
-
-abbrev pub invariant-loop-entry : goal.invariant-loop-entry
-invariant-loop-entry g l = IsNamed l.names l.set
