@@ -1,0 +1,38 @@
+//! The program, called over streams in memory.
+
+use crate::case::Case;
+use crate::compare::Ended;
+use ldv_io::{MemorySink, MemorySource};
+use ldv_top::ldv_main;
+use ldv_value::{Bytes, Calls};
+use std::alloc::{AllocError, Global};
+
+/// The most bytes that a read of the input gives.
+const INPUT_PIECE: usize = 10_000;
+/// The most bytes that a write of the output or the error stream takes.
+const OUTPUT_PIECE: usize = 1_000;
+/// The room of a sink beyond what is wanted, so that more than that is taken too.
+const SPARE: usize = 65_536;
+
+/// Calls the program with the words and the input of a case. Of what the case wants it takes the lengths
+/// alone, for the room of the sinks.
+pub(crate) fn call(alloc: Global, case: &Case) -> Result<Ended, AllocError> {
+    let output_room = case.output.len().saturating_add(SPARE);
+    let error_room = case.error.len().saturating_add(SPARE);
+    let none = Calls::new(alloc);
+    let mut source = MemorySource::new(case.input.copy()?, INPUT_PIECE, none);
+    let mut output = MemorySink::new(alloc, output_room, OUTPUT_PIECE, Calls::new(alloc))?;
+    let mut error = MemorySink::new(alloc, error_room, OUTPUT_PIECE, Calls::new(alloc))?;
+    let status = ldv_main(
+        alloc,
+        case.words.as_slice(),
+        &mut source,
+        &mut output,
+        &mut error,
+    );
+    Ok(Ended {
+        status,
+        output: Bytes::of_slice(alloc, output.taken())?,
+        error: Bytes::of_slice(alloc, error.taken())?,
+    })
+}

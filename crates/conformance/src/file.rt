@@ -1,0 +1,95 @@
+//! A file of cases: a JSON array of objects, each a case.
+
+ghost use Rattle.std.specs.Prelude.{◌≢◌, [], IsErr, IfOk};
+
+use crate::case::{Case, CaseFault, read_case};
+use serde_json::{Category, Value};
+use std::alloc::{AllocError, Global};
+use std::io::ErrorKind;
+use std::{fmt, io};
+
+/// Why a file has no cases.
+#[derive(Clone, Copy, Debug, PartialEq, Eq)]
+pub(crate) enum FileFault {
+    NotReadable,
+    NotJson,
+    /// It is JSON, but no array.
+    NotArray,
+    /// The item with this number, from 1, is no case.
+    BadItem(usize, CaseFault),
+    /// An array with no item.
+    NoCase,
+    /// Out of memory.
+    NoMemory,
+}
+
+impl From<AllocError> for FileFault {
+    fn from(_refused: AllocError) -> FileFault {
+        FileFault::NoMemory
+    }
+}
+
+impl fmt::Display for FileFault {
+    fn fmt<W: fmt::Write>(&self, f: &mut fmt::Formatter<W>) -> fmt::Result {
+        match self {
+            FileFault::NotReadable => f.write_str("not readable"),
+            FileFault::NotJson => f.write_str("not JSON"),
+            FileFault::NotArray => f.write_str("not cases: not an array"),
+            FileFault::BadItem(number, fault) => { write!(f, "not cases: item {number}: {fault}") }
+            FileFault::NoCase => f.write_str("no case"),
+            FileFault::NoMemory => f.write_str("out of memory"),
+        }
+    }
+}
+
+/// The cases of a file, at least one, from what reading it gave.
+pub(crate) fn cases_of(alloc: Global, read: io::Result<Vec<u8>>) -> Result<Vec<Case>, FileFault>
+    ensures unread { IsErr read → IsErr result }
+    ensures some { IfOk result (λ cases. cases.items ≢ []) }
+{
+    match read {
+        Ok(bytes) => read_cases(alloc, bytes.as_slice()),
+        Err(error) => {
+            if error.kind() == ErrorKind::OutOfMemory {
+                Err(FileFault::NoMemory)
+            } else {
+                Err(FileFault::NotReadable)
+            }
+        }
+    }
+}
+
+fn read_cases(alloc: Global, bytes: &[u8]) -> Result<Vec<Case>, FileFault>
+    ensures { IfOk result (λ cases. cases.items ≢ []) }
+{
+    let Value::Array(items) = read_json(alloc, bytes)? else {
+        return Err(FileFault::NotArray);
+    };
+    let cases = read_items(alloc, items)?;
+    if cases.is_empty() {
+        return Err(FileFault::NoCase);
+    }
+    Ok(cases)
+}
+
+fn read_json(alloc: Global, bytes: &[u8]) -> Result<Value, FileFault> {
+    match Value::from_slice(alloc, bytes) {
+        Ok(value) => Ok(value),
+        Err(error) => match error.classify() {
+            Category::Memory => Err(FileFault::NoMemory),
+            _ => Err(FileFault::NotJson),
+        },
+    }
+}
+
+fn read_items(alloc: Global, items: Vec<Value>) -> Result<Vec<Case>, FileFault> {
+    let mut cases = Vec::with_capacity(alloc, items.len())?;
+    for item in items {
+        match read_case(alloc, item) {
+            Ok(case) => cases.push(case).map_err(AllocError::from)?,
+            Err(CaseFault::NoMemory) => return Err(FileFault::NoMemory),
+            Err(fault) => return Err(FileFault::BadItem(cases.len().saturating_add(1), fault)),
+        }
+    }
+    Ok(cases)
+}
