@@ -1,0 +1,574 @@
+#!/usr/bin/env python3
+"""Tests tools/world.py and tools/outcome.py, and the examples, with the program where it is there.
+
+    tools/check_tools.py [PROGRAM]
+
+PROGRAM is the compiled ldv, by default crates/ldv/out/ldv of this checkout. Where it isn't there, the tests
+that run it are skipped; one that is given has to be there. What is expected was worked out by hand, or comes
+from SQLite. Ends with status 1 where a test fails.
+"""
+import contextlib
+import glob
+import io
+import json
+import os
+import re
+import sqlite3
+import subprocess
+import sys
+import tempfile
+import unittest
+
+import outcome
+import world
+from world_tables import RESERVED
+
+HERE = os.path.dirname(os.path.abspath(__file__))
+ROOT = os.path.dirname(HERE)
+EXAMPLES = os.path.join(ROOT, "examples")
+TUTORIAL = os.path.join(EXAMPLES, "tutorial")
+PROGRAM = os.path.join(ROOT, "crates", "ldv", "out", "ldv")
+ASK = ["--ask", "SELECT * FROM t"]
+# The words of docs/TUTORIAL.md for its two worlds.
+WEATHER = ["--csv", f"{TUTORIAL}/weather.csv", "--lower", "--key", "weather=id", "--rename",
+           "weather.Celsius=tenths", "--scale", "weather.tenths=1", "--sql", f"{TUTORIAL}/weather.sql"]
+LIBRARY = ["--rename", "members.fee=cents", "--scale", "members.cents=2",
+           "--sql", f"{TUTORIAL}/questions.sql"]
+
+
+def read(path):
+    with open(path, "rb") as file:
+        return file.read()
+
+
+def tool(module, *words, given=b""):
+    """What a tool ends with and writes to standard output and to standard error, in this process."""
+    out, err, before = io.TextIOWrapper(io.BytesIO(), "utf-8"), io.StringIO(), sys.stdin
+    sys.stdin = io.TextIOWrapper(io.BytesIO(given), "utf-8")
+    try:
+        with contextlib.redirect_stdout(out), contextlib.redirect_stderr(err):
+            status = module.main(list(words))
+    except SystemExit as end:
+        status = end.code
+    finally:
+        sys.stdin = before
+    out.flush()
+    return status, out.buffer.getvalue(), err.getvalue()
+
+
+def command(words, given=b""):
+    """What a program ends with and writes to standard output and to standard error."""
+    done = subprocess.run(words, input=given, stdout=subprocess.PIPE, stderr=subprocess.PIPE)
+    return done.returncode, done.stdout, done.stderr
+
+
+def ldv(words, given):
+    return command([PROGRAM, *words], given)
+
+
+def make_database(path, statements):
+    base = sqlite3.connect(path)
+    base.executescript(statements)
+    base.commit()
+    base.close()
+
+
+class InFolder(unittest.TestCase):
+    """A test with a folder of its own."""
+
+    def setUp(self):
+        folder = tempfile.TemporaryDirectory()
+        self.addCleanup(folder.cleanup)
+        self.folder = folder.name
+
+    def put(self, name, content):
+        path = os.path.join(self.folder, name)
+        with open(path, "wb") as file:
+            file.write(content if isinstance(content, bytes) else content.encode())
+        return path
+
+    def table(self, content, *words):
+        """The table t of a CSV file, as the document has it."""
+        status, out, err = tool(world, "--csv", self.put("t.csv", content), *ASK, *words)
+        self.assertEqual(status, 0, err)
+        return json.loads(out)["tables"]["t"]
+
+    def refused(self, message, *words, status=1):
+        """A call of world.py that is refused, writes nothing and says why."""
+        got, out, err = tool(world, *words)
+        self.assertEqual((got, out), (status, b""), err)
+        self.assertIn(message, err)
+
+    def csv_refused(self, message, content, *words):
+        self.refused(message, "--csv", self.put("t.csv", content), *ASK, *words)
+
+
+class CsvFiles(InFolder):
+    def test_document(self):
+        path = self.put("t.csv", 'id,name,born\n1,"Ada, the first",1815\n2,"says ""hi""",\n\n3,,-7\n')
+        status, out, err = tool(world, "--csv", path, "--key", "t=id", "--ask", "SELECT * FROM t")
+        self.assertEqual(status, 0, err)
+        self.assertEqual(out.decode(), """{
+  "start": ["main"],
+  "files": {
+    "main": "sql q \\"SELECT * FROM t\\"\\n"
+  },
+  "tables": {
+    "t": {
+      "columns": [["id","INT NOT NULL"],["name","TEXT"],["born","INT"]],
+      "key": ["id"],
+      "rows": [
+        [1,"Ada, the first",1815],
+        [2,"says \\"hi\\"",null],
+        [3,null,-7]
+      ]
+    }
+  }
+}
+""")
+        self.assertEqual(err, "world.py: t: 3 rows; id INT NOT NULL, name TEXT, born INT; key id\n")
+
+    def test_kinds(self):
+        """A column is INT where a number loses nothing of what was written."""
+        cases = [("0 -1 9223372036854775807 -9223372036854775808", "INT")]
+        cases += [(cells, "TEXT") for cells in ("1 01", "1 +1", "-0", "1 1.0", "1 1e3", "1_000", "٣",
+                                                "9223372036854775808", "-9223372036854775809")]
+        for cells, kind in cases:
+            table = self.table("a\n" + cells.replace(" ", "\n") + "\n")
+            self.assertEqual(table["columns"], [["a", kind]], cells)
+            read_as = int if kind == "INT" else str
+            self.assertEqual(table["rows"], [[read_as(cell)] for cell in cells.split()])
+        self.assertEqual(self.table("a,b\n,1\n,2\n")["columns"], [["a", "TEXT"], ["b", "INT"]])
+
+    def test_options(self):
+        words = ["--lower", "--kind", "t.id=INT", "--null", "NA"]
+        table = self.table("Id,Zip,Note\n007,0150,NA\n8,,\n", *words)
+        self.assertEqual(table["rows"], [[7, "0150", None], [8, None, None]])
+        table = self.table("a,b\n1,\n", "--kind", "t.a=text not null", "--empty", "t.b=text")
+        self.assertEqual(table["columns"], [["a", "TEXT NOT NULL"], ["b", "TEXT"]])
+        self.assertEqual(table["rows"], [["1", ""]])
+        words = ["--delimiter", ";", "--rename", "t.Count=n", "--leave-out", "t.a"]
+        table = self.table("a;Count\n1;x\n", *words)
+        self.assertEqual((table["columns"], table["rows"]), ([["n", "TEXT"]], [["x"]]))
+        table = self.table("a\tb\n1\tx\n".encode(), "--delimiter", "tab")
+        self.assertEqual(table["rows"], [[1, "x"]])
+        table = self.table("a\nBod\xf8\n".encode("latin-1"), "--encoding", "latin-1")
+        self.assertEqual(table["rows"], [["Bodø"]])
+        self.assertEqual(self.table("\ufeffa\r\n1\r\n")["rows"], [[1]])
+        self.assertEqual(self.table('a,b\n"x\ny",1\n')["rows"], [["x\ny", 1]])
+
+    def test_decimals(self):
+        table = self.table("a\n3.4\n-0.05\n7\n.5\n+1.250\n\n-.5\n", "--scale", "t.a=2")
+        self.assertEqual(table["columns"], [["a", "INT"]])
+        self.assertEqual(table["rows"], [[340], [-5], [700], [50], [125], [-50]])
+        self.csv_refused("t.csv line 3 (row 1 of t), column a: '0.125' has more than the 2 decimals",
+                         "a\n1\n0.125\n", "--scale", "t.a=2")
+        self.csv_refused("line 2 (row 0 of t), column a: '1e3' is no decimal", "a\n1e3\n", "--scale", "t.a=2")
+        self.csv_refused("is outside 64 bits", "a\n92233720368547758.08\n", "--scale", "t.a=2")
+
+    def test_refused_cells(self):
+        refused = self.csv_refused
+        refused("t.csv line 4: 1 cells, but the header has 2", "a,b\n1,2\n\n3\n")
+        refused("t.csv line 4 (row 1 of t), column b: 'x' is no whole number", 'a,b\n"1\n",2\n3,x\n',
+                "--kind", "t.b=INT")
+        refused("column a: '9223372036854775808' is outside 64 bits", "a\n9223372036854775808\n",
+                "--kind", "t.a=INT")
+        refused("column a: NULL, but it is in the key", "a\n1\n\"\"\n", "--key", "t=a")
+        refused("column a: NULL, but it is NOT NULL", "a,b\n,2\n", "--kind", "t.a=TEXT NOT NULL")
+        refused("t.csv line 4 (row 2 of t): the key (a, b) is (1, 'x'), as in", "a,b\n1,x\n2,x\n1,x\n",
+                "--key", "t=a,b")
+        refused("t.csv line 2 (row 0 of t), column a: a text of 65537 bytes", "a\n" + "é" * 32768 + "x\n")
+        self.assertEqual(len(self.table("a\n" + "é" * 32768 + "\n")["rows"][0][0]), 32768)
+        refused("t.csv: byte 3 isn't utf-8", b"a\nx\xff\n")
+        refused("t.csv line 3", 'a\n1\n"x" y\n')
+        refused("is empty", "")
+
+    def test_refused_names(self):
+        refused = self.csv_refused
+        refused("t: column 2 'Age': names have no upper-case letters; give --lower", "id,Age\n1,2\n")
+        refused("t: column 1 'order' is a reserved word", "order\n1\n")
+        refused("t: column 1 'a b' isn't a name", "a b\n1\n")
+        refused("t: column 1 '' isn't a name", ",b\n1,2\n")
+        refused("t: two columns have the name a", "a,A\n1,2\n", "--lower")
+        refused("more than 63 bytes", "a" * 64 + "\n1\n")
+        self.assertEqual(self.table("a" * 63 + "\n1\n")["rows"], [[1]])
+        refused("t has 65 columns", ",".join(f"c{n}" for n in range(65)) + "\n" + "1," * 64 + "1\n")
+        refused("the key names b, which is no column; there are a", "a\n1\n", "--key", "t=b")
+        refused("t has 1000001 rows; the limit is 1000000", "a\n" + "1\n" * 1000001)
+        path = self.put("my data.csv", "a\n1\n")
+        self.refused("the table 'my data' isn't a name", "--csv", path, *ASK)
+        self.refused("two tables have the name t", "--csv", f"t={path}", "--csv", f"t={path}", *ASK)
+        self.refused("256", *(word for n in range(257) for word in ("--csv", f"t{n}={path}")), *ASK)
+
+
+class ScriptsAndFiles(InFolder):
+    def script(self, text):
+        status, out, err = tool(world, "--sql", self.put("q.sql", text))
+        self.assertEqual(status, 0, err)
+        return json.loads(out)["files"]["main"]
+
+    def test_statements(self):
+        self.assertEqual(self.script("SELECT * FROM t;"), 'sql q "SELECT * FROM t"\n')
+        self.assertEqual(self.script("-- one\n--two; 2\nselect *\r\n\tfrom t ; ;\n\n-- end\n"),
+                         '# one\n# two; 2\nsql q "select * from t"\n# end\n')
+        self.assertEqual(self.script("SELECT * FROM t WHERE a = 'x;\n\ty''-- \"z\\' AND b<>-1"),
+                         'sql q "SELECT * FROM t WHERE a = \'x;\\n\\ty\'\'-- \\"z\\\\\' AND b<>-1"\n')
+
+    def test_refused_statements(self):
+        for text, message in (
+                ("SELECT * FROM t;\nSELECT * FROM t -- all\n", "line 2: -- within a statement"),
+                ("SELECT * FROM t WHERE a = ?", "line 1: ? takes a parameter"),
+                ("SELECT 'a FROM t", "line 1: the text that begins with ' doesn't end"),
+                ("SELECT\n\"a\" FROM t", "line 2: '\"' has no meaning"),
+                ("-- none\n;", "there is no statement"),
+                ("\nSELECT '" + "a" * 65536 + "'", "line 2: a statement of 65545 bytes"),
+                (b"\xff", "byte 0 isn't UTF-8")):
+            self.refused(message, "--sql", self.put("q.sql", text))
+
+    def test_files(self):
+        script, logo = self.put("go.ldv", "print 1\n"), self.put("logo", b"\x89PNG")
+        words = ["--script", script, "--file", f"pic={logo}", "--arg", "a", "--seed", "7"]
+        status, out, _ = tool(world, *words)
+        self.assertEqual((status, json.loads(out)), (0, {"start": ["go.ldv", "a"], "seed": 7, "files": {
+            "go.ldv": "print 1\n", "pic": {"hex": "89504e47"}}}))
+        self.refused("two files have the path logo", "--script", script, "--file", logo, "--file", logo)
+        self.refused("no path", "--script", f"a\x7f={script}")
+        self.refused("no path", "--script", "a" * 256 + f"={script}")
+        self.refused("257 start words", "--script", script, *["--arg", "x"] * 256)
+        self.refused("No such file", "--script", script + "x")
+        big = self.put("big", b"a" * 16777217)
+        self.refused("the file big has 16777217 bytes", "--script", script, "--file", big)
+        full = self.put("full", b"a" * 16777216)
+        files = [word for n in range(4) for word in ("--file", f"{n}={full}")]
+        self.refused("the document has", "--script", script, *files)
+
+    def test_misuse(self):
+        script, path = self.put("s", ""), self.put("t.csv", "a\n1\n")
+        for words in ([], ["--csv", path], ["--script", script, *ASK], ["--script", script, "--seed", "-1"],
+                      ["--script", script, "--table", "t"], ["--csv", path, *ASK, "--kind", "t.a=REAL"],
+                      ["--csv", path, *ASK, "--kind", "t.b=INT"], ["--csv", path, *ASK, "--key", "u=a"],
+                      ["--csv", path, *ASK, "--scale", "t.a=x"], ["--csv", path, *ASK, "--delimiter", "ab"],
+                      ["--csv", path, *ASK, "--encoding", "none"], ["--csv", path, *ASK, "--empty", "t.a=0"]):
+            self.refused("world.py", *words, status=2)
+
+
+SHOP = """
+CREATE TABLE Customers (id INTEGER PRIMARY KEY AUTOINCREMENT, name VARCHAR(9) NOT NULL COLLATE NOCASE UNIQUE,
+    born DATE, vip BOOLEAN);
+CREATE TABLE lines (n INT, shop, customer INTEGER DEFAULT 1 REFERENCES Customers (id) CHECK (customer > 0),
+    twice INT GENERATED ALWAYS AS (customer * 2), PRIMARY KEY (shop, n)) WITHOUT ROWID;
+CREATE VIEW all_lines AS SELECT * FROM lines;
+CREATE TRIGGER added AFTER INSERT ON lines BEGIN SELECT 1; END;
+INSERT INTO Customers VALUES (9, 'Ada', '1815-12-10', 1), (2, 'Bo', NULL, NULL);
+INSERT INTO lines (n, shop, customer) VALUES (1, 'b', 2), (2, 'a', 9), (1, 'a', NULL);
+"""
+
+
+class Databases(InFolder):
+    def database(self, statements):
+        path = os.path.join(self.folder, "shop.db")
+        if os.path.exists(path):
+            os.remove(path)
+        make_database(path, statements)
+        return ["--sqlite", path, *ASK]
+
+    def test_tables(self):
+        status, out, err = tool(world, *self.database(SHOP), "--lower", "-q")
+        self.assertEqual(status, 0, err)
+        self.assertEqual(json.loads(out)["tables"], {
+            "customers": {
+                "columns": [["id", "INT NOT NULL"], ["name", "TEXT NOT NULL"], ["born", "TEXT"],
+                            ["vip", "INT"]],
+                "key": ["id"], "rows": [[2, "Bo", None, None], [9, "Ada", "1815-12-10", 1]]},
+            "lines": {
+                "columns": [["n", "INT NOT NULL"], ["shop", "TEXT NOT NULL"], ["customer", "INT"],
+                            ["twice", "INT"]],
+                "key": ["shop", "n"], "rows": [[1, "a", None, None], [2, "a", 9, 18], [1, "b", 2, 4]]}})
+        for note in ("customers: UNIQUE (name)", "customers: AUTOINCREMENT", "customers: COLLATE NOCASE",
+                     "customers.born: declared DATE, carried as TEXT",
+                     "customers.vip: declared BOOLEAN, carried as INT", "lines: CHECK",
+                     "lines.customer: DEFAULT 1", "lines: the foreign key (customer) to Customers",
+                     "lines.twice is GENERATED", "lines.shop: declared no type", "the view all_lines",
+                     "the trigger added of lines"):
+            self.assertIn(f"world.py: note: {note}", err)
+        self.assertEqual(err.count("note:"), 12, err)
+
+    def test_options(self):
+        words = self.database(SHOP)
+        status, out, err = tool(world, *words, "--table", "lines", "--leave-out", "lines.twice",
+                                "--key", "lines=none", "--kind", "lines.customer=TEXT")
+        self.assertEqual(status, 0, err)
+        self.assertEqual(json.loads(out)["tables"], {"lines": {
+            "columns": [["n", "INT NOT NULL"], ["shop", "TEXT NOT NULL"], ["customer", "TEXT"]],
+            "rows": [[1, "a", None], [2, "a", "9"], [1, "b", "2"]]}})
+        self.refused("a world hasn't all that the database has", *words, "--lower", "--strict")
+        self.refused("names have no upper-case letters", *words)
+        self.refused("there is no table t; there are Customers", *words, "--table", "t")
+        self.refused("--leave-out u: nothing", *words, "--lower", "--leave-out", "u", status=2)
+
+    def test_values(self):
+        words = self.database("CREATE TABLE t (a REAL);"
+                              "INSERT INTO t VALUES (2.5), (3), (NULL), (-0.1), (1e2);")
+        self.refused("row 0 of t, column a: the REAL value 2.5 has no equal here; --scale t.a=", *words)
+        status, out, err = tool(world, *words, "--scale", "t.a=1")
+        self.assertEqual(json.loads(out)["tables"]["t"]["rows"], [[25], [30], [None], [-1], [1000]], err)
+        for statements, message in (
+                ("a INT); INSERT INTO t VALUES (1), ('x');", "row 1 of t, column a: 'x' is no whole"),
+                ("a INT); INSERT INTO t VALUES (1), (1.5);", "row 1 of t, column a: the REAL value 1.5"),
+                ("a, b); INSERT INTO t VALUES (1, 1), ('x', 1);", "rows before have the kind INT"),
+                ("a BLOB); INSERT INTO t VALUES (x'00ff');", "column a: a BLOB of 2 bytes"),
+                ("a TEXT); INSERT INTO t VALUES (CAST(x'ff' AS TEXT));", "a text that isn't UTF-8"),
+                ("a TEXT PRIMARY KEY); INSERT INTO t VALUES (NULL);", "NULL, but it is in the key"),
+                ("\"a b\" INT);", "column 1 'a b' isn't a name")):
+            self.refused(message, *self.database("CREATE TABLE t (" + statements))
+        path = self.put("x.db", "no database, but long enough" * 40)
+        self.refused("file is not a database", "--sqlite", path, *ASK)
+        self.refused("No such file", "--sqlite", self.folder + "/none.db", *ASK)
+
+
+FAMILY = (b"outcome 3 2\nprocess 0 240 8 2\ntotal 3\n\nchanged 1\nrefused 6 orders 2\nint -10\nnull\n"
+          b"process 0.0 0 0 0\n\nprocess 0.1 1 3 1\n\xc3\xb8\n\nrows 2\n"
+          b"row 2\ntext 3\na\nb\nint 7\nrow 2\ntext 0\n\nnull\n"
+          b"file 1 3\na\nx\ny\nremoved 2\nbb\n")
+
+
+class Outcomes(InFolder):
+    def test_shown(self):
+        status, out, err = tool(outcome, given=FAMILY)
+        self.assertEqual((status, err), (0, ""))
+        self.assertEqual(out.decode(), """\
+process 0 ended with status 240 (misuse: a wrong kind of value, or a name that means nothing)
+
+  printed:
+  | total 3
+
+  reply 1: 1 row changed
+
+  reply 2: refused with code 6: two rows would have one key (table orders, key -10, NULL)
+
+process 0.0 ended with status 0
+
+process 0.1 ended with status 1
+
+  printed:
+  | ø
+
+  reply 1: 2 rows
+    1      | 2
+    -------+-----
+    "a\\nb" |    7
+    ""     | NULL
+
+file a has 3 bytes
+  | x
+  | y
+
+file bb was removed
+""")
+
+    def test_csv(self):
+        rows = b'"a\nb",7\n"",\n'
+        sections = (b"# process 0 reply 1: 1 row changed\nchanged,1\n\n"
+                    b"# process 0 reply 2: refused with code 6: two rows would have one key "
+                    b"(table orders, key -10, NULL)\nrefused,6,orders,-10,\n\n"
+                    b"# process 0.1 reply 1: 2 rows\n" + rows)
+        self.assertEqual(tool(outcome, "--csv", given=FAMILY), (0, sections, ""))
+        words = ["--csv", "--process", "0.1", "--reply"]
+        self.assertEqual(tool(outcome, *words, "1", given=FAMILY), (0, rows, ""))
+        status, out, _ = tool(outcome, *words, "1", "--null", "NULL", given=FAMILY)
+        self.assertEqual((status, out), (0, b'"a\nb",7\n"",NULL\n'))
+        self.assertEqual(tool(outcome, *words, "2", given=FAMILY)[0], 1)
+        self.assertEqual(tool(outcome, "--folder", self.folder, self.put("o", FAMILY))[0], 0)
+        self.assertEqual(read(os.path.join(self.folder, "0.1-1.csv")), rows)
+        self.assertEqual(sorted(os.listdir(self.folder)), ["0-1.csv", "0-2.csv", "0.1-1.csv", "o"])
+
+    def test_malformed(self):
+        for old, new, message in (
+                (b"outcome 3", b"outcom 3", "byte 0 (line 1)"),
+                (b"outcome 3", b"outcome 0", "the number of processes"),
+                (b"outcome 3", b"outcome 03", "outcome P F is due"),
+                (b"outcome 3", b"outcome 2", "file A N"),
+                (b"outcome 3 2", b"outcome 3 1", "more bytes follow"),
+                (b"outcome 3 2", b"outcome 3 3", "the input ends"),
+                (b"0 240 8", b"0 256 8", "the status is 256"),
+                (b"240 8 2", b"240 9 2", "no LF after the 9 bytes"),
+                (b"240 8 2", b"240 999 2", "of 999 bytes and LF is due"),
+                (b"int -10", b"int -0", "-0 is no number"),
+                (b"int -10", b"int 9223372036854775808", "a number is"),
+                (b"int -10", b"real 1", "a value"),
+                (b"process 0.0", b"process 0.2", "isn't there"),
+                (b"process 0.1", b"process 0.0", "out of order"),
+                (b"process 0.1", b"process 0.0.1", "isn't there"),
+                (b"process 0 ", b"process 1 ", "process NAME"),
+                (b"process 0.1", b"process 0.1.0", "no parent"),
+                (b"refused 6 ", b"refused 7 ", "a reply"),
+                (b"refused 6 orders", b"refused 8", "a reply"),
+                (b"row 2\ntext 0", b"row 3\ntext 0", "a value"),
+                (b"\xc3\xb8", b"\xc3x", "isn't UTF-8"),
+                (b"file 1 3\na", b"file 1 3\nc", "the path bb is out of order"),
+                (b"text 3", b"text 65537", "the length of a text"),
+                (b"removed 2\nbb\n", b"removed 2\nbb", "but 2 bytes are left")):
+            self.assertIn(old, FAMILY)
+            status, out, err = tool(outcome, given=FAMILY.replace(old, new, 1))
+            self.assertEqual((status, out), (1, b""), (old, new))
+            self.assertIn(message, err, (old, new))
+        for end in range(len(FAMILY)):
+            self.assertEqual(tool(outcome, given=FAMILY[:end])[0], 1, end)
+
+    def test_commands(self):
+        """The tools as commands."""
+        for name in ("world.py", "outcome.py"):
+            status, out, err = command([os.path.join(HERE, name), "--help"])
+            self.assertEqual((status, err), (0, b""))
+            self.assertIn(f"usage: {name}".encode(), out)
+        path = self.put("o", FAMILY)
+        shown = command([os.path.join(HERE, "outcome.py"), path])
+        self.assertEqual(shown, command([os.path.join(HERE, "outcome.py")], FAMILY))
+        self.assertEqual((shown[0], shown[1][:10]), (0, b"process 0 "))
+        none = command([os.path.join(HERE, "outcome.py"), path + "x"])
+        self.assertEqual((none[0], none[1]), (1, b""))
+
+
+def asked(script):
+    """The statements of a plain script, with their parameters."""
+    for line in script.split("\n"):
+        words = re.findall(r'"(?:\\.|[^"\\])*"|\S+', line)
+        if words[:1] == ["sql"]:
+            # These texts have no escapes but those that JSON has too.
+            yield json.loads(words[2]), [json.loads(word) for word in words[3:]]
+
+
+def in_sqlite(tables):
+    """The tables of a world in an SQLite database."""
+    base = sqlite3.connect(":memory:")
+    for name, table in tables.items():
+        base.execute(f"CREATE TABLE {name} ({', '.join(' '.join(column) for column in table['columns'])})")
+        for row in table["rows"]:
+            base.execute(f"INSERT INTO {name} VALUES ({', '.join('?' * len(row))})", row)
+    return base
+
+
+def value_text(value):
+    if value is None:
+        return "null\n"
+    return f"int {value}\n" if isinstance(value, int) else f"text {len(value.encode())}\n{value}\n"
+
+
+def reply_text(rows):
+    texts = (f"row {len(row)}\n" + "".join(map(value_text, row)) for row in rows)
+    return f"rows {len(rows)}\n" + "".join(texts)
+
+
+class Examples(InFolder):
+    def names(self):
+        names = [path[:-len(".json")] for path in sorted(glob.glob(EXAMPLES + "/*.json"))]
+        self.assertGreaterEqual(len(names), 5)
+        return names
+
+    def test_scripts(self):
+        """The script beside each document is the document's."""
+        for name in self.names():
+            made = json.loads(read(name + ".json"))
+            self.assertEqual(read(name + ".script").decode(), made["files"][made["start"][0]], name)
+
+    def test_rows(self):
+        """The rows in each outcome are those that SQLite gives."""
+        for name in self.names():
+            if not os.path.exists(name + ".outcome"):
+                continue
+            self.assertEqual(tool(outcome, name + ".outcome")[0], 0, name)
+            replies = self.replies(name)
+            base = in_sqlite(json.loads(read(name + ".json"))["tables"])
+            statements = list(asked(read(name + ".script").decode()))
+            self.assertEqual(len(statements), len(replies), name)
+            for (text, parameters), reply in zip(statements, replies):
+                if not reply.startswith("refused"):
+                    self.assertEqual(reply_text(base.execute(text, parameters).fetchall()), reply, text)
+
+    def replies(self, name):
+        """The replies of an outcome of one process, each as its text."""
+        text = read(name + ".outcome").decode()
+        head = re.match(r"outcome 1 0\nprocess 0 \d+ (\d+) \d+\n", text)
+        rest = text.encode()[len(head.group().encode()) + int(head.group(1)) + 1:].decode()
+        return re.split(r"(?m)^(?=rows |refused )", rest)[1:]
+
+    def test_tutorial(self):
+        """The tutorial's worlds give what SQLite gives for the same questions."""
+        path = os.path.join(self.folder, "library.db")
+        make_database(path, read(TUTORIAL + "/library.sql").decode())
+        for words, name in ((WEATHER, "weather"), (["--sqlite", path] + LIBRARY, "library")):
+            status, out, err = tool(world, *words)
+            self.assertEqual(status, 0, err)
+            made = json.loads(out)
+            base = in_sqlite(made["tables"])
+            questions = [text for text, _ in asked(made["files"]["main"])]
+            replies = [reply_text(base.execute(text).fetchall()) for text in questions]
+            expected = f"outcome 1 0\nprocess 0 0 0 {len(replies)}\n\n{''.join(replies)}"
+            self.assertEqual(expected, read(f"{TUTORIAL}/{name}.outcome").decode())
+
+
+class Program(InFolder):
+    """With the real program."""
+
+    def setUp(self):
+        super().setUp()
+        if not os.access(PROGRAM, os.X_OK):
+            self.skipTest(f"{PROGRAM} isn't there; compile it with ./ldv")
+
+    def check_run(self, document, expected):
+        """The outcome of a run, and that of the replay of what was recorded."""
+        self.assertEqual(ldv(["run"], document), (0, expected, b""))
+        status, package, err = ldv(["record"], document)
+        self.assertEqual((status, err), (0, b""))
+        self.assertEqual(ldv(["replay"], package), (0, expected, b""))
+        return package
+
+    def test_examples(self):
+        for path in sorted(glob.glob(EXAMPLES + "/*.outcome")):
+            self.check_run(read(path[:-len(".outcome")] + ".json"), read(path))
+        for path in sorted(glob.glob(EXAMPLES + "/*.error")):
+            for word in ("run", "record"):
+                document = read(path[:-len(".error")] + ".json")
+                self.assertEqual(ldv([word], document), (6, b"", read(path)), path)
+
+    def test_tutorial(self):
+        path = os.path.join(self.folder, "library.db")
+        make_database(path, read(TUTORIAL + "/library.sql").decode())
+        for words, name in ((WEATHER, "weather"), (["--sqlite", path] + LIBRARY, "library")):
+            document = tool(world, *words)[1]
+            package = self.check_run(document, read(f"{TUTORIAL}/{name}.outcome"))
+            self.assertLess(len(package), len(document))
+        self.assertNotIn(b"Middlemarch", package)
+        self.assertEqual(ldv(["replay"], package[:-1]), (8, b"", b"ldv: damaged: digest\n"))
+
+    def test_rows_by_hand(self):
+        path = self.put("t.csv", 'id,name\n2,"Ada, x"\n1,\n-3,Bo\n')
+        document = tool(world, "--csv", path, "--ask", "SELECT * FROM t WHERE id < 2",
+                        "--ask", "SELECT * FROM t WHERE nome = 1")[1]
+        self.check_run(document, b"outcome 1 0\nprocess 0 0 0 2\n\nrows 2\nrow 2\nint 1\nnull\n"
+                                 b"row 2\nint -3\ntext 2\nBo\nrefused 3\n")
+        shown = tool(outcome, "--csv", "--reply", "1", given=ldv(["run"], document)[1])
+        self.assertEqual(shown, (0, b"1,\n-3,Bo\n", ""))
+
+    def test_limits(self):
+        """What world.py lets through at its limits is a world, and reserved words aren't names."""
+        table = ",".join(["a" * 63] + [f"c{n}" for n in range(63)])
+        row = ",".join(["9223372036854775807", "-9223372036854775808", "é" * 32768] + ["x"] * 61)
+        path = self.put("t.csv", f"{table}\n{row}\n")
+        files = [word for n in range(3) for word in ("--file", f"{n}={self.put('full', b'a' * 16777216)}")]
+        words = ["--csv", path, *ASK, *files, "--arg", "b" * 65536, *["--arg", "c"] * 254]
+        status, document, err = tool(world, *words)
+        self.assertEqual(status, 0, err)
+        self.assertEqual(ldv(["run"], document)[0], 0)
+        for word in sorted(RESERVED):
+            tables = {"t": {"columns": [[word, "INT"]]}}
+            document = json.dumps({"start": ["m"], "files": {"m": ""}, "tables": tables}).encode()
+            self.assertEqual(ldv(["run"], document), (6, b"", b"ldv: not a world: name\n"), word)
+
+
+if __name__ == "__main__":
+    if len(sys.argv) > 1 and not sys.argv[1].startswith("-"):
+        PROGRAM = os.path.abspath(sys.argv.pop(1))
+        if not os.access(PROGRAM, os.X_OK):
+            sys.exit(f"check_tools: {PROGRAM} is no program")
+    unittest.main()

@@ -1,0 +1,77 @@
+"""A start script that asks the statements of a text one by one."""
+import re
+
+from world_tables import MAX_TEXT, Refused
+
+TOKEN = re.compile(
+    r"(?P<blank>[ \t\r\n]+)|(?P<text>'[^']*(?:''[^']*)*')|(?P<end>;)|(?P<comment>--)|(?P<parameter>\?)"
+    r"|(?P<other>[A-Za-z0-9_]+|<>|!=|<=|>=|[*+\-=<>(),.])")
+
+
+def lines_of(text, name):
+    """The lines of a script that asks the statements of a text, each of which ends with `;` or with the text.
+
+    Blanks outside of quotes become one space. The dialect has no comments, so `--` begins one only between
+    two statements; it becomes a comment of the script. `name` is what messages call the text.
+    """
+    lines, parts, begun, place = [], [], 0, 0
+    while place < len(text):
+        if not parts and text.startswith("--", place):
+            comment = text[place + 2:].split("\n", 1)[0]
+            lines.append(f"# {comment.strip()}".rstrip())
+            place += 2 + len(comment)
+            continue
+        match = TOKEN.match(text, place)
+        check_token(match, text, place, name)
+        if match.lastgroup == "end":
+            lines += asking(parts, f"{name} line {line_at(text, begun)}")
+            parts = []
+        elif parts or match.lastgroup != "blank":
+            begun = begun if parts else place
+            parts.append(" " if match.lastgroup == "blank" else match.group())
+        place = match.end()
+    return lines + asking(parts, f"{name} line {line_at(text, begun)}")
+
+
+def line_at(text, place):
+    return text.count("\n", 0, place) + 1
+
+
+def check_token(match, text, place, name):
+    if match is None and text[place] == "'":
+        fault = "the text that begins with ' doesn't end"
+    elif match is None:
+        fault = f"{text[place]!r} has no meaning in this dialect (docs/SQL.md)"
+    elif match.lastgroup == "comment":
+        fault = "-- within a statement is two minuses here; put a comment before it, and write minuses as - -"
+    elif match.lastgroup == "parameter":
+        fault = "? takes a parameter, which only a script can give (docs/SCRIPTS.md); give --script"
+    else:
+        return
+    raise Refused(f"{name} line {line_at(text, place)}: {fault}")
+
+
+def asking(parts, at):
+    """The line that asks a statement, where there is one."""
+    statement = "".join(parts).rstrip(" ")
+    length = len(statement.encode())
+    if length > MAX_TEXT:
+        raise Refused(f"{at}: a statement of {length} bytes; the limit is {MAX_TEXT}")
+    return [f'sql q "{escaped(statement)}"'] if statement else []
+
+
+def escaped(text):
+    for plain, escape in (("\\", "\\\\"), ('"', '\\"'), ("\n", "\\n"), ("\t", "\\t")):
+        text = text.replace(plain, escape)
+    return text
+
+
+def script_of(texts):
+    """The bytes of a script that asks the statements of some (text, name)."""
+    lines = []
+    for text, name in texts:
+        found = lines_of(text, name)
+        if not any(line.startswith("sql ") for line in found):
+            raise Refused(f"{name}: there is no statement in it")
+        lines += found
+    return "".join(line + "\n" for line in lines).encode()

@@ -1,0 +1,144 @@
+"""Tables of an SQLite database.
+
+What has no equal in a world is noted by name. A value that has none is refused.
+"""
+import re
+import sqlite3
+
+from world_tables import BadText, Column, Refused, Table, keep_columns, read_file
+
+
+def read_database(path, only, settings, notes):
+    """The tables of a database that aren't settled yet: all, or those that `only` names."""
+    read_file(path, 0)
+    base = sqlite3.connect(f"file:{in_uri(path)}?mode=ro", uri=True)
+    base.text_factory = decoded
+    try:
+        entries = base.execute("SELECT type, name, tbl_name, sql FROM sqlite_master ORDER BY rowid")
+        entries = entries.fetchall()
+        there = [name for kind, name, _, _ in entries if kind == "table"]
+        for name in only:
+            if name not in there:
+                raise Refused(f"{path}: there is no table {name}; there are {', '.join(there) or 'none'}")
+        hidden = shadow_tables(base)
+        found = []
+        for kind, name, on, sql in entries:
+            if only and on not in only or settings.is_left_out(name):
+                continue
+            if kind == "table" and not name.startswith("sqlite_") and name not in hidden:
+                found += read_table(base, name, sql, settings, notes)
+            elif kind == "view":
+                notes.append(f"the view {name} isn't carried; CREATE TABLE .. AS SELECT .. makes it a table")
+            elif kind == "trigger":
+                notes.append(f"the trigger {name} of {on} isn't carried: a change runs nothing else here")
+        return found
+    except sqlite3.Error as fault:
+        raise Refused(f"{path}: {fault}")
+    finally:
+        base.close()
+
+
+def in_uri(path):
+    return path.replace("%", "%25").replace("?", "%3f").replace("#", "%23")
+
+
+def decoded(data):
+    try:
+        return data.decode()
+    except UnicodeDecodeError:
+        return BadText()
+
+
+def quoted(name):
+    return '"' + name.replace('"', '""') + '"'
+
+
+def shadow_tables(base):
+    """The tables in which virtual tables keep their data. SQLite before 3.37 doesn't report them."""
+    try:
+        return {row[1] for row in base.execute("PRAGMA table_list") if row[2] == "shadow"}
+    except sqlite3.Error:
+        return set()
+
+
+def read_table(base, name, sql, settings, notes):
+    if re.match(r"\s*create\s+virtual\b", sql, re.IGNORECASE):
+        notes.append(f"the virtual table {name} isn't carried")
+        return []
+    new = settings.new_name(name, name)
+    # Each is: place, name, declared type, NOT NULL, default, place in the key from 1, hidden.
+    shape = [row for row in base.execute(f"PRAGMA table_xinfo({quoted(name)})") if row[6] != 1]
+    columns = []
+    for _, old, declared, not_null, _, _, _ in shape:
+        column = settings.new_name(f"{new}.{old}", old)
+        columns.append(Column(column, old, kind_of_type(declared), bool(not_null), declared))
+    key = [columns[place].name for _, place in sorted((row[5], row[0]) for row in shape if row[5])]
+    chosen = ", ".join(quoted(row[1]) for row in shape)
+    order = row_order(base, name, shape)
+    rows = base.execute(f"SELECT {chosen} FROM {quoted(name)} ORDER BY {order}").fetchall()
+    table = Table(new, *keep_columns(new, columns, rows, settings), key=key)
+    note_columns(new, [row for row in shape if row[1] in {column.old for column in table.columns}], notes)
+    note_constraints(base, name, new, sql, notes)
+    return [table]
+
+
+def kind_of_type(declared):
+    """The kind of a declared type, by SQLite's rules for types; None where the values decide."""
+    declared = declared.upper()
+    if "INT" in declared:
+        return "INT"
+    return "TEXT" if any(word in declared for word in ("CHAR", "CLOB", "TEXT")) else None
+
+
+def row_order(base, name, shape):
+    """By rowid; by the key in a table that has no rowid."""
+    taken = {row[1].lower() for row in shape}
+    for word in ("rowid", "_rowid_", "oid"):
+        if word not in taken:
+            try:
+                base.execute(f"SELECT {word} FROM {quoted(name)} LIMIT 0")
+                return word
+            except sqlite3.Error:
+                break
+    keys = sorted((row[5], row[1]) for row in shape if row[5])
+    return ", ".join(quoted(column) for _, column in keys) or "1"
+
+
+def note_columns(table_name, shape, notes):
+    for _, name, _, _, default, _, hidden in shape:
+        if default is not None:
+            notes.append(f"{table_name}.{name}: DEFAULT {default} isn't carried: "
+                         "an INSERT that doesn't name the column gives NULL here")
+        if hidden in (2, 3):
+            notes.append(f"{table_name}.{name} is GENERATED: its values are carried, its rule isn't")
+
+
+def note_constraints(base, name, new, sql, notes):
+    keys = {}
+    for row in base.execute(f"PRAGMA foreign_key_list({quoted(name)})"):
+        keys.setdefault(row[0], (row[2], []))[1].append(row[3])
+    for _, (parent, columns) in sorted(keys.items()):
+        columns = ", ".join(columns)
+        notes.append(f"{new}: the foreign key ({columns}) to {parent} isn't carried: nothing checks it here")
+    for row in base.execute(f"PRAGMA index_list({quoted(name)})").fetchall():
+        if row[2] and row[3] != "pk":
+            parts = base.execute(f"PRAGMA index_info({quoted(row[1])})")
+            columns = ", ".join(str(part[2]) for part in parts)
+            notes.append(f"{new}: UNIQUE ({columns}) isn't carried: a table has one key here")
+    words = re.sub(r"'[^']*'|\"[^\"]*\"|--[^\n]*|/\*.*?\*/", " ", sql, flags=re.DOTALL).upper()
+    if re.search(r"\bCHECK\b", words):
+        notes.append(f"{new}: CHECK isn't carried: nothing checks it here")
+    if re.search(r"\bAUTOINCREMENT\b", words):
+        notes.append(f"{new}: AUTOINCREMENT isn't carried: an INSERT has to give the key here")
+    for collation in sorted(set(re.findall(r"\bCOLLATE\s+(\w+)", words)) - {"BINARY"}):
+        notes.append(f"{new}: COLLATE {collation} isn't carried: texts compare by their bytes here")
+
+
+def note_types(table, notes):
+    """Notes the declared types of a settled table that have no equal here."""
+    for column in table.columns:
+        if kind_of_type(column.declared) is None and column.scale is None:
+            declared = column.declared or "no type"
+            isn_t = re.search("DATE|TIME", declared, re.IGNORECASE) and column.kind == "TEXT"
+            dates = "; texts such as 2019-01-31 compare as dates do" if isn_t else ""
+            notes.append(f"{table.name}.{column.name}: declared {declared}, carried as {column.kind}{dates}")
