@@ -1,0 +1,131 @@
+#!/usr/bin/env python3
+"""Runs the built program through its real streams, and compares status, output and error bytes.
+
+    check_program.py PROGRAM [EXAMPLES]
+
+It prints a line for each call that differs and ends with status 1 where one does. What the program does over
+streams in memory is the matter of `crates/conformance`; here are the few calls that only a real process shows:
+its words, its streams, a stream that is closed or full, inputs at the limits, and the examples of the folder
+EXAMPLES (default: examples/ beside tools/), each against the outcome that lies beside it.
+"""
+import os
+import subprocess
+import sys
+
+HERE = os.path.dirname(os.path.abspath(__file__))
+INPUT_LIMIT = 67_108_864
+
+HELLO = b'{"start":["main"],"files":{"main":"print \\"hi\\"\\n"}}'
+HELLO_OUTCOME = b'outcome 1 0\nprocess 0 0 3 0\nhi\n\n'
+SECONDS = 60
+
+
+def call(program, words, data=b'', **streams):
+    """Status, output and error of one call. Streams that the caller gives aren't captured."""
+    how = dict(input=data, stdout=subprocess.PIPE, stderr=subprocess.PIPE, timeout=SECONDS)
+    how.update(streams)
+    if data is None:
+        del how['input']
+    done = subprocess.run([program, *words], **how)
+    return done.returncode, done.stdout or b'', done.stderr or b''
+
+
+class Check:
+    """Counts the calls and those that differ."""
+
+    def __init__(self, program):
+        self.program = program
+        self.calls = 0
+        self.differ = 0
+
+    def same(self, name, got, wanted):
+        self.calls += 1
+        for part, has, wants in zip(('status', 'output', 'error'), got, wanted):
+            if has != wants:
+                self.differ += 1
+                print('%s: the %s is %.200r and not %.200r' % (name, part, has, wants))
+                return
+
+    def expect(self, name, words, data, status, output=b'', error=b''):
+        self.same(name, call(self.program, words, data), (status, output, error))
+
+
+def words_and_worlds(check):
+    check.expect('a world', ['run'], HELLO, 0, HELLO_OUTCOME)
+    check.expect('no words', [], HELLO, 2, error=b'ldv: usage\n')
+    check.expect('an unknown word', ['walk'], HELLO, 2, error=b'ldv: usage\n')
+    check.expect('a word too many', ['run', 'run'], HELLO, 2, error=b'ldv: usage\n')
+    # The system's words are bytes, and the program's are texts: words that are none aren't given to it.
+    check.expect('words that are no text', [b'\xff'], HELLO, 17, error=b'ldv: no words\n')
+    check.expect('no input', ['run'], b'', 6, error=b'ldv: not a world: not json\n')
+    check.expect('a bad line', ['run'], b'{"start":["m"],"files":{"m":"exit 0\\nfoo"}}', 6,
+                 error=b'ldv: not a world: bad script line 2\n')
+
+
+def packages(check):
+    status, package, error = call(check.program, ['record'], HELLO)
+    check.same('record', (status, b'', error), (0, b'', b''))
+    check.expect('replay of what was recorded', ['replay'], package, 0, HELLO_OUTCOME)
+    check.expect('a package cut by its last byte', ['replay'], package[:-1], 8, error=b'ldv: damaged: digest\n')
+    check.expect('another first byte', ['replay'], b'l' + package[1:], 8, error=b'ldv: damaged: magic\n')
+
+
+def at_the_limits(check):
+    too_long = b'ldv: input longer than 67108864 bytes\n'
+    check.expect('an input at the limit', ['run'], b' ' * INPUT_LIMIT, 6, error=b'ldv: not a world: not json\n')
+    check.expect('an input past the limit', ['run'], b' ' * (INPUT_LIMIT + 1), 5, error=too_long)
+    noise = (b'LDVPACK1' + bytes(range(256)) * (INPUT_LIMIT // 256))[:INPUT_LIMIT]
+    check.expect('noise after a right magic', ['replay'], noise, 8, error=b'ldv: damaged: digest\n')
+    check.expect('arrays nested 100,000 deep', ['run'], b'[' * 100_000 + b']' * 100_000, 6,
+                 error=b'ldv: not a world: not json\n')
+    long_text = b'{"start":["main","' + b'x' * (60 << 20) + b'"],"files":{"main":""}}'
+    check.expect('a start word of 60 MiB', ['run'], long_text, 6, error=b'ldv: not a world: limit\n')
+
+
+def streams(check):
+    """A stream that fails is found out only by a real process."""
+    read, write = os.pipe()
+    os.close(read)
+    check.same('an output that nobody reads', call(check.program, ['run'], HELLO, stdout=write), (4, b'', b'ldv: write fault\n'))
+    os.close(write)
+    closed = call(check.program, ['run'], HELLO, stdout=None, preexec_fn=lambda: os.close(1))
+    check.same('a closed output', closed, (4, b'', b'ldv: write fault\n'))
+    closed = call(check.program, ['run'], None, stdin=None, preexec_fn=lambda: os.close(0))
+    check.same('a closed input', closed, (3, b'', b'ldv: read fault\n'))
+    if os.path.exists('/dev/full'):
+        with open('/dev/full', 'wb') as full:
+            check.same('a full output', call(check.program, ['run'], HELLO, stdout=full), (4, b'', b'ldv: write fault\n'))
+            check.same('a full error stream', call(check.program, [], HELLO, stderr=full), (2, b'', b''))
+
+
+def examples(check, folder):
+    """Each NAME.json of the folder that has a NAME.outcome beside it."""
+    for name in sorted(os.listdir(folder)):
+        stem, ending = os.path.splitext(name)
+        outcome = os.path.join(folder, stem + '.outcome')
+        if ending != '.json' or not os.path.exists(outcome):
+            continue
+        with open(os.path.join(folder, name), 'rb') as document, open(outcome, 'rb') as wanted:
+            world, text = document.read(), wanted.read()
+        check.expect('run of ' + name, ['run'], world, 0, text)
+        status, package, error = call(check.program, ['record'], world)
+        check.same('record of ' + name, (status, b'', error), (0, b'', b''))
+        check.expect('replay of ' + name, ['replay'], package, 0, text)
+
+
+def main():
+    if len(sys.argv) not in (2, 3):
+        sys.exit(__doc__)
+    program = os.path.abspath(sys.argv[1])
+    check = Check(program)
+    words_and_worlds(check)
+    packages(check)
+    at_the_limits(check)
+    streams(check)
+    examples(check, sys.argv[2] if len(sys.argv) == 3 else os.path.join(HERE, '..', 'examples'))
+    print('the real program: %d calls, %d differ' % (check.calls, check.differ))
+    sys.exit(1 if check.differ or not check.calls else 0)
+
+
+if __name__ == '__main__':
+    main()
