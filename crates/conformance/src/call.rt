@@ -1,9 +1,12 @@
 //! The program, called over streams in memory.
 
+ghost use Rattle.std.specs.Prelude.{◌≢◌, IfOk};
+ghost use Rattle.ldv_top.specs.declared.exit.Exit.{Exit};
+
 use crate::case::Case;
 use crate::compare::Ended;
-use ldv_io::{MemorySink, MemorySource};
-use ldv_top::ldv_main;
+use ldv_io::{DropSink, MemorySink, MemorySource, SteadySource};
+use ldv_top::{Exit, ldv, ldv_main, status};
 use ldv_value::{Bytes, Calls};
 use std::alloc::{AllocError, Global};
 
@@ -23,7 +26,7 @@ pub(crate) fn call(alloc: Global, case: &Case) -> Result<Ended, AllocError> {
     let mut source = MemorySource::new(case.input.copy()?, INPUT_PIECE, none);
     let mut output = MemorySink::new(alloc, output_room, OUTPUT_PIECE, Calls::new(alloc))?;
     let mut error = MemorySink::new(alloc, error_room, OUTPUT_PIECE, Calls::new(alloc))?;
-    let status = ldv_main(
+    let ended = ldv_main(
         alloc,
         case.words.as_slice(),
         &mut source,
@@ -31,8 +34,19 @@ pub(crate) fn call(alloc: Global, case: &Case) -> Result<Ended, AllocError> {
         &mut error,
     );
     Ok(Ended {
-        status,
+        status: ended,
+        steady_status: status(&steady_exit(alloc, case)?),
         output: Bytes::of_slice(alloc, output.taken())?,
         error: Bytes::of_slice(alloc, error.taken())?,
     })
+}
+
+// The exit of the program over a source and a sink that never fail: no fault is its exit.
+fn steady_exit(alloc: Global, case: &Case) -> Result<Exit, AllocError>
+    ensures read { IfOk result (λ exit. exit ≢ Exit.ReadFault) }
+    ensures write { IfOk result (λ exit. exit ≢ Exit.WriteFault) }
+{
+    let mut source = SteadySource::new(case.input.copy()?, INPUT_PIECE);
+    let mut sink = DropSink::new();
+    Ok(ldv(alloc, case.words.as_slice(), &mut source, &mut sink))
 }

@@ -130,7 +130,7 @@ fn check_name(
     Ok(())
 }
 
-// Runs a case. It counts as the same only where the program was run and none of the three differs.
+// Runs a case. It counts as the same only where the program was run and none of the four differs.
 fn check_case<R: Print + AllocGlobal>(rt: &R, case: &Case, tally: &mut Tally) -> io::Result<()>
     ensures cases { tally.new.cases ≡ min (tally.old.cases + 1) (2 ^ 64 - 1) }
     ensures kept { tally.old.differences ≤ tally.new.differences }
@@ -157,7 +157,7 @@ fn count_judged(judged: &Result<Differences, AllocError>, tally: &mut Tally)
     }
 }
 
-// Prints a line for each of the three that differs.
+// Prints a line for each of the four that differs.
 fn tell(rt: &impl Print, name: &str, judged: &Result<Differences, AllocError>) -> io::Result<()> {
     match judged {
         Ok(differences) => tell_differences(rt, name, differences),
@@ -168,6 +168,9 @@ fn tell(rt: &impl Print, name: &str, judged: &Result<Differences, AllocError>) -
 fn tell_differences(rt: &impl Print, name: &str, differences: &Differences) -> io::Result<()> {
     if let Some(statuses) = differences.status {
         println!(rt; "  {name}: {statuses}")?;
+    }
+    if let Some(statuses) = differences.steady_status {
+        println!(rt; "  {name}: over streams that never fail: {statuses}")?;
     }
     if let Some(place) = differences.output {
         println!(rt; "  {name}: output {place}")?;

@@ -11,6 +11,8 @@ use std::fmt;
 #[derive(Drop)]
 pub(crate) struct Ended {
     pub status: u8,
+    /// The status over streams that never fail.
+    pub steady_status: u8,
     pub output: Bytes,
     pub error: Bytes,
 }
@@ -30,21 +32,25 @@ pub(crate) struct Place {
     pub wanted: Option<u8>,
 }
 
-/// Where each of the three differs from what a case wants; none where it is the same.
+/// Where each of the four differs from what a case wants; none where it is the same.
 #[derive(Clone, Copy, Debug, PartialEq, Eq)]
 pub(crate) struct Differences {
     pub status: Option<Statuses>,
+    pub steady_status: Option<Statuses>,
     pub output: Option<Place>,
     pub error: Option<Place>,
 }
 
 impl Differences {
-    /// Whether all three are as wanted.
+    /// Whether all four are as wanted.
     pub(crate) fn is_none(&self) -> bool
         ensures { IsTrue result
-            ↔ ((self.now.status ≡ None) × (self.now.output ≡ None) × (self.now.error ≡ None)) }
+            ↔ ((self.now.status ≡ None) × (self.now.steady_status ≡ None) × (self.now.output ≡ None) × (self.now.error ≡ None)) }
     {
-        self.status.is_none() && self.output.is_none() && self.error.is_none()
+        self.status.is_none()
+            && self.steady_status.is_none()
+            && self.output.is_none()
+            && self.error.is_none()
     }
 }
 
@@ -93,14 +99,16 @@ fn compare_status(got: u8, wanted: u8) -> Option<Statuses>
     }
 }
 
-/// Compares the status, all bytes of the output and all bytes of the error stream.
+/// Compares both statuses, all bytes of the output and all bytes of the error stream.
 pub(crate) fn compare(ended: &Ended, case: &Case) -> Differences
     ensures status { (result.status ≡ None) ↔ (ended.now.status ≡ case.now.status) }
+    ensures steady_status { (result.steady_status ≡ None) ↔ (ended.now.steady_status ≡ case.now.status) }
     ensures output { (result.output ≡ None) ↔ (ended.now.output ≡ case.now.output) }
     ensures error { (result.error ≡ None) ↔ (ended.now.error ≡ case.now.error) }
 {
     Differences {
         status: compare_status(ended.status, case.status),
+        steady_status: compare_status(ended.steady_status, case.status),
         output: compare_bytes(ended.output.as_slice(), case.output.as_slice()),
         error: compare_bytes(ended.error.as_slice(), case.error.as_slice()),
     }

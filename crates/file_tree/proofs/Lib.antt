@@ -1,5 +1,4 @@
-pub mod Files
-pub mod Holds
-pub mod Laws
 pub mod Lines
+pub mod Onto
+pub mod Seen
 pub mod Views

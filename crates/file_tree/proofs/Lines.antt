@@ -6,8 +6,8 @@ use Rattle.std.specs.List.{position_or_len}
 use borrow.Author.Tests.{ltb-false}
 use Rattle.std.specs.Str.{IsUtf8, is_utf8}
 use Rattle.std.proofs.lemmas.Str.{IsUtf8-from_is_utf8, is_utf8-from_IsUtf8}
-use Rattle.file_tree.specs.declared.line.LineRead.TheVariants.{Line, NotText}
-use Rattle.file_tree.specs.Line.{is_line_feed, line_length, text_read}
+use Rattle.ldv_value.specs.declared.line.LineRead.TheVariants.{Line, NotText}
+use Rattle.ldv_value.specs.FileState.{is_line_feed, line_length, text_read}
 
 module _ {X : Type 0} (p : X → Bool) where
   first_within : (xs : List X) → position_or_len p xs ≤ length xs

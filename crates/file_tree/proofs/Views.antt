@@ -1,5 +1,5 @@
 -- What calls of std's maps and sets do to the finite maps that they mean.
-use Rattle.std.proofs.Common.{◌≡◌, ◌∙◌, sym, ap, subst, refl, ℕ, Bool, true, false, cond, not, ◌||◌, List, [], ◌∷◌, map, Option, Some, None, String, string_bytes, is_some, length, arith, T, ◌&&◌}
+use Rattle.std.proofs.Common.{◌≡◌, ◌∙◌, sym, ap, subst, refl, ℕ, Bool, true, false, cond, ◌||◌, List, [], ◌∷◌, map, Option, Some, None, String, string_bytes, is_some, T}
 use Rattle.std.specs.declared.alloc.Global.{Global}
 use Rattle.std.specs.declared.cmp.Ordering.{Ordering}
 use Rattle.std.specs.declared.cmp.Ordering.TheVariants.{Less, Equal, Greater}
@@ -17,6 +17,8 @@ use denote.Ref.{Bor}
 use Rattle.std.specs.FinMap.Entries.{below_all}
 use Rattle.std.specs.FinMap.{FinMap, empty, len-empty, len-entries, get, insert, remove, contains_key, from_entries, find, entries, keys, is_sorted, put, entries-insert, get-insert, get-remove, get-from_entries, same_map, get_tied, slice_cmp-IsAntisymmetric, nat_cmp-IsAntisymmetric}
 use Rattle.std.proofs.lemmas.Map.Text.{is_eq-slice_cmp}
+use Rattle.ldv_value.proofs.Booleans.{t-first, t-second, t-both}
+use Rattle.ldv_value.proofs.Lists.{nil-from-length}
 use Rattle.file_tree.specs.Views.{texts, map_by_bytes, marks, set_by_bytes}
 
 -- the two tests by which a path is found
@@ -99,37 +101,25 @@ kept m k q v Greater tie is = refl
 pub put_back : {X : Type 0} (m : FinMap (slice_cmp nat_cmp) X) (k : List ℕ) (v : X) → get m k ≡ Some v → insert m k v ≡ m
 put_back m k v is = same _ _ (λ q. get-insert nat_list_cmp_total m k v q ∙ kept m k q v (slice_cmp nat_cmp q k) refl is)
 
--- ---- the entries of a list that rises
+-- ---- sorted entries
 
-pub first : (a b : Bool) → T (a && b) → T a
-first true b h = tt
-first false b h = h
-
-pub second : (a b : Bool) → T (a && b) → T b
-second true b h = h
-second false b h = absurd h
-
-pub less : (r : Ordering) → T (is_lt r) → r ≡ Less
+less : (r : Ordering) → T (is_lt r) → r ≡ Less
 less Less h = refl
 less Equal h = absurd h
 less Greater h = absurd h
 
 put_first : {X : Type 0} (e : List ℕ × X) (es : List (List ℕ × X)) → T (is_sorted (slice_cmp nat_cmp) (e ∷ es)) → put (slice_cmp nat_cmp) e.0 e.1 es ≡ e ∷ es
 put_first e [] h = refl
-put_first e (f ∷ fs) h = let is : slice_cmp nat_cmp e.0 f.0 ≡ Less = less _ (first _ _ (first _ _ h)) in rw is refl
-
-none_of_length : {A : Type 0} (es : List A) → length es ≡ 0 → es ≡ []
-none_of_length [] is = refl
-none_of_length (e ∷ es) is = absurd (omega arith)
+put_first e (f ∷ fs) h = let is : slice_cmp nat_cmp e.0 f.0 ≡ Less = less _ (t-first _ _ (t-first _ _ h)) in rw is refl
 
 pub entries-empty : {X : Type 0} → entries (empty {X = X} {R = slice_cmp nat_cmp}) ≡ []
-entries-empty {X = X} = none_of_length _ (sym (len-entries (empty {X = X} {R = slice_cmp nat_cmp})) ∙ len-empty (slice_cmp nat_cmp) X)
+entries-empty {X = X} = nil-from-length _ (sym (len-entries (empty {X = X} {R = slice_cmp nat_cmp})) ∙ len-empty (slice_cmp nat_cmp) X)
 
--- a map of entries that rise has just these, in this order
+-- a map of sorted entries has just these, in this order
 pub listed : {X : Type 0} (es : List (List ℕ × X)) → T (is_sorted (slice_cmp nat_cmp) es) → entries (from_entries {R = slice_cmp nat_cmp} es) ≡ es
 listed [] h = entries-empty
 listed (e ∷ es) h =
-    entries-insert nat_list_cmp_total (from_entries es) e.0 e.1 ∙ ap (put (slice_cmp nat_cmp) e.0 e.1) (listed es (second _ _ h)) ∙ put_first e es h
+    entries-insert nat_list_cmp_total (from_entries es) e.0 e.1 ∙ ap (put (slice_cmp nat_cmp) e.0 e.1) (listed es (t-second _ _ h)) ∙ put_first e es h
 
 -- ---- the paths of a set
 
@@ -137,18 +127,14 @@ marks_keys : (ks : List (String Global)) → map (λ e. e.0) (marks ks) ≡ map 
 marks_keys [] = refl
 marks_keys (k ∷ ks) = ap (λ l. string_bytes k ∷ l) (marks_keys ks)
 
-pub both : (a b : Bool) → T a → T b → T (a && b)
-both true b h g = g
-both false b h g = h
-
 marks_below : (x : String Global) (ks : List (String Global)) → AllByRecursion (λ y. string_cmp x y ≡ Less) ks → T (below_all (slice_cmp nat_cmp) (string_bytes x) (marks ks))
 marks_below x [] h = tt
-marks_below x (k ∷ ks) h = both _ _ (subst (λ r. T (is_lt r)) (sym h.0) tt) (marks_below x ks h.1)
+marks_below x (k ∷ ks) h = t-both _ _ (subst (λ r. T (is_lt r)) (sym h.0) tt) (marks_below x ks h.1)
 
 marks_sorted : (ks : List (String Global)) → IsStrictlySortedBy string_cmp ks → T (is_sorted (slice_cmp nat_cmp) (marks ks))
 unfolding IsStrictlySortedBy
 marks_sorted [] h = tt
-marks_sorted (k ∷ ks) h = both _ _ (marks_below k ks h.0) (marks_sorted ks h.1)
+marks_sorted (k ∷ ks) h = t-both _ _ (marks_below k ks h.0) (marks_sorted ks h.1)
 
 pub listed_keys : (ks : List (String Global)) → IsStrictlySortedBy string_cmp ks → keys (set_by_bytes ks) ≡ map string_bytes ks
 listed_keys ks h = ap (map (λ e. e.0)) (listed (marks ks) (marks_sorted ks h)) ∙ marks_keys ks
@@ -156,30 +142,3 @@ listed_keys ks h = ap (map (λ e. e.0)) (listed (marks ks) (marks_sorted ks h)) 
 pub map_shown : (xs : List (Bor (String Global))) → map (λ p. string_bytes p.now) xs ≡ map string_bytes (map (λ p. p.now) xs)
 map_shown [] = refl
 map_shown (x ∷ xs) = ap (λ l. string_bytes x.now ∷ l) (map_shown xs)
-
--- ---- to take back what was put in
-
-absent_kept : {X : Type 0} (m : FinMap (slice_cmp nat_cmp) X) (k q : List ℕ) (v : X) (r : Ordering) → slice_cmp nat_cmp q k ≡ r → get m k ≡ None
-    → cond (is_eq r) None (cond (is_eq r) (Some v) (get m q)) ≡ get m q
-absent_kept m k q v Less tie is = refl
-absent_kept m k q v Equal tie is = sym is ∙ get_tied nat_list_cmp_total m q k tie
-absent_kept m k q v Greater tie is = refl
-
-taken_back : {X : Type 0} (m : FinMap (slice_cmp nat_cmp) X) (k : List ℕ) (v : X) → get m k ≡ None → remove (insert m k v) k ≡ m
-taken_back m k v is = same _ _ (λ q.
-    get-remove nat_list_cmp_total (insert m k v) k q ∙ ap (cond (eq_by_cmp (slice_cmp nat_cmp) q k) None) (get-insert nat_list_cmp_total m k v q)
-    ∙ absent_kept m k q v (slice_cmp nat_cmp q k) refl is)
-
-is_absent : {X : Type 0} (x : Option X) → true ≡ not (is_some x) → x ≡ None
-is_absent None is = refl
-is_absent (Some x) is = cc
-
-is_marked : (x : Option (Unit {0})) → false ≡ not (is_some x) → x ≡ Some tt
-is_marked None is = cc
-is_marked (Some x) is = refl
-
-pub undone_new : (m before : FinMap (slice_cmp nat_cmp) (Unit {0})) (k : List ℕ) → m ≡ insert before k tt → true ≡ not (contains_key before k) → remove m k ≡ before
-undone_new m before k is added = ap (λ n. remove n k) is ∙ taken_back before k tt (is_absent (get before k) added)
-
-pub undone_old : (m before : FinMap (slice_cmp nat_cmp) (Unit {0})) (k : List ℕ) → m ≡ insert before k tt → false ≡ not (contains_key before k) → m ≡ before
-undone_old m before k is added = is ∙ put_back before k tt (is_marked (get before k) added)

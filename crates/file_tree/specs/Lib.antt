@@ -1,3 +1,1 @@
-pub mod Line
-pub mod State
 pub mod Views

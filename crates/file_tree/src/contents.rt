@@ -1,15 +1,15 @@
-//! Bytes by path.
+//! Files by path.
 
-ghost use Rattle.std.specs.Prelude.{◌≡◌, ◌++◌, [], OnOk, OnErr, IsTrue, unwrap_or, string_bytes};
+ghost use Rattle.std.specs.Prelude.{◌≡◌, ◌++◌, [], OnOk, OnErr, IsTrue, is_some, unwrap_or, string_bytes};
 ghost use Rattle.std.specs.Option.{option_map};
-ghost use Rattle.std.specs.FinMap as finmap;
+ghost use Rattle.ldv_value.specs.FileState.{content_in, put_file, remove_file};
 
 use ldv_value::Bytes;
 use std::alloc::{AllocError, Global};
 use std::collections::BTreeMap;
 use std::marker::Model;
 
-/// Files by path.
+/// Files by path. Contracts see the list of them, sorted by path.
 #[derive(Drop)]
 pub(crate) struct Contents {
     alloc: Global,
@@ -17,23 +17,20 @@ pub(crate) struct Contents {
 }
 
 impl Model for Contents {
-    ghost use Rattle.std.specs.Prelude.{List, ℕ, IfSome};
-    ghost use Rattle.std.specs.FinMap as finmap;
-    ghost use Rattle.std.specs.Ordering.{nat_cmp};
-    ghost use Rattle.std.specs.Cmp.Lexicographic.{slice_cmp};
-    ghost use Rattle.std.specs.Coded.{coded_list, coded_ℕ};
-    ghost use Rattle.file_tree.specs.Views.{map_by_bytes};
+    ghost use Rattle.std.specs.Prelude.{List as Items};
+    ghost use Rattle.ldv_value.specs.declared.file.File.{File};
+    ghost use Rattle.file_tree.specs.Views.{files_in, files_code, map_by_bytes};
 
-    ghost Value = { finmap.FinMap (slice_cmp nat_cmp) (List ℕ) };
+    ghost Value = { Items File };
 
-    ghost coded = { finmap.code (coded_list coded_ℕ) (coded_list coded_ℕ) };
+    ghost coded = { files_code };
 
-    ghost view = { λ a. map_by_bytes a.files.entries };
+    ghost view = { λ a. files_in (map_by_bytes a.files.entries) };
 }
 
 impl Contents {
     pub(crate) fn new(alloc: Global) -> Self
-        ensures { result ≡ finmap.empty }
+        ensures { result ≡ [] }
     {
         Contents {
             alloc,
@@ -43,7 +40,7 @@ impl Contents {
 
     /// The bytes at a path.
     pub(crate) fn get(&self, path: &str) -> Option<&[u8]>
-        ensures { option_map (λ bytes. bytes.now) result ≡ finmap.get self.now path.now }
+        ensures { option_map (λ bytes. bytes.now) result ≡ content_in self.now path.now }
     {
         match self.files.get(path) {
             Some(content) => Some(content.as_slice()),
@@ -53,39 +50,40 @@ impl Contents {
 
     /// Whether there is a file at a path.
     pub(crate) fn has(&self, path: &str) -> bool
-        ensures { result ≡ finmap.contains_key self.now path.now }
+        ensures { result ≡ is_some (content_in self.now path.now) }
     {
         self.files.contains_key(path)
     }
 
-    /// Puts bytes at a path, in the place of those that are there.
+    /// Puts bytes at a path, in place of those that are there.
     pub(crate) fn put(&mut self, path: &str, bytes: Bytes) -> Result<(), AllocError>
-        ensures ok { OnOk result (self.new ≡ finmap.insert self.old path.now bytes) }
+        ensures ok { OnOk result (self.new ≡ put_file path.now bytes self.old) }
         ensures err { OnErr result (self.new ≡ self.old) }
     {
         let key = String::from_str(self.alloc, path)?;
         self.insert(key, bytes)
     }
 
-    /// Puts bytes at a path, in the place of those that are there.
+    /// Puts bytes at a path, in place of those that are there.
     pub(crate) fn insert(&mut self, path: String, bytes: Bytes) -> Result<(), AllocError>
-        ensures ok { OnOk result (self.new ≡ finmap.insert self.old (string_bytes path) bytes) }
+        ensures ok { OnOk result (self.new ≡ put_file (string_bytes path) bytes self.old) }
         ensures err { OnErr result (self.new ≡ self.old) }
     {
         self.files.insert(path, bytes)?;
         Ok(())
     }
 
-    /// Takes the file at a path away.
+    /// Removes the file at a path.
     pub(crate) fn remove(&mut self, path: &str)
-        ensures { self.new ≡ finmap.remove self.old path.now }
+        ensures { self.new ≡ remove_file path.now self.old }
     {
         self.files.remove(path);
     }
 
     /// Appends bytes to the file at a path, and makes it where it is absent.
     pub(crate) fn append(&mut self, path: &str, more: &[u8]) -> Result<(), AllocError>
-        ensures ok { OnOk result (self.new ≡ finmap.insert self.old path.now (unwrap_or (finmap.get self.old path.now) [] ++ more.now)) }
+        ensures ok { OnOk result (self.new
+            ≡ put_file path.now (unwrap_or (content_in self.old path.now) [] ++ more.now) self.old) }
         ensures err { OnErr result (self.new ≡ self.old) }
     {
         if self.has(path) {
@@ -96,10 +94,11 @@ impl Contents {
         }
     }
 
-    // Appends bytes to the file at a path, in the file's own memory. There is one.
+    // Appends bytes to the file at a path, which exists, in the file's own memory.
     fn extend(&mut self, path: &str, more: &[u8]) -> Result<(), AllocError>
-        requires { IsTrue (finmap.contains_key self.old path.now) }
-        ensures ok { OnOk result (self.new ≡ finmap.insert self.old path.now (unwrap_or (finmap.get self.old path.now) [] ++ more.now)) }
+        requires { IsTrue (is_some (content_in self.old path.now)) }
+        ensures ok { OnOk result (self.new
+            ≡ put_file path.now (unwrap_or (content_in self.old path.now) [] ++ more.now) self.old) }
         ensures err { OnErr result (self.new ≡ self.old) }
     {
         match self.files.get_mut(path) {

@@ -1,14 +1,12 @@
 //! The files of a run: bytes by path, and which paths the run touched.
 //!
 //! It promises to the layers above:
-//! - contracts see a `Tree` as one value, the `FileState` of `specs/State.antt`: a finite map from paths to
-//!   bytes, and the finite set of the touched paths. How it lies in memory is seen nowhere;
-//! - each call that changes a tree leaves exactly what its definition in `specs/State.antt` says, and each
-//!   refusal comes exactly where that file says. After a refusal, want of memory included, the tree is as
-//!   it was, with its touched marks;
-//! - `read_line` is `line_read` of `specs/Line.antt`.
-//!
-//! Laws of these definitions, for layers that reason by them, stand in `proofs/Laws.antt`.
+//! - contracts see a `Tree` as one value, a `FileState` of `ldv_value`: the files sorted by path, and the
+//!   touched paths, sorted. How it lies in memory is seen nowhere;
+//! - each call that changes a tree leaves exactly what its definition in `FileState.antt` says, and each
+//!   refusal comes exactly where that file says. After a refusal, out of memory included, the tree is as it
+//!   was, with its touched paths;
+//! - `read_line` is the `read_line` of that file.
 #![tactic(auto)]
 
 mod contents;
@@ -17,6 +15,6 @@ mod marks;
 mod stop;
 mod tree;
 
-pub use line::LineRead;
+pub use ldv_value::LineRead;
 pub use stop::{AppendStop, TreeStop};
 pub use tree::Tree;

@@ -1,27 +1,15 @@
 //! Lines of a file.
 
 ghost use Rattle.std.specs.Prelude.{◌≡◌, ◌+◌, ◌^◌, ◌<◌, ◌≤◌, min, take, drop, length, position, IfOk};
-ghost use Rattle.file_tree.specs.Line.{is_line_feed, line_length, text_read, first_read, line_read};
+ghost use Rattle.ldv_value.specs.Limits.{file_limit};
+ghost use Rattle.ldv_value.specs.FileState.{is_line_feed, line_length, text_read, first_read, line_read};
 
-use ldv_value::{FILE_LIMIT, TEXT_LIMIT, Utf8};
+use ldv_value::{LineRead, TEXT_LIMIT, Utf8};
 use std::alloc::{AllocError, Global};
 
-/// What a read of a line answers.
-#[derive(Drop)]
-pub enum LineRead {
-    /// Nothing is left at the place, or there is no file.
-    End,
-    /// The line without its LF, and the place behind the LF, or at the end where the line has none.
-    Line { text: Utf8, next: u32 },
-    /// The line has more than 65,536 bytes.
-    TooLong,
-    /// The line has at most 65,536 bytes, and they aren't UTF-8.
-    NotText,
-}
-
-/// Reads the line that begins at a place of a file.
+/// Reads the line at a place of a file.
 pub(crate) fn read_at(alloc: Global, bytes: &[u8], at: u32) -> Result<LineRead, AllocError>
-    requires { length bytes.now ≤ FILE_LIMIT }
+    requires { length bytes.now ≤ file_limit }
     ensures { IfOk result (λ read. read ≡ line_read at (drop at bytes.now)) }
 {
     let place = at as usize;
@@ -32,7 +20,7 @@ pub(crate) fn read_at(alloc: Global, bytes: &[u8], at: u32) -> Result<LineRead, 
     }
 }
 
-// Reads the first line of bytes that stand at a place. There are some.
+// Reads the line at the start of `rest`, which isn't empty.
 fn read_first(alloc: Global, at: u32, rest: &[u8]) -> Result<LineRead, AllocError>
     requires some { 0 < length rest.now }
     requires fits { at + length rest.now < 2 ^ 32 }
@@ -46,7 +34,7 @@ fn read_first(alloc: Global, at: u32, rest: &[u8]) -> Result<LineRead, AllocErro
     read_text(alloc, &rest[..length], at + size as u32)
 }
 
-// Makes the line, if it is text.
+// The line, if it is UTF-8.
 #[tactic(auto, using(crate::proofs::Lines::text_made, crate::proofs::Lines::text_refused))]
 fn read_text(alloc: Global, line: &[u8], next: u32) -> Result<LineRead, AllocError>
     ensures { IfOk result (λ read. read ≡ text_read line.now next) }
@@ -60,8 +48,8 @@ fn read_text(alloc: Global, line: &[u8], next: u32) -> Result<LineRead, AllocErr
     }
 }
 
-// How many bytes stand before the first LF, of so many at the most. So a long line costs no more than a
-// line of the limit.
+// How many of the first `most` bytes come before the first LF. So a long line costs no more than one of
+// the limit.
 #[tactic(auto, using(crate::proofs::Lines::length_taken, crate::proofs::Lines::length_within))]
 fn searched_length(rest: &[u8], most: usize) -> usize
     ensures searched { result ≡ min most (line_length rest.now) }
@@ -70,7 +58,7 @@ fn searched_length(rest: &[u8], most: usize) -> usize
     before_line_feed(front(rest, most))
 }
 
-// The first bytes, at most so many.
+// At most the first `most` bytes.
 fn front(bytes: &[u8], most: usize) -> &[u8]
     ensures { result.now ≡ take most bytes.now }
 {
@@ -81,7 +69,7 @@ fn front(bytes: &[u8], most: usize) -> &[u8]
     }
 }
 
-// How many bytes stand before the first LF, or to the end.
+// How many bytes come before the first LF, or to the end.
 #[tactic(auto, using(crate::proofs::Lines::place_some, crate::proofs::Lines::place_none))]
 fn before_line_feed(bytes: &[u8]) -> usize
     ensures { result ≡ line_length bytes.now }

@@ -1,15 +1,16 @@
 //! A set of paths.
 
-ghost use Rattle.std.specs.Prelude.{◌≡◌, not, IfOk, OnErr, OnOk};
-ghost use Rattle.std.specs.FinMap as finmap;
-ghost use Rattle.file_tree.specs.State.{PathSet};
+ghost use Rattle.std.specs.Prelude.{◌≡◌, ℕ, List as Items, [], true, not, bytes_eq, IfOk, OnErr, OnOk};
+ghost use Rattle.std.specs.List.{list_any, filter};
+ghost use Rattle.ldv_value.specs.FileState.{add_path};
+ghost use Rattle.ldv_value.specs.Sorted.{is_strictly_sorted, text_precedes};
 
 use ldv_value::{Paths, Utf8};
 use std::alloc::{AllocError, Global};
 use std::collections::BTreeSet;
 use std::marker::Model;
 
-/// A set of paths.
+/// A set of paths. Contracts see the list of them, sorted.
 #[derive(Drop)]
 pub(crate) struct Marks {
     alloc: Global,
@@ -17,24 +18,20 @@ pub(crate) struct Marks {
 }
 
 impl Model for Marks {
-    ghost use Rattle.std.specs.Prelude.{List, ℕ};
-    ghost use Rattle.std.specs.FinMap as finmap;
-    ghost use Rattle.std.specs.Ordering.{nat_cmp};
-    ghost use Rattle.std.specs.Cmp.Lexicographic.{slice_cmp};
+    ghost use Rattle.std.specs.Prelude.{List as Items, ℕ};
     ghost use Rattle.std.specs.Coded.{coded_list, coded_ℕ};
-    ghost use base.Stored.{coded_unit};
-    ghost use Rattle.file_tree.specs.Views.{set_by_bytes};
+    ghost use Rattle.file_tree.specs.Views.{paths_in, set_by_bytes};
 
-    ghost Value = { finmap.FinMap (slice_cmp nat_cmp) (Unit {0}) };
+    ghost Value = { Items (Items ℕ) };
 
-    ghost coded = { finmap.code (coded_list coded_ℕ) coded_unit };
+    ghost coded = { coded_list (coded_list coded_ℕ) };
 
-    ghost view = { λ a. set_by_bytes a.paths.keys };
+    ghost view = { λ a. paths_in (set_by_bytes a.paths.keys) };
 }
 
 impl Marks {
     pub(crate) fn new(alloc: Global) -> Self
-        ensures { result ≡ finmap.empty }
+        ensures { result ≡ [] }
     {
         Marks {
             alloc,
@@ -44,8 +41,8 @@ impl Marks {
 
     /// Adds a path, and says whether it is new.
     pub(crate) fn add(&mut self, path: &str) -> Result<bool, AllocError>
-        ensures ok { OnOk result (self.new ≡ finmap.insert self.old path.now tt) }
-        ensures added { IfOk result (λ added. added ≡ not (finmap.contains_key self.old path.now)) }
+        ensures ok { OnOk result (self.new ≡ add_path path.now self.old) }
+        ensures added { IfOk result (λ added. added ≡ not (list_any (bytes_eq path.now) self.old)) }
         ensures err { OnErr result (self.new ≡ self.old) }
     {
         let key = String::from_str(self.alloc, path)?;
@@ -53,25 +50,27 @@ impl Marks {
         Ok(added)
     }
 
-    /// Undoes the adding of a path, which answered `added`.
+    /// Undoes an `add` of a path, which returned `added`.
     pub(crate) fn take_back(&mut self, path: &str, added: bool)
-        ensures { (before : PathSet) → self.old ≡ finmap.insert before path.now tt → added ≡ not (finmap.contains_key before path.now) → self.new ≡ before }
+        ensures { (before : Items (Items ℕ)) → is_strictly_sorted text_precedes before ≡ true
+            → self.old ≡ add_path path.now before
+            → added ≡ not (list_any (bytes_eq path.now) before) → self.new ≡ before }
     {
         if added {
             self.remove(path);
         }
     }
 
-    // Takes a path away.
+    // Removes a path.
     fn remove(&mut self, path: &str)
-        ensures { self.new ≡ finmap.remove self.old path.now }
+        ensures { self.new ≡ filter (λ p. not (bytes_eq path.now p)) self.old }
     {
         self.paths.remove(path);
     }
 
-    /// The paths, rising.
+    /// The paths, sorted.
     pub(crate) fn list(&self) -> Result<Paths, AllocError>
-        ensures { IfOk result (λ paths. paths ≡ finmap.keys self.now) }
+        ensures { IfOk result (λ paths. paths ≡ self.now) }
     {
         let mut paths = Paths::new(self.alloc);
         for path in self.paths.iter() {

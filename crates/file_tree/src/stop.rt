@@ -9,20 +9,20 @@ use std::alloc::AllocError;
 /// Why a file isn't opened or removed.
 #[derive(Clone, Copy, Debug, PartialEq, Eq)]
 pub enum TreeStop {
-    /// There is no file at the path.
+    /// No file exists at the path.
     Absent,
-    /// There is a file at the path already.
+    /// A file exists at the path.
     Taken,
-    /// Want of memory.
+    /// Out of memory.
     NoMemory,
 }
 
 /// Why nothing is appended to a file.
 #[derive(Clone, Copy, Debug, PartialEq, Eq)]
 pub enum AppendStop {
-    /// The file would have more than 16,777,216 bytes.
+    /// The file would be longer than `FILE_LIMIT`.
     TooLong,
-    /// Want of memory.
+    /// Out of memory.
     NoMemory,
 }
 

@@ -1,25 +1,27 @@
 //! The tree: files by path, and the touched paths.
 
-ghost use Rattle.std.specs.Prelude.{◌≡◌, ◌≢◌, ◌+◌, ◌<◌, ◌≤◌, ◌↔◌, ◌^◌, false, [], drop, length, IfOk, IfSome, OnOk, OnErr, IsTrue};
-ghost use Rattle.std.specs.List.{All};
-ghost use Rattle.std.specs.List.Sorted.{IsStrictlySortedBy};
-ghost use Rattle.std.specs.Ordering.{nat_cmp};
-ghost use Rattle.std.specs.Cmp.Lexicographic.{slice_cmp};
+ghost use Rattle.std.specs.Prelude.{◌≡◌, ◌≢◌, ◌+◌, ◌<◌, ◌≤◌, ◌↔◌, ◌^◌, true, false, [], drop, length};
+ghost use Rattle.std.specs.Prelude.{IfOk, IfSome, OnOk, OnErr, IsTrue};
+ghost use Rattle.std.specs.List.{All, list_all};
 ghost use Rattle.std.specs.Option.{option_map};
-ghost use Rattle.std.specs.FinMap as finmap;
+ghost use Rattle.ldv_value.specs.Limits.{file_limit};
 ghost use Rattle.ldv_value.specs.Names.{path_test};
-ghost use Rattle.file_tree.specs.Line.{line_read};
-ghost use Rattle.file_tree.specs.State.{content_at, is_there, bytes_at, rest_at, touched_paths, IsFile, files_of, untouched, put, touch, open_refusal, opened, removed, appended, copied, copy_end};
+ghost use Rattle.ldv_value.specs.Sorted.{is_strictly_sorted, text_precedes};
+ghost use Rattle.ldv_value.specs.FileState.{IsFile, file_precedes, put_file, add_path};
+ghost use Rattle.ldv_value.specs.FileState.{content_at, is_there, bytes_at, rest_at, untouched, put, touch};
+ghost use Rattle.ldv_value.specs.FileState.{NotFound, AlreadyExists, open_refusal, opened, removed};
+ghost use Rattle.ldv_value.specs.FileState.{appended, copied, copy_end, read_line};
+ghost use Rattle.file_tree.specs.Views.{files_from, stop_of};
 
 use crate::contents::Contents;
-use crate::line::{LineRead, read_at};
+use crate::line::read_at;
 use crate::marks::Marks;
 use crate::stop::{AppendStop, TreeStop};
-use ldv_value::{Bytes, FILE_LIMIT, File, Files, OpenMode, Paths};
+use ldv_value::{Bytes, FILE_LIMIT, File, Files, LineRead, OpenMode, Paths};
 use std::alloc::{AllocError, Global};
 use std::marker::Model;
 
-/// Files by path, and which paths were touched. Contracts see it as a `FileState`.
+/// Files by path, and which paths were touched. Contracts see a `FileState`.
 #[derive(Drop)]
 pub struct Tree {
     alloc: Global,
@@ -28,7 +30,8 @@ pub struct Tree {
 }
 
 impl Model for Tree {
-    ghost use Rattle.file_tree.specs.State.{FileState, state_code, IsTree};
+    ghost use Rattle.ldv_value.specs.FileState.{FileState, IsFileState};
+    ghost use Rattle.file_tree.specs.Views.{state_code};
 
     ghost Value = { FileState };
 
@@ -36,16 +39,18 @@ impl Model for Tree {
 
     ghost view = { λ a. record { files = a.files; touched = a.touched } };
 
-    ghost invariant = { λ a. IsTree (record { files = a.files; touched = a.touched }) };
+    ghost invariant = { λ a. IsFileState (record { files = a.files; touched = a.touched }) };
 }
 
 impl Tree {
     /// The tree of these files, with no path touched. The paths are valid, and each file has at most
-    /// 16,777,216 bytes. Of two files at one path the first stands. `AllocError` means want of memory
-    /// alone.
+    /// `FILE_LIMIT` bytes. Of two files at one path the first is kept.
+    #[tactic(auto, using(crate::proofs::Seen::files_as_given))]
     pub fn of_files(alloc: Global, files: Files) -> Result<Tree, AllocError>
         requires { All (λ f. IsFile f.path f.content) files }
-        ensures { IfOk result (λ tree. tree ≡ untouched files) }
+        ensures tree { IfOk result (λ tree. tree ≡ untouched (files_from files)) }
+        ensures sorted { is_strictly_sorted file_precedes files ≡ true
+            → IfOk result (λ tree. tree ≡ untouched files) }
     {
         Ok(Tree {
             alloc,
@@ -56,14 +61,15 @@ impl Tree {
 
     /// Opens a path: `Read` needs the file, `New` needs it absent, `Write` empties or makes it, `Append`
     /// keeps or makes it. Each but `Read` touches the path. `Absent` comes exactly where `Read` finds no
-    /// file, `Taken` exactly where `New` finds one, and `NoMemory` means want of memory alone. After each
-    /// of them the tree is as it was.
+    /// file, `Taken` exactly where `New` finds one. After an `Err` the tree is as it was.
     pub fn open_path(&mut self, mode: OpenMode, path: &str) -> Result<(), TreeStop>
         requires { IsTrue (path_test path.now) }
         ensures ok { OnOk result (self.new ≡ opened mode self.old path.now) }
         ensures allowed { OnOk result (open_refusal mode (is_there self.old path.now) ≡ None) }
-        ensures absent { (result ≡ Err TreeStop.Absent) ↔ (open_refusal mode (is_there self.old path.now) ≡ Some TreeStop.Absent) }
-        ensures taken { (result ≡ Err TreeStop.Taken) ↔ (open_refusal mode (is_there self.old path.now) ≡ Some TreeStop.Taken) }
+        ensures absent { (result ≡ Err TreeStop.Absent)
+            ↔ (open_refusal mode (is_there self.old path.now) ≡ Some NotFound) }
+        ensures taken { (result ≡ Err TreeStop.Taken)
+            ↔ (open_refusal mode (is_there self.old path.now) ≡ Some AlreadyExists) }
         ensures err { OnErr result (self.new ≡ self.old) }
     {
         match refusal(mode, self.exists(path)) {
@@ -75,10 +81,10 @@ impl Tree {
         }
     }
 
-    /// Reads the line of a file that begins at a place, in bytes from 0: up to the next LF or to the end,
-    /// without the LF. A place may be anywhere. `AllocError` means want of memory alone.
+    /// Reads the line at a place of a file, in bytes from 0: up to the next LF or to the end, without the
+    /// LF. The place may be anywhere.
     pub fn read_line(&self, path: &str, at: u32) -> Result<LineRead, AllocError>
-        ensures { IfOk result (λ read. read ≡ line_read at (rest_at self.now path.now at)) }
+        ensures { IfOk result (λ read. read ≡ read_line self.now path.now at) }
     {
         match self.state(path) {
             Some(bytes) => read_at(self.alloc, bytes, at),
@@ -87,13 +93,14 @@ impl Tree {
     }
 
     /// Appends bytes to a file, and makes it where it is absent. It touches no path. `TooLong` comes
-    /// exactly where the file would have more than 16,777,216 bytes, and `NoMemory` means want of memory
-    /// alone. After each of them the tree is as it was.
+    /// exactly where the file would be longer than `FILE_LIMIT`. After an `Err` the tree is as it was.
     pub fn append(&mut self, path: &str, bytes: &[u8]) -> Result<(), AppendStop>
         requires { IsTrue (path_test path.now) }
         ensures ok { OnOk result (self.new ≡ appended self.old path.now bytes.now) }
-        ensures within { OnOk result (length (bytes_at self.old path.now) + length bytes.now ≤ FILE_LIMIT) }
-        ensures too_long { (result ≡ Err AppendStop.TooLong) ↔ (FILE_LIMIT < length (bytes_at self.old path.now) + length bytes.now) }
+        ensures within { OnOk result
+            (length (bytes_at self.old path.now) + length bytes.now ≤ file_limit) }
+        ensures too_long { (result ≡ Err AppendStop.TooLong)
+            ↔ (file_limit < length (bytes_at self.old path.now) + length bytes.now) }
         ensures err { OnErr result (self.new ≡ self.old) }
     {
         if bytes.len() > FILE_LIMIT - self.size(path) {
@@ -103,15 +110,17 @@ impl Tree {
         Ok(())
     }
 
-    /// Appends the bytes of a file from a place on to another or the same file, and gives the place
-    /// behind what was copied. An absent file has no bytes, and none stand past the end; an absent target
-    /// is made. It touches no path. `TooLong` and `NoMemory` are as for `append`.
+    /// Appends the bytes of a file from a place on to another or the same file, and returns the place
+    /// after what was copied. An absent file has no bytes, and there are none past the end; an absent
+    /// target is made. It touches no path. Errors are as for `append`.
     pub fn copy_rest(&mut self, from: &str, at: u32, to: &str) -> Result<u32, AppendStop>
         requires { IsTrue (path_test to.now) }
         ensures ok { OnOk result (self.new ≡ copied self.old from.now at to.now) }
         ensures place { IfOk result (λ next. next ≡ copy_end self.old from.now at) }
-        ensures within { OnOk result (length (bytes_at self.old to.now) + length (rest_at self.old from.now at) ≤ FILE_LIMIT) }
-        ensures too_long { (result ≡ Err AppendStop.TooLong) ↔ (FILE_LIMIT < length (bytes_at self.old to.now) + length (rest_at self.old from.now at)) }
+        ensures within { OnOk result
+            (length (bytes_at self.old to.now) + length (rest_at self.old from.now at) ≤ file_limit) }
+        ensures too_long { (result ≡ Err AppendStop.TooLong)
+            ↔ (file_limit < length (bytes_at self.old to.now) + length (rest_at self.old from.now at)) }
         ensures err { OnErr result (self.new ≡ self.old) }
     {
         let size = self.rest_size(from, at);
@@ -123,9 +132,8 @@ impl Tree {
         Ok(at + size as u32)
     }
 
-    /// Removes a file and touches its path. `Absent` comes exactly where there is no file, and `NoMemory`
-    /// means want of memory alone, since the touched mark is kept. After each of them the tree is as it
-    /// was. It never answers `Taken`.
+    /// Removes a file and touches its path. `Absent` comes exactly where there is no file; `NoMemory` may
+    /// come, since the touched path is kept. After an `Err` the tree is as it was. It never returns `Taken`.
     pub fn remove(&mut self, path: &str) -> Result<(), TreeStop>
         ensures ok { OnOk result (self.new ≡ removed self.old path.now) }
         ensures there { OnOk result (IsTrue (is_there self.old path.now)) }
@@ -149,25 +157,25 @@ impl Tree {
         self.files.has(path)
     }
 
-    /// The bytes of a file, at most 16,777,216; `None` exactly where there is no file at the path. It
+    /// The bytes of a file, at most `FILE_LIMIT`; `None` exactly where there is no file at the path. It
     /// takes no memory.
     pub fn state(&self, path: &str) -> Option<&[u8]>
         ensures content { option_map (λ bytes. bytes.now) result ≡ content_at self.now path.now }
-        ensures within { IfSome result (λ bytes. length bytes.now ≤ FILE_LIMIT) }
+        ensures within { IfSome result (λ bytes. length bytes.now ≤ file_limit) }
     {
         self.files.get(path)
     }
 
-    /// The touched paths, rising by their bytes. `AllocError` means want of memory alone.
+    /// The touched paths, sorted by their bytes.
     pub fn touched(&self) -> Result<Paths, AllocError>
-        ensures paths { IfOk result (λ paths. paths ≡ touched_paths self.now) }
-        ensures rising { IfOk result (IsStrictlySortedBy (slice_cmp nat_cmp)) }
-        ensures valid { IfOk result (All (λ path. IsTrue (path_test path))) }
+        ensures paths { IfOk result (λ paths. paths ≡ self.now.touched) }
+        ensures sorted { IfOk result (λ paths. IsTrue (is_strictly_sorted text_precedes paths)) }
+        ensures valid { IfOk result (λ paths. IsTrue (list_all path_test paths)) }
     {
         self.touched.list()
     }
 
-    // Opens a path that is not refused.
+    // Opens a path where that isn't refused.
     fn open(&mut self, mode: OpenMode, path: &str) -> Result<(), AllocError>
         requires { IsTrue (path_test path.now) }
         ensures ok { OnOk result (self.new ≡ opened mode self.old path.now) }
@@ -188,14 +196,15 @@ impl Tree {
         ensures err { OnErr result (self.new ≡ self.old) }
     {
         let empty = Bytes::new(self.alloc);
-        put_marked(&mut self.files, &mut self.touched, path, empty)?;
+        put_touched(&mut self.files, &mut self.touched, path, empty)?;
         Ok(())
     }
 
     // Keeps or makes a file, and touches its path.
     fn keep(&mut self, path: &str) -> Result<(), AllocError>
         requires { IsTrue (path_test path.now) }
-        ensures ok { OnOk result (self.new ≡ touch (put self.old path.now (bytes_at self.old path.now)) path.now) }
+        ensures ok { OnOk result
+            (self.new ≡ touch (put self.old path.now (bytes_at self.old path.now)) path.now) }
         ensures err { OnErr result (self.new ≡ self.old) }
     {
         if self.exists(path) {
@@ -209,7 +218,7 @@ impl Tree {
     // How many bytes a file has.
     fn size(&self, path: &str) -> usize
         ensures size { result ≡ length (bytes_at self.now path.now) }
-        ensures within { result ≤ FILE_LIMIT }
+        ensures within { result ≤ file_limit }
     {
         match self.state(path) {
             Some(bytes) => bytes.len(),
@@ -238,7 +247,7 @@ impl Tree {
     // Appends bytes to a file that stays within the limit.
     fn extend(&mut self, path: &str, bytes: &[u8]) -> Result<(), AllocError>
         requires valid { IsTrue (path_test path.now) }
-        requires fits { length (bytes_at self.old path.now) + length bytes.now ≤ FILE_LIMIT }
+        requires fits { length (bytes_at self.old path.now) + length bytes.now ≤ file_limit }
         ensures ok { OnOk result (self.new ≡ appended self.old path.now bytes.now) }
         ensures err { OnErr result (self.new ≡ self.old) }
     {
@@ -247,15 +256,16 @@ impl Tree {
     }
 }
 
-// Puts bytes at a path, and marks it.
-fn put_marked(
+// Puts bytes at a path, and touches it.
+fn put_touched(
     files: &mut Contents,
     touched: &mut Marks,
     path: &str,
     bytes: Bytes,
 ) -> Result<(), AllocError>
-    ensures files { OnOk result (files.new ≡ finmap.insert files.old path.now bytes) }
-    ensures touched { OnOk result (touched.new ≡ finmap.insert touched.old path.now tt) }
+    requires { is_strictly_sorted text_precedes touched.old ≡ true }
+    ensures files { OnOk result (files.new ≡ put_file path.now bytes files.old) }
+    ensures touched { OnOk result (touched.new ≡ add_path path.now touched.old) }
     ensures files_err { OnErr result (files.new ≡ files.old) }
     ensures touched_err { OnErr result (touched.new ≡ touched.old) }
 {
@@ -271,7 +281,7 @@ fn put_marked(
 
 // Why an open is refused.
 fn refusal(mode: OpenMode, found: bool) -> Option<TreeStop>
-    ensures { result ≡ open_refusal mode found }
+    ensures { result ≡ option_map stop_of (open_refusal mode found) }
 {
     match (mode, found) {
         (OpenMode::Read, false) => Some(TreeStop::Absent),
@@ -287,9 +297,9 @@ fn rest_of(bytes: &[u8], at: usize) -> &[u8]
     if at < bytes.len() { &bytes[at..] } else { &[] }
 }
 
-// Files by path. They are put in from the last to the first, so that of two at one path the first stands.
+// Files by path, put in from the last to the first, so that of two at one path the first is kept.
 fn contents_of(alloc: Global, files: Files) -> Result<Contents, AllocError>
-    ensures { IfOk result (λ contents. contents ≡ files_of files) }
+    ensures { IfOk result (λ contents. contents ≡ files_from files) }
 {
     let mut contents = Contents::new(alloc);
     let mut left = files.into_vec();

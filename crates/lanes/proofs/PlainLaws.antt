@@ -10,7 +10,7 @@ use Rattle.std.proofs.Math.Nat.{eq-or-lt_of_le}
 use Rattle.ldv_value.specs.declared.value.Cmp.{Cmp}
 use Rattle.lanes.specs.Sets.{member}
 use Rattle.lanes.specs.Selection.{passes, holds_at}
-use Rattle.lanes.proofs.SetLaws.{or_false}
+use Rattle.ldv_value.proofs.Booleans.{or-false}
 
 -- a word with one bit set further has that number further
 pub inserted : (words : List ℕ) (number : ℕ) → number / 64 < length words → (n : ℕ)
@@ -40,7 +40,7 @@ inserted words number room n =
           ap (λ (w : ℕ). bit_at w (n % 64) == 1) (rw get_or-set_other refl) ∙ ap (λ (b : Bool). b || member words n) (sym (ne_eqb n number apart))
     ]
 
--- the places below a place are selected, and then that place too
+-- the indexes below an index are selected, and then that one too
 pub selected_more : (holds old new : ℕ → Bool) (place : ℕ) → ((n : ℕ) → old n ≡ (nat_lt n place && holds n)) → ((n : ℕ) → new n ≡ ((n == place && holds place) || old n))
     → (n : ℕ) → new n ≡ (nat_lt n (place + 1) && holds n)
 selected_more holds old new place before step n = elim (cases_lt n place) [
@@ -56,7 +56,7 @@ selected_more holds old new place before step n = elim (cases_lt n place) [
         let early : nat_lt n place ≡ false = le-ltb n place from in
         let late : nat_lt n (place + 1) ≡ true = lt-ltb n (place + 1) (omega arith) in
         step n ∙ ap (λ (b : Bool). (b && holds place) || old n) hit ∙ ap (λ (b : Bool). holds place || b) (before n ∙ ap (λ (b : Bool). b && holds n) early)
-        ∙ or_false (holds place) ∙ ap holds is ∙ sym (ap (λ (b : Bool). b && holds n) late)
+        ∙ or-false (holds place) ∙ ap holds is ∙ sym (ap (λ (b : Bool). b && holds n) late)
     | inr above ↦
         let apart : n ≢ place = omega arith in
         let miss : (n == place) ≡ false = ne_eqb n place apart in
@@ -66,7 +66,7 @@ selected_more holds old new place before step n = elim (cases_lt n place) [
   ]
 ]
 
--- past the column's end no place is selected
+-- past the column's end no index is selected
 pub selected_all : (op : Cmp) (column : List ℤ) (constant : ℤ) (n : ℕ) → (nat_lt n (length column) && holds_at op column constant n) ≡ holds_at op column constant n
 selected_all op column constant n = elim (cases_lt n (length column)) [
   | inl within ↦ ap (λ (b : Bool). b && holds_at op column constant n) (lt-ltb n (length column) within)
@@ -75,10 +75,10 @@ selected_all op column constant n = elim (cases_lt n (length column)) [
       ∙ sym (ap (λ (o : Option ℤ). option_map_or (passes op constant) o false) (slice_get_past column n past))
 ]
 
--- whether the comparison holds at a place within the column
+-- whether the comparison holds at an index within the column
 pub held : (op : Cmp) (column : List ℤ) (constant : ℤ) (place : ℕ) → place < length column → holds_at op column constant place ≡ passes op constant (get_or column place (pos 0))
 held op column constant place within = ap (λ (o : Option ℤ). option_map_or (passes op constant) o false) (slice_get-get_or column place (pos 0) within)
 
-pub both_true : (a b : Bool) → b ≡ true → (a && b) ≡ a
-both_true true b is = is
-both_true false b is = refl
+pub and-when_true : (a b : Bool) → b ≡ true → (a && b) ≡ a
+and-when_true true b is = is
+and-when_true false b is = refl

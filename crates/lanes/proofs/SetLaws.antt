@@ -1,9 +1,10 @@
 -- What merged words make of the members of two sets.
-use Rattle.std.proofs.Common.{◌≡◌, ◌==◌, ℕ, zero, suc, ◌-◌, ◌/◌, ◌%◌, ◌^◌, ◌<◌, ◌≤◌, ◌⊎◌, inl, inr, Bool, true, false, not, ◌&&◌, ◌||◌, List, length, get_or, min, max, refl, ap, sym, ◌∙◌, arith, bit_and, bit_or, Fits, w64}
+use Rattle.std.proofs.Common.{◌≡◌, ◌==◌, ℕ, zero, suc, ◌-◌, ◌/◌, ◌%◌, ◌^◌, ◌<◌, ◌≤◌, ◌⊎◌, inl, inr, Bool, false, not, ◌&&◌, ◌||◌, List, length, get_or, min, max, refl, ap, sym, ◌∙◌, arith, bit_and, bit_or, Fits, w64}
 use Rattle.std.specs.Int.{bit_at, bit_not}
 use Rattle.std.proofs.lemmas.Bool.{cases_lt}
 use Rattle.std.proofs.lemmas.List.{get_or_past}
 use Rattle.std.proofs.lemmas.Nat.Bits.{bit_at-lt, bit_at-zero, bit_at_and, bit_at_or, bit_at_not}
+use Rattle.ldv_value.proofs.Booleans.{or-false, and-false, and-true}
 use Rattle.lanes.specs.Sets.{member, IsUnion, IsIntersection, IsDifference}
 use Rattle.lanes.specs.Merged.{IsMergedTo, without}
 
@@ -43,22 +44,10 @@ without_bit x y i fits within =
 pub no_member : (words : List ℕ) (n : ℕ) → length words ≤ n / 64 → member words n ≡ false
 no_member words n past = ap (λ (x : ℕ). bit_at x (n % 64) == 1) (get_or_past words (n / 64) 0 past) ∙ ap (λ (p : ℕ). p == 1) (bit_at-zero (n % 64))
 
-pub or_false : (b : Bool) → (b || false) ≡ b
-or_false true = refl
-or_false false = refl
-
-and_false : (b : Bool) → (b && false) ≡ false
-and_false true = refl
-and_false false = refl
-
-and_true : (b : Bool) → (b && true) ≡ b
-and_true true = refl
-and_true false = refl
-
 pub union_is : (a b new : List ℕ) → length a ≡ length b → IsMergedTo bit_or a b new (length a) → IsUnion a b new
 union_is a b new same done n = elim (cases_lt (n / 64) (length a)) [
   | inl within ↦ ap (λ (x : ℕ). bit_at x (n % 64) == 1) (done.merged (n / 64) within) ∙ or_bit (get_or a (n / 64) 0) (get_or b (n / 64) 0) (n % 64)
-  | inr past ↦ ap (λ (x : ℕ). bit_at x (n % 64) == 1) (done.kept (n / 64) past) ∙ sym (ap (λ (t : Bool). member a n || t) (no_member b n (omega arith)) ∙ or_false (member a n))
+  | inr past ↦ ap (λ (x : ℕ). bit_at x (n % 64) == 1) (done.kept (n / 64) past) ∙ sym (ap (λ (t : Bool). member a n || t) (no_member b n (omega arith)) ∙ or-false (member a n))
 ]
 
 pub intersection_is : (a b new : List ℕ) → length a ≡ length b → IsMergedTo bit_and a b new (length a) → IsIntersection a b new
@@ -66,7 +55,7 @@ intersection_is a b new same done n = elim (cases_lt (n / 64) (length a)) [
   | inl within ↦ ap (λ (x : ℕ). bit_at x (n % 64) == 1) (done.merged (n / 64) within) ∙ and_bit (get_or a (n / 64) 0) (get_or b (n / 64) 0) (n % 64)
   | inr past ↦
       ap (λ (x : ℕ). bit_at x (n % 64) == 1) (done.kept (n / 64) past) ∙ no_member a n past
-      ∙ sym (ap (λ (t : Bool). member a n && t) (no_member b n (omega arith)) ∙ and_false (member a n))
+      ∙ sym (ap (λ (t : Bool). member a n && t) (no_member b n (omega arith)) ∙ and-false (member a n))
 ]
 
 pub difference_is : (a b new : List ℕ) → length a ≡ length b → ((k : ℕ) → Fits w64 (get_or b k 0)) → IsMergedTo without a b new (length a) → IsDifference a b new
@@ -76,5 +65,5 @@ difference_is a b new same fit done n = elim (cases_lt (n / 64) (length a)) [
       ∙ without_bit (get_or a (n / 64) 0) (get_or b (n / 64) 0) (n % 64) (fit (n / 64)).fits (omega arith)
   | inr past ↦
       ap (λ (x : ℕ). bit_at x (n % 64) == 1) (done.kept (n / 64) past)
-      ∙ sym (ap (λ (t : Bool). member a n && not t) (no_member b n (omega arith)) ∙ and_true (member a n))
+      ∙ sym (ap (λ (t : Bool). member a n && not t) (no_member b n (omega arith)) ∙ and-true (member a n))
 ]

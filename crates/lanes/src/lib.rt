@@ -5,10 +5,10 @@
 //! `specs/Sets.antt` and `specs/Selection.antt`:
 //! - `or_into`, `and_into` and `minus_into` are union, intersection and difference;
 //! - `count` is the number of members, and `next_one` the least member from a number on;
-//! - `select_i64` is the set of the places at which a comparison holds.
+//! - `select_i64` is the set of the indexes at which a comparison holds.
 //!
-//! No call takes memory or refuses. Beside each stands its plain body, number by number or word by word,
-//! proved against the same definition: tests compare the two.
+//! No call takes memory or fails. Each has a plain form beside it, number by number or word by word,
+//! proved against the same definition.
 #![tactic(auto)]
 
 mod members;

@@ -1,13 +1,14 @@
-//! How many members a set has, and which comes next.
+//! The number of members of a set, and the next member.
 
-ghost use Rattle.std.specs.Prelude.{◌≡◌, ℕ, ◌+◌, ◌*◌, ◌^◌, ◌<◌, ◌≤◌, length, drop, sum_by, count_ones, slice_index, IsTrue};
+ghost use Rattle.std.specs.Prelude.{◌≡◌, ℕ, ◌+◌, ◌*◌, ◌^◌, ◌<◌, ◌≤◌, length, drop, sum_by, count_ones};
+ghost use Rattle.std.specs.Prelude.{slice_index, IsTrue};
 ghost use Rattle.std.specs.Int.{bit_at};
 ghost use Rattle.std.specs.Simd.Lanes.{chunk};
 ghost use Rattle.lanes.specs.Sets.{size, IsNext, IsLowest};
 
 use std::simd::prelude::*;
 
-/// How many members a set has.
+/// The number of members of a set.
 #[tactic(auto, using(crate::proofs::CountLaws::size_is, crate::proofs::CountLaws::ones_bound))]
 pub fn count(a: &[u64]) -> u64
     requires { length a.now < 2 ^ 57 }
@@ -22,7 +23,7 @@ pub fn count(a: &[u64]) -> u64
     total + count_rest(a, at)
 }
 
-// How many bits are set in the eight words from a place on.
+// The number of bits that are set in the eight words from an index on.
 fn count_block(a: &[u64], at: usize) -> u64
     requires { at + 8 ≤ length a.now }
     ensures { result ≡ sum_by count_ones (chunk at 8 a.now) }
@@ -30,7 +31,7 @@ fn count_block(a: &[u64], at: usize) -> u64
     u64x8::from_slice(&a[at..]).count_ones().reduce_sum()
 }
 
-// How many bits are set in the words from a place on, of which there are few.
+// The number of bits that are set in the words from an index on.
 fn count_rest(a: &[u64], from: usize) -> u64
     requires within { from ≤ length a.now }
     requires few { length a.now < 2 ^ 57 }
@@ -43,7 +44,7 @@ fn count_rest(a: &[u64], from: usize) -> u64
     total
 }
 
-/// The least member that is at least `from`; `None` where there is none.
+/// The least member of at least `from`; `None` where there is none.
 pub fn next_one(a: &[u64], from: u64) -> Option<u64>
     requires { length a.now < 2 ^ 57 }
     ensures { IsNext a.now from result }
@@ -58,7 +59,7 @@ pub fn next_one(a: &[u64], from: u64) -> Option<u64>
     }
 }
 
-// The lowest bit of a word that is set, from a bit on.
+// The lowest bit that is set in a word, from a bit on.
 fn lowest_from(word: u64, from: u64) -> Option<u64>
     requires { from < 64 }
     ensures { IsLowest word from result }
@@ -71,7 +72,7 @@ fn lowest_from(word: u64, from: u64) -> Option<u64>
     }
 }
 
-// The least member in the words from a place on.
+// The least member in the words from an index on.
 fn next_after(a: &[u64], place: usize) -> Option<u64>
     requires within { place ≤ length a.now }
     requires few { length a.now < 2 ^ 57 }
@@ -84,7 +85,7 @@ fn next_after(a: &[u64], place: usize) -> Option<u64>
     Some(next as u64 * 64 + u64::from(a[next].trailing_zeros()))
 }
 
-// Skips words without a bit, eight at a time.
+// Skips words without a bit set, eight at a time.
 fn skip_blocks(a: &[u64], from: usize) -> usize
     requires { from ≤ length a.now }
     ensures onward { from ≤ result }
@@ -98,7 +99,7 @@ fn skip_blocks(a: &[u64], from: usize) -> usize
     at
 }
 
-// Whether none of the eight words from a place on has a bit.
+// Whether the eight words from an index on have no bit set.
 fn is_empty_block(a: &[u64], at: usize) -> bool
     requires { at + 8 ≤ length a.now }
     ensures { IsTrue result → (k : ℕ) → at ≤ k → k < at + 8 → slice_index a.now k ≡ 0 }
@@ -109,7 +110,7 @@ fn is_empty_block(a: &[u64], at: usize) -> bool
         == 0
 }
 
-// The place of the next word with a bit, from a place on, or the number of words.
+// The index of the next word with a bit set, from an index on, or the number of words.
 fn next_word(a: &[u64], from: usize) -> usize
     requires { from ≤ length a.now }
     ensures onward { from ≤ result }

@@ -1,4 +1,4 @@
-//! One walk over the words of two sets, eight at a time, for every way to merge two words.
+//! One loop over the words of two sets, eight at a time, for every way to merge two words.
 
 ghost use Rattle.std.specs.Prelude.{◌≡◌, ℕ, List, ◌+◌, ◌<◌, ◌≤◌, length, bit_and, bit_or};
 ghost use Rattle.std.specs.Simd.Lanes.{zip2, chunk, put_chunk};
@@ -71,7 +71,7 @@ pub(crate) fn merge_into<M: Merge>(a: &mut [u64], b: &[u64])
     merge_rest::<M>(a, b, from);
 }
 
-// Merges eight words at a time, as long as there are eight, and gives the place that it reached.
+// Merges eight words at a time while there are eight, and returns the index of the first word that is left.
 #[tactic(auto, using(crate::proofs::MergeSteps::none_merged, crate::proofs::MergeSteps::more_by_eight))]
 fn merge_blocks<M: Merge>(a: &mut [u64], b: &[u64]) -> usize
     requires { length a.old ≡ length b.now }
@@ -86,7 +86,7 @@ fn merge_blocks<M: Merge>(a: &mut [u64], b: &[u64]) -> usize
     at
 }
 
-// Merges the eight words from a place on.
+// Merges the eight words from an index on.
 fn merge_block<M: Merge>(a: &mut [u64], b: &[u64], at: usize)
     requires lengths { length a.old ≡ length b.now }
     requires within { at + 8 ≤ length a.old }
@@ -97,12 +97,13 @@ fn merge_block<M: Merge>(a: &mut [u64], b: &[u64], at: usize)
     M::lanes(left, right).copy_to_slice(&mut a[at..]);
 }
 
-// Merges the words from a place on, one by one.
+// Merges the words from an index on, one by one.
 #[tactic(auto, using(crate::proofs::MergeSteps::more_by_one))]
 fn merge_rest<M: Merge>(a: &mut [u64], b: &[u64], from: usize)
     requires lengths { length a.old ≡ length b.now }
     requires within { from ≤ length a.old }
-    ensures { (start : List ℕ) → IsMergedTo M.merge start b.now a.old from → IsMergedTo M.merge start b.now a.new (length a.old) }
+    ensures { (start : List ℕ) → IsMergedTo M.merge start b.now a.old from
+        → IsMergedTo M.merge start b.now a.new (length a.old) }
 {
     for place in from..a.len() {
         a[place] = M::word(a[place], b[place]);

@@ -1,7 +1,7 @@
-//! The same kernels, number by number: the reference that the fast ones are tested against, proved
-//! against the same definitions.
+//! The same kernels, number by number, proved against the same definitions: a reference for the fast ones.
 
-ghost use Rattle.std.specs.Prelude.{◌≡◌, ◌==◌, ◌||◌, ◌&&◌, ℕ, ◌+◌, ◌*◌, ◌/◌, ◌^◌, ◌<◌, length, slice_index, nat_lt};
+ghost use Rattle.std.specs.Prelude.{◌≡◌, ◌==◌, ◌||◌, ◌&&◌, ℕ, ◌+◌, ◌*◌, ◌/◌, ◌^◌, ◌<◌, length};
+ghost use Rattle.std.specs.Prelude.{slice_index, nat_lt};
 ghost use Rattle.lanes.specs.Sets.{member, size, IsNext, IsUnion, IsIntersection, IsDifference};
 ghost use Rattle.lanes.specs.Selection.{IsSelection, holds_at};
 
@@ -63,7 +63,7 @@ pub fn plain_next_one(a: &[u64], from: u64) -> Option<u64>
     None
 }
 
-/// `select_i64`, place by place.
+/// `select_i64`, index by index.
 pub fn plain_select_i64(op: Cmp, column: &[i64], constant: i64, mask: &mut [u64])
     requires { length mask.old ≡ (length column.now + 63) / 64 }
     ensures { IsSelection op column.now constant mask.new }
@@ -74,11 +74,12 @@ pub fn plain_select_i64(op: Cmp, column: &[i64], constant: i64, mask: &mut [u64]
     }
 }
 
-// Puts a place into the set if the comparison holds there.
+// Adds an index to the set if the comparison holds there.
 fn select_place(op: Cmp, column: &[i64], constant: i64, mask: &mut [u64], place: usize)
     requires within { place < length column.now }
     requires room { place / 64 < length mask.old }
-    ensures { (n : ℕ) → member mask.new n ≡ ((n == place && holds_at op column.now constant place) || member mask.old n) }
+    ensures { (n : ℕ) → member mask.new n
+        ≡ ((n == place && holds_at op column.now constant place) || member mask.old n) }
 {
     if !compares(op, column[place], constant) {
         return;
@@ -94,7 +95,7 @@ fn is_member(a: &[u64], number: u64) -> bool
     (a[(number / 64) as usize] >> (number % 64)) & 1 == 1
 }
 
-// Takes every number out of the set.
+// Removes every number from the set.
 fn clear(a: &mut [u64])
     ensures { (k : ℕ) → slice_index a.new k ≡ 0 }
 {
@@ -103,7 +104,7 @@ fn clear(a: &mut [u64])
     }
 }
 
-// Puts a number into the set.
+// Adds a number to the set.
 fn insert(a: &mut [u64], number: usize)
     requires { number / 64 < length a.old }
     ensures { (n : ℕ) → member a.new n ≡ (n == number || member a.old n) }

@@ -1,4 +1,4 @@
-//! The places of a column at which a comparison holds.
+//! The indexes of a column at which a comparison holds.
 
 ghost use Rattle.std.specs.Prelude.{◌≡◌, ℕ, ◌+◌, ◌-◌, ◌*◌, ◌/◌, ◌^◌, ◌<◌, ◌≤◌, length, map, drop};
 ghost use Rattle.std.specs.Simd.Lanes.{chunk, mask_l};
@@ -7,8 +7,8 @@ ghost use Rattle.lanes.specs.Selection.{passes, IsSelection, IsSelectedTo};
 use ldv_value::Cmp;
 use std::simd::prelude::*;
 
-/// Sets in `mask` the places of `column` whose number compares so to `constant`, and clears all other
-/// bits.
+/// Sets in `mask` the bits of the indexes of `column` at which the comparison with `constant` holds, and
+/// clears all others.
 pub fn select_i64(op: Cmp, column: &[i64], constant: i64, mask: &mut [u64])
     requires { length mask.old ≡ (length column.now + 63) / 64 }
     ensures { IsSelection op column.now constant mask.new }
@@ -18,7 +18,7 @@ pub fn select_i64(op: Cmp, column: &[i64], constant: i64, mask: &mut [u64])
     }
 }
 
-// The bits of the 64 places from a place on, or of as many as there are.
+// The bits of the 64 indexes from an index on, or of those up to the end.
 fn word_at(op: Cmp, column: &[i64], constant: i64, at: usize) -> u64
     requires { at ≤ length column.now }
     ensures { result ≡ mask_l (map (passes op constant) (chunk at 64 column.now)) }
@@ -30,7 +30,7 @@ fn word_at(op: Cmp, column: &[i64], constant: i64, at: usize) -> u64
     }
 }
 
-// The bits of at most 64 places, from the last to the first: the last few one by one, all others eight
+// The bits of at most 64 numbers, from the last to the first: the last few one by one, all others eight
 // at a time.
 fn word_of(op: Cmp, part: &[i64], constant: i64) -> u64
     requires { length part.now ≤ 64 }
@@ -45,7 +45,7 @@ fn word_of(op: Cmp, part: &[i64], constant: i64) -> u64
     word
 }
 
-// The bits of the eight places from a place on.
+// The bits of the eight numbers from an index on.
 fn eight_bits(op: Cmp, part: &[i64], constant: i64, at: usize) -> u64
     requires { at + 8 ≤ length part.now }
     ensures { result ≡ mask_l (map (passes op constant) (chunk at 8 part.now)) }
@@ -72,7 +72,7 @@ fn eight_bits(op: Cmp, part: &[i64], constant: i64, at: usize) -> u64
     }
 }
 
-// The bits of the places from a place on, of which there are at most 64.
+// The bits of the numbers from an index on.
 pub(crate) fn bits_from(op: Cmp, part: &[i64], constant: i64, from: usize) -> u64
     requires within { from ≤ length part.now }
     requires few { length part.now ≤ 64 }
@@ -87,7 +87,7 @@ pub(crate) fn bits_from(op: Cmp, part: &[i64], constant: i64, from: usize) -> u6
     word
 }
 
-// Whether a number compares so to the constant.
+// Whether the comparison of a number with the constant holds.
 pub(crate) fn compares(op: Cmp, number: i64, constant: i64) -> bool
     ensures { result ≡ passes op constant number }
 {

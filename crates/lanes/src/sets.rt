@@ -14,7 +14,7 @@ pub fn or_into(a: &mut [u64], b: &[u64])
     merge_into::<Or>(a, b);
 }
 
-/// Leaves of `a` the members that `b` has too.
+/// Keeps in `a` only the members of `b`.
 #[tactic(auto, using(crate::proofs::SetLaws::intersection_is))]
 pub fn and_into(a: &mut [u64], b: &[u64])
     requires { length a.old ≡ length b.now }
@@ -23,7 +23,7 @@ pub fn and_into(a: &mut [u64], b: &[u64])
     merge_into::<And>(a, b);
 }
 
-/// Takes from `a` the members of `b`.
+/// Removes from `a` the members of `b`.
 #[tactic(auto, using(crate::proofs::SetLaws::difference_is))]
 pub fn minus_into(a: &mut [u64], b: &[u64])
     requires { length a.old ≡ length b.now }

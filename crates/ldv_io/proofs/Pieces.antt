@@ -3,7 +3,7 @@ use Rattle.std.proofs.Common.{◌≡◌, ℕ, ◌+◌, ◌-◌, ◌≤◌, List,
 use Rattle.std.proofs.lemmas.List.{drop_all, take-take, length-take-le, take_at}
 use Rattle.std.proofs.Math.Seq.{take-add}
 
--- the first at of xs, and then the first n of what stands after them
+-- the first `at` items of xs, and then the first n after them
 pub more_taken : (xs : List ℕ) (at n : ℕ) → take at xs ++ take n (take (length xs - at) (drop at xs)) ≡ take (at + n) xs
 more_taken xs at n = ap (λ (l : List ℕ). take at xs ++ take n l) (take_all (length xs - at) (drop at xs) (omega (arith, length-drop at xs))) ∙ sym (take-add at n xs)
 
@@ -13,11 +13,11 @@ front_at ys tail part at n is fits =
     let len : length part ≡ n = ap length same ∙ length-take-le n (drop at ys) (omega (arith, length-drop at ys)) in
     sym (ap (λ (l : List ℕ). l ++ drop (at + n) ys) (take_at part tail n len ∙ same) ∙ ap (λ (l : List ℕ). take n (drop at ys) ++ l) (sym (drop-drop n at ys)) ∙ take-append-drop n (drop at ys))
 
--- a buffer begins with the n bytes from a place on, and the rest goes on behind them
-pub front_given : (xs ys tail part : List ℕ) (at n : ℕ) → ys ≡ xs → part ≡ take n (take (length ys - at) (drop at ys)) → n ≤ length ys - at
+-- a buffer begins with the n bytes from a place on, and the rest follows
+pub front_copied : (xs ys tail part : List ℕ) (at n : ℕ) → ys ≡ xs → part ≡ take n (take (length ys - at) (drop at ys)) → n ≤ length ys - at
     → drop at xs ≡ take n (part ++ tail) ++ drop (at + n) xs
-front_given xs ys tail part at n whole is fits = subst (λ (l : List ℕ). drop at l ≡ take n (part ++ tail) ++ drop (at + n) l) whole (front_at ys tail part at n is fits)
+front_copied xs ys tail part at n whole is fits = subst (λ (l : List ℕ). drop at l ≡ take n (part ++ tail) ++ drop (at + n) l) whole (front_at ys tail part at n is fits)
 
--- nothing stands from a place on that is the list's length
-pub none_given : (xs : List ℕ) (at : ℕ) → length xs ≤ at → drop at xs ≡ []
-none_given xs at past = drop_all at xs past
+-- nothing is left from a place on that is the list's length
+pub none_left : (xs : List ℕ) (at : ℕ) → length xs ≤ at → drop at xs ≡ []
+none_left xs at past = drop_all at xs past

@@ -2,7 +2,7 @@
 use Rattle.std.specs.Prelude.{◌≡◌, ℕ, ◌+◌, ◌-◌, ◌^◌, ◌<◌, ◌⊎◌, List, length, drop, ◌++◌, Contains}
 use Rattle.ldv_io.specs.Causes.{raised}
 
--- What a source in memory is: the bytes left, the most that a read gives, the numbers of the calls
+-- What a source in memory is: the bytes left, the most that a read returns, the numbers of the calls
 -- that fail, the calls made and the faults, both up to the last number of 64 bits.
 pub record Reader : Type 0 where
   pub left : List ℕ
@@ -20,16 +20,16 @@ pub record Writer : Type 0 where
   pub calls : ℕ
   pub faults : ℕ
 
--- What a source that never fails is: the bytes left, and the most that a read gives.
+-- What a source that never fails is: the bytes left, and the most that a read returns.
 pub record Steady : Type 0 where
   pub left : List ℕ
   pub piece : ℕ
 
--- Calls are numbered from 1, and numbers end at 2^64 - 1. The call after so many calls is listed.
+-- Calls are numbered from 1 to 2^64 - 1. The call after a number of calls is listed.
 abbrev pub IsListed : List ℕ → ℕ → Type 0
 IsListed failing calls = (calls + 1 < 2 ^ 64) × Contains failing (calls + 1)
 
--- the source after a read that failed, and after one that gave n bytes
+-- the source after a read that failed, and after one that returned n bytes
 abbrev pub read_failed : Reader → Reader
 read_failed r = record r { calls = raised r.calls; faults = raised r.faults }
 
@@ -41,7 +41,11 @@ abbrev pub write_failed : Writer → Writer
 write_failed w = record w { calls = raised w.calls; faults = raised w.faults }
 
 abbrev pub write_took : List ℕ → Writer → Writer
-write_took bytes w = record w { taken = w.taken ++ bytes; room = w.room - length bytes; calls = raised w.calls }
+write_took bytes w = record w {
+  taken = w.taken ++ bytes;
+  room = w.room - length bytes;
+  calls = raised w.calls;
+}
 
 -- a write of these bytes fails
 abbrev pub IsRefused : Writer → List ℕ → Type 0

@@ -1,11 +1,14 @@
 //! A source and a sink in memory, whose calls fail where a list says so.
 
-ghost use Rattle.std.specs.Prelude.{◌≡◌, ◌↔◌, ◌+◌, ◌<◌, ◌≤◌, ◌^◌, min, length, drop, take, [], ◌++◌, IsErr, IsTrue, IfOk, MatchResult, IsPermutation, Contains, Some, vec_capacity};
+ghost use Rattle.std.specs.Prelude.{◌≡◌, ◌↔◌, ◌+◌, ◌<◌, ◌≤◌, ◌^◌, min, length, drop, take, [], ◌++◌};
+ghost use Rattle.std.specs.Prelude.{IsErr, IsTrue, IfOk, MatchResult, IsPermutation, Contains, Some};
+ghost use Rattle.std.specs.Prelude.{vec_capacity};
 ghost use Rattle.std.specs.List.Sorted.{IsNonDecreasing};
 ghost use Rattle.std.specs.Io.{ReadsAtMost, WritesAtMost};
 ghost use Rattle.std.specs.Io.KnownBytes.{ReadConsumes, WriteAppends};
 ghost use Rattle.ldv_io.specs.Causes.{HasCause, raised};
-ghost use Rattle.ldv_io.specs.InMemory.{IsListed, IsRefused, read_failed, read_gave, write_failed, write_took};
+ghost use Rattle.ldv_io.specs.InMemory.{IsListed, IsRefused};
+ghost use Rattle.ldv_io.specs.InMemory.{read_failed, read_gave, write_failed, write_took};
 
 use crate::sink::Sink;
 use crate::source::{Failed, Source};
@@ -13,14 +16,14 @@ use ldv_value::{Bytes, Calls};
 use std::alloc::{AllocError, Global};
 use std::marker::Model;
 
-/// A source of bytes in memory. It gives at most a piece at each read, and a read fails exactly where
-/// its number is listed. Reads are numbered from 1; numbers end at 2^64 - 1, and a later read has none.
+/// A source of bytes in memory. Each read returns at most a piece, and fails exactly where its number is
+/// listed. Reads are numbered from 1 to 2^64 - 1, and a later read has no number.
 #[derive(Drop)]
 pub struct MemorySource {
     bytes: Bytes,
     at: usize,
     piece: usize,
-    // Sorted, so that a call finds its number fast in a list of any length.
+    // Sorted, so that a call finds its number by bisection.
     failing: Vec<u64>,
     calls: u64,
     faults: u64,
@@ -76,10 +79,12 @@ impl Source for MemorySource {
         ensures bound { ReadsAtMost result buf.new }
         ensures bytes { ReadConsumes (Some self.old.left) (Some self.new.left) result buf.new }
         ensures cause { HasCause self.old.faults self.new.faults result }
-        // Beyond what every source says: when it fails, how much it gives, and what it is afterwards.
+        // Beyond every source: when it fails, how much it returns, and what it is afterwards.
         ensures fails { IsErr result ↔ IsListed self.old.failing self.old.calls }
-        ensures count { IfOk result (λ n. n ≡ min self.old.piece (min (length buf.new) (length self.old.left))) }
-        ensures after { MatchResult result (λ n. self.new ≡ read_gave n self.old) (λ _. self.new ≡ read_failed self.old) }
+        ensures count { IfOk result (λ n.
+            n ≡ min self.old.piece (min (length buf.new) (length self.old.left))) }
+        ensures after { MatchResult result (λ n. self.new ≡ read_gave n self.old)
+            (λ _. self.new ≡ read_failed self.old) }
     {
         let fails = is_listed(&self.failing, self.calls);
         self.calls = self.calls.saturating_add(1);
@@ -87,15 +92,15 @@ impl Source for MemorySource {
             self.faults = self.faults.saturating_add(1);
             return Err(Failed);
         }
-        let count = give(&self.bytes, self.at, self.piece, buf);
+        let count = copy_piece(&self.bytes, self.at, self.piece, buf);
         self.at += count;
         Ok(count)
     }
 }
 
-// Copies the next bytes to the front of the buffer, at most a piece, and says how many they are.
-#[tactic(auto, using(crate::proofs::Pieces::none_given))]
-pub(crate) fn give(bytes: &Bytes, at: usize, piece: usize, buf: &mut [u8]) -> usize
+// Copies the next bytes to the front of the buffer, at most a piece, and returns how many they are.
+#[tactic(auto, using(crate::proofs::Pieces::none_left))]
+pub(crate) fn copy_piece(bytes: &Bytes, at: usize, piece: usize, buf: &mut [u8]) -> usize
     requires piece { 0 < piece }
     requires within { at ≤ length bytes.now }
     ensures count { result ≡ min piece (min (length buf.new) (length (drop at bytes.now))) }
@@ -111,17 +116,17 @@ pub(crate) fn give(bytes: &Bytes, at: usize, piece: usize, buf: &mut [u8]) -> us
     count
 }
 
-// The numbers in their order. It takes no memory.
+// The numbers, sorted. It takes no memory.
 fn sorted(failing: Calls) -> Vec<u64>
     ensures same { IsPermutation failing result.items }
-    ensures rising { IsNonDecreasing result.items }
+    ensures sorted { IsNonDecreasing result.items }
 {
     let mut numbers = failing.into_vec();
     numbers.sort_unstable();
     numbers
 }
 
-// Whether the call after so many calls is listed. Past the last number a call has none.
+// Whether the call after `calls` calls is listed. Past the last number a call has none.
 fn is_listed(failing: &Vec<u64>, calls: u64) -> bool
     requires { IsNonDecreasing failing.now.items }
     ensures { IsTrue result ↔ IsListed failing.now.items calls }
@@ -139,16 +144,16 @@ fn has_number(failing: &[u64], number: u64) -> bool
     failing.binary_search(&number).is_ok()
 }
 
-/// A sink in memory with room for a number of bytes. It takes at most a piece at each write, and a write
-/// fails exactly where its number is listed, or where there are bytes to write and no room is left.
-/// Writes are numbered from 1; numbers end at 2^64 - 1, and a later write has none.
+/// A sink in memory with room for a number of bytes. Each write takes at most a piece, and fails exactly
+/// where its number is listed, or where there are bytes to write and no room is left. Writes are numbered
+/// from 1 to 2^64 - 1, and a later write has no number.
 #[derive(Drop)]
 pub struct MemorySink {
     // It has the room from the start, so that a write takes no memory.
     held: Vec<u8>,
     room: usize,
     piece: usize,
-    // Sorted, as a source's.
+    // Sorted, as in a source.
     failing: Vec<u64>,
     calls: u64,
     faults: u64,
@@ -170,12 +175,13 @@ impl Model for MemorySink {
       faults = a.faults;
     } };
 
-    ghost invariant = { λ a. (0 < a.piece) × (length a.held.items + a.room ≤ vec_capacity a.held) × IsNonDecreasing a.failing.items };
+    ghost invariant = { λ a. (0 < a.piece) × (length a.held.items + a.room ≤ vec_capacity a.held)
+        × IsNonDecreasing a.failing.items };
 }
 
 impl MemorySink {
     /// A sink with room for `room` bytes and at least one byte a piece, whose writes with these numbers
-    /// fail. `AllocError` means want of memory for the room alone.
+    /// fail.
     pub fn new(alloc: Global, room: usize, piece: usize, failing: Calls) -> Result<Self, AllocError>
         requires { 0 < piece }
         ensures taken { IfOk result (λ sink. sink.taken ≡ []) }
@@ -216,10 +222,11 @@ impl Sink for MemorySink {
         ensures bytes { WriteAppends (Some self.old.taken) (Some self.new.taken) result bytes.now }
         ensures progress { IfOk result (λ n. 0 < length bytes.now → 0 < n) }
         ensures cause { HasCause self.old.faults self.new.faults result }
-        // Beyond what every sink says: when it fails, how much it takes, and what it is afterwards.
+        // Beyond every sink: when it fails, how much it takes, and what it is afterwards.
         ensures fails { IsErr result ↔ IsRefused self.old bytes.now }
         ensures count { IfOk result (λ n. n ≡ min self.old.piece (min self.old.room (length bytes.now))) }
-        ensures after { MatchResult result (λ n. self.new ≡ write_took (take n bytes.now) self.old) (λ _. self.new ≡ write_failed self.old) }
+        ensures after { MatchResult result (λ n. self.new ≡ write_took (take n bytes.now) self.old)
+            (λ _. self.new ≡ write_failed self.old) }
     {
         let fails = is_listed(&self.failing, self.calls) || self.room == 0 && !bytes.is_empty();
         self.calls = self.calls.saturating_add(1);

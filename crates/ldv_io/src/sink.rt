@@ -10,14 +10,14 @@ use crate::source::Failed;
 
 /// Where bytes go.
 pub trait Sink {
-    /// The bytes that were taken, where they are told.
+    /// The bytes that were taken, where they are reported.
     ghost taken: { Self → Option (List ℕ) };
 
-    /// How often a write has failed. It never falls; at its last number, 2^64 - 1, it stays.
+    /// How often a write has failed, up to 2^64 - 1. It never decreases.
     ghost faults: { Self → ℕ };
 
-    /// Takes bytes from the front of `bytes`, and says how many: at least one where there is one.
-    /// `Failed` took none, and comes only where the count of faults rose.
+    /// Takes bytes from the front of `bytes`, and returns how many: at least one where there is one.
+    /// `Failed` took none, and comes only where the count of faults increased.
     fn write(&mut self, bytes: &[u8]) -> Result<usize, Failed>
         ensures bound { WritesAtMost result bytes.now }
         ensures bytes { WriteAppends (taken self.old) (taken self.new) result bytes.now }

@@ -9,7 +9,7 @@ use crate::sink::Sink;
 use crate::source::{Failed, Source};
 use std::io::{Read, Write};
 
-/// A reader of std as a source. It tells nothing of bytes. Each failure raises its count by one, up to
+/// A reader of std as a source. It reports no bytes. Each failure increases its count by one, up to
 /// 2^64 - 1.
 #[derive(Drop)]
 pub struct StdSource<R: Read + Drop> {
@@ -18,7 +18,7 @@ pub struct StdSource<R: Read + Drop> {
 }
 
 impl<R: Read + Drop> StdSource<R> {
-    /// A source of what the reader gives.
+    /// A source of what the reader reads.
     pub fn new(reader: R) -> Self
         ensures reader { result.reader ≡ reader }
         ensures faults { result.faults ≡ 0 }
@@ -38,9 +38,11 @@ impl<R: Read + Drop> Source for StdSource<R> {
         ensures bound { ReadsAtMost result buf.new }
         ensures bytes { ReadConsumes None None result buf.new }
         ensures cause { HasCause self.old.faults self.new.faults result }
-        // Beyond what every source says: what the reader gave, and the exact count.
-        ensures reader { ReadConsumes (R.remaining self.old.reader) (R.remaining self.new.reader) result buf.new }
-        ensures counted { MatchResult result (λ _. self.new.faults ≡ self.old.faults) (λ _. self.new.faults ≡ raised self.old.faults) }
+        // Beyond every source: what the reader returned, and the exact count.
+        ensures reader { ReadConsumes (R.remaining self.old.reader) (R.remaining self.new.reader)
+            result buf.new }
+        ensures counted { MatchResult result (λ _. self.new.faults ≡ self.old.faults)
+            (λ _. self.new.faults ≡ raised self.old.faults) }
     {
         match self.reader.read(buf) {
             Ok(count) => Ok(count),
@@ -52,9 +54,9 @@ impl<R: Read + Drop> Source for StdSource<R> {
     }
 }
 
-/// A writer of std as a sink, flushed after each write. It tells nothing of bytes. Each failure raises
-/// its count by one, up to 2^64 - 1. A writer that takes none of some bytes has failed, and so has one
-/// that took some and couldn't be flushed.
+/// A writer of std as a sink, flushed after each write. It reports no bytes. Each failure increases its
+/// count by one, up to 2^64 - 1. A writer that takes no byte where there is one has failed, and so has one
+/// that couldn't be flushed.
 #[derive(Drop)]
 pub struct StdSink<W: Write + Drop> {
     writer: W,
@@ -83,14 +85,16 @@ impl<W: Write + Drop> Sink for StdSink<W> {
         ensures bytes { WriteAppends None None result bytes.now }
         ensures progress { IfOk result (λ n. 0 < length bytes.now → 0 < n) }
         ensures cause { HasCause self.old.faults self.new.faults result }
-        // Beyond what every sink says: what the writer took, and the exact count.
-        ensures writer { IfOk result (λ n. Appends (W.contents self.old.writer) (W.contents self.new.writer) (take n bytes.now)) }
-        ensures counted { MatchResult result (λ _. self.new.faults ≡ self.old.faults) (λ _. self.new.faults ≡ raised self.old.faults) }
+        // Beyond every sink: what the writer took, and the exact count.
+        ensures writer { IfOk result (λ n.
+            Appends (W.contents self.old.writer) (W.contents self.new.writer) (take n bytes.now)) }
+        ensures counted { MatchResult result (λ _. self.new.faults ≡ self.old.faults)
+            (λ _. self.new.faults ≡ raised self.old.faults) }
     {
         if bytes.is_empty() {
             return Ok(0);
         }
-        match write_flushed(&mut self.writer, bytes) {
+        match write_and_flush(&mut self.writer, bytes) {
             Ok(count) => Ok(count),
             Err(_) => {
                 self.faults = self.faults.saturating_add(1);
@@ -101,22 +105,23 @@ impl<W: Write + Drop> Sink for StdSink<W> {
 }
 
 // Writes some of the bytes, at least one, and flushes.
-fn write_flushed<W: Write>(writer: &mut W, bytes: &[u8]) -> Result<usize, Failed>
+fn write_and_flush<W: Write>(writer: &mut W, bytes: &[u8]) -> Result<usize, Failed>
     ensures bound { IfOk result (λ n. n ≤ length bytes.now) }
     ensures progress { IfOk result (λ n. 0 < n) }
-    ensures bytes { IfOk result (λ n. Appends (W.contents writer.old) (W.contents writer.new) (take n bytes.now)) }
+    ensures bytes { IfOk result (λ n.
+        Appends (W.contents writer.old) (W.contents writer.new) (take n bytes.now)) }
 {
     match writer.write(bytes) {
         Ok(0) => Err(Failed),
         Ok(count) => {
-            flushed(writer)?;
+            flush(writer)?;
             Ok(count)
         }
         Err(_) => Err(Failed),
     }
 }
 
-fn flushed<W: Write>(writer: &mut W) -> Result<(), Failed>
+fn flush<W: Write>(writer: &mut W) -> Result<(), Failed>
     ensures { Keeps (W.contents writer.old) (W.contents writer.new) }
 {
     match writer.flush() {

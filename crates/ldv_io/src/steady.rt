@@ -5,13 +5,13 @@ ghost use Rattle.std.specs.Io.{ReadsAtMost, WritesAtMost};
 ghost use Rattle.std.specs.Io.KnownBytes.{ReadConsumes, WriteAppends};
 ghost use Rattle.ldv_io.specs.Causes.{HasCause};
 
-use crate::memory::give;
+use crate::memory::copy_piece;
 use crate::sink::Sink;
 use crate::source::{Failed, Source};
 use ldv_value::Bytes;
 use std::marker::Model;
 
-/// A source of bytes in memory that never fails. It gives at most a piece at each read.
+/// A source of bytes in memory that never fails. Each read returns at most a piece.
 #[derive(Drop)]
 pub struct SteadySource {
     bytes: Bytes,
@@ -56,18 +56,19 @@ impl Source for SteadySource {
         ensures bound { ReadsAtMost result buf.new }
         ensures bytes { ReadConsumes (Some self.old.left) (Some self.new.left) result buf.new }
         ensures cause { HasCause 0 0 result }
-        // Beyond what every source says: it never fails, and how much it gives.
+        // Beyond every source: it never fails, and how much it returns.
         ensures steady { IsOk result }
-        ensures count { IfOk result (λ n. n ≡ min self.old.piece (min (length buf.new) (length self.old.left))) }
+        ensures count { IfOk result (λ n.
+            n ≡ min self.old.piece (min (length buf.new) (length self.old.left))) }
         ensures piece { self.new.piece ≡ self.old.piece }
     {
-        let count = give(&self.bytes, self.at, self.piece, buf);
+        let count = copy_piece(&self.bytes, self.at, self.piece, buf);
         self.at += count;
         Ok(count)
     }
 }
 
-/// A sink that takes every piece whole and drops it. It never fails.
+/// A sink that takes all bytes and drops them. It never fails.
 #[derive(Drop)]
 pub struct DropSink {}
 
@@ -90,7 +91,7 @@ impl Sink for DropSink {
         ensures bytes { WriteAppends None None result bytes.now }
         ensures progress { IfOk result (λ n. 0 < length bytes.now → 0 < n) }
         ensures cause { HasCause 0 0 result }
-        // Beyond what every sink says: it takes each piece whole.
+        // Beyond every sink: it takes all bytes.
         ensures steady { result ≡ Ok (length bytes.now) }
     {
         Ok(bytes.len())

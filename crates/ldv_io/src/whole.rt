@@ -1,6 +1,7 @@
 //! Reading a whole input and writing a whole output.
 
-ghost use Rattle.std.specs.Prelude.{◌≡◌, ℕ, ◌<◌, ◌≤◌, List, Some, length, take, IfOk, OnOk, OnErr, IfSome, IsErrOf, IfErr};
+ghost use Rattle.std.specs.Prelude.{◌≡◌, ℕ, ◌<◌, ◌≤◌, List, Some, length, take};
+ghost use Rattle.std.specs.Prelude.{IfOk, OnOk, OnErr, IfSome, IsErrOf, IfErr};
 ghost use Rattle.std.specs.Io.KnownBytes.{Appends, Consumes, IsAtEnd};
 ghost use Rattle.ldv_io.specs.Causes.{Rose};
 ghost use Rattle.ldv_io.specs.Whole.{ReadsWhole};
@@ -23,7 +24,7 @@ pub enum ReadStop {
     /// More bytes were left than the limit allows.
     #[error("the input is too long")]
     TooLong,
-    /// Memory ran out.
+    /// Out of memory.
     #[error("out of memory")]
     NoMemory,
 }
@@ -38,8 +39,8 @@ pub enum WriteStop {
 
 /// Reads to the end of input, at most `limit` bytes. Each turn reads at least a byte or is the last.
 ///
-/// `Fault` comes where a read failed, `TooLong` where more than `limit` bytes were left, `NoMemory` for
-/// want of memory alone. At an `Err` the source has a rest of its bytes.
+/// `Fault` comes where a read failed, `TooLong` where more than `limit` bytes were left. On `Err` some
+/// bytes may have been consumed.
 #[tactic(auto, using(crate::proofs::WholeLemmas::reads_whole))]
 pub fn read_all<S: Source>(alloc: Global, source: &mut S, limit: u64) -> Result<Bytes, ReadStop>
     ensures whole { IfOk result (λ bytes. Consumes (S.left source.old) (S.left source.new) bytes) }
@@ -48,22 +49,24 @@ pub fn read_all<S: Source>(alloc: Global, source: &mut S, limit: u64) -> Result<
     ensures rest { OnErr result ((front : List ℕ) × Consumes (S.left source.old) (S.left source.new) front) }
     ensures later { S.faults source.old ≤ S.faults source.new }
     ensures fault { IsErrOf result ReadStop.Fault → Rose (S.faults source.old) (S.faults source.new) }
-    ensures too_long { IsErrOf result ReadStop.TooLong → IfSome (S.left source.old) (λ bytes. limit < length bytes) }
-    // Where no read failed, each answer comes exactly where it is due.
+    ensures too_long { IsErrOf result ReadStop.TooLong
+        → IfSome (S.left source.old) (λ bytes. limit < length bytes) }
+    // Where no read failed, each result comes exactly where it is due.
     ensures exact { (bytes : List ℕ) → S.left source.old ≡ Some bytes
         → (¬ Rose (S.faults source.old) (S.faults source.new)) → ReadsWhole result bytes limit }
 {
-    gather(alloc, source, limit)
+    read_to_end(alloc, source, limit)
 }
 
-fn gather<S: Source>(alloc: Global, source: &mut S, limit: u64) -> Result<Bytes, ReadStop>
+fn read_to_end<S: Source>(alloc: Global, source: &mut S, limit: u64) -> Result<Bytes, ReadStop>
     ensures whole { IfOk result (λ bytes. Consumes (S.left source.old) (S.left source.new) bytes) }
     ensures end { OnOk result (IsAtEnd (S.left source.new)) }
     ensures within { IfOk result (λ bytes. length bytes ≤ limit) }
     ensures rest { OnErr result ((front : List ℕ) × Consumes (S.left source.old) (S.left source.new) front) }
     ensures later { S.faults source.old ≤ S.faults source.new }
     ensures fault { IsErrOf result ReadStop.Fault → Rose (S.faults source.old) (S.faults source.new) }
-    ensures too_long { IsErrOf result ReadStop.TooLong → IfSome (S.left source.old) (λ bytes. limit < length bytes) }
+    ensures too_long { IsErrOf result ReadStop.TooLong
+        → IfSome (S.left source.old) (λ bytes. limit < length bytes) }
 {
     let mut buf = buffer(alloc)?;
     let mut bytes = Vec::new(alloc);
@@ -84,9 +87,9 @@ fn gather<S: Source>(alloc: Global, source: &mut S, limit: u64) -> Result<Bytes,
     }
 }
 
-// On the heap, since a stack may be small. `NoMemory` means want of memory alone.
+// On the heap, since a stack may be small.
 fn buffer(alloc: Global) -> Result<Vec<u8>, ReadStop>
-    ensures room { IfOk result (λ buf. length buf.items ≡ 65536) }
+    ensures room { IfOk result (λ buf. length buf.items ≡ PIECE) }
     ensures stop { IfErr result (λ stop. stop ≡ ReadStop.NoMemory) }
 {
     match vec![in alloc; 0u8; PIECE] {
@@ -100,7 +103,8 @@ fn buffer(alloc: Global) -> Result<Vec<u8>, ReadStop>
 /// `Fault` comes where a write failed, and then the sink took a proper prefix of the bytes.
 pub fn write_all<K: Sink>(sink: &mut K, bytes: &[u8]) -> Result<(), WriteStop>
     ensures whole { OnOk result (Appends (K.taken sink.old) (K.taken sink.new) bytes.now) }
-    ensures part { OnErr result ((n : ℕ) × (n < length bytes.now) × Appends (K.taken sink.old) (K.taken sink.new) (take n bytes.now)) }
+    ensures part { OnErr result ((n : ℕ) × (n < length bytes.now)
+        × Appends (K.taken sink.old) (K.taken sink.new) (take n bytes.now)) }
     ensures later { K.faults sink.old ≤ K.faults sink.new }
     ensures fault { OnErr result (Rose (K.faults sink.old) (K.faults sink.new)) }
 {

@@ -24,18 +24,18 @@ use Rattle.sql_model.specs.declared.statement.Statement.{Statement}
 use Rattle.sql_model.specs.declared.statement.Statement.TheVariants.{Query as TheQuery, Insert as TheInsert, Update as TheUpdate, Delete as TheDelete}
 use Rattle.sql_model.specs.declared.table.Table.{Table}
 use Rattle.sql_model.specs.declared.table.TableRow.{TableRow}
-use Rattle.sql_model.specs.Answers.{meets_all}
+use Rattle.sql_model.specs.QueryAnswer.{meets_all}
 use Rattle.sql_model.specs.Built.{has_at_most_one, is_built}
 use Rattle.sql_model.specs.Changes.{or_else}
 use Rattle.sql_model.specs.Kinds.{names_in}
 use Rattle.sql_model.specs.Needs.{NeededRow, need_of, asked_tables}
-use Rattle.sql_model.specs.Places.{placed_unless, checked_of, places_of}
+use Rattle.sql_model.specs.Places.{checked_unless, checked_of, places_of}
 use Rattle.sql_model.specs.Refusals.{check_refusal}
 use Rattle.sql_model.specs.Scope.{InScope, same_text, is_table, table_at, rows_of, catalog_of, scope_of, places_in, environment}
-use Rattle.sql_model.specs.Sense.{is_true, truth}
+use Rattle.sql_model.specs.Meaning.{is_true, truth}
 use Rattle.sql_model.specs.Statements.{refusal_of, reply_or, reply_of}
-use Rattle.replay_db.proofs.BuiltStatements.{plain_core, plain_query, Plain, query_is, reply_is, need_none}
-use Rattle.replay_db.proofs.SelectionNeeds.{Rise, read_row, picked_rows, built_reply, built_needs, refused_query, built_tables}
+use Rattle.ldv_top.proofs.BuiltStatements.{plain_core, plain_query, Plain, query_is, reply_is, need_none}
+use Rattle.ldv_top.proofs.SelectionNeeds.{Rise, read_row, picked_rows, built_reply, built_needs, refused_query, built_tables}
 use Rattle.ldv_top.specs.Asks.{core_of, source_in, names_in_source, rows_in_source, first_places, verdict_of, is_met, condition_names, InScopes, row_values, row_need, picked_values, picked_needs, needs_in_source}
 use Rattle.ldv_top.specs.Rising.{Above, RowsRise, TablesRise}
 use Rattle.ldv_top.specs.Traces.{first_version, reads_of}
@@ -259,7 +259,7 @@ refusal_same (TheDelete delete) db built = cc
 
 module _ (st : Statement) (catalog : Catalog) (db : List Table) (built : is_built (Some st) ≡ true) (same : catalog ≡ catalog_of db) where
   abbrev verdict_if : Option SqlRefusal → Result (List ℕ) SqlRefusal
-  verdict_if refusal = verdict_of (placed_unless refusal st (catalog_of db))
+  verdict_if refusal = verdict_of (checked_unless refusal st (catalog_of db))
 
   given : (v : Result (List ℕ) SqlRefusal) → v ≡ verdict_of (checked_of st catalog) → (refusal : Option SqlRefusal) → check_refusal st (catalog_of db) ≡ refusal → v ≡ verdict_if refusal
   given v is refusal known = is ∙ ap (λ (c : Catalog). verdict_of (checked_of st c)) same ∙ ap verdict_if known

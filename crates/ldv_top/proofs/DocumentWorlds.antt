@@ -25,6 +25,9 @@ use Rattle.package_layout.specs.Order as order
 use Rattle.package_layout.specs.Order.{is_below, file_below, row_below, table_below, is_below_next}
 use Rattle.package_layout.specs.Room.{few, key_room, row_room, table_room}
 use Rattle.package_layout.specs.Valid as valid
+use Rattle.sql_model.specs.Tables.{tables_test}
+use Rattle.ldv_value.specs.Limits.{max_next}
+use Rattle.replay_db.proofs.WorldRules.{next_within, ruled_tables}
 use Rattle.replay_db.specs.Worlds.{all_of_file, all_of_row, all_of_table, world_rules}
 use Rattle.world_json.specs.Faults as faults
 use Rattle.world_json.specs.Faults.{is_column, place_in, key_places, is_value_short, is_kind, is_there, each_value}
@@ -340,6 +343,7 @@ record Parts (draft : Draft) : Type 0 where
   few_columns : nat_le (length draft.columns) 64 ≡ true
   short : list_all (list_all is_value_short) draft.rows ≡ true
   numbers : nat_le (length draft.rows) draft.next ≡ true
+  top : nat_le draft.next max_next ≡ true
   key_filled : list_all (faults.is_not_null draft.columns) draft.key ≡ true
   key_once : not (has_two_of_a_key (key_places draft.columns draft.key) draft.rows) ≡ true
 
@@ -376,6 +380,7 @@ parts_of draft fit =
       few_columns = w4.1;
       short = w2.1;
       numbers = w5.0;
+      top = w5.1;
       key_filled = k.0;
       key_once = k.1;
     }
@@ -627,3 +632,28 @@ document_world bytes w is rising =
     let no_fault : IsWorldOf behind.0 w = behind.1 in
     let rising_too : is_rising (world_as behind.0) ≡ true = ap is_rising no_fault.world_is ∙ rising in
     subst (λ (v : World). IsTrue (world_rules v)) no_fault.world_is (document_met behind.0 w no_fault behind.2 rising_too)
+
+-- ---- its tables
+
+-- of which each has a next number of four bytes
+nexts_met : (drafts : List Draft) → AllByRecursion FitDraft drafts → list_all next_within (map table_as drafts) ≡ true
+nexts_met [] fit = refl
+nexts_met (draft ∷ drafts) fit = and_from (next_within (table_as draft)) (list_all next_within (map table_as drafts)) (parts_of draft fit.0).top (nexts_met drafts fit.1)
+
+document_fit : (doc : Document) (w : World) → IsWorldOf doc w → IsWide doc → AllByRecursion FitDraft doc.tables
+document_fit doc w no_fault wide =
+    let path_tests : Bool = list_all (λ (file : File). path_test file.path) doc.files in
+    let table_names : Bool = list_all faults.is_table_named doc.tables in
+    let count : Bool = nat_le (length doc.tables) 256 in
+    let n1 = and_parts (path_tests && table_names) (faults.is_start_named doc.start) no_fault.named in
+    let n2 = and_parts path_tests table_names n1.0 in
+    let w1 = and_parts (faults.are_files_within doc.files && faults.are_words_within doc.start && count) (list_all faults.is_table_within doc.tables) no_fault.within in
+    each_fit doc.tables n2.1 w1.1 no_fault.typed no_fault.filled no_fault.keyed wide
+
+-- the tables of a document's world are valid
+pub document_tables : (bytes : List ℕ) (w : World) → world_reading bytes ≡ Ok w → IsTrue (world_rules w) → tables_test w.tables ≡ true
+document_tables bytes w is ruled =
+    let behind : Behind w = parsed_behind (json_of bytes) w is in
+    let no_fault : IsWorldOf behind.0 w = behind.1 in
+    let nexts : list_all next_within (world_as behind.0).tables ≡ true = nexts_met behind.0.tables (document_fit behind.0 w no_fault behind.2) in
+    ruled_tables w ruled (ap (λ (v : World). list_all next_within v.tables) (sym no_fault.world_is) ∙ nexts)

@@ -1,12 +1,15 @@
-pub mod AnswerLaws
+pub mod ResponseLaws
 pub mod AskLaw
+pub mod BudgetLaw
 pub mod BuiltLaw
+pub mod BuiltStatements
 pub mod DocumentWorlds
 pub mod HeadlineLaw
 pub mod RecordLaws
 pub mod ReplayLaws
 pub mod RisingRows
 pub mod RunLaw
+pub mod SelectionNeeds
 pub mod TopLaws
 pub mod TraceLaw
 pub mod WriteLemmas

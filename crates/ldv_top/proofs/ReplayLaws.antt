@@ -5,7 +5,7 @@ use Rattle.std.specs.List.{list_all}
 use Rattle.ldv_value.specs.Names.{path_test}
 use Rattle.run_model.specs.declared.package.Package.{Package}
 use Rattle.run_model.specs.declared.package.PackedFile.{PackedFile}
-use Rattle.run_model.specs.Slice.{own_file, own_world, or_empty}
+use Rattle.run_model.specs.Package.{own_file, own_world, or_empty}
 use Rattle.run_model.specs.Start.{has_small_files}
 use Rattle.package_layout.specs.Order.{rises, file_below}
 use Rattle.package_layout.specs.Valid.{Valid, start_rule, file_rule, content_rule, files_rule, tables_rule, logs_rule, parts_rule, whole_rule, keys_rule, script_rule}

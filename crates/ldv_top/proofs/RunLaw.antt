@@ -1,36 +1,35 @@
--- The run of a plain script comes to what the script comes to.
-use Rattle.std.proofs.Common.{◌≡◌, ◌≢◌, ℕ, zero, suc, ◌+◌, ◌-◌, ◌*◌, ◌/◌, ◌%◌, ◌^◌, ◌<◌, ◌≤◌, List, [], ◌∷◌, ◌++◌, length, refl, sym, ap, ◌∙◌, subst, Bool, true, false, cond, arith, append-nil, append_assoc, inl, inr, drop, add-one, zero-add}
-use Rattle.std.proofs.Math.Nat.{suc-add}
-use Rattle.std.specs.Prelude.{Option, Some, None, option_map, option_and_then, map, find, slice_get, slice_set, not, ◌&&◌, ◌==◌, nat_lt, if◌then◌else◌, ◌⊎◌, pos, negsuc, is_some, is_none, slice_index, unwrap_or}
+-- The run of a plain script yields what the script yields.
+use Rattle.std.proofs.Common.{◌≡◌, ℕ, zero, suc, ◌+◌, ◌-◌, ◌*◌, ◌/◌, ◌%◌, ◌^◌, ◌<◌, ◌≤◌, List, [], ◌∷◌, ◌++◌, length, refl, sym, ap, ◌∙◌, subst, Bool, true, false, cond, arith, append-nil, append_assoc, inl, inr, drop, add-one}
+use Rattle.std.specs.Prelude.{Option, Some, None, option_map, option_and_then, map, find, slice_get, slice_set, not, ◌&&◌, ◌||◌, ◌==◌, nat_lt, if◌then◌else◌, pos, negsuc, is_some, is_none, slice_index, unwrap_or}
 use Rattle.std.proofs.lemmas.Bool.{cases_Bool}
 use Rattle.std.proofs.lemmas.Bool.Decides.{nat_tests}
-use Rattle.ldv_value.specs.declared.value.Value.{Value}
-use Rattle.ldv_value.specs.declared.value.Value.TheVariants.{Null, Int, Text}
-use Rattle.script_parse.specs.declared.script.Operand.{Operand}
-use Rattle.script_parse.specs.declared.script.Operand.TheVariants.{Constant, Variable}
-use Rattle.script_parse.specs.declared.script.Instr.{Instr}
-use Rattle.script_parse.specs.declared.script.Instr.TheVariants.{Print, Exit, Sql, Wait}
-use Rattle.sql_model.specs.declared.reply.Reply.{Reply}
-use Rattle.sql_model.specs.declared.table.Table.{Table}
-use Rattle.sql_model.specs.declared.statement.Statement.{Statement}
+use Rattle.std.proofs.lemmas.List.{map-append}
+use Rattle.ldv_value.proofs.Cases.{cases-option}
+use Rattle.ldv_value.specs.Limits.{printed_limit}
+use Rattle.replay_db.specs.Types.{Value, Null, Int, Text, Operand, Constant, Variable, Instr, Print, Exit, Sql, Wait, Reply, Entry, Table, Statement, Act, World}
+use Rattle.sql_model.specs.QueryAnswer.{Origin}
 use Rattle.sql_model.specs.Built.{is_built}
-use Rattle.sql_model.specs.Statements.{reply_of}
-use Rattle.sql_model.specs.Texts.{statement_of}
-use Rattle.run_model.specs.declared.world.World.{World}
-use Rattle.run_model.specs.Ends.{by_name, outcome_of_process, outcome_of_path, outcome_of, outcome_within}
-use Rattle.run_model.specs.State.{Process, State, start_state, new_process, after_first_word}
-use Rattle.run_model.specs.Step.{operand_value, operand_values, ended, went_on, with_process, printed_line, print_line, exit_status, with_reply, ask, execute, execute_next, step}
-use Rattle.run_model.specs.Run.{has_ended, all_ended, is_runnable, is_waiting, runnable, pick, pick_of, round_robin, at_random, moved_x, scheduled, step_on, advanced, run}
-use Rattle.replay_db.proofs.BuiltStatements.{built_after}
+use Rattle.sql_model.specs.Statements.{reply_of, after}
+use Rattle.sql_model.specs.Needs.{updated_rows}
+use Rattle.sql_parse.specs.Texts.{statement_of}
+use Rattle.run_model.specs.Core.{Process, Core, all_ended, is_over, has_ended, first_process}
+use Rattle.run_model.specs.Database.{Question, Gives}
+use Rattle.run_model.specs.Outcome.{by_name, entry_reply, outcome_of_process, outcome_of_path, outcome_of, outcome_at}
+use Rattle.run_model.specs.Run.{chosen, move_of, move, run}
+use Rattle.run_model.specs.Schedule.{is_runnable, is_waiting, runnable, pick_of, round_robin, at_random, moved_x, choose, scheduled}
+use Rattle.run_model.specs.SqlDatabase.{SqlDatabase, unchanged, versions_after, db_after, lists_of, answer_of, sql_base}
+use Rattle.run_model.specs.Start.{start_script, start_state}
+use Rattle.run_model.specs.State.{State, Stepped}
+use Rattle.run_model.specs.Step.{operand_value, operand_values, ended, went_on, printed_line, print_line, print, exit_status, Ask, ask, entry_of, replied, execute, execute_next, ask_by, ask_in, kept_by, kept, told, asking, step}
+use Rattle.run_model.specs.WorldRun.{outcome_in, outcome_within}
+use Rattle.run_model.proofs.Equations.{run-zero, run-over, run-suc}
+use Rattle.run_model.proofs.Settled.{settled}
 use Rattle.ldv_top.specs.declared.finish.Finish.{Finish}
 use Rattle.ldv_top.specs.declared.finish.Shown.{Shown}
 use Rattle.ldv_top.specs.declared.plain.PlainStep.{PlainStep}
-use Rattle.ldv_top.specs.declared.plain.PlainStep.TheVariants.{Show, Stop, Ask, Misuse}
+use Rattle.ldv_top.specs.declared.plain.PlainStep.TheVariants as plain
 use Rattle.ldv_top.specs.Plain.{constant_in, constants_onto, constants_in, plain_ask, plain_sql, plain_step, steps_onto, plain_steps, shown_as, Went, Goes, Stops, shown_line, take_step, go_on, finish, finish_as, finish_of, outcome_from, plain_script}
-
-pub cases_option : {A : Type 0} (o : Option A) → (o ≡ None) ⊎ ((x : A) × (o ≡ Some x))
-cases_option None = inl refl
-cases_option (Some x) = inr (x, refl)
+use Rattle.ldv_top.proofs.BuiltStatements.{built_after, built_updated}
 
 -- ---- constants
 
@@ -40,7 +39,7 @@ constant_value p (Variable name) v is = cc
 
 pub constant_values : (p : Process) (os : List Operand) (vs ws : List Value) → constants_onto vs os ≡ Some ws → ws ≡ vs ++ operand_values p os
 constant_values p [] vs ws is = let e : vs ≡ ws = cc in sym e ∙ sym (append-nil vs)
-constant_values p (o ∷ os) vs ws is = elim (cases_option (constant_in o)) [
+constant_values p (o ∷ os) vs ws is = elim (cases-option (constant_in o)) [
   | inl none ↦ let never : None ≡ Some ws = rw none at is in cc
   | inr found ↦
       let more : constants_onto (vs ++ found.0 ∷ []) os ≡ Some ws = rw found.1 at is in
@@ -49,79 +48,115 @@ constant_values p (o ∷ os) vs ws is = elim (cases_option (constant_in o)) [
       ∙ ap (λ (v : Value). vs ++ v ∷ operand_values p os) (constant_value p o found.0 found.1)
 ]
 
--- ---- one process alone
+-- ---- one process alone, over tables that never change
 
-abbrev pub solo : State → Process → State
-solo s p = record s { processes = p ∷ [] }
+abbrev pub shown : Process → Shown
+shown p = shown_as p.printed (map entry_reply p.entries)
 
--- what becomes of the process by a step
-abbrev pub Becomes : Went → State → Process → State → Type 0
-Becomes (Goes next) s p new = (q : Process) × (new ≡ solo s q) × (q.name ≡ p.name) × (q.script ≡ p.script) × (q.place ≡ p.place + 1) × (q.status ≡ p.status) × (q.printed ≡ next.printed) × (q.replies ≡ next.replies)
-Becomes (Stops status) s p new = new ≡ solo s (ended status p)
+-- how many statements were asked after a step
+abbrev pub asked_after : PlainStep → ℕ → ℕ
+asked_after (plain.Show values) k = k
+asked_after (plain.Stop status) k = k
+asked_after (plain.Ask statement) k = k + 1
+asked_after plain.Misuse k = k
 
-prints : (values : List Value) (s : State) (p : Process) → Becomes (shown_line (printed_line values) (shown_as p.printed p.replies)) s p (with_process 0 (print_line (printed_line values) p) (solo s p))
-prints values s p = elim (cases_Bool (nat_lt 16777216 (length p.printed + length (printed_line values)))) [
-  | inl long ↦ rw long refl
-  | inr short ↦ rw short (_, refl, refl, refl, refl, refl, refl, refl)
-]
+-- no row of a plain script's run is ever changed
+db_same : (statement : Option Statement) (db : List Table) → is_built statement ≡ true → db_after statement (unchanged db) ≡ unchanged db
+db_same statement db built = λ j. record {
+  tables = built_after statement db built j;
+  versions = versions_after (built_updated statement db built j) (λ table row. 0);
+}
 
--- a statement that can be run so far changes no table
-asks : (cursor text : List ℕ) (params : List Value) → is_built (statement_of text params) ≡ true → (s : State) (p : Process)
-    → Becomes (Goes (shown_as p.printed (p.replies ++ reply_of (statement_of text params) s.tables ∷ []))) s p (ask 0 cursor (Text text) params p (solo s p))
-asks cursor text params built s p =
-    let q : Process = with_reply cursor (reply_of (statement_of text params) s.tables) p in
-    let tables : ask 0 cursor (Text text) params p (solo s p) ≡ solo s q = λ j. with_process 0 q (record (solo s p) { tables = built_after (statement_of text params) s.tables built j }) in
-    (q, tables, refl, refl, refl, refl, refl, refl)
+module _ (db : List Table) where
+  -- the core with this one process, after so many statements
+  abbrev pub solo : Core → ℕ → Process → State SqlDatabase
+  solo c k p = record { core = record c { processes = p ∷ []; asked = k }; db = unchanged db }
 
--- ---- one instruction
+  -- the step of the process, by its next instruction
+  abbrev pub taken_by : Option Ask → Option Instr → Core → ℕ → Process → Stepped SqlDatabase
+  taken_by None i c k p = kept_by 0 (unchanged db) (execute_next i 0 p (solo c k p).core)
+  taken_by (Some a) i c k p = told 0 a (solo c k p) (sql_base (unchanged db) a.question)
 
-shows : (os : List Operand) (st : PlainStep) → option_map Show (constants_in os) ≡ Some st → (s : State) (p : Process) → Becomes (take_step s.tables st (shown_as p.printed p.replies)) s p (execute (Print os) 0 p (solo s p))
-shows os st is s p = elim (cases_option (constants_in os)) [
-  | inl none ↦ let never : None ≡ Some st = rw none at is in cc
-  | inr found ↦
-      let e : Some (Show found.0) ≡ Some st = rw found.1 at is in
-      let values : found.0 ≡ operand_values p os = constant_values p os [] found.0 found.1 in
-      let same : Show (operand_values p os) ≡ st = ap Show (sym values) ∙ cc in
-      subst (λ (x : PlainStep). Becomes (take_step s.tables x (shown_as p.printed p.replies)) s p (execute (Print os) 0 p (solo s p))) same (prints (operand_values p os) s p)
-]
+  abbrev pub taken : Option Instr → Core → ℕ → Process → Stepped SqlDatabase
+  taken i c k p = taken_by (ask_by i p) i c k p
 
-stops : (o : Operand) (st : PlainStep) → option_map Stop (constant_in o) ≡ Some st → (s : State) (p : Process) → Becomes (take_step s.tables st (shown_as p.printed p.replies)) s p (execute (Exit o) 0 p (solo s p))
-stops (Constant v) st is s p =
-    let same : Stop v ≡ st = cc in
-    subst (λ (x : PlainStep). Becomes (take_step s.tables x (shown_as p.printed p.replies)) s p (execute (Exit (Constant v)) 0 p (solo s p))) same refl
-stops (Variable name) st is s p = cc
+  -- what becomes of the process by a step
+  abbrev pub Becomes : Went → PlainStep → Core → ℕ → Process → State SqlDatabase → Type 0
+  Becomes (Goes next) st c k p new = (q : Process) × (new ≡ solo c (asked_after st k) q) × (q.name ≡ p.name) × (q.script ≡ p.script) × (q.place ≡ p.place + 1) × (q.status ≡ p.status) × (shown q ≡ next)
+  Becomes (Stops status) st c k p new = new ≡ solo c k (ended status p)
 
-asked : (cursor : List ℕ) (v : Value) (params : List Value) (st : PlainStep) → plain_ask v params ≡ Some st → (s : State) (p : Process) → Becomes (take_step s.tables st (shown_as p.printed p.replies)) s p (ask 0 cursor v params p (solo s p))
-asked cursor Null params st is s p =
-    let same : Misuse ≡ st = cc in
-    subst (λ (x : PlainStep). Becomes (take_step s.tables x (shown_as p.printed p.replies)) s p (ask 0 cursor Null params p (solo s p))) same refl
-asked cursor (Int n) params st is s p =
-    let same : Misuse ≡ st = cc in
-    subst (λ (x : PlainStep). Becomes (take_step s.tables x (shown_as p.printed p.replies)) s p (ask 0 cursor (Int n) params p (solo s p))) same refl
-asked cursor (Text text) params st is s p = elim (cases_Bool (is_built (statement_of text params))) [
-  | inr other ↦ let never : None ≡ Some st = rw other at is in cc
-  | inl built ↦
-      let e : Some (Ask (statement_of text params)) ≡ Some st = rw built at is in
-      let same : Ask (statement_of text params) ≡ st = cc in
-      subst (λ (x : PlainStep). Becomes (take_step s.tables x (shown_as p.printed p.replies)) s p (ask 0 cursor (Text text) params p (solo s p))) same (asks cursor text params built s p)
-]
+  prints : (values : List Value) (c : Core) (k : ℕ) (p : Process)
+      → Becomes (shown_line (printed_line values) (shown p)) (plain.Show values) c k p (solo c k (print_line (printed_line values) p))
+  prints values c k p = elim (cases_Bool (nat_lt printed_limit (length p.printed + length (printed_line values)))) [
+    | inl long ↦ rw long refl
+    | inr short ↦ rw short (_, refl, refl, refl, refl, refl, refl)
+  ]
 
-sqls : (cursor : List ℕ) (o : Operand) (os : List Operand) (st : PlainStep) → plain_sql (constant_in o) os ≡ Some st → (s : State) (p : Process) → Becomes (take_step s.tables st (shown_as p.printed p.replies)) s p (execute (Sql cursor o os) 0 p (solo s p))
-sqls cursor (Variable name) os st is s p = cc
-sqls cursor (Constant v) os st is s p = elim (cases_option (constants_in os)) [
-  | inl none ↦ let never : None ≡ Some st = rw none at is in cc
-  | inr found ↦
-      let e : plain_ask v found.0 ≡ Some st = rw found.1 at is in
-      let values : found.0 ≡ operand_values p os = constant_values p os [] found.0 found.1 in
-      let asks_so : plain_ask v (operand_values p os) ≡ Some st = ap (plain_ask v) (sym values) ∙ e in
-      asked cursor v (operand_values p os) st asks_so s p
-]
+  -- ---- one instruction
 
-pub effect : (i : Instr) (st : PlainStep) → plain_step i ≡ Some st → (s : State) (p : Process) → Becomes (take_step s.tables st (shown_as p.printed p.replies)) s p (execute i 0 p (solo s p))
-effect (Print os) st is s p = shows os st is s p
-effect (Exit o) st is s p = stops o st is s p
-effect (Sql cursor o os) st is s p = sqls cursor o os st is s p
-effect other st is s p = cc
+  shows : (os : List Operand) (st : PlainStep) → option_map plain.Show (constants_in os) ≡ Some st → (c : Core) (k : ℕ) (p : Process)
+      → Becomes (take_step db st (shown p)) st c k p (taken (Some (Print os)) c k p).state
+  shows os st is c k p = elim (cases-option (constants_in os)) [
+    | inl none ↦ let never : None ≡ Some st = rw none at is in cc
+    | inr found ↦
+        let e : Some (plain.Show found.0) ≡ Some st = rw found.1 at is in
+        let values : found.0 ≡ operand_values p os = constant_values p os [] found.0 found.1 in
+        let same : plain.Show (operand_values p os) ≡ st = ap plain.Show (sym values) ∙ cc in
+        subst (λ (x : PlainStep). Becomes (take_step db x (shown p)) x c k p (taken (Some (Print os)) c k p).state) same (prints (operand_values p os) c k p)
+  ]
+
+  stops : (o : Operand) (st : PlainStep) → option_map plain.Stop (constant_in o) ≡ Some st → (c : Core) (k : ℕ) (p : Process)
+      → Becomes (take_step db st (shown p)) st c k p (taken (Some (Exit o)) c k p).state
+  stops (Constant v) st is c k p =
+      let same : plain.Stop v ≡ st = cc in
+      subst (λ (x : PlainStep). Becomes (take_step db x (shown p)) x c k p (taken (Some (Exit (Constant v))) c k p).state) same refl
+  stops (Variable name) st is c k p = cc
+
+  -- a statement that can be run so far changes no table
+  asks : (a : Ask) (statement : Option Statement) → statement_of a.question.text a.question.params ≡ statement → is_built statement ≡ true → (c : Core) (k : ℕ) (p : Process)
+      → Becomes (take_step db (plain.Ask statement) (shown p)) (plain.Ask statement) c k p (told 0 a (solo c k p) (answer_of statement (unchanged db))).state
+  asks a statement read built c k p =
+      let q : Process = replied a (reply_of statement db) p in
+      let state : (told 0 a (solo c k p) (answer_of statement (unchanged db))).state ≡ solo c (k + 1) q = λ j. record { core = (solo c (k + 1) q).core; db = db_same statement db built j } in
+      let replies : map entry_reply q.entries ≡ map entry_reply p.entries ++ reply_of statement db ∷ [] = map-append entry_reply p.entries (entry_of a.question (reply_of statement db) ∷ []) in
+      (q, state, refl, refl, refl, refl, ap (shown_as p.printed) replies)
+
+  asked : (cursor : List ℕ) (v : Value) (params : List Value) (i : Instr) (st : PlainStep) → plain_ask v params ≡ Some st → (c : Core) (k : ℕ) (p : Process)
+      → ((core : Core) → execute i 0 p core ≡ execute (Sql cursor (Constant v) []) 0 p core)
+      → Becomes (take_step db st (shown p)) st c k p (taken_by (ask cursor v params p) (Some i) c k p).state
+  asked cursor Null params i st is c k p misuse =
+      let same : plain.Misuse ≡ st = cc in
+      subst (λ (x : PlainStep). Becomes (take_step db x (shown p)) x c k p (taken_by None (Some i) c k p).state) same (ap (λ e. (kept_by 0 (unchanged db) e).state) (misuse (solo c k p).core))
+  asked cursor (Int n) params i st is c k p misuse =
+      let same : plain.Misuse ≡ st = cc in
+      subst (λ (x : PlainStep). Becomes (take_step db x (shown p)) x c k p (taken_by None (Some i) c k p).state) same (ap (λ e. (kept_by 0 (unchanged db) e).state) (misuse (solo c k p).core))
+  asked cursor (Text text) params i st is c k p misuse = elim (cases_Bool (is_built (statement_of text params))) [
+    | inr other ↦ let never : None ≡ Some st = rw other at is in cc
+    | inl built ↦
+        let e : Some (plain.Ask (statement_of text params)) ≡ Some st = rw built at is in
+        let same : plain.Ask (statement_of text params) ≡ st = cc in
+        let a : Ask = record { cursor = cursor; question = record { process = p.name; text = text; params = params } } in
+        subst (λ (x : PlainStep). Becomes (take_step db x (shown p)) x c k p (taken_by (Some a) (Some i) c k p).state) same (asks a (statement_of text params) refl built c k p)
+  ]
+
+  sqls : (cursor : List ℕ) (o : Operand) (os : List Operand) (st : PlainStep) → plain_sql (constant_in o) os ≡ Some st → (c : Core) (k : ℕ) (p : Process)
+      → Becomes (take_step db st (shown p)) st c k p (taken (Some (Sql cursor o os)) c k p).state
+  sqls cursor (Variable name) os st is c k p = cc
+  sqls cursor (Constant v) os st is c k p = elim (cases-option (constants_in os)) [
+    | inl none ↦ let never : None ≡ Some st = rw none at is in cc
+    | inr found ↦
+        let e : plain_ask v found.0 ≡ Some st = rw found.1 at is in
+        let values : found.0 ≡ operand_values p os = constant_values p os [] found.0 found.1 in
+        let asks_so : plain_ask v (operand_values p os) ≡ Some st = ap (plain_ask v) (sym values) ∙ e in
+        asked cursor v (operand_values p os) (Sql cursor (Constant v) os) st asks_so c k p (λ core. refl)
+  ]
+
+  pub effect : (i : Instr) (st : PlainStep) → plain_step i ≡ Some st → (c : Core) (k : ℕ) (p : Process)
+      → Becomes (take_step db st (shown p)) st c k p (taken (Some i) c k p).state
+  effect (Print os) st is c k p = shows os st is c k p
+  effect (Exit o) st is c k p = stops o st is c k p
+  effect (Sql cursor o os) st is c k p = sqls cursor o os st is c k p
+  effect other st is c k p = cc
 
 -- a plain instruction waits for no child
 pub goes_on : (i : Instr) (st : PlainStep) → plain_step i ≡ Some st → (p : Process) (ps : List Process) → is_waiting (Some i) p ps ≡ false
@@ -145,42 +180,37 @@ pick_one seed last x = elim (cases_Bool (seed == 0)) [
   | inr other ↦ rw other (index_single (x / 2 ^ 33 % 1))
 ]
 
-pub picks_it : (s : State) (p : Process) → p.status ≡ None → is_waiting (slice_get p.script p.place) p (p ∷ []) ≡ false → pick (solo s p) ≡ 0
-picks_it s p going free =
+pub picks_it : (db : List Table) (c : Core) (k : ℕ) (p : Process) → p.status ≡ None → is_waiting (slice_get p.script p.place) p (p ∷ []) ≡ false
+    → choose None (solo db c k p).core ≡ 0
+picks_it db c k p going free =
     let alive : is_runnable (p ∷ []) p ≡ true =
     ap (λ (o : Option ℕ). is_none o && not (is_waiting (slice_get p.script p.place) p (p ∷ []))) going ∙ ap not free in
-    let alone : runnable (solo s p) ≡ 0 ∷ [] = ap (λ (b : Bool). if b then 0 ∷ [] else []) alive in
-    ap (pick_of s.seed s.last (moved_x s.seed s.x)) alone ∙ pick_one s.seed s.last (moved_x s.seed s.x)
+    let alone : runnable (solo db c k p).core ≡ 0 ∷ [] = ap (λ (b : Bool). if b then 0 ∷ [] else []) alive in
+    ap (pick_of c.seed c.last (moved_x c.seed c.x)) alone ∙ pick_one c.seed c.last (moved_x c.seed c.x)
 
 -- ---- a step of the process alone
 
-abbrev pub moved : State → Process → State
-moved s p = record s { last = pick (solo s p); x = moved_x s.seed s.x }
+-- the scheduler after the process was chosen
+abbrev pub moved : Core → Core
+moved c = scheduled 0 c
 
-pub advances : (s : State) (p : Process) → p.status ≡ None → is_waiting (slice_get p.script p.place) p (p ∷ []) ≡ false → advanced (solo s p) ≡ execute_next (slice_get p.script p.place) 0 p (solo (moved s p) p)
-advances s p going free =
-    let alive : all_ended (solo s p) ≡ false = rw going refl in
-    rw alive (ap (step (solo (moved s p) p)) (picks_it s p going free))
+module _ (db : List Table) (c : Core) (k : ℕ) (p : Process) where
+  asks_so : (o : Option Ask) → asking sql_base 0 (solo db c k p) o ≡ taken_by db o (slice_get p.script p.place) c k p
+  asks_so None = refl
+  asks_so (Some a) = refl
 
--- ---- runs
+pub advances : (db : List Table) (c : Core) (k : ℕ) (p : Process) → p.status ≡ None → is_waiting (slice_get p.script p.place) p (p ∷ []) ≡ false
+    → move sql_base None (solo db c k p) ≡ taken db (slice_get p.script p.place) (moved c) k p
+advances db c k p going free =
+    ap (λ (number : ℕ). move_of sql_base number (solo db c k p)) (picks_it db c k p going free)
+    ∙ asks_so db (moved c) k p (ask_by (slice_get p.script p.place) p)
 
-run_ended : (n : ℕ) (s : State) → all_ended s ≡ true → run n s ≡ s
-unfolding run
-run_ended zero s all = refl
-run_ended (suc n) s all = rw all (run_ended n s all)
+-- a run that didn't diverge goes on while its process does
+pub goes : (db : List Table) (c : Core) (k : ℕ) (p : Process) → c.diverged ≡ None → p.status ≡ None → is_over (solo db c k p).core ≡ false
+goes db c k p never going = (λ j. is_some (never j) || (is_some (going j) && true))
 
-run_suc : (n : ℕ) (s : State) → run (suc n) s ≡ run n (advanced s)
-unfolding run
-run_suc n s = refl
-
-run_zero : (s : State) → run 0 s ≡ s
-unfolding run
-run_zero s = refl
-
-run_add : (m n : ℕ) (s : State) → run (m + n) s ≡ run n (run m s)
-run_add zero n s = rw zero-add (ap (run n) (sym (run_zero s)))
-run_add (suc m) n s =
-    ap (λ (k : ℕ). run k s) (suc-add m n) ∙ run_suc (m + n) s ∙ run_add m n (advanced s) ∙ ap (run n) (sym (run_suc m s))
+pub rests : (db : List Table) (c : Core) (k status : ℕ) (p : Process) → c.diverged ≡ None → is_over (solo db c k (ended status p)).core ≡ true
+rests db c k status p never = λ j. is_some (never j) || true
 
 -- ---- the instructions that are left
 
@@ -192,7 +222,7 @@ Does (i ∷ is) (st ∷ sts) = (plain_step i ≡ Some st) × Does is sts
 
 pub does_them : (is : List Instr) (acc plan : List PlainStep) → steps_onto acc is ≡ Some plan → (sts : List PlainStep) × (plan ≡ acc ++ sts) × Does is sts
 does_them [] acc plan is = let e : acc ≡ plan = cc in ([], sym e ∙ sym (append-nil acc), tt)
-does_them (i ∷ rest) acc plan is = elim (cases_option (plain_step i)) [
+does_them (i ∷ rest) acc plan is = elim (cases-option (plain_step i)) [
   | inl none ↦ let never : None ≡ Some plan = rw none at is in cc
   | inr found ↦
       let more : steps_onto (acc ++ found.0 ∷ []) rest ≡ Some plan = rw found.1 at is in
@@ -218,63 +248,67 @@ none_of_rest (y ∷ ys) (suc k) is = none_of_rest ys k is
 -- ---- the run of the process alone
 
 -- a state in which the process has ended and come to this
-pub record Came (s : State) (name : List ℕ) (f : Finish) : Type 0 where
+pub record Came (s : State SqlDatabase) (name : List ℕ) (f : Finish) : Type 0 where
   pub process : Process
-  pub alone : s.processes ≡ process ∷ []
+  pub alone : s.core.processes ≡ process ∷ []
   pub same_name : process.name ≡ name
   pub status : process.status ≡ Some f.status
-  pub printed : process.printed ≡ f.shown.printed
-  pub replies : process.replies ≡ f.shown.replies
-  pub untouched : s.touched ≡ []
+  pub shows : shown process ≡ f.shown
+  pub untouched : s.core.files.touched ≡ []
 
-came_all_ended : (s : State) (name : List ℕ) (f : Finish) → Came s name f → all_ended s ≡ true
+came_all_ended : (s : State SqlDatabase) (name : List ℕ) (f : Finish) → Came s name f → all_ended s.core ≡ true
 came_all_ended s name f came = rw (came.alone, came.status) refl
 
-stopped : (n status : ℕ) (s : State) (p : Process) → s.touched ≡ [] → Came (run n (solo s (ended status p))) p.name (finish_as status (shown_as p.printed p.replies))
-stopped n status s p clean =
-    rw (run_ended n (solo s (ended status p)) refl)
-    (record { process = ended status p; alone = refl; same_name = refl; status = refl; printed = refl; replies = refl; untouched = clean })
+module _ (db : List Table) where
+  stopped : (n status : ℕ) (c : Core) (k : ℕ) (p : Process) → c.diverged ≡ None → c.files.touched ≡ []
+      → Came (run sql_base n [] (solo db c k (ended status p))) p.name (finish_as status (shown p))
+  stopped n status c k p never clean =
+      rw (run-over sql_base n [] (solo db c k (ended status p)) (rests db c k status p never))
+      (record { process = ended status p; alone = refl; same_name = refl; status = refl; shows = refl; untouched = clean })
 
--- a step that went on or ended the process, and the run after it
-carried : (i : Instr) (is : List Instr) (sts : List PlainStep) (s : State) (p : Process) → s.touched ≡ [] → p.status ≡ None → drop (p.place + 1) p.script ≡ is
-    → ((q : Process) → q.status ≡ None → drop q.place q.script ≡ is → Came (run (suc (length is)) (solo (moved s p) q)) q.name (finish s.tables sts (shown_as q.printed q.replies)))
-    → (went : Went) (new : State) → Becomes went (moved s p) p new → Came (run (suc (length is)) new) p.name (go_on (finish s.tables sts) went (shown_as p.printed p.replies))
-carried i is sts s p clean going rest later (Stops status) new is_so = rw is_so (stopped (suc (length is)) status (moved s p) p clean)
-carried i is sts s p clean going rest later (Goes next) new (q, is_so, name, script, place, status, printed, replies) =
-    let q_rest : drop q.place q.script ≡ is = (λ j. drop (place j) (script j)) ∙ rest in
-    let came : Came (run (suc (length is)) (solo (moved s p) q)) q.name (finish s.tables sts (shown_as q.printed q.replies)) = later q (status ∙ going) q_rest in
-    let named : Came (run (suc (length is)) (solo (moved s p) q)) p.name (finish s.tables sts (shown_as q.printed q.replies)) =
-    subst (λ (n : List ℕ). Came (run (suc (length is)) (solo (moved s p) q)) n (finish s.tables sts (shown_as q.printed q.replies))) name came in
-    let showing : Came (run (suc (length is)) (solo (moved s p) q)) p.name (finish s.tables sts next) =
-    subst (λ (w : Shown). Came (run (suc (length is)) (solo (moved s p) q)) p.name (finish s.tables sts w)) (λ j. shown_as (printed j) (replies j)) named in
-    subst (λ (t : State). Came (run (suc (length is)) t) p.name (finish s.tables sts next)) (sym is_so) showing
+  -- a step that went on or ended the process, and the run after it
+  carried : (i : Instr) (is : List Instr) (sts : List PlainStep) (st : PlainStep) (c : Core) (k : ℕ) (p : Process) → c.diverged ≡ None → c.files.touched ≡ [] → p.status ≡ None → drop (p.place + 1) p.script ≡ is
+      → ((j : ℕ) (q : Process) → q.status ≡ None → drop q.place q.script ≡ is → Came (run sql_base (suc (length is)) [] (solo db (moved c) j q)) q.name (finish db sts (shown q)))
+      → (went : Went) (new : State SqlDatabase) → Becomes db went st (moved c) k p new → Came (run sql_base (suc (length is)) [] new) p.name (go_on (finish db sts) went (shown p))
+  carried i is sts st c k p never clean going rest later (Stops status) new is_so = rw is_so (stopped (suc (length is)) status (moved c) k p never clean)
+  carried i is sts st c k p never clean going rest later (Goes next) new (q, is_so, name, script, place, status, shows) =
+      let q_rest : drop q.place q.script ≡ is = (λ j. drop (place j) (script j)) ∙ rest in
+      let came : Came (run sql_base (suc (length is)) [] (solo db (moved c) (asked_after st k) q)) q.name (finish db sts (shown q)) = later (asked_after st k) q (status ∙ going) q_rest in
+      let named : Came (run sql_base (suc (length is)) [] (solo db (moved c) (asked_after st k) q)) p.name (finish db sts (shown q)) =
+      subst (λ (n : List ℕ). Came (run sql_base (suc (length is)) [] (solo db (moved c) (asked_after st k) q)) n (finish db sts (shown q))) name came in
+      let showing : Came (run sql_base (suc (length is)) [] (solo db (moved c) (asked_after st k) q)) p.name (finish db sts next) =
+      subst (λ (w : Shown). Came (run sql_base (suc (length is)) [] (solo db (moved c) (asked_after st k) q)) p.name (finish db sts w)) shows named in
+      subst (λ (t : State SqlDatabase). Came (run sql_base (suc (length is)) [] t) p.name (finish db sts next)) (sym is_so) showing
 
-runs_on : (is : List Instr) (sts : List PlainStep) → Does is sts → (s : State) (p : Process) → p.status ≡ None → drop p.place p.script ≡ is → s.touched ≡ []
-    → Came (run (suc (length is)) (solo s p)) p.name (finish s.tables sts (shown_as p.printed p.replies))
-runs_on [] [] does s p going rest clean =
-    let none : slice_get p.script p.place ≡ None = none_of_rest p.script p.place rest in
-    let free : is_waiting (slice_get p.script p.place) p (p ∷ []) ≡ false = rw none refl in
-    let one : advanced (solo s p) ≡ solo (moved s p) (ended 0 p) = advances s p going free ∙ rw none refl in
-    rw (run_suc 0 (solo s p), one) (stopped 0 0 (moved s p) p clean)
-runs_on [] (st ∷ sts) does s p going rest clean = absurd does
-runs_on (i ∷ is) [] does s p going rest clean = absurd does
-runs_on (i ∷ is) (st ∷ sts) does s p going rest clean =
-    let here = first_of_rest p.script p.place i is rest in
-    let free : is_waiting (slice_get p.script p.place) p (p ∷ []) ≡ false = rw here.0 (goes_on i st does.0 p (p ∷ [])) in
-    let one : advanced (solo s p) ≡ execute i 0 p (solo (moved s p) p) = advances s p going free ∙ ap (λ (o : Option Instr). execute_next o 0 p (solo (moved s p) p)) here.0 in
-    subst (λ (t : State). Came t p.name (go_on (finish s.tables sts) (take_step s.tables st (shown_as p.printed p.replies)) (shown_as p.printed p.replies)))
-    (sym (run_suc (suc (length is)) (solo s p) ∙ ap (run (suc (length is))) one))
-    (carried i is sts s p clean going here.1 (λ q q_going q_rest. runs_on is sts does.1 (moved s p) q q_going q_rest clean) (take_step s.tables st (shown_as p.printed p.replies)) (execute i 0 p (solo (moved s p) p)) (effect i st does.0 (moved s p) p))
+  runs_on : (is : List Instr) (sts : List PlainStep) → Does is sts → (c : Core) (k : ℕ) (p : Process) → c.diverged ≡ None → p.status ≡ None → drop p.place p.script ≡ is → c.files.touched ≡ []
+      → Came (run sql_base (suc (length is)) [] (solo db c k p)) p.name (finish db sts (shown p))
+  runs_on [] [] does c k p never going rest clean =
+      let none : slice_get p.script p.place ≡ None = none_of_rest p.script p.place rest in
+      let free : is_waiting (slice_get p.script p.place) p (p ∷ []) ≡ false = rw none refl in
+      let one : move sql_base None (solo db c k p) ≡ taken db None (moved c) k p = advances db c k p going free ∙ ap (λ (o : Option Instr). taken db o (moved c) k p) none in
+      subst (λ (t : State SqlDatabase). Came t p.name (finish_as 0 (shown p)))
+      (sym (run-suc sql_base 0 [] (solo db c k p) (goes db c k p never going) ∙ ap (λ (m : Stepped SqlDatabase). run sql_base 0 [] m.state) one))
+      (stopped 0 0 (moved c) k p never clean)
+  runs_on [] (st ∷ sts) does c k p never going rest clean = absurd does
+  runs_on (i ∷ is) [] does c k p never going rest clean = absurd does
+  runs_on (i ∷ is) (st ∷ sts) does c k p never going rest clean =
+      let here = first_of_rest p.script p.place i is rest in
+      let free : is_waiting (slice_get p.script p.place) p (p ∷ []) ≡ false = rw here.0 (goes_on i st does.0 p (p ∷ [])) in
+      let one : move sql_base None (solo db c k p) ≡ taken db (Some i) (moved c) k p = advances db c k p going free ∙ ap (λ (o : Option Instr). taken db o (moved c) k p) here.0 in
+      subst (λ (t : State SqlDatabase). Came t p.name (go_on (finish db sts) (take_step db st (shown p)) (shown p)))
+      (sym (run-suc sql_base (suc (length is)) [] (solo db c k p) (goes db c k p never going) ∙ ap (λ (m : Stepped SqlDatabase). run sql_base (suc (length is)) [] m.state) one))
+      (carried i is sts st c k p never clean going here.1 (λ j q q_going q_rest. runs_on is sts does.1 (moved c) j q never q_going q_rest clean)
+      (take_step db st (shown p)) (taken db (Some i) (moved c) k p).state (effect db i st does.0 (moved c) k p))
 
 -- ---- the law
 
-came_outcome : (s : State) (f : Finish) → Came s (0 ∷ []) f → outcome_of s ≡ outcome_from f
+came_outcome : (s : State SqlDatabase) (f : Finish) → Came s (0 ∷ []) f → outcome_of s.core ≡ outcome_from f
 came_outcome s f came =
-    (λ j. record { processes = by_name (map outcome_of_process (came.alone j)); paths = map (outcome_of_path s.files) (came.untouched j) })
-    ∙ (λ j. record { processes = record { name = record { parts = came.same_name j }; status = unwrap_or (came.status j) 0; printed = came.printed j; replies = came.replies j } ∷ []; paths = [] })
+    (λ j. record { processes = map outcome_of_process (by_name (came.alone j)); paths = map (outcome_of_path s.core.files) (came.untouched j) })
+    ∙ (λ j. record { processes = record { name = record { parts = came.same_name j }; status = unwrap_or (came.status j) 0; printed = (came.shows j).printed; replies = (came.shows j).replies } ∷ []; paths = [] })
 
-came_within : (n : ℕ) (s : State) (f : Finish) → Came (run n s) (0 ∷ []) f → outcome_within n s ≡ Some (outcome_from f)
-came_within n s f came = rw (came_all_ended (run n s) (0 ∷ []) f came) (ap Some (came_outcome (run n s) f came))
+came_at : (s : State SqlDatabase) (f : Finish) → Came s (0 ∷ []) f → outcome_at s.core ≡ Some (outcome_from f)
+came_at s f came = rw (came_all_ended s (0 ∷ []) f came) (ap Some (came_outcome s f came))
 
 pub short_or_none : (b : Bool) (o : Option (List PlainStep)) (sts : List PlainStep) → (if b then None else o) ≡ Some sts → (b ≡ false) × (o ≡ Some sts)
 short_or_none true o sts is = cc
@@ -286,18 +320,28 @@ plain_length script sts is =
     grind (arith, nat_tests)
 
 -- within any budget of at least 1,001 steps
-pub plain_law : (w : World) (script : List Instr) (sts : List PlainStep) (budget : ℕ) → 1001 ≤ budget → plain_script script ≡ Some sts
-    → outcome_within budget (start_state w script) ≡ Some (outcome_from (finish_of w.tables sts))
-plain_law w script sts budget enough is =
+pub plain_law : (w : World) (script : List Instr) (sts : List PlainStep) (budget : ℕ) → 1001 ≤ budget → start_script w ≡ Some script → plain_script script ≡ Some sts
+    → outcome_within budget w ≡ Some (outcome_from (finish_of w.tables sts))
+plain_law w script sts budget enough starts is =
     let steps : plain_steps script ≡ Some sts = (short_or_none (nat_lt 1000 (length script)) (plain_steps script) sts is).1 in
     let them = does_them script [] sts steps in
     let short : length script ≤ 1000 = plain_length script sts is in
-    let s : State = start_state w script in
-    let p : Process = new_process (0 ∷ []) script (map Text (after_first_word w.start)) in
+    let s : State SqlDatabase = start_state w script in
+    let p : Process = first_process w.start script in
     let does : Does script sts = subst (Does script) (sym them.1) them.2 in
-    let came : Came (run (suc (length script)) s) (0 ∷ []) (finish_of w.tables sts) = runs_on script sts does s p refl refl refl in
-    let split : suc (length script) + (budget - suc (length script)) ≡ budget = omega arith in
-    let at_end : run budget s ≡ run (suc (length script)) s =
-    ap (λ (k : ℕ). run k s) (sym split) ∙ run_add (suc (length script)) (budget - suc (length script)) s
-    ∙ run_ended (budget - suc (length script)) (run (suc (length script)) s) (came_all_ended (run (suc (length script)) s) (0 ∷ []) (finish_of w.tables sts) came) in
-    came_within budget s (finish_of w.tables sts) (subst (λ (t : State). Came t (0 ∷ []) (finish_of w.tables sts)) (sym at_end) came)
+    let came : Came (run sql_base (suc (length script)) [] s) (0 ∷ []) (finish_of w.tables sts) = runs_on w.tables script sts does s.core 0 p refl refl refl refl in
+    let split : suc (length script) + (budget - suc (length script)) ≡ budget = omega (arith, enough, short) in
+    let over : is_over (run sql_base (suc (length script)) [] s).core ≡ true =
+    ended_over (run sql_base (suc (length script)) [] s).core (came_all_ended (run sql_base (suc (length script)) [] s) (0 ∷ []) (finish_of w.tables sts) came) in
+    let at_end : run sql_base budget [] s ≡ run sql_base (suc (length script)) [] s =
+    ap (λ (k : ℕ). run sql_base k [] s) (sym split) ∙ (settled sql_base (suc (length script)) (budget - suc (length script)) 1 [] s over).state in
+    ap (outcome_in budget [] w) starts
+    ∙ ap (λ (t : State SqlDatabase). outcome_at t.core) at_end
+    ∙ came_at (run sql_base (suc (length script)) [] s) (finish_of w.tables sts) came
+  where
+    ended_over : (c : Core) → all_ended c ≡ true → is_over c ≡ true
+    ended_over c ended = by (is_some c.diverged)
+      where
+        by : (b : Bool) → (b || all_ended c) ≡ true
+        by true = refl
+        by false = ended

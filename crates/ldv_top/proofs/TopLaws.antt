@@ -1,9 +1,18 @@
 -- What the clauses of the parts of the top call say together.
-use Rattle.std.proofs.Common.{◌≡◌, ℕ, List, ◌++◌, refl, sym, ap, ◌∙◌, append-nil, inl, inr}
-use Rattle.std.specs.Prelude.{Option, Some, None, ◌⊎◌}
+use Rattle.std.proofs.Common.{◌≡◌, ◌≢◌, ◌≤◌, ℕ, List, [], ◌++◌, refl, sym, ap, ◌∙◌, subst, append-nil, inl, inr}
+use Rattle.std.specs.Prelude.{Option, Some, None, ◌⊎◌, true, false}
 use Rattle.std.specs.Io.KnownBytes.{Consumes, IsAtEnd}
-use Rattle.ldv_top.specs.Comes.{Comes}
-use Rattle.ldv_top.specs.Due.{Due}
+use Rattle.ldv_io.specs.Causes.{Rose}
+use Rattle.run_model.specs.declared.package.Mode.{Mode}
+use Rattle.run_model.specs.declared.world.World.{World}
+use Rattle.run_model.specs.WorldRun.{steps_by}
+use Rattle.ldv_top.specs.Comes.{Comes, IsQuiet}
+use Rattle.ldv_top.specs.Due.{Due, due_of, due_record, due_replay, due_world}
+use Rattle.ldv_top.specs.Ends.{Ends}
+use Rattle.ldv_top.specs.Headline.{IsPackageOf, Recorded}
+use Rattle.ldv_top.specs.Words.{command_of, reads}
+use Rattle.ldv_top.specs.declared.command.Command.{Command}
+use Rattle.ldv_top.specs.declared.command.Command.TheVariants.{Run, Record, Replay}
 use Rattle.ldv_top.specs.declared.exit.Exit.{Exit}
 use Rattle.ldv_top.specs.declared.exit.Exit.TheVariants.{Done, Usage, ReadFault, WriteFault, TooLong, NotWorld, NotEnded, Damaged, Diverged, NoSuch, NoMemory, PackageTooLong, NotBuilt}
 
@@ -30,3 +39,75 @@ complete d (Diverged process index) old new R W out is read write no_read no_wri
 complete d NoSuch old new R W out is read write no_read no_write = let e : NoSuch ≡ Done = sym out ∙ is in cc
 complete d PackageTooLong old new R W out is read write no_read no_write = let e : PackageTooLong ≡ Done = sym out ∙ is in cc
 complete d NotBuilt old new R W out is read write no_read no_write = let e : NotBuilt ≡ Done = sym out ∙ is in cc
+
+-- every command reads
+all_read_input : (command : Command) → reads (Some command) ≡ true
+all_read_input (Run budget) = refl
+all_read_input (Record mode budget) = refl
+all_read_input (Replay budget) = refl
+
+some_same : {a b : Command} → Some a ≡ Some b → a ≡ b
+some_same same = cc
+
+-- ---- the clauses of the whole program
+
+module _ {Reader Writer : Type 0} (left : Reader → Option (List ℕ)) (read_faults : Reader → ℕ) (taken : Writer → Option (List ℕ)) (write_faults : Writer → ℕ) (words : List (List ℕ)) where
+  -- words that are no command
+  pub usage_ends : (source : Reader) (sink : Writer) → command_of words ≡ None
+      → Ends left read_faults taken write_faults words source source sink sink Usage
+  usage_ends source sink none = record {
+    usage = (λ is. none, λ is. refl);
+    unread = λ is. refl;
+    read_fault = λ is. let never : Usage ≡ ReadFault = is in cc;
+    write_fault = λ is. let never : Usage ≡ WriteFault = is in cc;
+    due = λ input is. ap (λ (o : Option Command). (due_of o input).exit) none;
+    unwritten = λ quiet. refl;
+    all_read = λ is reading. let never : Usage ≡ Done = is in cc;
+    complete = λ input is done no_read no_write.
+        let never : Usage ≡ Done = sym (ap (λ (o : Option Command). (due_of o input).exit) none) ∙ done in cc;
+    recorded = λ mode budget document is told done. let never : Usage ≡ Done = done in cc;
+    headline = λ mode n budget w input is told packed enough.
+        let never : None ≡ Some (Replay budget) = sym none ∙ is in cc;
+  }
+
+  -- a command, of which the parts are known
+  module _ (command : Command) (is : command_of words ≡ Some command) (source source_after : Reader) (sink sink_after : Writer) (exit : Exit)
+      (read_fault : exit ≡ ReadFault → Rose (read_faults source) (read_faults source_after))
+      (write_fault : exit ≡ WriteFault → Rose (write_faults sink) (write_faults sink_after))
+      (due : (input : List ℕ) → left source ≡ Some input
+      → Comes (due_of (Some command) input) exit (taken sink) (taken sink_after))
+      (recorded : (mode : Mode) (budget : ℕ) (document : List ℕ) → command ≡ Record mode budget
+      → left source ≡ Some document → exit ≡ Done
+      → Recorded mode budget document (due_record mode budget document).bytes)
+      (unwritten : IsQuiet exit → sink_after ≡ sink)
+      (at_end : exit ≡ Done → IsAtEnd (left source_after))
+      (not_usage : exit ≢ Usage)
+      (replayed : (mode : Mode) (n budget : ℕ) (w : World) (input : List ℕ) → IsPackageOf mode n w input
+      → steps_by n [] w ≤ budget → due_replay budget input ≡ due_world n w) where
+    reads_input : reads (command_of words) ≡ true
+    reads_input = ap reads is ∙ all_read_input command
+
+    pub command_ends : Ends left read_faults taken write_faults words source source_after sink sink_after exit
+    command_ends = record {
+      usage = (λ used. absurd (not_usage used), λ none. let never : None ≡ Some command = sym none ∙ is in cc);
+      unread = λ none. let never : false ≡ true = sym none ∙ reads_input in cc;
+      read_fault = read_fault;
+      write_fault = write_fault;
+      due = λ input told.
+          subst (λ (o : Option Command). Comes (due_of o input) exit (taken sink) (taken sink_after)) (sym is)
+          (due input (told reads_input));
+      unwritten = unwritten;
+      all_read = λ done reading. at_end done;
+      complete = λ input told done no_read no_write.
+          complete (due_of (Some command) input) exit (taken sink) (taken sink_after) _ _
+          (due input (told reads_input))
+          (sym (ap (λ (o : Option Command). (due_of o input).exit) is) ∙ done) read_fault write_fault no_read no_write;
+      recorded = λ mode budget document named told done.
+          let same : Some command ≡ Some (Record mode budget) = sym is ∙ named in
+          recorded mode budget document (some_same same) told done;
+      headline = λ mode n budget w input named told packed enough.
+          let same : Some command ≡ Some (Replay budget) = sym is ∙ named in
+          subst (λ (d : Due). Comes d exit (taken sink) (taken sink_after))
+          (ap (λ (k : Command). due_of (Some k) input) (some_same same) ∙ replayed mode n budget w input packed enough)
+          (due input told);
+    }

@@ -17,7 +17,7 @@ use Rattle.sql_model.specs.declared.table.TableRow.{TableRow}
 use Rattle.sql_model.specs.Kinds.{names_in}
 use Rattle.sql_model.specs.Needs.{table_name}
 use Rattle.sql_model.specs.Scope.{InScope, places_in, environment, is_table, table_at, rows_of}
-use Rattle.sql_model.specs.Sense.{is_true, truth}
+use Rattle.sql_model.specs.Meaning.{is_true, truth}
 
 -- ---- the parts of a statement
 

@@ -1,45 +1,29 @@
 -- What is due for words and an input: an exit, and the bytes that are written where it is Done.
-use Rattle.std.specs.Prelude.{◌≡◌, ℕ, List, [], ◌∷◌, length, codes, Bool, true, false, nat_lt, if◌then◌else◌, Option, Some, None, Result, Ok, Err, bytes_eq}
-use Rattle.script_parse.specs.declared.script.Instr.{Instr}
+use Rattle.std.specs.Prelude.{◌≡◌, ℕ, List, [], ◌∷◌, length, Bool, true, false, nat_lt, if◌then◌else◌, Option, Some, None, option_and_then, is_some, Result, Ok, Err}
+use Rattle.ldv_value.specs.Limits.{input_limit}
 use Rattle.run_model.specs.declared.outcome.Outcome.{Outcome}
 use Rattle.run_model.specs.declared.package.Mode.{Mode}
 use Rattle.run_model.specs.declared.package.Mode.TheVariants.{Included, Excluded}
 use Rattle.run_model.specs.declared.package.Package.{Package}
 use Rattle.run_model.specs.declared.world.World.{World}
-use Rattle.run_model.specs.Ends.{outcome_within}
 use Rattle.run_model.specs.OutcomeText.{outcome_text_of}
-use Rattle.run_model.specs.Slice.{included_package, own_world}
+use Rattle.run_model.specs.Package.{package_of, own_world}
 use Rattle.run_model.specs.Start.{start_script}
-use Rattle.run_model.specs.State.{start_state}
+use Rattle.run_model.specs.WorldRun.{outcome_within}
 use Rattle.package_layout.specs.declared.damage.DamageKind.{DamageKind}
 use Rattle.package_layout.specs.Valid.{reading}
 use Rattle.package_layout.specs.Whole.{spelling}
 use Rattle.world_json.specs.Reading.{world_reading}
 use Rattle.world_json.specs.declared.fault.WorldFault.{WorldFault}
-use Rattle.ldv_top.specs.declared.answers.Answer.{Answer}
-use Rattle.ldv_top.specs.declared.answers.Answer.TheVariants as answers
+use Rattle.ldv_top.specs.declared.response.Response.{Response}
+use Rattle.ldv_top.specs.declared.response.Response.TheVariants as responses
 use Rattle.ldv_top.specs.declared.command.Command.{Command}
 use Rattle.ldv_top.specs.declared.command.Command.TheVariants.{Run, Record, Replay}
 use Rattle.ldv_top.specs.declared.exit.Exit.{Exit}
 use Rattle.ldv_top.specs.declared.exit.Exit.TheVariants.{Done, Usage, TooLong, NotWorld, NotEnded, Damaged, PackageTooLong, NotBuilt}
 use Rattle.ldv_top.specs.declared.plain.PlainStep.{PlainStep}
 use Rattle.ldv_top.specs.Plain.{plain_script}
-
--- ---- the words
-
-abbrev pub command_of : List (List ℕ) → Option Command
-command_of [] = None
-command_of (word ∷ []) = if bytes_eq word (codes "run") then Some Run else (if bytes_eq word (codes "record") then Some Record else (if bytes_eq word (codes "replay") then Some Replay else None))
-command_of (word ∷ next ∷ more) = None
-
--- whether the command reads its input
-abbrev pub reads : Option Command → Bool
-reads None = false
-reads (Some Run) = true
-reads (Some Record) = true
-reads (Some Replay) = true
-
--- ---- what is due
+use Rattle.ldv_top.specs.Words.{command_of}
 
 pub record Due : Type 0 where
   pub exit : Exit
@@ -51,93 +35,92 @@ refused exit = record { exit = exit; bytes = [] }
 abbrev pub done : List ℕ → Due
 done bytes = record { exit = Done; bytes = bytes }
 
--- steps that a run may take where no words say another number
-abbrev pub default_budget : ℕ
-default_budget = 1000000
+-- ---- what is supported so far
 
-abbrev pub due_outcome : Option Outcome → Due
-due_outcome None = refused (NotEnded default_budget)
-due_outcome (Some outcome) = done (outcome_text_of outcome)
+-- what the run of a world does, where its script is plain
+abbrev pub plain_world : World → Option (List PlainStep)
+plain_world w = option_and_then plain_script (start_script w)
 
--- a script that isn't plain can't be run yet
-abbrev pub due_plain : Option (List PlainStep) → World → List Instr → Due
-due_plain None w script = refused NotBuilt
-due_plain (Some steps) w script = due_outcome (outcome_within default_budget (start_state w script))
+-- worlds with a plain script, run from included packages
+abbrev pub is_supported : Mode → World → Bool
+is_supported Included w = is_some (plain_world w)
+is_supported Excluded w = false
 
-abbrev pub due_script : Option (List Instr) → World → Due
-due_script None w = refused NotBuilt
-due_script (Some script) w = due_plain (plain_script script) w script
+-- ---- the run of a world
 
-abbrev pub due_world : World → Due
-due_world w = due_script (start_script w) w
+abbrev pub due_outcome : ℕ → (Outcome → Due) → Option Outcome → Due
+due_outcome budget written None = refused (NotEnded budget)
+due_outcome budget written (Some outcome) = written outcome
 
-abbrev pub due_reading : Result World WorldFault → Due
-due_reading (Ok w) = due_world w
-due_reading (Err fault) = refused (NotWorld fault)
+-- what is written of the run within a budget, which has to end
+abbrev pub due_of_run : Mode → ℕ → World → (Outcome → Due) → Due
+due_of_run mode budget w written = if is_supported mode w then due_outcome budget written (outcome_within budget w) else refused NotBuilt
 
 abbrev pub is_too_long : List ℕ → Bool
-is_too_long bytes = nat_lt 67108864 (length bytes)
+is_too_long bytes = nat_lt input_limit (length bytes)
 
-abbrev pub due_run : List ℕ → Due
-due_run input = if is_too_long input then refused TooLong else due_reading (world_reading input)
+-- ---- run: the outcome
 
--- ---- record: the package of the world's run
+abbrev pub outcome_due : Outcome → Due
+outcome_due outcome = done (outcome_text_of outcome)
+
+abbrev pub due_world : ℕ → World → Due
+due_world budget w = due_of_run Included budget w outcome_due
+
+abbrev pub due_reading : ℕ → Result World WorldFault → Due
+due_reading budget (Ok w) = due_world budget w
+due_reading budget (Err fault) = refused (NotWorld fault)
+
+abbrev pub due_run : ℕ → List ℕ → Due
+due_run budget input = if is_too_long input then refused TooLong else due_reading budget (world_reading input)
+
+-- ---- record: the package of the run
 
 abbrev pub due_spelling : List ℕ → Due
 due_spelling bytes = if is_too_long bytes then refused PackageTooLong else done bytes
 
-abbrev pub recorded_outcome : Option Outcome → World → Due
-recorded_outcome None w = refused (NotEnded default_budget)
-recorded_outcome (Some outcome) w = due_spelling (spelling (included_package default_budget w))
+abbrev pub package_due : Mode → ℕ → World → Outcome → Due
+package_due mode budget w outcome = due_spelling (spelling (package_of mode budget w))
 
-abbrev pub recorded_plain : Option (List PlainStep) → World → List Instr → Due
-recorded_plain None w script = refused NotBuilt
-recorded_plain (Some steps) w script = recorded_outcome (outcome_within default_budget (start_state w script)) w
+abbrev pub recorded_world : Mode → ℕ → World → Due
+recorded_world mode budget w = due_of_run mode budget w (package_due mode budget w)
 
-abbrev pub recorded_script : Option (List Instr) → World → Due
-recorded_script None w = refused NotBuilt
-recorded_script (Some script) w = recorded_plain (plain_script script) w script
+abbrev pub recorded_reading : Mode → ℕ → Result World WorldFault → Due
+recorded_reading mode budget (Ok w) = recorded_world mode budget w
+recorded_reading mode budget (Err fault) = refused (NotWorld fault)
 
-abbrev pub recorded_world : World → Due
-recorded_world w = recorded_script (start_script w) w
-
-abbrev pub recorded_reading : Result World WorldFault → Due
-recorded_reading (Ok w) = recorded_world w
-recorded_reading (Err fault) = refused (NotWorld fault)
-
-abbrev pub due_record : List ℕ → Due
-due_record input = if is_too_long input then refused TooLong else recorded_reading (world_reading input)
+abbrev pub due_record : Mode → ℕ → List ℕ → Due
+due_record mode budget input = if is_too_long input then refused TooLong else recorded_reading mode budget (world_reading input)
 
 -- ---- replay: the outcome of the package's own world, which is run again
 
--- an excluded package can't be replayed yet
-abbrev pub replayed_by : Mode → Package → Due
-replayed_by Excluded p = refused NotBuilt
-replayed_by Included p = due_world (own_world p)
+abbrev pub replayed_package : ℕ → Package → Due
+replayed_package budget p = due_of_run p.mode budget (own_world p) outcome_due
 
-abbrev pub replayed_reading : Result Package DamageKind → Due
-replayed_reading (Ok p) = replayed_by p.mode p
-replayed_reading (Err kind) = refused (Damaged kind)
+abbrev pub replayed_reading : ℕ → Result Package DamageKind → Due
+replayed_reading budget (Ok p) = replayed_package budget p
+replayed_reading budget (Err kind) = refused (Damaged kind)
 
-abbrev pub due_replay : List ℕ → Due
-due_replay input = if is_too_long input then refused TooLong else replayed_reading (reading input)
+abbrev pub due_replay : ℕ → List ℕ → Due
+due_replay budget input = if is_too_long input then refused TooLong else replayed_reading budget (reading input)
 
 -- ---- all commands
 
 abbrev pub due_of : Option Command → List ℕ → Due
 due_of None input = refused Usage
-due_of (Some Run) input = due_run input
-due_of (Some Record) input = due_record input
-due_of (Some Replay) input = due_replay input
+due_of (Some (Run budget)) input = due_run budget input
+due_of (Some (Record mode budget)) input = due_record mode budget input
+due_of (Some (Replay budget)) input = due_replay budget input
 
 abbrev pub due : List (List ℕ) → List ℕ → Due
 due words input = due_of (command_of words) input
 
--- ---- an answer as what is due
+-- ---- a response as what is due
 
-abbrev pub answer_due : Answer → Due
-answer_due (answers.Written bytes) = done bytes
-answer_due (answers.NotWorld fault) = refused (NotWorld fault)
-answer_due answers.NotBuilt = refused NotBuilt
-answer_due (answers.Damaged kind) = refused (Damaged kind)
-answer_due answers.PackageTooLong = refused PackageTooLong
+abbrev pub response_due : Response → Due
+response_due (responses.Written bytes) = done bytes
+response_due (responses.NotWorld fault) = refused (NotWorld fault)
+response_due responses.NotBuilt = refused NotBuilt
+response_due (responses.NotEnded budget) = refused (NotEnded budget)
+response_due (responses.Damaged kind) = refused (Damaged kind)
+response_due responses.PackageTooLong = refused PackageTooLong

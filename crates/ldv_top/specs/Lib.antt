@@ -1,10 +1,12 @@
 pub mod Asks
 pub mod Comes
 pub mod Due
+pub mod Ends
 pub mod Exits
 pub mod Headline
 pub mod Packages
 pub mod Plain
 pub mod Rising
 pub mod Traces
+pub mod Words
 pub mod Written

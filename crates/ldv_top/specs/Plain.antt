@@ -14,7 +14,7 @@ use Rattle.sql_model.specs.declared.statement.Statement.{Statement}
 use Rattle.sql_model.specs.declared.table.Table.{Table}
 use Rattle.sql_model.specs.Built.{is_built}
 use Rattle.sql_model.specs.Statements.{reply_of}
-use Rattle.sql_model.specs.Texts.{statement_of}
+use Rattle.sql_parse.specs.Texts.{statement_of}
 use Rattle.run_model.specs.declared.outcome.Outcome.{Outcome}
 use Rattle.run_model.specs.declared.outcome.ProcOutcome.{ProcOutcome}
 use Rattle.run_model.specs.Step.{printed_line, exit_status}

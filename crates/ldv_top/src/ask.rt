@@ -6,7 +6,7 @@ ghost use Rattle.sql_model.specs.Built.{is_built};
 ghost use Rattle.sql_model.specs.Needs.{table_name, asked_tables};
 ghost use Rattle.sql_model.specs.Places.{checked_of, places_of};
 ghost use Rattle.sql_model.specs.Scope.{catalog_of, is_table, table_at, rows_of};
-ghost use Rattle.sql_model.specs.Sense.{is_true};
+ghost use Rattle.sql_model.specs.Meaning.{is_true};
 ghost use Rattle.sql_model.specs.Statements.{refusal_of, reply_of};
 ghost use Rattle.ldv_top.specs.Asks.{core_of, source_in, names_in_source, rows_in_source, first_places, verdict_of, is_met, InScopes, row_need, picked_values, picked_needs, values_onto, needs_onto, needs_in_source};
 ghost use Rattle.ldv_top.specs.Rising.{TablesRise};

@@ -1,6 +1,6 @@
 //! The run of a plain script.
 
-ghost use Rattle.std.specs.Prelude.{◌≡◌, ◌+◌, ◌++◌, ◌∷◌, [], true, nat_lt, IfOk, OnOk};
+ghost use Rattle.std.specs.Prelude.{◌≡◌, ◌+◌, ◌++◌, ◌∷◌, [], ◌≤◌, true, length, nat_lt, IfOk, OnOk};
 ghost use Rattle.std.specs.List.{flat_map};
 ghost use Rattle.ldv_value.specs.Shown.{shown};
 ghost use Rattle.run_model.specs.Step.{printed_line, exit_status};
@@ -9,6 +9,7 @@ ghost use Rattle.sql_model.specs.Scope.{catalog_of};
 ghost use Rattle.sql_model.specs.Statements.{reply_of};
 ghost use Rattle.ldv_value.specs.declared.value.Value.TheVariants.{Int};
 ghost use Rattle.ldv_top.specs.Plain.{asks_built, all_built, finish_of, outcome_from};
+ghost use Rattle.ldv_top.specs.Traces.{plain_count};
 
 use crate::ask::reply_to;
 use crate::plain::{PlainStep, PlainSteps};
@@ -147,21 +148,41 @@ fn small_or_misuse(number: i64) -> u8
     }
 }
 
-/// Runs a plain script to its end. `AllocError` means want of memory alone.
+/// What a run that has ended came to, and the number of its steps.
+#[derive(Drop)]
+pub struct Ran {
+    pub finish: Finish,
+    pub steps: u32,
+}
+
+/// Runs a plain script of at most 1,000 instructions to its end.
 #[tactic(auto, using(crate::proofs::BuiltLaw::first_steps))]
-pub fn run_steps(alloc: Global, steps: &PlainSteps, tables: &Tables) -> Result<Finish, AllocError>
-    requires { all_built steps.now ≡ true }
-    ensures { IfOk result (λ end. end ≡ finish_of tables.now steps.now) }
+pub fn run_steps(alloc: Global, steps: &PlainSteps, tables: &Tables) -> Result<Ran, AllocError>
+    requires short { length steps.now ≤ 1000 }
+    requires built { all_built steps.now ≡ true }
+    ensures finish { IfOk result (λ ran. ran.finish ≡ finish_of tables.now steps.now) }
+    ensures steps { IfOk result (λ ran. ran.steps ≡ plain_count tables.now steps.now) }
 {
     let catalog = Catalog::of(alloc, tables)?;
     let mut shown = Shown::new(alloc);
+    let mut number: u32 = 1;
     for step in steps.items() {
         match shown.take(alloc, step, &catalog, tables.items())? {
-            Some(status) => return Ok(Finish { status, shown }),
-            None => {}
+            Some(status) => {
+                let finish = Finish { status, shown };
+                return Ok(Ran {
+                    finish,
+                    steps: number,
+                });
+            }
+            None => number += 1,
         }
     }
-    Ok(Finish { status: 0, shown })
+    let finish = Finish { status: 0, shown };
+    Ok(Ran {
+        finish,
+        steps: number,
+    })
 }
 
 /// The outcome of a run of one process that touched no path. `AllocError` means want of memory alone.

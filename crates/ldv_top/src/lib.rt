@@ -1,6 +1,6 @@
 //! The program without its streams: `ldv` reads a source, and writes what the words ask for to a sink.
 //!
-//! The commands are `run`, `record` and `replay`. What can be run so far are scripts of one process that
+//! The commands are `run`, `record` and `replay`, each with a budget of steps. What can be run so far are scripts of one process that
 //! print, exit and ask constant texts with constant parameters (`specs/Plain.antt`): a text that is no
 //! statement is refused, `SELECT * FROM` one table with any WHERE is answered, and a script with any other
 //! statement isn't run. Which texts are statements, and what they mean, `sql_model` says.
@@ -9,32 +9,32 @@
 //! - the exit and the bytes are those that are due for the words and the input (`specs/Due.antt`); only a
 //!   fault of a stream, where its count of faults rose, or want of memory comes in their place;
 //! - where all is written, what `record` wrote is the package of the document's world. It is read back as
-//!   that package, has exactly the files, tables and rows that the run needed, each row with the first
-//!   statement that needed it and its rule, and its replay comes to what `run` comes to
+//!   that package, whole, and its replay within at least the steps of that run gives what `run` gives
 //!   (`specs/Headline.antt`, `Recorded`);
-//! - the package of any valid world whose run ends is replayed as the world is run (`IsPackageOf`): the
-//!   package's own world is run again, and its trace isn't asked;
+//! - the package of any valid world whose run ends within a budget is replayed, within at least the steps of
+//!   that run, as the world is run (`IsPackageOf`): the package's own world is run again, and its trace isn't
+//!   asked;
 //! - bytes that are no package, a package that would be too long and one that can't be replayed yet are
 //!   refused, and then nothing is written.
 //!
 //! `ldv_main` says the same of the exit of which it tells the line and gives the status.
 #![tactic(auto)]
 
-mod answers;
 mod ask;
 mod built;
 mod command;
 mod exit;
 mod finish;
 mod headline;
-mod lines;
+mod messages;
 mod plain;
 mod record;
 mod replay;
+mod response;
 mod top;
 mod trace;
 
 pub use command::Command;
 pub use exit::{Exit, status};
-pub use lines::exit_line;
+pub use messages::exit_line;
 pub use top::{ldv, ldv_main};

@@ -3,7 +3,7 @@
 ghost use Rattle.std.specs.Prelude.{◌≡◌, true, IfOk, IfSome, option_map};
 ghost use Rattle.ldv_value.specs.declared.value.Value.TheVariants.{Text};
 ghost use Rattle.ldv_top.specs.declared.plain.PlainStep.TheVariants.{Show, Stop};
-ghost use Rattle.sql_model.specs.Texts.{statement_of};
+ghost use Rattle.sql_parse.specs.Texts.{statement_of};
 ghost use Rattle.ldv_top.specs.Plain.{constant_in, constants_in, plain_ask, plain_sql, plain_step, plain_steps, plain_script};
 
 use crate::built::is_built;

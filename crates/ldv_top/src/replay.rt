@@ -1,11 +1,12 @@
 //! From a package to the outcome of its own world.
 
 ghost use Rattle.std.specs.Prelude.{◌≡◌, ◌≤◌, ◌++◌, true, map, length, IfOk};
-ghost use Rattle.run_model.specs.Slice.{or_empty, own_file, own_row, own_table, own_world};
+ghost use Rattle.run_model.specs.Package.{or_empty, own_file, own_row, own_table, own_world};
 ghost use Rattle.run_model.specs.Start.{has_small_files};
-ghost use Rattle.ldv_top.specs.Due.{answer_due, due_world, replayed_by, due_replay};
+ghost use Rattle.ldv_value.specs.Limits.{input_limit};
+ghost use Rattle.ldv_top.specs.Due.{response_due, due_world, replayed_package, due_replay};
 
-use crate::answers::{Answer, answer_world};
+use crate::response::{Response, world_response};
 use ldv_value::{Bytes, File, Files};
 use package_layout::{PackageStop, read_package};
 use run_model::{
@@ -114,33 +115,33 @@ fn own_world(alloc: Global, package: Package) -> Result<World, AllocError>
     })
 }
 
-fn replay_included(alloc: Global, package: Package) -> Result<Answer, AllocError>
+fn replay_included(alloc: Global, budget: u32, package: Package) -> Result<Response, AllocError>
     requires { has_small_files (own_world «package») ≡ true }
-    ensures { IfOk result (λ answer. answer_due answer ≡ due_world (own_world «package»)) }
+    ensures { IfOk result (λ response. response_due response ≡ due_world budget (own_world «package»)) }
 {
     let world = own_world(alloc, package)?;
-    answer_world(alloc, &world)
+    world_response(alloc, budget, &world)
 }
 
-fn replay_package(alloc: Global, package: Package) -> Result<Answer, AllocError>
+fn replay_package(alloc: Global, budget: u32, package: Package) -> Result<Response, AllocError>
     requires { has_small_files (own_world «package») ≡ true }
-    ensures { IfOk result (λ answer. answer_due answer ≡ replayed_by «package».mode «package») }
+    ensures { IfOk result (λ response. response_due response ≡ replayed_package budget «package») }
 {
     match package.mode {
-        Mode::Excluded => Ok(Answer::NotBuilt),
-        Mode::Included => replay_included(alloc, package),
+        Mode::Excluded => Ok(Response::NotBuilt),
+        Mode::Included => replay_included(alloc, budget, package),
     }
 }
 
-/// What `replay` comes to for an input. `AllocError` means want of memory alone.
+/// What `replay` comes to for an input.
 #[tactic(auto, using(crate::proofs::ReplayLaws::own_small))]
-pub fn answer_replay(alloc: Global, input: &Bytes) -> Result<Answer, AllocError>
-    requires { length input.now ≤ 67108864 }
-    ensures { IfOk result (λ answer. answer_due answer ≡ due_replay input.now) }
+pub fn replay_response(alloc: Global, budget: u32, input: &Bytes) -> Result<Response, AllocError>
+    requires { length input.now ≤ input_limit }
+    ensures { IfOk result (λ response. response_due response ≡ due_replay budget input.now) }
 {
     match read_package(alloc, input.as_slice()) {
-        Ok(package) => replay_package(alloc, package),
-        Err(PackageStop::Damaged(kind)) => Ok(Answer::Damaged(kind)),
+        Ok(package) => replay_package(alloc, budget, package),
+        Err(PackageStop::Damaged(kind)) => Ok(Response::Damaged(kind)),
         Err(PackageStop::NoMemory) => Err(AllocError),
     }
 }

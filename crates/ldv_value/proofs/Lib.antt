@@ -1,1 +1,10 @@
+pub mod Booleans
+pub mod Cases
+pub mod FileLaws
+pub mod FileLists
+pub mod Lists
+pub mod Options
 pub mod Places
+pub mod SameBytes
+pub mod Scanning
+pub mod Utf8Parts

@@ -1,6 +1,6 @@
--- What stands in a list from a place on.
+-- The items of a list from an index on.
 use Rattle.std.proofs.Common.{◌≡◌, ℕ, zero, suc, ◌+◌, List, [], ◌∷◌, refl, add-one}
-use Rattle.std.specs.Prelude.{drop, slice_get, Option, Some, None}
+use Rattle.std.specs.Prelude.{drop, slice_get, Some, None}
 
 drop_suc : {X : Type 0} (xs : List X) (i : ℕ) (x : X) → slice_get xs i ≡ Some x → drop i xs ≡ x ∷ drop (suc i) xs
 drop_suc [] i x is = cc

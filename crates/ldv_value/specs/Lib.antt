@@ -1,3 +1,10 @@
+pub mod FileState
+pub mod Gives
+pub mod Limits
 pub mod Names
+pub mod Options
 pub mod Order
+pub mod Scan
 pub mod Shown
+pub mod Sorted
+pub mod Texts

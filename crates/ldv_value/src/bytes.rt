@@ -1,4 +1,4 @@
-//! What a list of bytes has beside the calls of every list.
+//! The calls of lists of bytes, beside those of every list.
 
 ghost use Rattle.std.specs.Prelude.{◌≡◌, ◌++◌, OnOk, OnErr, IfOk};
 
@@ -13,15 +13,14 @@ impl Bytes {
         self.items()
     }
 
-    /// Bytes equal to those of a slice. `AllocError` means want of memory alone.
+    /// Bytes equal to those of a slice.
     pub fn of_slice(alloc: Global, bytes: &[u8]) -> Result<Self, AllocError>
         ensures { IfOk result (λ made. made ≡ bytes.now) }
     {
         Ok(Bytes::of_vec(Vec::from_slice(alloc, bytes)?))
     }
 
-    /// Appends the bytes of a slice. `AllocError` means want of memory alone, and the bytes are as they
-    /// were.
+    /// Appends the bytes of a slice. On `AllocError` the bytes are as they were.
     pub fn extend(&mut self, more: &[u8]) -> Result<(), AllocError>
         ensures ok { OnOk result (self.new ≡ self.old ++ more.now) }
         ensures err { OnErr result (self.new ≡ self.old) }

@@ -1,30 +1,43 @@
 //! Files of a world, and the modes in which a script opens them.
 
+ghost use Rattle.std.specs.Prelude.{◌≡◌};
+ghost use Rattle.std.specs.Option.{option_map};
+ghost use Rattle.ldv_value.specs.FileState.{file_at};
+
 use crate::Bytes;
 use crate::list::{CopyItem, List};
 use crate::utf8::Utf8;
 use std::alloc::{AllocError, Global};
 
-/// A file: its path, which meets the path rule, and its bytes, at most 16,777,216.
+/// A file: its path, for which `is_path` holds, and its bytes, at most `FILE_LIMIT`.
 #[derive(Drop)]
 pub struct File {
     pub path: Utf8,
     pub content: Bytes,
 }
 
-/// Files, rising by path where a call says so.
+/// Files, sorted by path where a clause says so.
 pub type Files = List<File>;
+
+impl Files {
+    /// The first file at a path.
+    pub fn find(&self, path: &Utf8) -> Option<&File>
+        ensures { option_map (λ file. file.now) result ≡ file_at path.now self.now }
+    {
+        self.items().iter().find(|file| path.is_same(&file.path))
+    }
+}
 
 /// How a script opens a file.
 #[derive(Clone, Copy, Debug, PartialEq, Eq)]
 pub enum OpenMode {
-    /// `r`: the file is there, and is read from its start.
+    /// `r`: reads a file that exists from its start.
     Read,
-    /// `w`: the file is emptied or made.
+    /// `w`: empties or makes the file.
     Write,
-    /// `a`: the file is kept or made, and writing appends.
+    /// `a`: keeps or makes the file, and appends to it.
     Append,
-    /// `n`: the file isn't there, and is made.
+    /// `n`: makes a file that doesn't exist.
     New,
 }
 

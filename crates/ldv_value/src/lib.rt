@@ -1,4 +1,7 @@
-//! Values, lists and texts: what every other crate speaks of.
+//! Values, lists, texts and files: the vocabulary of every other crate.
+//!
+//! `AllocError`, and a variant `NoMemory` of any error of this repository, means out of memory and nothing
+//! else.
 //!
 //! It promises to the layers above:
 //! - each list type is a list: contracts see `List<X>` as the list of its items and `Utf8` as the list
@@ -7,24 +10,35 @@
 //!   (`specs/Order.antt`);
 //! - `append_text` shows a value as `specs/Shown.antt` says;
 //! - `is_path` and `is_word` are the rules of `specs/Names.antt`.
+//!
+//! `specs/` has what the crates above share: the limits, what files mean, sorted lists, scanners, and how a
+//! result that may be out of memory is what a definition gives. Lemmas that they share are in `proofs/`.
 #![tactic(auto)]
 
 mod bytes;
 mod file;
 mod limits;
+mod line;
 mod list;
 mod names;
 mod order;
 mod show;
+mod sorted;
 mod utf8;
 mod value;
 
 pub use file::{File, Files, OpenMode};
-pub use limits::{FILE_LIMIT, INPUT_LIMIT, TEXT_LIMIT};
+pub use limits::{
+    DEFAULT_STEPS, FILE_LIMIT, INPUT_LIMIT, MAX_COLUMNS, MAX_DEPTH, MAX_FILES, MAX_NEXT,
+    MAX_OPERANDS, MAX_PARAMS, MAX_PROCESSES, MAX_ROWS, MAX_SOURCES, MAX_START_WORDS, MAX_STEPS,
+    MAX_TABLES, NAME_LIMIT, PATH_LIMIT, PRINTED_LIMIT, TEXT_LIMIT,
+};
+pub use line::LineRead;
 pub use list::{CopyItem, List};
 pub use names::{is_path, is_word};
 pub use order::{compare, holds, same, test};
-pub use show::append_text;
+pub use show::{append_number, append_signed, append_text};
+pub use sorted::{Precedes, is_strictly_sorted};
 pub use utf8::Utf8;
 pub use value::{Cmp, Truth, Value};
 
@@ -32,11 +46,11 @@ pub use value::{Cmp, Truth, Value};
 pub type Bytes = List<u8>;
 /// Column values, in the order of their columns.
 pub type Values = List<Value>;
-/// Rows of values, as a reply lists them.
+/// The rows of a reply.
 pub type RowList = List<Values>;
 /// Names of columns, tables or variables.
 pub type Names = List<Utf8>;
-/// Start words of a run.
+/// Words that a run starts with.
 pub type Words = List<Utf8>;
 /// Paths of files.
 pub type Paths = List<Utf8>;
@@ -44,9 +58,9 @@ pub type Paths = List<Utf8>;
 pub type Parts = List<u32>;
 /// Row numbers.
 pub type Numbers = List<u32>;
-/// Places of columns, from 0.
+/// Indexes of columns, from 0.
 pub type Places = List<u32>;
-/// Lists of places.
+/// Lists of indexes of columns.
 pub type PlaceLists = List<Places>;
-/// Numbers of calls, from 1, in the order of the calls.
+/// Numbers of calls, counted from 1.
 pub type Calls = List<u64>;

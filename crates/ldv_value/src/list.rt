@@ -1,6 +1,7 @@
 //! One list type for all lists of the product: a `Vec` that contracts see as the list of its items.
 
-ghost use Rattle.std.specs.Prelude.{◌≡◌, ◌==◌, ◌+◌, ◌^◌, ◌<◌, ◌++◌, ◌∷◌, [], drop, length, IfOk, OnOk, OnErr, OnSome, MatchOption, slice_get, slice_set};
+ghost use Rattle.std.specs.Prelude.{◌≡◌, ◌==◌, ◌+◌, ◌^◌, ◌<◌, ◌++◌, ◌∷◌, [], drop, length};
+ghost use Rattle.std.specs.Prelude.{IfOk, OnOk, OnErr, OnSome, MatchOption, slice_get, slice_set};
 ghost use Rattle.std.specs.Option.{option_map};
 
 use std::alloc::{AllocError, Global};
@@ -8,7 +9,7 @@ use std::marker::Model;
 
 /// An item that can make a copy equal to itself.
 pub trait CopyItem: Drop {
-    /// A copy that is equal to the item. `AllocError` means want of memory alone.
+    /// A copy that is equal to the item.
     fn copy_item(&self, alloc: Global) -> Result<Self, AllocError>
         ensures { IfOk result (λ copy. copy ≡ self.now) };
 }
@@ -55,7 +56,7 @@ impl<X> List<X> {
         held
     }
 
-    /// How many items there are.
+    /// The number of items.
     pub fn len(&self) -> usize
         ensures { result ≡ length self.now }
     {
@@ -81,21 +82,31 @@ impl<X> List<X> {
         *self.held.allocator()
     }
 
-    /// The item at a place, from 0; `None` at and past the end.
+    /// The item at an index, from 0; `None` at and past the end.
     #[tactic(auto, using(crate::proofs::Places::drop_some, crate::proofs::Places::drop_none))]
     pub fn get(&self, place: usize) -> Option<&X>
         ensures item { option_map (λ x. x.now) result ≡ slice_get self.now place }
         ensures within { OnSome result (place < length self.now) }
         ensures bound { length self.now < 2 ^ 64 }
-        // What stands from the place on.
-        ensures rest { MatchOption result (drop place self.now ≡ []) (λ x. drop place self.now ≡ x.now ∷ drop (place + 1) self.now) }
+        // The items from the index on.
+        ensures rest { MatchOption result (drop place self.now ≡ [])
+            (λ x. drop place self.now ≡ x.now ∷ drop (place + 1) self.now) }
     {
         self.held.get(place)
     }
 }
 
 impl<X: Drop> List<X> {
-    /// Appends an item. `AllocError` means want of memory alone, and the list is as it was.
+    /// The empty list, with room for a number of items: up to it `push` takes no memory.
+    pub fn with_capacity(alloc: Global, count: usize) -> Result<Self, AllocError>
+        ensures { IfOk result (λ made. made ≡ []) }
+    {
+        Ok(List {
+            held: Vec::with_capacity(alloc, count)?,
+        })
+    }
+
+    /// Appends an item. On `AllocError` the list is as it was.
     pub fn push(&mut self, item: X) -> Result<(), AllocError>
         ensures ok { OnOk result (self.new ≡ self.old ++ item ∷ []) }
         ensures err { OnErr result (self.new ≡ self.old) }
@@ -104,7 +115,7 @@ impl<X: Drop> List<X> {
         Ok(())
     }
 
-    /// Puts an item in the place of another.
+    /// Replaces the item at an index.
     pub fn replace(&mut self, place: usize, item: X)
         requires { place < length self.old }
         ensures { self.new ≡ slice_set self.old place item }
@@ -114,7 +125,7 @@ impl<X: Drop> List<X> {
 }
 
 impl<X: CopyItem> List<X> {
-    /// A copy that is equal to the list. `AllocError` means want of memory alone.
+    /// A copy that is equal to the list.
     pub fn copy(&self) -> Result<Self, AllocError>
         ensures { IfOk result (λ copy. copy ≡ self.now) }
     {

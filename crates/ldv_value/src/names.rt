@@ -4,11 +4,13 @@ ghost use Rattle.std.specs.Prelude.{◌≡◌};
 ghost use Rattle.std.specs.List.{list_all};
 ghost use Rattle.ldv_value.specs.Names.{path_test, word_test, is_path_byte, is_word_start, is_word_byte};
 
-/// Whether a text is a path: 1 to 255 bytes, none below 32 and none 127.
+use crate::limits::{NAME_LIMIT, PATH_LIMIT};
+
+/// Whether a text is a path: 1 to `PATH_LIMIT` bytes, none below 32 and none 127.
 pub fn is_path(text: &str) -> bool
     ensures { result ≡ path_test text.now }
 {
-    1 <= text.len() && text.len() <= 255 && path_bytes(text.as_bytes())
+    1 <= text.len() && text.len() <= PATH_LIMIT && path_bytes(text.as_bytes())
 }
 
 fn path_bytes(bytes: &[u8]) -> bool
@@ -23,14 +25,14 @@ fn path_byte(b: u8) -> bool
     32 <= b && b != 127
 }
 
-/// Whether a text is a lower-case word: 1 to 63 bytes, a letter from `a` to `z` or `_`, and then such
-/// letters, digits and `_`.
+/// Whether a text is a lower-case word: 1 to `NAME_LIMIT` bytes, a letter from `a` to `z` or `_`, and then
+/// such letters, digits and `_`.
 pub fn is_word(text: &str) -> bool
     ensures { result ≡ word_test text.now }
 {
     match text.as_bytes() {
         [] => false,
-        [first, rest @ ..] => word_start(*first) && rest.len() <= 62 && word_bytes(rest),
+        [first, rest @ ..] => word_start(*first) && rest.len() < NAME_LIMIT && word_bytes(rest),
     }
 }
 

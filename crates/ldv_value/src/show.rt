@@ -1,24 +1,41 @@
-//! Values as text.
+//! Numbers and values as text.
 
 ghost use Rattle.std.specs.Prelude.{◌≡◌, ◌++◌, OnOk, OnErr};
+ghost use Rattle.std.specs.Fmt.{decimal, signed_decimal};
 ghost use Rattle.ldv_value.specs.Shown.{shown};
 
 use crate::Bytes;
 use crate::value::Value;
+use itoa::Buffer;
 use std::alloc::AllocError;
 
-/// Appends a value as text: the decimal number, the text itself, or `NULL`. `AllocError` means want of
-/// memory alone, and then nothing is appended.
+/// Appends a number in decimal. On `AllocError` nothing is appended.
+pub fn append_number(number: u64, to: &mut Bytes) -> Result<(), AllocError>
+    ensures ok { OnOk result (to.new ≡ to.old ++ decimal number) }
+    ensures err { OnErr result (to.new ≡ to.old) }
+{
+    let mut buffer = Buffer::new();
+    to.extend(buffer.format(number).as_bytes())
+}
+
+/// Appends a number in decimal, with `-` before one below 0. On `AllocError` nothing is appended.
+pub fn append_signed(number: i64, to: &mut Bytes) -> Result<(), AllocError>
+    ensures ok { OnOk result (to.new ≡ to.old ++ signed_decimal number) }
+    ensures err { OnErr result (to.new ≡ to.old) }
+{
+    let mut buffer = Buffer::new();
+    to.extend(buffer.format(number).as_bytes())
+}
+
+/// Appends a value as text: the decimal number, the text itself, or `NULL`. On `AllocError` nothing is
+/// appended.
 pub fn append_text(value: &Value, to: &mut Bytes) -> Result<(), AllocError>
     ensures ok { OnOk result (to.new ≡ to.old ++ shown value.now) }
     ensures err { OnErr result (to.new ≡ to.old) }
 {
     match value {
         Value::Null => to.extend(b"NULL"),
-        Value::Int(number) => {
-            let text = number.to_string(to.allocator())?;
-            to.extend(text.as_bytes())
-        }
+        Value::Int(number) => append_signed(*number, to),
         Value::Text(text) => to.extend(text.as_str().as_bytes()),
     }
 }

@@ -1,6 +1,7 @@
 //! Text: a `String` that contracts see as the list of its bytes.
 
-ghost use Rattle.std.specs.Prelude.{◌≡◌, ◌==◌, string_bytes, ◌++◌, [], IfOk, OnOk, OnErr, ◌↔◌, IsTrue, nat_eq, length};
+ghost use Rattle.std.specs.Prelude.{◌≡◌, ◌==◌, ◌++◌, ◌↔◌, [], string_bytes, length, nat_eq};
+ghost use Rattle.std.specs.Prelude.{IsTrue, IfOk, OnOk, OnErr};
 ghost use Rattle.std.specs.Cmp.Lexicographic.{pointwise};
 
 use crate::list::CopyItem;
@@ -31,7 +32,7 @@ impl Utf8 {
         }
     }
 
-    /// A text equal to another. `AllocError` means want of memory alone.
+    /// A text equal to another.
     pub fn of(alloc: Global, text: &str) -> Result<Self, AllocError>
         ensures { IfOk result (λ made. made ≡ text.now) }
     {
@@ -81,7 +82,7 @@ impl Utf8 {
         self.text.as_str()
     }
 
-    /// Appends a text. `AllocError` means want of memory alone, and the text is as it was.
+    /// Appends a text. On `AllocError` the text is as it was.
     pub fn push_str(&mut self, text: &str) -> Result<(), AllocError>
         ensures ok { OnOk result (self.new ≡ self.old ++ text.now) }
         ensures err { OnErr result (self.new ≡ self.old) }
@@ -89,14 +90,14 @@ impl Utf8 {
         self.text.push_str(text)
     }
 
-    /// A copy that is equal to the text. `AllocError` means want of memory alone.
+    /// A copy that is equal to the text.
     pub fn copy(&self) -> Result<Self, AllocError>
         ensures { IfOk result (λ copy. copy ≡ self.now) }
     {
         Utf8::of(*self.text.allocator(), self.text.as_str())
     }
 
-    /// Whether two texts have the same bytes.
+    /// Whether two texts are the same.
     pub fn is_same(&self, other: &Utf8) -> bool
         ensures same { IsTrue result ↔ (self.now ≡ other.now) }
         ensures test { result ≡ pointwise nat_eq self.now other.now }
@@ -104,7 +105,7 @@ impl Utf8 {
         self.as_str() == other.as_str()
     }
 
-    /// Whether the bytes are those of a slice.
+    /// Whether the text is the other one.
     pub fn is_text(&self, other: &str) -> bool
         ensures same { IsTrue result ↔ (self.now ≡ other.now) }
         ensures test { result ≡ pointwise nat_eq self.now other.now }

@@ -4,11 +4,11 @@ use crate::list::CopyItem;
 use crate::utf8::Utf8;
 use std::alloc::{AllocError, Global};
 
-/// A value of a table, a variable or a parameter. A text has at most 65,536 bytes where a limit is
-/// said of it.
+/// A value of a table, a variable or a parameter. A text has at most `TEXT_LIMIT` bytes where a clause
+/// says so.
 #[derive(Drop)]
 pub enum Value {
-    /// The value of what isn't known.
+    /// SQL's NULL: no value is known.
     Null,
     /// A whole number.
     Int(i64),
@@ -16,14 +16,14 @@ pub enum Value {
     Text(Utf8),
 }
 
-/// A truth value of three-valued logic, as SQL has it.
+/// A truth value of SQL's three-valued logic.
 #[derive(Clone, Copy, Debug, PartialEq, Eq)]
 pub enum Truth {
-    /// It holds.
+    /// True.
     True,
-    /// It doesn't hold.
+    /// False.
     False,
-    /// A NULL was compared, so neither is known.
+    /// Neither is known: a NULL was compared.
     Unknown,
 }
 

@@ -3,7 +3,7 @@
 ghost use Rattle.std.specs.Prelude.{◌≡◌, ◌≤◌, length, IsTrue, OnOk};
 ghost use Rattle.std.specs.List.{All};
 ghost use Rattle.ldv_value.specs.Names.{path_test};
-ghost use Rattle.file_tree.specs.State.{IsFile};
+ghost use Rattle.ldv_value.specs.FileState.{IsFile};
 
 use file_tree::{AppendStop, LineRead, Tree, TreeStop};
 use ldv_value::{Bytes, File, Files, OpenMode, Utf8, is_path};

@@ -79,10 +79,6 @@ has_row-added set row version other =
 pub has_row-union : (one other both : Lineage) → IsUnion one other both → (row : Row) → has_row both row ≡ (has_row one row || has_row other row)
 has_row-union one other both is row = ap is_some (is row) ∙ has_either (version_at one row) (version_at other row)
 
--- two sets have one union
-pub same_union : (one other both also : Lineage) → IsUnion one other both → IsUnion one other also → both ≡ also
-same_union one other both also is so = same_set both also (λ row. is row ∙ sym (so row))
-
 -- ---- tables with names
 
 or_cases : (a b : Bool) → (a || b) ≡ true → (a ≡ true) ⊎ (b ≡ true)

@@ -15,7 +15,7 @@ use Rattle.std.proofs.lemmas.Map.Keys.{Less-from_sorted}
 use Rattle.lineage.specs.Lineage.{Row, row_cmp, Lineage, IsNamed, name_at, member, members_of, member_cmp}
 use Rattle.lineage.proofs.Laws.{row_total}
 
--- ---- a map of entries that rise has just these, in this order
+-- ---- a map of sorted entries has just these, in this order
 
 first : (a b : Bool) → T (a && b) → T a
 first true b h = tt
@@ -82,7 +82,7 @@ named_found names (e ∷ es) h = (h e.0 (found_first e es), named_found names es
 pub named_entries : (names : List (List ℕ)) (set : Lineage) → IsNamed names set → AllNamed names (entries set)
 named_entries names set h = named_found names (entries set) (λ row there. h row (rw (get-entries set row) there))
 
--- ---- members rise
+-- ---- members are sorted
 
 name_got : (names : List (List ℕ)) (place : ℕ) → name_at names place ≡ get_or names place []
 name_got [] place = refl
@@ -94,13 +94,13 @@ then_less Less s h = inl refl
 then_less Equal s h = inr (refl, h)
 then_less Greater s h = cc
 
-module _ (names : List (List ℕ)) (rising : IsStrictlySortedBy (slice_cmp nat_cmp) names) where
-  names_rise : (i j : ℕ) → i < j → j < length names → slice_cmp nat_cmp (name_at names i) (name_at names j) ≡ Less
-  names_rise i j below within = rw (name_got names i, name_got names j) (Less-from_sorted (slice_cmp nat_cmp) names i j [] rising below within)
+module _ (names : List (List ℕ)) (sorted : IsStrictlySortedBy (slice_cmp nat_cmp) names) where
+  pub names-increase : (i j : ℕ) → i < j → j < length names → slice_cmp nat_cmp (name_at names i) (name_at names j) ≡ Less
+  names-increase i j below within = rw (name_got names i, name_got names j) (Less-from_sorted (slice_cmp nat_cmp) names i j [] sorted below within)
 
   member_below : (a b : Row × ℕ) → row_cmp a.0 b.0 ≡ Less → b.0.0 < length names → member_cmp (member names a) (member names b) ≡ Less
   member_below a b below within = elim (then_less (nat_cmp a.0.0 b.0.0) (nat_cmp a.0.1 b.0.1) below) [
-    | inl earlier ↦ rw (names_rise a.0.0 b.0.0 (ranked a.0.0 b.0.0 Less (sym earlier)) within) refl
+    | inl earlier ↦ rw (names-increase a.0.0 b.0.0 (ranked a.0.0 b.0.0 Less (sym earlier)) within) refl
     | inr same ↦
         let table : name_at names a.0.0 ≡ name_at names b.0.0 = ap (name_at names) (nat_cmp-IsAntisymmetric a.0.0 b.0.0 same.0) in
         rw (table, tied_itself nat_list_cmp_total (name_at names b.0.0)) same.1
@@ -115,5 +115,5 @@ module _ (names : List (List ℕ)) (rising : IsStrictlySortedBy (slice_cmp nat_c
   members_sorted [] h named = tt
   members_sorted (e ∷ es) h named = (members_after e es (first _ _ h) named.1, members_sorted es (second _ _ h) named.1)
 
-  pub members_rise : (set : Lineage) → IsNamed names set → IsStrictlySortedBy member_cmp (members_of names set)
-  members_rise set named = members_sorted (entries set) (entries_sorted set) (named_entries names set named)
+  pub members-sorted : (set : Lineage) → IsNamed names set → IsStrictlySortedBy member_cmp (members_of names set)
+  members-sorted set named = members_sorted (entries set) (entries_sorted set) (named_entries names set named)

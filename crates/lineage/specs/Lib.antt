@@ -1,2 +1,3 @@
 pub mod Lineage
+pub mod StandsFor
 pub mod Undo

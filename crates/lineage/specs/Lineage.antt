@@ -1,5 +1,6 @@
 -- Lineage: the rows of tables that an answer row comes from, each at one version.
-use Rattle.std.specs.Prelude.{◌≡◌, ℕ, ◌<◌, List, [], map, length, Bool, if◌then◌else◌, Option, is_some, IsTrue, unwrap_or, slice_get}
+use Rattle.std.specs.Prelude.{◌≡◌, ℕ, ◌<◌, List, [], map, length, Bool, if◌then◌else◌, Option, is_some}
+use Rattle.std.specs.Prelude.{IsTrue, unwrap_or, slice_get}
 use Rattle.std.specs.Option.{option_or}
 use Rattle.std.specs.Coded.{Coded, coded×, coded_ℕ}
 use Rattle.std.specs.declared.cmp.Ordering.{Ordering}
@@ -36,7 +37,8 @@ added set row version = if has_row set row then set else finmap.insert set row v
 
 -- each row of the two sets and no other: at each, the version of the one or else of the other
 abbrev pub IsUnion : Lineage → Lineage → Lineage → Type 0
-IsUnion one other both = (row : Row) → version_at both row ≡ option_or (version_at one row) (version_at other row)
+IsUnion one other both =
+    (row : Row) → version_at both row ≡ option_or (version_at one row) (version_at other row)
 
 -- the table of each row of a set has a name
 abbrev pub IsNamed : List (List ℕ) → Lineage → Type 0

@@ -4,10 +4,13 @@
 //! (`specs/Lineage.antt`), whatever lies in memory:
 //! - `empty`, `add` and `union` leave exactly the rows that their names say, and a row that is in a set keeps
 //!   its version there;
-//! - `members` lists all of them, rising, with the names of their tables;
-//! - after want of memory a set is as it was.
+//! - `members` lists all of them, sorted, with the names of their tables;
+//! - where memory is out, a set is as it was.
 //!
-//! Laws of these definitions, for layers that reason by them, stand in `proofs/Laws.antt`.
+//! `specs/StandsFor.antt` says how a set stands for the lineage of an answer row.
+//!
+//! Laws of these definitions, for layers that reason by them, are in `proofs/Laws.antt` and
+//! `proofs/Origins.antt`.
 #![tactic(auto)]
 
 mod set;

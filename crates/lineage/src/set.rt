@@ -47,8 +47,8 @@ impl LineageSet {
         }
     }
 
-    /// Adds a row of a table at a version. A row that is in the set keeps its version. `AllocError` means
-    /// want of memory alone, and the set is as it was.
+    /// Adds a row of a table at a version. A row that is in the set keeps its version. On
+    /// `AllocError` the set is as it was.
     pub fn add(&mut self, table: u32, row: u32, version: u32) -> Result<(), AllocError>
         ensures ok { OnOk result (self.new ≡ added self.old (table, row) version) }
         ensures err { OnErr result (self.new ≡ self.old) }
@@ -60,8 +60,8 @@ impl LineageSet {
         }
     }
 
-    /// Adds the rows of another set. A row that is in both keeps the version that it has here. `AllocError`
-    /// means want of memory alone, and the set is as it was.
+    /// Adds the rows of another set. A row that is in both keeps the version that it has here. On
+    /// `AllocError` the set is as it was.
     pub fn union(&mut self, other: &LineageSet) -> Result<(), AllocError>
         ensures ok { OnOk result (IsUnion self.old other.now self.new) }
         ensures err { OnErr result (self.new ≡ self.old) }
@@ -76,13 +76,13 @@ impl LineageSet {
         }
     }
 
-    /// The members of the set with the names of their tables, rising by name and row. The names are those
-    /// of all tables, rising. `AllocError` means want of memory alone.
+    /// The members of the set with the names of their tables, sorted by name and row. The names are those
+    /// of all tables, sorted.
     pub fn members(&self, names: &Names) -> Result<Members, AllocError>
         requires named { IsNamed names.now self.now }
-        requires rising { IsStrictlySortedBy (slice_cmp nat_cmp) names.now }
+        requires sorted { IsStrictlySortedBy (slice_cmp nat_cmp) names.now }
         ensures members { IfOk result (λ members. members ≡ members_of names.now self.now) }
-        ensures rising { IfOk result (IsStrictlySortedBy member_cmp) }
+        ensures sorted { IfOk result (IsStrictlySortedBy member_cmp) }
     {
         self.list(names)
     }

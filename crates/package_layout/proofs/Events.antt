@@ -18,12 +18,12 @@ use Rattle.package_layout.specs.Room.{some_thousands}
 use Rattle.package_layout.specs.Reading.{rule_at}
 use Rattle.package_layout.specs.Groups.{TypedGroup}
 use Rattle.package_layout.specs.Parts.{read_part_spelling, made_part_spelling, TypedReadPart, TypedMadePart, read_part_at, made_part_at, need_table, need_part, need_of, member_table, member_part, member_of}
-use Rattle.package_layout.specs.Events.{flag_number, flag_spelling, flag_of, flag_at, need_groups, member_groups, needs_spelling, members_spelling, names_spelling, flagged_spelling, act_spelling, event_spelling, TypedNeed, TypedMember, TypedAct, TypedEvent, needs_room, members_room, act_room, event_room, names_at, needs_at, members_at, act_body, act_at, event_at}
+use Rattle.package_layout.specs.Events.{flag_number, flag_spelling, flag_of, flag_at, need_groups, member_groups, needs_spelling, members_spelling, names_spelling, flagged_spelling, act_spelling, event_spelling, TypedNeed, TypedMember, TypedAct, TypedEvent, needs_room, members_room, act_room, event_room, names_at, needs_at, members_at, act_of_tag, act_at, event_at}
 use Rattle.package_layout.proofs.Laws.{IsBytes, IsField, just, some_is, always, list_all-always, and_true, both_true, restate, made_law, then_law, struct_law}
 use Rattle.package_layout.proofs.Numbers.{wide8, number_law, text_law, short_list_law}
 use Rattle.package_layout.proofs.Tags.{TookTagged, tagged_law, case_took, case_again}
 use Rattle.package_layout.proofs.Tables.{Anything, u32_law, rule_law}
-use Rattle.package_layout.proofs.Placed.{placed_law, placed_typed}
+use Rattle.package_layout.proofs.Grouped.{grouped_law, grouped_typed}
 
 -- ---- flags
 
@@ -76,17 +76,17 @@ made_part_filled : (p : MadePart) → 0 < length (made_part_spelling p)
 made_part_filled p = omega arith
 
 needs_law : IsField needs_spelling (AllByRecursion TypedNeed) needs_room needs_at
-needs_law = placed_law need_table need_part need_of read_part_spelling TypedReadPart read_part_at (λ x. refl) (λ t p. refl) (λ t p. refl) read_part_law read_part_filled
+needs_law = grouped_law need_table need_part need_of read_part_spelling TypedReadPart read_part_at (λ x. refl) (λ t p. refl) (λ t p. refl) read_part_law read_part_filled
 
 members_law : IsField members_spelling (AllByRecursion TypedMember) members_room members_at
-members_law = placed_law member_table member_part member_of made_part_spelling TypedMadePart made_part_at (λ x. refl) (λ t p. refl) (λ t p. refl) made_part_law made_part_filled
+members_law = grouped_law member_table member_part member_of made_part_spelling TypedMadePart made_part_at (λ x. refl) (λ t p. refl) (λ t p. refl) made_part_law made_part_filled
 
 -- what was written in groups was typed
 pub needs_typed : (needs : List Need) → AllByRecursion (TypedGroup TypedReadPart) (need_groups needs) → AllByRecursion TypedNeed needs
-needs_typed needs h = placed_typed need_table need_part need_of read_part_spelling TypedReadPart read_part_at (λ x. refl) (λ t p. refl) (λ t p. refl) read_part_law read_part_filled needs h
+needs_typed needs h = grouped_typed need_table need_part need_of read_part_spelling TypedReadPart read_part_at (λ x. refl) (λ t p. refl) (λ t p. refl) read_part_law read_part_filled needs h
 
 pub members_typed : (members : List Member) → AllByRecursion (TypedGroup TypedMadePart) (member_groups members) → AllByRecursion TypedMember members
-members_typed members h = placed_typed member_table member_part member_of made_part_spelling TypedMadePart made_part_at (λ x. refl) (λ t p. refl) (λ t p. refl) made_part_law made_part_filled members h
+members_typed members h = grouped_typed member_table member_part member_of made_part_spelling TypedMadePart made_part_at (λ x. refl) (λ t p. refl) (λ t p. refl) made_part_law made_part_filled members h
 
 -- ---- acts
 
@@ -203,7 +203,7 @@ act_rest (acts.Waited child) = to_be_bytes w32 child
 act_rest (acts.Ended status) = to_be_bytes w8 status
 act_rest (acts.Asked statement tables reads made) = asked_spelling (statement, (tables, (reads, made)))
 
-act_again : (a : Act) (rest : List ℕ) → TypedAct a → act_room a ≡ true → length (act_rest a) < 2 ^ 32 → act_body (act_tag a) (act_rest a ++ rest) ≡ Some (a, rest)
+act_again : (a : Act) (rest : List ℕ) → TypedAct a → act_room a ≡ true → length (act_rest a) < 2 ^ 32 → act_of_tag (act_tag a) (act_rest a ++ rest) ≡ Some (a, rest)
 act_again (acts.Started path) rest t f len = case_again text_spelling IsUtf8 always text_at acts.Started path rest text_law t refl len
 act_again (acts.Spawned path) rest t f len = case_again text_spelling IsUtf8 always text_at acts.Spawned path rest text_law t refl len
 act_again (acts.Unspawned path found) rest t f len = case_again pair_spelling TypedFlagged always pair_at (λ (p : Flagged). acts.Unspawned p.0 p.1) (path, found) rest flagged_law (t, tt) refl len
@@ -220,7 +220,7 @@ act_again (acts.Waited child) rest t f len = case_again (to_be_bytes w32) IsU32 
 act_again (acts.Ended status) rest t f len = case_again (to_be_bytes w8) (λ n. n < 256) always (number_at w8) acts.Ended status rest byte_law t refl len
 act_again (acts.Asked statement tables reads made) rest t f len = case_again asked_spelling TypedAsked asked_room asked_at asked (statement, (tables, (reads, made))) rest asked_law t f len
 
-act_took : (t : ℕ) (bytes : List ℕ) (a : Act) (rest : List ℕ) → IsBytes bytes → act_body t bytes ≡ Some (a, rest) → TookTagged act_tag act_rest TypedAct act_room t bytes a rest
+act_took : (t : ℕ) (bytes : List ℕ) (a : Act) (rest : List ℕ) → IsBytes bytes → act_of_tag t bytes ≡ Some (a, rest) → TookTagged act_tag act_rest TypedAct act_room t bytes a rest
 act_took zero bytes a rest h e = case_took text_spelling IsUtf8 always text_at acts.Started act_tag act_rest TypedAct act_room 0 bytes a rest text_law h e (λ a. refl) (λ a. refl) (λ a t. t) (λ a f. refl)
 act_took (suc zero) bytes a rest h e = case_took text_spelling IsUtf8 always text_at acts.Spawned act_tag act_rest TypedAct act_room 1 bytes a rest text_law h e (λ a. refl) (λ a. refl) (λ a t. t) (λ a f. refl)
 act_took (suc (suc zero)) bytes a rest h e = case_took pair_spelling TypedFlagged always pair_at (λ (p : Flagged). acts.Unspawned p.0 p.1) act_tag act_rest TypedAct act_room 2 bytes a rest flagged_law h e (λ a. refl) (λ a. refl) (λ a t. t.0) (λ a f. refl)
@@ -273,7 +273,7 @@ act_same (acts.Ended status) = refl
 act_same (acts.Asked statement tables reads made) = refl
 
 act_law : IsField act_spelling TypedAct act_room act_at
-act_law = tagged_law act_spelling act_tag act_rest TypedAct act_room act_body (record { small = act_small; again = act_again; took = act_took }) act_same
+act_law = tagged_law act_spelling act_tag act_rest TypedAct act_room act_of_tag (record { small = act_small; again = act_again; took = act_took }) act_same
 
 -- ---- events
 

@@ -9,7 +9,7 @@ use Rattle.std.proofs.lemmas.Slice.Eq.{bytes_eq-Decides}
 use Rattle.std.proofs.lemmas.List.{map-append, append-nil, take_more, length-append}
 use Rattle.sql_model.specs.SqlNames.{sql_name_test}
 use Rattle.package_layout.specs.declared.group.Group.{Group}
-use Rattle.package_layout.specs.Groups.{TypedGroup, single, with_part, after, add, add_all, groups, is_group, is_apart, spread}
+use Rattle.package_layout.specs.Groups.{TypedGroup, single, with_part, after, add, add_all, groups, is_group, neighbours_differ, ungroup}
 use Rattle.package_layout.proofs.Laws.{both_true, and_true}
 
 pub same_text : (a b : List ℕ) → bytes_eq a b ≡ true → a ≡ b
@@ -42,25 +42,25 @@ module _ {X P : Type 0} (table_of : X → List ℕ) (part_of : X → P) where
 -- ---- what holds of the groups of rows
 
 module _ {X P : Type 0} (table_of : X → List ℕ) (part_of : X → P) (place : List ℕ → P → X) (back : (x : X) → place (table_of x) (part_of x) ≡ x) where
-  after_spread : (g : Group P) (x : X) (b : Bool) → bytes_eq g.table (table_of x) ≡ b → flat_map (spread place) (after table_of part_of g x) ≡ spread place g ++ x ∷ []
-  after_spread g x true e =
+  after_ungroup : (g : Group P) (x : X) (b : Bool) → bytes_eq g.table (table_of x) ≡ b → flat_map (ungroup place) (after table_of part_of g x) ≡ ungroup place g ++ x ∷ []
+  after_ungroup g x true e =
       let is : g.table ≡ table_of x = same_text g.table (table_of x) e in
       let last : place g.table (part_of x) ≡ x = ap (λ (t : List ℕ). place t (part_of x)) is ∙ back x in
       rw e (append-nil (map (place g.table) (g.parts ++ part_of x ∷ [])) ∙ map-append (place g.table) g.parts (part_of x ∷ []) ∙ ap (λ y. map (place g.table) g.parts ++ y ∷ []) last)
-  after_spread g x false e = rw e (ap (λ y. map (place g.table) g.parts ++ y ∷ []) (back x))
+  after_ungroup g x false e = rw e (ap (λ y. map (place g.table) g.parts ++ y ∷ []) (back x))
 
-  add_spread : (gs : List (Group P)) (x : X) → flat_map (spread place) (add table_of part_of gs x) ≡ flat_map (spread place) gs ++ x ∷ []
-  add_spread [] x = ap (λ y. y ∷ []) (back x)
-  add_spread (g ∷ []) x = after_spread g x (bytes_eq g.table (table_of x)) refl ∙ ap (λ l. l ++ x ∷ []) (sym (append-nil (spread place g)))
-  add_spread (g ∷ h ∷ gs) x = ap (λ l. spread place g ++ l) (add_spread (h ∷ gs) x) ∙ sym (append_assoc (spread place g) (flat_map (spread place) (h ∷ gs)) (x ∷ []))
+  add_ungroup : (gs : List (Group P)) (x : X) → flat_map (ungroup place) (add table_of part_of gs x) ≡ flat_map (ungroup place) gs ++ x ∷ []
+  add_ungroup [] x = ap (λ y. y ∷ []) (back x)
+  add_ungroup (g ∷ []) x = after_ungroup g x (bytes_eq g.table (table_of x)) refl ∙ ap (λ l. l ++ x ∷ []) (sym (append-nil (ungroup place g)))
+  add_ungroup (g ∷ h ∷ gs) x = ap (λ l. ungroup place g ++ l) (add_ungroup (h ∷ gs) x) ∙ sym (append_assoc (ungroup place g) (flat_map (ungroup place) (h ∷ gs)) (x ∷ []))
 
-  add_all_spread : (gs : List (Group P)) (xs : List X) → flat_map (spread place) (add_all table_of part_of gs xs) ≡ flat_map (spread place) gs ++ xs
-  add_all_spread gs [] = sym (append-nil (flat_map (spread place) gs))
-  add_all_spread gs (x ∷ xs) = add_all_spread (add table_of part_of gs x) xs ∙ ap (λ l. l ++ xs) (add_spread gs x) ∙ append_assoc (flat_map (spread place) gs) (x ∷ []) xs
+  add_all_ungroup : (gs : List (Group P)) (xs : List X) → flat_map (ungroup place) (add_all table_of part_of gs xs) ≡ flat_map (ungroup place) gs ++ xs
+  add_all_ungroup gs [] = sym (append-nil (flat_map (ungroup place) gs))
+  add_all_ungroup gs (x ∷ xs) = add_all_ungroup (add table_of part_of gs x) xs ∙ ap (λ l. l ++ xs) (add_ungroup gs x) ∙ append_assoc (flat_map (ungroup place) gs) (x ∷ []) xs
 
   -- the rows of the groups of rows are these rows
-  pub groups_spread : (xs : List X) → flat_map (spread place) (groups table_of part_of xs) ≡ xs
-  groups_spread xs = add_all_spread [] xs
+  pub groups_ungroup : (xs : List X) → flat_map (ungroup place) (groups table_of part_of xs) ≡ xs
+  groups_ungroup xs = add_all_ungroup [] xs
 
 module _ {X P : Type 0} (table_of : X → List ℕ) (part_of : X → P) (good : P → Type 0) where
   part_more : (ps : List P) (p : P) → AllByRecursion good ps → good p → AllByRecursion good (ps ++ p ∷ [])
@@ -106,23 +106,23 @@ module _ {X P : Type 0} (table_of : X → List ℕ) (part_of : X → P) where
   add_all_fits gs [] h k = h
   add_all_fits gs (x ∷ xs) h k = let both = both_true (sql_name_test (table_of x)) (list_all (λ x. sql_name_test (table_of x)) xs) k in add_all_fits (add table_of part_of gs x) xs (add_fits gs x h both.0) both.1
 
-  after_apart : (before : List ℕ) (g : Group P) (x : X) (b : Bool) → bytes_eq g.table (table_of x) ≡ b → not (bytes_eq g.table before) ≡ true → is_apart before (after table_of part_of g x) ≡ true
+  after_apart : (before : List ℕ) (g : Group P) (x : X) (b : Bool) → bytes_eq g.table (table_of x) ≡ b → not (bytes_eq g.table before) ≡ true → neighbours_differ before (after table_of part_of g x) ≡ true
   after_apart before g x true e h = rw e (and_true (not (bytes_eq g.table before)) true h refl)
   after_apart before g x false e h = rw e (and_true (not (bytes_eq g.table before)) (not (bytes_eq (table_of x) g.table) && true) h (and_true (not (bytes_eq (table_of x) g.table)) true (not_from_false (bytes_eq (table_of x) g.table) (bytes_eq-sym (table_of x) g.table ∙ e)) refl))
 
-  add_apart : (before : List ℕ) (g : Group P) (gs : List (Group P)) (x : X) → is_apart before (g ∷ gs) ≡ true → is_apart before (add table_of part_of (g ∷ gs) x) ≡ true
+  add_apart : (before : List ℕ) (g : Group P) (gs : List (Group P)) (x : X) → neighbours_differ before (g ∷ gs) ≡ true → neighbours_differ before (add table_of part_of (g ∷ gs) x) ≡ true
   add_apart before g [] x h = after_apart before g x (bytes_eq g.table (table_of x)) refl (both_true (not (bytes_eq g.table before)) true h).0
-  add_apart before g (i ∷ gs) x h = let both = both_true (not (bytes_eq g.table before)) (is_apart g.table (i ∷ gs)) h in and_true (not (bytes_eq g.table before)) (is_apart g.table (add table_of part_of (i ∷ gs) x)) both.0 (add_apart g.table i gs x both.1)
+  add_apart before g (i ∷ gs) x h = let both = both_true (not (bytes_eq g.table before)) (neighbours_differ g.table (i ∷ gs)) h in and_true (not (bytes_eq g.table before)) (neighbours_differ g.table (add table_of part_of (i ∷ gs) x)) both.0 (add_apart g.table i gs x both.1)
 
   named : (name : List ℕ) → sql_name_test name ≡ true → not (bytes_eq name []) ≡ true
   named [] h = absurd cc
   named (b ∷ name) h = refl
 
-  first_apart : (gs : List (Group P)) (x : X) → is_apart [] gs ≡ true → sql_name_test (table_of x) ≡ true → is_apart [] (add table_of part_of gs x) ≡ true
+  first_apart : (gs : List (Group P)) (x : X) → neighbours_differ [] gs ≡ true → sql_name_test (table_of x) ≡ true → neighbours_differ [] (add table_of part_of gs x) ≡ true
   first_apart [] x h k = and_true (not (bytes_eq (table_of x) [])) true (named (table_of x) k) refl
   first_apart (g ∷ gs) x h k = add_apart [] g gs x h
 
-  pub add_all_apart : (gs : List (Group P)) (xs : List X) → is_apart [] gs ≡ true → list_all (λ x. sql_name_test (table_of x)) xs ≡ true → is_apart [] (add_all table_of part_of gs xs) ≡ true
+  pub add_all_apart : (gs : List (Group P)) (xs : List X) → neighbours_differ [] gs ≡ true → list_all (λ x. sql_name_test (table_of x)) xs ≡ true → neighbours_differ [] (add_all table_of part_of gs xs) ≡ true
   add_all_apart gs [] h k = h
   add_all_apart gs (x ∷ xs) h k = let both = both_true (sql_name_test (table_of x)) (list_all (λ x. sql_name_test (table_of x)) xs) k in add_all_apart (add table_of part_of gs x) xs (first_apart gs x h both.0) both.1
 
@@ -172,16 +172,16 @@ module _ {X P : Type 0} (table_of : X → List ℕ) (part_of : X → P) (place :
       ap (λ l. add_all table_of part_of l (map (place t) ps ++ xs)) (add_other gs (place t p) e ∙ ap (λ g. gs ++ g ∷ []) one)
       ∙ add_parts gs t (p ∷ []) ps xs
 
-  add_groups : (gs hs : List (Group P)) → is_apart (last_table gs) hs ≡ true → list_all (fits table_of part_of) hs ≡ true → add_all table_of part_of gs (flat_map (spread place) hs) ≡ gs ++ hs
+  add_groups : (gs hs : List (Group P)) → neighbours_differ (last_table gs) hs ≡ true → list_all (fits table_of part_of) hs ≡ true → add_all table_of part_of gs (flat_map (ungroup place) hs) ≡ gs ++ hs
   add_groups gs [] h k = sym (append-nil gs)
   add_groups gs (g ∷ hs) h k =
-      let apart = both_true (not (bytes_eq g.table (last_table gs))) (is_apart g.table hs) h in
+      let apart = both_true (not (bytes_eq g.table (last_table gs))) (neighbours_differ g.table hs) h in
       let good = both_true (fits table_of part_of g) (list_all (fits table_of part_of) hs) k in
-      let more : is_apart (last_table (gs ++ g ∷ [])) hs ≡ true = rw (last_is gs g) apart.1 in
-      add_group gs g.table g.parts (flat_map (spread place) hs) apart.0 good.0
+      let more : neighbours_differ (last_table (gs ++ g ∷ [])) hs ≡ true = rw (last_is gs g) apart.1 in
+      add_group gs g.table g.parts (flat_map (ungroup place) hs) apart.0 good.0
       ∙ add_groups (gs ++ g ∷ []) hs more good.1
       ∙ append_assoc gs (g ∷ []) hs
 
-  pub spread_groups : (hs : List (Group P)) → is_apart [] hs ≡ true → list_all (fits table_of part_of) hs ≡ true → groups table_of part_of (flat_map (spread place) hs) ≡ hs
+  pub ungroup_groups : (hs : List (Group P)) → neighbours_differ [] hs ≡ true → list_all (fits table_of part_of) hs ≡ true → groups table_of part_of (flat_map (ungroup place) hs) ≡ hs
   unfolding last_table
-  spread_groups hs h k = add_groups [] hs h k
+  ungroup_groups hs h k = add_groups [] hs h k

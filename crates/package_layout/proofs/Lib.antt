@@ -1,11 +1,11 @@
 pub mod Events
+pub mod Grouped
 pub mod Groups
 pub mod Laws
 pub mod Lists
 pub mod Logs
 pub mod Numbers
 pub mod Package
-pub mod Placed
 pub mod Tables
 pub mod Tags
 pub mod Texts

@@ -2,8 +2,8 @@
 use Rattle.std.proofs.Common.{◌≡◌, ℕ, suc, ◌-◌, ◌+◌, ◌≤◌, ◌<◌, List, [], ◌∷◌, ◌++◌, Some, None, Err, refl, sym, ap, ◌∙◌, append_assoc, arith}
 use Rattle.std.proofs.lemmas.List.{append-nil}
 use Rattle.std.specs.List.{AllByRecursion}
-use Rattle.package_layout.specs.declared.stop.Stop.{Stop}
-use Rattle.package_layout.specs.declared.stop.Stop.TheVariants.{NoMemory, NoForm}
+use Rattle.package_layout.specs.declared.decode_error.DecodeError.{DecodeError}
+use Rattle.package_layout.specs.declared.decode_error.DecodeError.TheVariants.{NoMemory, Malformed}
 use Rattle.package_layout.specs.Fields.{Found, ◌>>=◌, Gives, items_at}
 
 -- what was read before, and what is still read
@@ -35,10 +35,10 @@ at_end item_at front count i bytes total lt h so_far =
     let one : with_front front (items_at item_at (count - i) bytes) ≡ None = rw (k, h) refl in
     sym so_far ∙ one
 
-pub ends : {X : Type 0} (item_at : List ℕ → Found X) (front : List X) (count i : ℕ) (bytes left end : List ℕ) (total : Found (List X)) (e : Stop) → i < count → Gives {X = X} (Err e) left (item_at bytes)
+pub ends : {X : Type 0} (item_at : List ℕ → Found X) (front : List X) (count i : ℕ) (bytes left end : List ℕ) (total : Found (List X)) (e : DecodeError) → i < count → Gives {X = X} (Err e) left (item_at bytes)
     → with_front front (items_at item_at (count - i) bytes) ≡ total → Gives {X = List X} (Err e) end total
 ends item_at front count i bytes left end total NoMemory lt h so_far = tt
-ends item_at front count i bytes left end total NoForm lt h so_far = at_end item_at front count i bytes total lt h so_far
+ends item_at front count i bytes left end total Malformed lt h so_far = at_end item_at front count i bytes total lt h so_far
 
 pub is_done : {X : Type 0} (item_at : List ℕ → Found X) (front : List X) (count i : ℕ) (bytes : List ℕ) (total : Found (List X)) → count ≤ i → with_front front (items_at item_at (count - i) bytes) ≡ total → total ≡ Some (front, bytes)
 is_done item_at front count i bytes total le so_far =

@@ -15,7 +15,7 @@ use Rattle.package_layout.specs.Fields.{Found, both_at, number_at, text_spelling
 use Rattle.package_layout.specs.Spelling.{value_spelling, values_spelling, refusal_spelling, reply_spelling, entry_spelling, parts_spelling, log_spelling}
 use Rattle.package_layout.specs.Typed.{IsU32, TypedValue, TypedValues, TypedRefusal, TypedReply, TypedEntry, TypedLog}
 use Rattle.package_layout.specs.Room.{few, some_thousands, refusal_room, reply_room, entry_room, log_room}
-use Rattle.package_layout.specs.Reading.{value_at, values_at, refusal_body, refusal_at, reply_body, reply_at, entry_at, name_at, log_at}
+use Rattle.package_layout.specs.Reading.{value_at, values_at, refusal_of_code, refusal_at, reply_of_tag, reply_at, entry_at, name_at, log_at}
 use Rattle.package_layout.proofs.Laws.{IsBytes, IsField, just, always, list_all-always, and_true, both_true, restate, then_law, struct_law}
 use Rattle.package_layout.proofs.Numbers.{wide64, number_law, text_law, byte_list_law, short_list_law, long_law}
 use Rattle.package_layout.proofs.Tags.{TookTagged, tagged_law, bare_took, case_took, case_again}
@@ -67,7 +67,7 @@ refusal_rest NotNull = []
 refusal_rest (KeyTaken table key) = text_spelling table ++ list_spelling w8 value_spelling key
 refusal_rest Full = []
 
-refusal_again : (r : SqlRefusal) (rest : List ℕ) → TypedRefusal r → refusal_room r ≡ true → length (refusal_rest r) < 2 ^ 32 → refusal_body (refusal_tag r) (refusal_rest r ++ rest) ≡ Some (r, rest)
+refusal_again : (r : SqlRefusal) (rest : List ℕ) → TypedRefusal r → refusal_room r ≡ true → length (refusal_rest r) < 2 ^ 32 → refusal_of_code (refusal_tag r) (refusal_rest r ++ rest) ≡ Some (r, rest)
 refusal_again Syntax rest t f len = refl
 refusal_again NoTable rest t f len = refl
 refusal_again NoColumn rest t f len = refl
@@ -79,7 +79,7 @@ refusal_again Full rest t f len = refl
 refusal_bare : (t : ℕ) (bytes : List ℕ) (y x : SqlRefusal) (rest : List ℕ) → refusal_tag y ≡ t → refusal_rest y ≡ [] → TypedRefusal y → refusal_room y ≡ true → just {A = SqlRefusal × List ℕ} (y, bytes) ≡ just {A = SqlRefusal × List ℕ} (x, rest) → TookTagged refusal_tag refusal_rest TypedRefusal refusal_room t bytes x rest
 refusal_bare t bytes y x rest i b h f e = bare_took refusal_tag refusal_rest TypedRefusal refusal_room t bytes y x rest i b h f e
 
-refusal_took : (t : ℕ) (bytes : List ℕ) (r : SqlRefusal) (rest : List ℕ) → IsBytes bytes → refusal_body t bytes ≡ Some (r, rest) → TookTagged refusal_tag refusal_rest TypedRefusal refusal_room t bytes r rest
+refusal_took : (t : ℕ) (bytes : List ℕ) (r : SqlRefusal) (rest : List ℕ) → IsBytes bytes → refusal_of_code t bytes ≡ Some (r, rest) → TookTagged refusal_tag refusal_rest TypedRefusal refusal_room t bytes r rest
 refusal_took zero bytes r rest h e = absurd cc
 refusal_took (suc zero) bytes r rest h e = refusal_bare 1 bytes Syntax r rest refl refl tt refl e
 refusal_took (suc (suc zero)) bytes r rest h e = refusal_bare 2 bytes NoTable r rest refl refl tt refl e
@@ -109,7 +109,7 @@ refusal_same (KeyTaken table key) = refl
 refusal_same Full = refl
 
 refusal_law : IsField refusal_spelling TypedRefusal refusal_room refusal_at
-refusal_law = tagged_law refusal_spelling refusal_tag refusal_rest TypedRefusal refusal_room refusal_body (record { small = refusal_small; again = refusal_again; took = refusal_took }) refusal_same
+refusal_law = tagged_law refusal_spelling refusal_tag refusal_rest TypedRefusal refusal_room refusal_of_code (record { small = refusal_small; again = refusal_again; took = refusal_took }) refusal_same
 
 -- ---- replies
 
@@ -132,12 +132,12 @@ rows_law = long_law values_spelling TypedValues some_thousands values_at values_
 u64_law : IsField (to_be_bytes w64) (λ n. n < 2 ^ 64) always (number_at w64)
 u64_law = number_law w64 (2 ^ 64) wide64
 
-reply_again : (r : Reply) (rest : List ℕ) → TypedReply r → reply_room r ≡ true → length (reply_rest r) < 2 ^ 32 → reply_body (reply_tag r) (reply_rest r ++ rest) ≡ Some (r, rest)
+reply_again : (r : Reply) (rest : List ℕ) → TypedReply r → reply_room r ≡ true → length (reply_rest r) < 2 ^ 32 → reply_of_tag (reply_tag r) (reply_rest r ++ rest) ≡ Some (r, rest)
 reply_again (Rows rows) rest t f len = case_again (list_spelling w32 values_spelling) (AllByRecursion TypedValues) (list_all some_thousands) (list_at w32 values_at) Rows rows rest rows_law t f len
 reply_again (Changed n) rest t f len = case_again (to_be_bytes w64) (λ n. n < 2 ^ 64) always (number_at w64) Changed n rest u64_law t f len
 reply_again (Refused r) rest t f len = case_again refusal_spelling TypedRefusal refusal_room refusal_at Refused r rest refusal_law t f len
 
-reply_took : (t : ℕ) (bytes : List ℕ) (r : Reply) (rest : List ℕ) → IsBytes bytes → reply_body t bytes ≡ Some (r, rest) → TookTagged reply_tag reply_rest TypedReply reply_room t bytes r rest
+reply_took : (t : ℕ) (bytes : List ℕ) (r : Reply) (rest : List ℕ) → IsBytes bytes → reply_of_tag t bytes ≡ Some (r, rest) → TookTagged reply_tag reply_rest TypedReply reply_room t bytes r rest
 reply_took zero bytes r rest h e = absurd cc
 reply_took (suc zero) bytes r rest h e = case_took (list_spelling w32 values_spelling) (AllByRecursion TypedValues) (list_all some_thousands) (list_at w32 values_at) Rows reply_tag reply_rest TypedReply reply_room 1 bytes r rest rows_law h e (λ a. refl) (λ a. refl) (λ a t. t) (λ a f. f)
 reply_took (suc (suc zero)) bytes r rest h e = case_took (to_be_bytes w64) (λ n. n < 2 ^ 64) always (number_at w64) Changed reply_tag reply_rest TypedReply reply_room 2 bytes r rest u64_law h e (λ a. refl) (λ a. refl) (λ a t. t) (λ a f. f)
@@ -155,7 +155,7 @@ reply_same (Changed n) = refl
 reply_same (Refused r) = refl
 
 reply_law : IsField reply_spelling TypedReply reply_room reply_at
-reply_law = tagged_law reply_spelling reply_tag reply_rest TypedReply reply_room reply_body (record { small = reply_small; again = reply_again; took = reply_took }) reply_same
+reply_law = tagged_law reply_spelling reply_tag reply_rest TypedReply reply_room reply_of_tag (record { small = reply_small; again = reply_again; took = reply_took }) reply_same
 
 -- ---- entries and logs
 

@@ -11,19 +11,14 @@ use Rattle.package_layout.specs.declared.damage.DamageKind.{DamageKind}
 use Rattle.package_layout.specs.declared.damage.DamageKind.TheVariants.{Magic, Digest, Form}
 use Rattle.package_layout.specs.declared.layout.PackageStop.{PackageStop}
 use Rattle.package_layout.specs.declared.layout.PackageStop.TheVariants.{Damaged}
-use Rattle.package_layout.specs.Whole.{magic, sections, body, spelling, IsTyped, has_room, all_of}
-use Rattle.package_layout.specs.Valid.{rules, Valid, HasMagic, HasDigest, IsNoSpelling, before_digest, middle, kept_if, package_in, has_magic, has_digest, form_of, reading}
-use Rattle.package_layout.specs.Answers.{Answers, damage_before}
+use Rattle.package_layout.specs.Version.{Version, One, magic}
+use Rattle.package_layout.specs.Whole.{sections, body, spelling_as, IsTyped, has_room, all_of}
+use Rattle.package_layout.specs.Valid.{rules, Valid, HasMagic, HasDigest, IsNoSpelling, before_digest, middle, kept_if, package_in, has_magic, has_digest, form_of, reading_as}
+use Rattle.package_layout.specs.ReadResult.{ReadsAs, damage_before}
 use Rattle.package_layout.proofs.Laws.{IsBytes, IsBytes-take, IsBytes-drop, bind_some, just, some_is, both_true, and_true}
 use Rattle.package_layout.proofs.Whole.{all_again, all_took}
 
--- ---- what the tests say
-
-magic_fact : (bytes : List ℕ) → has_magic bytes ≡ true → HasMagic bytes
-magic_fact bytes h = (bytes_eq-Decides (take 8 bytes) magic).0 h
-
-magic_test : (bytes : List ℕ) → HasMagic bytes → has_magic bytes ≡ true
-magic_test bytes h = (bytes_eq-Decides (take 8 bytes) magic).1 h
+-- ---- tests
 
 digest_fact : (bytes : List ℕ) → has_digest bytes ≡ true → HasDigest bytes
 digest_fact bytes h =
@@ -37,51 +32,11 @@ digest_test bytes h = and_true (nat_le 40 (length bytes)) (bytes_eq (drop (lengt
 true_not_false : {Z : Type 0} (b : Bool) → b ≡ true → b ≡ false → Z
 true_not_false b h k = let e : true ≡ false = sym h ∙ k in cc
 
--- ---- a spelling and its parts
+not_true : (b : Bool) → ¬ (b ≡ true) → b ≡ false
+not_true true h = absurd (h refl)
+not_true false h = refl
 
-long_body : (p : Package) → 8 ≤ length (body p)
-long_body p = omega (arith, length-append magic (sections p))
-
-spelling_length : (p : Package) → length (spelling p) ≡ length (body p) + 32
-spelling_length p = length-append (body p) (sha256 (body p)) ∙ ap (λ n. length (body p) + n) (length-sha256 (body p))
-
-body_before : (p : Package) → before_digest (spelling p) ≡ body p
-body_before p = let e : length (body p) ≡ length (spelling p) - 32 = omega (arith, spelling_length p) in take_at (body p) (sha256 (body p)) (length (spelling p) - 32) e
-
-digest_after : (p : Package) → drop (length (spelling p) - 32) (spelling p) ≡ sha256 (body p)
-digest_after p = let e : length (body p) ≡ length (spelling p) - 32 = omega (arith, spelling_length p) in drop_at (body p) (sha256 (body p)) (length (spelling p) - 32) e
-
-spelled_digest : (p : Package) → HasDigest (spelling p)
-spelled_digest p = record { long = omega (arith, spelling_length p, long_body p); same = digest_after p ∙ ap sha256 (sym (body_before p)) }
-
-spelled_magic : (p : Package) → HasMagic (spelling p)
-spelled_magic p =
-    let one : take 8 (body p) ≡ magic = take_at magic (sections p) 8 refl in
-    let front : take 8 (before_digest (spelling p)) ≡ magic = ap (take 8) (body_before p) ∙ one in
-    let shorter : 8 ≤ length (spelling p) - 32 = omega (arith, spelling_length p, long_body p) in
-    sym (take-take 8 (length (spelling p) - 32) (spelling p) shorter) ∙ front
-
-spelled_middle : (p : Package) → middle (spelling p) ≡ sections p
-spelled_middle p = ap (drop 8) (body_before p) ∙ drop_at magic (sections p) 8 refl
-
--- how long a spelling is
-pub too_long_is : (p : Package) (b : List ℕ) (n : ℕ) → b ≡ body p → n ≡ length b → 67108832 < n → 67108864 < length (spelling p)
-too_long_is p b n e len lt = omega (arith, spelling_length p, ap length e)
-
-pub within_limit : (b d : List ℕ) (n : ℕ) → n ≡ length b → n ≤ 67108832 → d ≡ b ++ sha256 b → length d ≤ 67108864
-within_limit b d n len le e = omega (arith, ap length e, length-append b (sha256 b), length-sha256 b)
-
--- ---- what is spelled is read
-
-kept : (b : Bool) (p : Package) → b ≡ true → kept_if b p ≡ Some p
-kept b p h = rw h refl
-
-section_again : (p : Package) → IsTyped p → Valid p → length (spelling p) ≤ 67108864 → package_in (sections p) ≡ Some p
-section_again p t v len =
-    let both = both_true (has_room p) (rules p) v in
-    let small : length (sections p) < 2 ^ 32 = omega (arith, spelling_length p, length-append magic (sections p)) in
-    let one : all_of (sections p) ≡ Some p = all_again p t both.0 small in
-    rw one (kept (rules p) p both.1)
+-- ---- cases
 
 abbrev cases_of : Bool → Bool → Option Package → Result Package DamageKind
 cases_of m d o = cond m (cond d (form_of o) (Err Digest)) (Err Magic)
@@ -89,25 +44,14 @@ cases_of m d o = cond m (cond d (form_of o) (Err Digest)) (Err Magic)
 from_tests : (m d : Bool) (o : Option Package) (p : Package) → m ≡ true → d ≡ true → o ≡ Some p → cases_of m d o ≡ Ok p
 from_tests m d o p a b c = rw (a, b, c) refl
 
-pub read_again : (p : Package) → IsTyped p → Valid p → length (spelling p) ≤ 67108864 → reading (spelling p) ≡ Ok p
-read_again p t v len =
-    let m : has_magic (spelling p) ≡ true = magic_test (spelling p) (spelled_magic p) in
-    let d : has_digest (spelling p) ≡ true = digest_test (spelling p) (spelled_digest p) in
-    let i : package_in (middle (spelling p)) ≡ Some p = ap package_in (spelled_middle p) ∙ section_again p t v len in
-    from_tests (has_magic (spelling p)) (has_digest (spelling p)) (package_in (middle (spelling p))) p m d i
-
 abbrev read_as : {E : Type 0} → Package → Result Package E
 read_as p = Ok p
 
 ok_is : (p q : Package) → read_as {E = DamageKind} p ≡ read_as {E = DamageKind} q → p ≡ q
 ok_is p q e = cc
 
-pub one_spelling : (p q : Package) → IsTyped p → IsTyped q → Valid p → Valid q → length (spelling p) ≤ 67108864 → spelling p ≡ spelling q → p ≡ q
-one_spelling p q t u v w len e =
-    let other : length (spelling q) ≤ 67108864 = subst (λ (l : List ℕ). length l ≤ 67108864) e len in
-    ok_is p q (sym (read_again p t v len) ∙ ap reading e ∙ read_again q u w other)
-
--- ---- what is read was spelled so
+kept : (b : Bool) (p : Package) → b ≡ true → kept_if b p ≡ Some p
+kept b p h = rw h refl
 
 kept_is : (b : Bool) (p q : Package) → kept_if b p ≡ Some q → (b ≡ true) × (p ≡ q)
 kept_is true p q e = (refl, some_is p q e)
@@ -125,53 +69,6 @@ form_tests true true o e = (refl, refl)
 form_tests true false o e = absurd cc
 form_tests false d o e = absurd cc
 
-parts_of : (bytes : List ℕ) → HasMagic bytes → HasDigest bytes → bytes ≡ (magic ++ middle bytes) ++ sha256 (magic ++ middle bytes)
-parts_of bytes m d =
-    let shorter : 8 ≤ length bytes - 32 = omega (arith, d.long) in
-    let front : take 8 (before_digest bytes) ≡ magic = take-take 8 (length bytes - 32) bytes shorter ∙ m in
-    let whole : before_digest bytes ≡ magic ++ middle bytes = sym (take-append-drop 8 (before_digest bytes)) ∙ ap (λ (l : List ℕ). l ++ middle bytes) front in
-    sym (take-append-drop (length bytes - 32) bytes) ∙ ap (λ (l : List ℕ). before_digest bytes ++ l) d.same ∙ ap (λ (l : List ℕ). l ++ sha256 l) whole
-
--- a package that was read
-pub record IsRead (bytes : List ℕ) (p : Package) : Type 0 where
-  pub is_typed : IsTyped p
-  pub is_valid : Valid p
-  pub spells : spelling p ≡ bytes
-
-read_is : (bytes : List ℕ) (p : Package) → IsBytes bytes → reading bytes ≡ Ok p → IsRead bytes p
-read_is bytes p h e =
-    let tests = ok_tests (has_magic bytes) (has_digest bytes) (package_in (middle bytes)) p e in
-    let first = bind_some (all_of (middle bytes)) (λ q. kept_if (rules q) q) p tests.2 in
-    let q = first.0 in
-    let clean : IsBytes (middle bytes) = IsBytes-drop 8 (before_digest bytes) (IsBytes-take (length bytes - 32) bytes h) in
-    let k = all_took (middle bytes) q clean first.1 in
-    let l = kept_is (rules q) q p first.2 in
-    let whole : bytes ≡ spelling q = parts_of bytes (magic_fact bytes tests.0) (digest_fact bytes tests.1) ∙ ap (λ (s : List ℕ). (magic ++ s) ++ sha256 (magic ++ s)) k.0 in
-    subst (IsRead bytes) l.1 (record { is_typed = k.1; is_valid = and_true (has_room q) (rules q) k.2 l.0; spells = sym whole })
-
--- ---- the answers
-
-pub found : (bytes : List ℕ) (r : Result Package PackageStop) → IsBytes bytes → Answers r (reading bytes) → IfOk r (λ p. IsTyped p × Valid p × (spelling p ≡ bytes))
-found bytes (Ok p) h e = let k = read_is bytes p h e in (k.is_typed, k.is_valid, k.spells)
-found bytes (Err stop) h e = tt
-
-no_form : (bytes : List ℕ) → length bytes ≤ 67108864 → reading bytes ≡ Err Form → HasMagic bytes × HasDigest bytes × IsNoSpelling bytes
-no_form bytes len e =
-    let tests = form_tests (has_magic bytes) (has_digest bytes) (package_in (middle bytes)) e in (
-      magic_fact bytes tests.0,
-      digest_fact bytes tests.1,
-      λ p t v is.
-          let short : length (spelling p) ≤ 67108864 = subst (λ (l : List ℕ). length l ≤ 67108864) (sym is) len in
-          let no : read_as p ≡ Err Form = sym (read_again p t v short) ∙ ap reading is ∙ e in
-          cc,
-    )
-
-abbrev damaged : DamageKind → Result Package PackageStop
-damaged kind = Err (Damaged kind)
-
-pub form_is : (bytes : List ℕ) (r : Result Package PackageStop) → length bytes ≤ 67108864 → Answers r (reading bytes) → r ≡ damaged Form → HasMagic bytes × HasDigest bytes × IsNoSpelling bytes
-form_is bytes r len a e = no_form bytes len (subst (λ z. Answers z (reading bytes)) e a)
-
 magic_seen : (m d : Bool) (o : Option Package) → cases_of m d o ≡ Err Magic → m ≡ false
 magic_seen true true (Some p) e = absurd cc
 magic_seen true true None e = absurd cc
@@ -184,26 +81,141 @@ digest_seen true true None e = absurd cc
 digest_seen true false o e = (refl, refl)
 digest_seen false d o e = absurd cc
 
-not_true : (b : Bool) → ¬ (b ≡ true) → b ≡ false
-not_true true h = absurd (h refl)
-not_true false h = refl
+-- ---- a package that was read
 
-at_once_magic : (bytes : List ℕ) (r : Result Package PackageStop) → has_magic bytes ≡ false → IfSome (damage_before bytes) (λ kind. r ≡ damaged kind) → r ≡ damaged Magic
-at_once_magic bytes r m a = rw m at a
+pub record IsRead (v : Version) (bytes : List ℕ) (p : Package) : Type 0 where
+  pub is_typed : IsTyped p
+  pub is_valid : Valid p
+  pub spells : spelling_as v p ≡ bytes
 
-at_once_digest : (bytes : List ℕ) (r : Result Package PackageStop) → has_magic bytes ≡ true → has_digest bytes ≡ false → IfSome (damage_before bytes) (λ kind. r ≡ damaged kind) → r ≡ damaged Digest
-at_once_digest bytes r m d a = rw (m, d) at a
+abbrev damaged : DamageKind → Result Package PackageStop
+damaged kind = Err (Damaged kind)
 
-pub magic_is : (bytes : List ℕ) (r : Result Package PackageStop) → Answers r (reading bytes) → IfSome (damage_before bytes) (λ kind. r ≡ damaged kind) → (r ≡ damaged Magic) ↔ (¬ HasMagic bytes)
-magic_is bytes r a once = (
-  λ e h. true_not_false (has_magic bytes) (magic_test bytes h) (magic_seen (has_magic bytes) (has_digest bytes) (package_in (middle bytes)) (subst (λ z. Answers z (reading bytes)) e a)),
-  λ no. at_once_magic bytes r (not_true (has_magic bytes) (λ m. no (magic_fact bytes m))) once,
-)
+-- ---- each version
 
-pub digest_is : (bytes : List ℕ) (r : Result Package PackageStop) → Answers r (reading bytes) → IfSome (damage_before bytes) (λ kind. r ≡ damaged kind) → (r ≡ damaged Digest) ↔ (HasMagic bytes × (¬ HasDigest bytes))
-digest_is bytes r a once = (
-  λ e.
-      let seen = digest_seen (has_magic bytes) (has_digest bytes) (package_in (middle bytes)) (subst (λ z. Answers z (reading bytes)) e a) in
-      (magic_fact bytes seen.0, λ h. true_not_false (has_digest bytes) (digest_test bytes h) seen.1),
-  λ no. at_once_digest bytes r (magic_test bytes no.0) (not_true (has_digest bytes) (λ d. no.1 (digest_fact bytes d))) once,
-)
+magic_length : (v : Version) → length (magic v) ≡ 8
+magic_length One = refl
+
+module _ (version : Version) where
+  -- ---- what the tests say
+
+  magic_fact : (bytes : List ℕ) → has_magic version bytes ≡ true → HasMagic version bytes
+  magic_fact bytes h = (bytes_eq-Decides (take 8 bytes) (magic version)).0 h
+
+  magic_test : (bytes : List ℕ) → HasMagic version bytes → has_magic version bytes ≡ true
+  magic_test bytes h = (bytes_eq-Decides (take 8 bytes) (magic version)).1 h
+
+  -- ---- a spelling and its parts
+
+  long_body : (p : Package) → 8 ≤ length (body version p)
+  long_body p = omega (arith, magic_length version, length-append (magic version) (sections version p))
+
+  spelling_length : (p : Package) → length (spelling_as version p) ≡ length (body version p) + 32
+  spelling_length p = length-append (body version p) (sha256 (body version p)) ∙ ap (λ n. length (body version p) + n) (length-sha256 (body version p))
+
+  body_before : (p : Package) → before_digest (spelling_as version p) ≡ body version p
+  body_before p = let e : length (body version p) ≡ length (spelling_as version p) - 32 = omega (arith, spelling_length p) in take_at (body version p) (sha256 (body version p)) (length (spelling_as version p) - 32) e
+
+  digest_after : (p : Package) → drop (length (spelling_as version p) - 32) (spelling_as version p) ≡ sha256 (body version p)
+  digest_after p = let e : length (body version p) ≡ length (spelling_as version p) - 32 = omega (arith, spelling_length p) in drop_at (body version p) (sha256 (body version p)) (length (spelling_as version p) - 32) e
+
+  spelled_digest : (p : Package) → HasDigest (spelling_as version p)
+  spelled_digest p = record { long = omega (arith, spelling_length p, long_body p); same = digest_after p ∙ ap sha256 (sym (body_before p)) }
+
+  spelled_magic : (p : Package) → HasMagic version (spelling_as version p)
+  spelled_magic p =
+      let one : take 8 (body version p) ≡ magic version = take_at (magic version) (sections version p) 8 (magic_length version) in
+      let front : take 8 (before_digest (spelling_as version p)) ≡ magic version = ap (take 8) (body_before p) ∙ one in
+      let shorter : 8 ≤ length (spelling_as version p) - 32 = omega (arith, spelling_length p, long_body p) in
+      sym (take-take 8 (length (spelling_as version p) - 32) (spelling_as version p) shorter) ∙ front
+
+  spelled_middle : (p : Package) → middle (spelling_as version p) ≡ sections version p
+  spelled_middle p = ap (drop 8) (body_before p) ∙ drop_at (magic version) (sections version p) 8 (magic_length version)
+
+  -- how long a spelling is
+  pub too_long_is : (p : Package) (b : List ℕ) (n : ℕ) → b ≡ body version p → n ≡ length b → 67108832 < n → 67108864 < length (spelling_as version p)
+  too_long_is p b n e len lt = omega (arith, spelling_length p, ap length e)
+
+  pub within_limit : (b d : List ℕ) (n : ℕ) → n ≡ length b → n ≤ 67108832 → d ≡ b ++ sha256 b → length d ≤ 67108864
+  within_limit b d n len le e = omega (arith, ap length e, length-append b (sha256 b), length-sha256 b)
+
+  -- ---- what is spelled is read
+
+  section_again : (p : Package) → IsTyped p → Valid p → length (spelling_as version p) < 2 ^ 32 → package_in version (sections version p) ≡ Some p
+  section_again p t v len =
+      let both = both_true (has_room p) (rules p) v in
+      let small : length (sections version p) < 2 ^ 32 = omega (arith, spelling_length p, length-append (magic version) (sections version p)) in
+      let one : all_of version (sections version p) ≡ Some p = all_again version p t both.0 small in
+      rw one (kept (rules p) p both.1)
+
+  pub read_again : (p : Package) → IsTyped p → Valid p → length (spelling_as version p) < 2 ^ 32 → reading_as version (spelling_as version p) ≡ Ok p
+  read_again p t v len =
+      let m : has_magic version (spelling_as version p) ≡ true = magic_test (spelling_as version p) (spelled_magic p) in
+      let d : has_digest (spelling_as version p) ≡ true = digest_test (spelling_as version p) (spelled_digest p) in
+      let i : package_in version (middle (spelling_as version p)) ≡ Some p = ap (package_in version) (spelled_middle p) ∙ section_again p t v len in
+      from_tests (has_magic version (spelling_as version p)) (has_digest (spelling_as version p)) (package_in version (middle (spelling_as version p))) p m d i
+
+  pub one_spelling : (p q : Package) → IsTyped p → IsTyped q → Valid p → Valid q → length (spelling_as version p) < 2 ^ 32 → spelling_as version p ≡ spelling_as version q → p ≡ q
+  one_spelling p q t u v w len e =
+      let other : length (spelling_as version q) < 2 ^ 32 = subst (λ (l : List ℕ). length l < 2 ^ 32) e len in
+      ok_is p q (sym (read_again p t v len) ∙ ap (reading_as version) e ∙ read_again q u w other)
+
+  -- ---- what is read was spelled so
+
+  parts_of : (bytes : List ℕ) → HasMagic version bytes → HasDigest bytes → bytes ≡ (magic version ++ middle bytes) ++ sha256 (magic version ++ middle bytes)
+  parts_of bytes m d =
+      let shorter : 8 ≤ length bytes - 32 = omega (arith, d.long) in
+      let front : take 8 (before_digest bytes) ≡ magic version = take-take 8 (length bytes - 32) bytes shorter ∙ m in
+      let whole : before_digest bytes ≡ magic version ++ middle bytes = sym (take-append-drop 8 (before_digest bytes)) ∙ ap (λ (l : List ℕ). l ++ middle bytes) front in
+      sym (take-append-drop (length bytes - 32) bytes) ∙ ap (λ (l : List ℕ). before_digest bytes ++ l) d.same ∙ ap (λ (l : List ℕ). l ++ sha256 l) whole
+
+  read_is : (bytes : List ℕ) (p : Package) → IsBytes bytes → reading_as version bytes ≡ Ok p → IsRead version bytes p
+  read_is bytes p h e =
+      let tests = ok_tests (has_magic version bytes) (has_digest bytes) (package_in version (middle bytes)) p e in
+      let first = bind_some (all_of version (middle bytes)) (λ q. kept_if (rules q) q) p tests.2 in
+      let q = first.0 in
+      let clean : IsBytes (middle bytes) = IsBytes-drop 8 (before_digest bytes) (IsBytes-take (length bytes - 32) bytes h) in
+      let k = all_took version (middle bytes) q clean first.1 in
+      let l = kept_is (rules q) q p first.2 in
+      let whole : bytes ≡ spelling_as version q = parts_of bytes (magic_fact bytes tests.0) (digest_fact bytes tests.1) ∙ ap (λ (s : List ℕ). (magic version ++ s) ++ sha256 (magic version ++ s)) k.0 in
+      subst (IsRead version bytes) l.1 (record { is_typed = k.1; is_valid = and_true (has_room q) (rules q) k.2 l.0; spells = sym whole })
+
+  -- ---- the answers
+
+  pub found : (bytes : List ℕ) (r : Result Package PackageStop) → IsBytes bytes → ReadsAs r (reading_as version bytes) → IfOk r (λ p. IsTyped p × Valid p × (spelling_as version p ≡ bytes))
+  found bytes (Ok p) h e = let k = read_is bytes p h e in (k.is_typed, k.is_valid, k.spells)
+  found bytes (Err stop) h e = tt
+
+  no_form : (bytes : List ℕ) → reading_as version bytes ≡ Err Form → HasMagic version bytes × HasDigest bytes × (length bytes < 2 ^ 32 → IsNoSpelling version bytes)
+  no_form bytes e =
+      let tests = form_tests (has_magic version bytes) (has_digest bytes) (package_in version (middle bytes)) e in (
+        magic_fact bytes tests.0,
+        digest_fact bytes tests.1,
+        λ len p t v is.
+            let short : length (spelling_as version p) < 2 ^ 32 = subst (λ (l : List ℕ). length l < 2 ^ 32) (sym is) len in
+            let no : read_as p ≡ Err Form = sym (read_again p t v short) ∙ ap (reading_as version) is ∙ e in
+            cc,
+      )
+
+  pub form_is : (bytes : List ℕ) (r : Result Package PackageStop) → ReadsAs r (reading_as version bytes) → r ≡ damaged Form → HasMagic version bytes × HasDigest bytes × (length bytes < 2 ^ 32 → IsNoSpelling version bytes)
+  form_is bytes r a e = no_form bytes (subst (λ z. ReadsAs z (reading_as version bytes)) e a)
+
+  at_once_magic : (bytes : List ℕ) (r : Result Package PackageStop) → has_magic version bytes ≡ false → IfSome (damage_before version bytes) (λ kind. r ≡ damaged kind) → r ≡ damaged Magic
+  at_once_magic bytes r m a = rw m at a
+
+  at_once_digest : (bytes : List ℕ) (r : Result Package PackageStop) → has_magic version bytes ≡ true → has_digest bytes ≡ false → IfSome (damage_before version bytes) (λ kind. r ≡ damaged kind) → r ≡ damaged Digest
+  at_once_digest bytes r m d a = rw (m, d) at a
+
+  pub magic_is : (bytes : List ℕ) (r : Result Package PackageStop) → ReadsAs r (reading_as version bytes) → IfSome (damage_before version bytes) (λ kind. r ≡ damaged kind) → (r ≡ damaged Magic) ↔ (¬ HasMagic version bytes)
+  magic_is bytes r a once = (
+    λ e h. true_not_false (has_magic version bytes) (magic_test bytes h) (magic_seen (has_magic version bytes) (has_digest bytes) (package_in version (middle bytes)) (subst (λ z. ReadsAs z (reading_as version bytes)) e a)),
+    λ no. at_once_magic bytes r (not_true (has_magic version bytes) (λ m. no (magic_fact bytes m))) once,
+  )
+
+  pub digest_is : (bytes : List ℕ) (r : Result Package PackageStop) → ReadsAs r (reading_as version bytes) → IfSome (damage_before version bytes) (λ kind. r ≡ damaged kind) → (r ≡ damaged Digest) ↔ (HasMagic version bytes × (¬ HasDigest bytes))
+  digest_is bytes r a once = (
+    λ e.
+        let seen = digest_seen (has_magic version bytes) (has_digest bytes) (package_in version (middle bytes)) (subst (λ z. ReadsAs z (reading_as version bytes)) e a) in
+        (magic_fact bytes seen.0, λ h. true_not_false (has_digest bytes) (digest_test bytes h) seen.1),
+    λ no. at_once_digest bytes r (magic_test bytes no.0) (not_true (has_digest bytes) (λ d. no.1 (digest_fact bytes d))) once,
+  )

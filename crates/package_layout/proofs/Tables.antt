@@ -13,10 +13,10 @@ use Rattle.sql_model.specs.declared.table.Schema.{Schema}
 use Rattle.run_model.specs.declared.package.PackedRow.{PackedRow}
 use Rattle.run_model.specs.declared.package.PackedTable.{PackedTable}
 use Rattle.package_layout.specs.Fields.{Found, then_at, both_at, number_at, text_spelling, list_spelling, items_at, list_at, text_at}
-use Rattle.package_layout.specs.Spelling.{value_spelling, kind_number, rule_number, column_spelling, row_spelling, schema_spelling, table_spelling}
+use Rattle.package_layout.specs.Spelling.{value_spelling, kind_number, rule_number, column_spelling, number_spelling, reason_spelling, cells_spelling, row_spelling, schema_spelling, table_spelling}
 use Rattle.package_layout.specs.Typed.{IsU32, TypedValue, TypedValues, TypedColumn, TypedRow, TypedTable}
 use Rattle.package_layout.specs.Room.{few, key_room, row_room, table_room}
-use Rattle.package_layout.specs.Reading.{value_at, kind_of, kind_at, column_at, rule_of, rule_at, row_at, rows_at, key_at, schema_at, table_at}
+use Rattle.package_layout.specs.Reading.{value_at, kind_of, kind_at, column_at, rule_of, rule_at, reason_at, cells_at, row_at, rows_at, key_at, schema_at, table_at}
 use Rattle.package_layout.proofs.Laws.{IsField, just, some_is, always, list_all-always, and_true, both_true, restate, made_law, then_law, struct_law}
 use Rattle.package_layout.proofs.Numbers.{wide8, wide32, number_law, text_law, items_law, byte_list_law, long_law, ltb_from}
 use Rattle.package_layout.proofs.Values.{value_law}
@@ -84,11 +84,14 @@ pub rule_law : IsField (λ r. to_be_bytes w8 (rule_number r)) Anything always ru
 rule_law = made_law (to_be_bytes w8) (λ n. n < 256) always (number_at w8) Anything always rule_of rule_number (number_law w8 256 wide8)
     (λ r t f. rule_again r) (λ n r t f e. (rule_back n r e, tt, refl))
 
-abbrev RowTail : Type 0
-RowTail = Rule × List Value
+abbrev Reason : Type 0
+Reason = ℕ × Rule
+
+reason_law : IsField (λ (p : Reason). reason_spelling p.0 p.1) (λ (p : Reason). IsU32 p.0 × Unit {0}) always reason_at
+reason_law = then_law (to_be_bytes w32) IsU32 always (number_at w32) (λ r. to_be_bytes w8 (rule_number r)) Anything (λ a. always) (λ a. rule_at) u32_law (λ a. rule_law)
 
 abbrev RowEnd : Type 0
-RowEnd = ℕ × RowTail
+RowEnd = Reason × List Value
 
 abbrev RowParts : Type 0
 RowParts = ℕ × RowEnd
@@ -96,21 +99,33 @@ RowParts = ℕ × RowEnd
 abbrev so_many : ℕ → List Value → Bool
 so_many columns values = (length values == columns) && list_all always values
 
-tail_law : (columns : ℕ) → IsField (λ (p : RowTail). to_be_bytes w8 (rule_number p.0) ++ flat_map value_spelling p.1) (λ (p : RowTail). Unit {0} × TypedValues p.1) (λ (p : RowTail). so_many columns p.1) (both_at rule_at (items_at value_at columns))
-tail_law columns = then_law (λ r. to_be_bytes w8 (rule_number r)) Anything always rule_at (flat_map value_spelling) TypedValues (λ a. so_many columns) (λ a. items_at value_at columns) rule_law (λ a. items_law value_spelling TypedValue always value_at value_law columns)
+abbrev end_spelling : RowEnd → List ℕ
+end_spelling p = reason_spelling p.0.0 p.0.1 ++ cells_spelling p.1
 
-end_law : (columns : ℕ) → IsField (λ (p : RowEnd). to_be_bytes w32 p.0 ++ (to_be_bytes w8 (rule_number p.1.0) ++ flat_map value_spelling p.1.1)) (λ (p : RowEnd). IsU32 p.0 × (Unit {0} × TypedValues p.1.1)) (λ (p : RowEnd). so_many columns p.1.1) (both_at (number_at w32) (both_at rule_at (items_at value_at columns)))
-end_law columns = then_law (to_be_bytes w32) IsU32 always (number_at w32) (λ (p : RowTail). to_be_bytes w8 (rule_number p.0) ++ flat_map value_spelling p.1) (λ (p : RowTail). Unit {0} × TypedValues p.1) (λ a (p : RowTail). so_many columns p.1) (λ a. both_at rule_at (items_at value_at columns)) u32_law (λ a. tail_law columns)
+abbrev TypedEnd : RowEnd → Type 0
+TypedEnd p = (IsU32 p.0.0 × Unit {0}) × TypedValues p.1
 
-parts_law : (columns : ℕ) → IsField (λ (p : RowParts). to_be_bytes w32 p.0 ++ (to_be_bytes w32 p.1.0 ++ (to_be_bytes w8 (rule_number p.1.1.0) ++ flat_map value_spelling p.1.1.1))) (λ (p : RowParts). IsU32 p.0 × (IsU32 p.1.0 × (Unit {0} × TypedValues p.1.1.1))) (λ (p : RowParts). so_many columns p.1.1.1) (both_at (number_at w32) (both_at (number_at w32) (both_at rule_at (items_at value_at columns))))
-parts_law columns = then_law (to_be_bytes w32) IsU32 always (number_at w32) (λ (p : RowEnd). to_be_bytes w32 p.0 ++ (to_be_bytes w8 (rule_number p.1.0) ++ flat_map value_spelling p.1.1)) (λ (p : RowEnd). IsU32 p.0 × (Unit {0} × TypedValues p.1.1)) (λ a (p : RowEnd). so_many columns p.1.1) (λ a. both_at (number_at w32) (both_at rule_at (items_at value_at columns))) u32_law (λ a. end_law columns)
+end_law : (columns : ℕ) → IsField end_spelling TypedEnd (λ (p : RowEnd). so_many columns p.1) (both_at reason_at (cells_at columns))
+end_law columns = then_law (λ (p : Reason). reason_spelling p.0 p.1) (λ (p : Reason). IsU32 p.0 × Unit {0}) always reason_at cells_spelling TypedValues (λ a. so_many columns) (λ a. cells_at columns) reason_law (λ a. items_law value_spelling TypedValue always value_at value_law columns)
+
+abbrev parts_spelling : RowParts → List ℕ
+parts_spelling p = number_spelling p.0 ++ end_spelling p.1
+
+abbrev TypedParts : RowParts → Type 0
+TypedParts p = IsU32 p.0 × TypedEnd p.1
+
+abbrev parts_at : ℕ → List ℕ → Found RowParts
+parts_at columns = both_at (number_at w32) (both_at reason_at (cells_at columns))
+
+parts_law : (columns : ℕ) → IsField parts_spelling TypedParts (λ (p : RowParts). so_many columns p.1.1) (parts_at columns)
+parts_law columns = then_law number_spelling IsU32 always (number_at w32) end_spelling TypedEnd (λ a (p : RowEnd). so_many columns p.1) (λ a. both_at reason_at (cells_at columns)) u32_law (λ a. end_law columns)
 
 row_law : (columns : ℕ) → IsField row_spelling TypedRow (row_room columns) (row_at columns)
-row_law columns = restate row_spelling (λ r. IsU32 r.number × (IsU32 r.statement × (Unit {0} × TypedValues r.values))) TypedRow (λ r. so_many columns r.values) (row_room columns) (row_at columns)
-    (struct_law (λ (p : RowParts). to_be_bytes w32 p.0 ++ (to_be_bytes w32 p.1.0 ++ (to_be_bytes w8 (rule_number p.1.1.0) ++ flat_map value_spelling p.1.1.1))) (λ (p : RowParts). IsU32 p.0 × (IsU32 p.1.0 × (Unit {0} × TypedValues p.1.1.1))) (λ (p : RowParts). so_many columns p.1.1.1) (both_at (number_at w32) (both_at (number_at w32) (both_at rule_at (items_at value_at columns))))
-    (λ (p : RowParts). record { number = p.0; statement = p.1.0; rule = p.1.1.0; values = p.1.1.1 }) (λ (r : PackedRow). (r.number, (r.statement, (r.rule, r.values)))) (parts_law columns) (λ r. refl) (λ p. refl))
-    (λ r t h. ((t.0, (t.1.0, (tt, t.1.1))), and_true (length r.values == columns) (list_all always r.values) h (list_all-always r.values)))
-    (λ r t h. ((t.0, (t.1.0, t.1.1.1)), (both_true (length r.values == columns) (list_all always r.values) h).0))
+row_law columns = restate row_spelling (λ r. IsU32 r.number × ((IsU32 r.statement × Unit {0}) × TypedValues r.values)) TypedRow (λ r. so_many columns r.values) (row_room columns) (row_at columns)
+    (struct_law parts_spelling TypedParts (λ (p : RowParts). so_many columns p.1.1) (parts_at columns)
+    (λ (p : RowParts). record { number = p.0; statement = p.1.0.0; rule = p.1.0.1; values = p.1.1 }) (λ (r : PackedRow). (r.number, ((r.statement, r.rule), r.values))) (parts_law columns) (λ r. refl) (λ p. refl))
+    (λ r t h. ((t.0, ((t.1.0, tt), t.1.1)), and_true (length r.values == columns) (list_all always r.values) h (list_all-always r.values)))
+    (λ r t h. ((t.0, (t.1.0.0, t.1.1)), (both_true (length r.values == columns) (list_all always r.values) h).0))
 
 row_filled : (r : PackedRow) → 0 < length (row_spelling r)
 row_filled r = omega arith

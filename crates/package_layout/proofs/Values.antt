@@ -11,7 +11,7 @@ use Rattle.package_layout.specs.Fields.{both_at, signed_at, text_spelling, sized
 use Rattle.package_layout.specs.Spelling.{value_spelling, values_spelling, content_spelling, file_spelling}
 use Rattle.package_layout.specs.Typed.{TypedValue, TypedValues, TypedFile}
 use Rattle.package_layout.specs.Room.{some_thousands}
-use Rattle.package_layout.specs.Reading.{value_body, value_at, values_at, content_body, content_at, file_at}
+use Rattle.package_layout.specs.Reading.{value_of_tag, value_at, values_at, content_of_tag, content_at, file_at}
 use Rattle.package_layout.proofs.Laws.{IsBytes, IsField, always, list_all-always, and_true, both_true, restate, then_law, struct_law}
 use Rattle.package_layout.proofs.Numbers.{signed_law, text_law, sized_law, short_list_law}
 use Rattle.package_layout.proofs.Tags.{TookTagged, tagged_law, bare_took, case_took, case_again}
@@ -28,12 +28,12 @@ value_rest Null = []
 value_rest (Int z) = to_be_bytes w64 (cast_unsigned w64 z)
 value_rest (Text t) = text_spelling t
 
-value_again : (v : Value) (rest : List ℕ) → TypedValue v → always v ≡ true → length (value_rest v) < 2 ^ 32 → value_body (value_tag v) (value_rest v ++ rest) ≡ Some (v, rest)
+value_again : (v : Value) (rest : List ℕ) → TypedValue v → always v ≡ true → length (value_rest v) < 2 ^ 32 → value_of_tag (value_tag v) (value_rest v ++ rest) ≡ Some (v, rest)
 value_again Null rest t f len = refl
 value_again (Int z) rest t f len = case_again _ (FitsSigned w64) always signed_at Int z rest signed_law t refl len
 value_again (Text x) rest t f len = case_again _ IsUtf8 always text_at Text x rest text_law t refl len
 
-value_took : (t : ℕ) (bytes : List ℕ) (v : Value) (rest : List ℕ) → IsBytes bytes → value_body t bytes ≡ Some (v, rest) → TookTagged value_tag value_rest TypedValue always t bytes v rest
+value_took : (t : ℕ) (bytes : List ℕ) (v : Value) (rest : List ℕ) → IsBytes bytes → value_of_tag t bytes ≡ Some (v, rest) → TookTagged value_tag value_rest TypedValue always t bytes v rest
 value_took zero bytes v rest h e = bare_took value_tag value_rest TypedValue always 0 bytes Null v rest refl refl tt refl e
 value_took (suc zero) bytes v rest h e = case_took (λ z. to_be_bytes w64 (cast_unsigned w64 z)) (FitsSigned w64) always signed_at Int value_tag value_rest TypedValue always 1 bytes v rest signed_law h e (λ a. refl) (λ a. refl) (λ a t. t) (λ a f. refl)
 value_took (suc (suc zero)) bytes v rest h e = case_took text_spelling IsUtf8 always text_at Text value_tag value_rest TypedValue always 2 bytes v rest text_law h e (λ a. refl) (λ a. refl) (λ a t. t) (λ a f. refl)
@@ -50,7 +50,7 @@ value_same (Int z) = refl
 value_same (Text t) = refl
 
 pub value_law : IsField value_spelling TypedValue always value_at
-value_law = tagged_law value_spelling value_tag value_rest TypedValue always value_body (record { small = value_small; again = value_again; took = value_took }) value_same
+value_law = tagged_law value_spelling value_tag value_rest TypedValue always value_of_tag (record { small = value_small; again = value_again; took = value_took }) value_same
 
 pub values_law : IsField values_spelling TypedValues some_thousands values_at
 values_law = restate values_spelling TypedValues TypedValues (λ xs. some_thousands xs && list_all always xs) some_thousands values_at (short_list_law value_spelling TypedValue always value_at value_law)
@@ -69,11 +69,11 @@ content_rest None = []
 abbrev Anything : Option (List ℕ) → Type 0
 Anything x = Unit {0}
 
-content_again : (v : Option (List ℕ)) (rest : List ℕ) → Anything v → always v ≡ true → length (content_rest v) < 2 ^ 32 → content_body (content_tag v) (content_rest v ++ rest) ≡ Some (v, rest)
+content_again : (v : Option (List ℕ)) (rest : List ℕ) → Anything v → always v ≡ true → length (content_rest v) < 2 ^ 32 → content_of_tag (content_tag v) (content_rest v ++ rest) ≡ Some (v, rest)
 content_again None rest t f len = refl
 content_again (Some x) rest t f len = case_again _ (λ _. Unit {0}) always sized_at Some x rest sized_law tt refl len
 
-content_took : (t : ℕ) (bytes : List ℕ) (v : Option (List ℕ)) (rest : List ℕ) → IsBytes bytes → content_body t bytes ≡ Some (v, rest) → TookTagged content_tag content_rest Anything always t bytes v rest
+content_took : (t : ℕ) (bytes : List ℕ) (v : Option (List ℕ)) (rest : List ℕ) → IsBytes bytes → content_of_tag t bytes ≡ Some (v, rest) → TookTagged content_tag content_rest Anything always t bytes v rest
 content_took zero bytes v rest h e = absurd cc
 content_took (suc zero) bytes v rest h e = case_took text_spelling (λ _. Unit {0}) always sized_at Some content_tag content_rest Anything always 1 bytes v rest sized_law h e (λ a. refl) (λ a. refl) (λ a t. tt) (λ a f. refl)
 content_took (suc (suc zero)) bytes v rest h e = bare_took content_tag content_rest Anything always 2 bytes None v rest refl refl tt refl e
@@ -88,7 +88,7 @@ content_same (Some x) = refl
 content_same None = refl
 
 content_law : IsField content_spelling Anything always content_at
-content_law = tagged_law content_spelling content_tag content_rest Anything always content_body (record { small = content_small; again = content_again; took = content_took }) content_same
+content_law = tagged_law content_spelling content_tag content_rest Anything always content_of_tag (record { small = content_small; again = content_again; took = content_took }) content_same
 
 abbrev FileParts : Type 0
 FileParts = List ℕ × Option (List ℕ)

@@ -19,7 +19,8 @@ use Rattle.package_layout.specs.Typed.{IsU32, TypedFile, TypedTable, TypedLog}
 use Rattle.package_layout.specs.Room.{some_thousands, table_room, log_room}
 use Rattle.package_layout.specs.Reading.{file_at, table_at, log_at}
 use Rattle.package_layout.specs.Events.{names_spelling, names_at, event_spelling, TypedEvent, event_room, event_at}
-use Rattle.package_layout.specs.Whole.{mode_number, mode_spelling, mode_of, mode_at, sections, IsTyped, has_room, sections_at, all_of}
+use Rattle.package_layout.specs.Version.{Version, One}
+use Rattle.package_layout.specs.Whole.{mode_number, mode_spelling, mode_of, mode_at, trace_spelling, trace_at, sections, IsTyped, has_room, sections_at, all_of}
 use Rattle.package_layout.proofs.Laws.{IsBytes, IsField, bind_some, just, some_is, always, list_all-always, restate, made_law, then_law, struct_law}
 use Rattle.package_layout.proofs.Numbers.{wide8, wide64, number_law, short_list_law, long_law}
 use Rattle.package_layout.proofs.Tables.{Anything, u32_law, table_law}
@@ -57,8 +58,8 @@ tables_law = short_list_law table_spelling TypedTable table_room table_at table_
 logs_law : IsField (list_spelling w32 log_spelling) (AllByRecursion TypedLog) (list_all log_room) (list_at w32 log_at)
 logs_law = long_law log_spelling TypedLog log_room log_at log_law log_filled
 
-events_law : IsField (list_spelling w32 event_spelling) (AllByRecursion TypedEvent) (list_all event_room) (list_at w32 event_at)
-events_law = long_law event_spelling TypedEvent event_room event_at event_law event_filled
+events_law : (v : Version) → IsField (trace_spelling v) (AllByRecursion TypedEvent) (list_all event_room) (trace_at v)
+events_law One = long_law event_spelling TypedEvent event_room event_at event_law event_filled
 
 -- ---- the sections, from the last to the first
 
@@ -83,26 +84,26 @@ P2 = List (List ℕ) × P3
 abbrev P1 : Type 0
 P1 = Mode × P2
 
-abbrev s7 : P7 → List ℕ
-s7 p = list_spelling w32 log_spelling p.0 ++ list_spelling w32 event_spelling p.1
+abbrev s7 : Version → P7 → List ℕ
+s7 v p = list_spelling w32 log_spelling p.0 ++ trace_spelling v p.1
 
-abbrev s6 : P6 → List ℕ
-s6 p = list_spelling w16 table_spelling p.0 ++ s7 p.1
+abbrev s6 : Version → P6 → List ℕ
+s6 v p = list_spelling w16 table_spelling p.0 ++ s7 v p.1
 
-abbrev s5 : P5 → List ℕ
-s5 p = list_spelling w32 file_spelling p.0 ++ s6 p.1
+abbrev s5 : Version → P5 → List ℕ
+s5 v p = list_spelling w32 file_spelling p.0 ++ s6 v p.1
 
-abbrev s4 : P4 → List ℕ
-s4 p = to_be_bytes w32 p.0 ++ s5 p.1
+abbrev s4 : Version → P4 → List ℕ
+s4 v p = to_be_bytes w32 p.0 ++ s5 v p.1
 
-abbrev s3 : P3 → List ℕ
-s3 p = to_be_bytes w64 p.0 ++ s4 p.1
+abbrev s3 : Version → P3 → List ℕ
+s3 v p = to_be_bytes w64 p.0 ++ s4 v p.1
 
-abbrev s2 : P2 → List ℕ
-s2 p = names_spelling p.0 ++ s3 p.1
+abbrev s2 : Version → P2 → List ℕ
+s2 v p = names_spelling p.0 ++ s3 v p.1
 
-abbrev s1 : P1 → List ℕ
-s1 p = mode_spelling p.0 ++ s2 p.1
+abbrev s1 : Version → P1 → List ℕ
+s1 v p = mode_spelling p.0 ++ s2 v p.1
 
 abbrev t7 : P7 → Type 0
 t7 p = AllByRecursion TypedLog p.0 × AllByRecursion TypedEvent p.1
@@ -146,47 +147,47 @@ f2 p = some_thousands p.0 && f3 p.1
 abbrev f1 : P1 → Bool
 f1 p = f2 p.1
 
-abbrev r7 : List ℕ → Found P7
-r7 = both_at (list_at w32 log_at) (list_at w32 event_at)
+abbrev r7 : Version → List ℕ → Found P7
+r7 v = both_at (list_at w32 log_at) (trace_at v)
 
-abbrev r6 : List ℕ → Found P6
-r6 = both_at (list_at w16 table_at) r7
+abbrev r6 : Version → List ℕ → Found P6
+r6 v = both_at (list_at w16 table_at) (r7 v)
 
-abbrev r5 : List ℕ → Found P5
-r5 = both_at (list_at w32 file_at) r6
+abbrev r5 : Version → List ℕ → Found P5
+r5 v = both_at (list_at w32 file_at) (r6 v)
 
-abbrev r4 : List ℕ → Found P4
-r4 = both_at (number_at w32) r5
+abbrev r4 : Version → List ℕ → Found P4
+r4 v = both_at (number_at w32) (r5 v)
 
-abbrev r3 : List ℕ → Found P3
-r3 = both_at (number_at w64) r4
+abbrev r3 : Version → List ℕ → Found P3
+r3 v = both_at (number_at w64) (r4 v)
 
-abbrev r2 : List ℕ → Found P2
-r2 = both_at names_at r3
+abbrev r2 : Version → List ℕ → Found P2
+r2 v = both_at names_at (r3 v)
 
-abbrev r1 : List ℕ → Found P1
-r1 = both_at mode_at r2
+abbrev r1 : Version → List ℕ → Found P1
+r1 v = both_at mode_at (r2 v)
 
-l7 : IsField s7 t7 f7 r7
-l7 = then_law (list_spelling w32 log_spelling) (AllByRecursion TypedLog) (list_all log_room) (list_at w32 log_at) (list_spelling w32 event_spelling) (AllByRecursion TypedEvent) (λ a. list_all event_room) (λ a. list_at w32 event_at) logs_law (λ a. events_law)
+l7 : (v : Version) → IsField (s7 v) t7 f7 (r7 v)
+l7 v = then_law (list_spelling w32 log_spelling) (AllByRecursion TypedLog) (list_all log_room) (list_at w32 log_at) (trace_spelling v) (AllByRecursion TypedEvent) (λ a. list_all event_room) (λ a. trace_at v) logs_law (λ a. events_law v)
 
-l6 : IsField s6 t6 f6 r6
-l6 = then_law (list_spelling w16 table_spelling) (AllByRecursion TypedTable) tables_fit (list_at w16 table_at) s7 t7 (λ a. f7) (λ a. r7) tables_law (λ a. l7)
+l6 : (v : Version) → IsField (s6 v) t6 f6 (r6 v)
+l6 v = then_law (list_spelling w16 table_spelling) (AllByRecursion TypedTable) tables_fit (list_at w16 table_at) (s7 v) t7 (λ a. f7) (λ a. r7 v) tables_law (λ a. l7 v)
 
-l5 : IsField s5 t5 f5 r5
-l5 = then_law (list_spelling w32 file_spelling) (AllByRecursion TypedFile) always (list_at w32 file_at) s6 t6 (λ a. f6) (λ a. r6) files_law (λ a. l6)
+l5 : (v : Version) → IsField (s5 v) t5 f5 (r5 v)
+l5 v = then_law (list_spelling w32 file_spelling) (AllByRecursion TypedFile) always (list_at w32 file_at) (s6 v) t6 (λ a. f6) (λ a. r6 v) files_law (λ a. l6 v)
 
-l4 : IsField s4 t4 f4 r4
-l4 = then_law (to_be_bytes w32) IsU32 always (number_at w32) s5 t5 (λ a. f5) (λ a. r5) u32_law (λ a. l5)
+l4 : (v : Version) → IsField (s4 v) t4 f4 (r4 v)
+l4 v = then_law (to_be_bytes w32) IsU32 always (number_at w32) (s5 v) t5 (λ a. f5) (λ a. r5 v) u32_law (λ a. l5 v)
 
-l3 : IsField s3 t3 f3 r3
-l3 = then_law (to_be_bytes w64) (λ n. n < 2 ^ 64) always (number_at w64) s4 t4 (λ a. f4) (λ a. r4) (number_law w64 (2 ^ 64) wide64) (λ a. l4)
+l3 : (v : Version) → IsField (s3 v) t3 f3 (r3 v)
+l3 v = then_law (to_be_bytes w64) (λ n. n < 2 ^ 64) always (number_at w64) (s4 v) t4 (λ a. f4) (λ a. r4 v) (number_law w64 (2 ^ 64) wide64) (λ a. l4 v)
 
-l2 : IsField s2 t2 f2 r2
-l2 = then_law names_spelling (AllByRecursion IsUtf8) some_thousands names_at s3 t3 (λ a. f3) (λ a. r3) names_law (λ a. l3)
+l2 : (v : Version) → IsField (s2 v) t2 f2 (r2 v)
+l2 v = then_law names_spelling (AllByRecursion IsUtf8) some_thousands names_at (s3 v) t3 (λ a. f3) (λ a. r3 v) names_law (λ a. l3 v)
 
-l1 : IsField s1 t1 f1 r1
-l1 = then_law mode_spelling Anything always mode_at s2 t2 (λ a. f2) (λ a. r2) mode_law (λ a. l2)
+l1 : (v : Version) → IsField (s1 v) t1 f1 (r1 v)
+l1 v = then_law mode_spelling Anything always mode_at (s2 v) t2 (λ a. f2) (λ a. r2 v) mode_law (λ a. l2 v)
 
 abbrev make : P1 → Package
 make p = record { mode = p.0; start = p.1.0; seed = p.1.1.0; steps = p.1.1.1.0; files = p.1.1.1.1.0; tables = p.1.1.1.1.1.0; logs = p.1.1.1.1.1.1.0; events = p.1.1.1.1.1.1.1 }
@@ -194,16 +195,16 @@ make p = record { mode = p.0; start = p.1.0; seed = p.1.1.0; steps = p.1.1.1.0; 
 abbrev back : Package → P1
 back p = (p.mode, (p.start, (p.seed, (p.steps, (p.files, (p.tables, (p.logs, p.events)))))))
 
-sections_law : IsField sections IsTyped has_room sections_at
-sections_law = restate sections (λ p. Unit {0} × IsTyped p) IsTyped has_room has_room sections_at (struct_law s1 t1 f1 r1 make back l1 (λ p. refl) (λ p. refl))
+sections_law : (v : Version) → IsField (sections v) IsTyped has_room (sections_at v)
+sections_law v = restate (sections v) (λ p. Unit {0} × IsTyped p) IsTyped has_room has_room (sections_at v) (struct_law (s1 v) t1 f1 (r1 v) make back (l1 v) (λ p. refl) (λ p. refl))
     (λ p t h. ((tt, t), h)) (λ p t h. (t.1, h))
 
 -- ---- all of the bytes
 
-pub all_again : (p : Package) → IsTyped p → has_room p ≡ true → length (sections p) < 2 ^ 32 → all_of (sections p) ≡ Some p
-all_again p t h len =
-    let one : sections_at (sections p ++ []) ≡ Some (p, []) = sections_law.again p [] t h len in
-    let two : sections_at (sections p) ≡ Some (p, []) = ap sections_at (sym (append-nil (sections p))) ∙ one in
+pub all_again : (v : Version) (p : Package) → IsTyped p → has_room p ≡ true → length (sections v p) < 2 ^ 32 → all_of v (sections v p) ≡ Some p
+all_again v p t h len =
+    let one : sections_at v (sections v p ++ []) ≡ Some (p, []) = (sections_law v).again p [] t h len in
+    let two : sections_at v (sections v p) ≡ Some (p, []) = ap (sections_at v) (sym (append-nil (sections v p))) ∙ one in
     rw two refl
 
 abbrev ended : Package × List ℕ → Option Package
@@ -213,11 +214,11 @@ ended_is : (x : Package × List ℕ) (p : Package) (b : Bool) → (length x.1 ==
 ended_is x p true e h = (some_is x.0 p h, nil_from_length x.1 (eqb-true _ _ e))
 ended_is x p false e h = absurd cc
 
-pub all_took : (bytes : List ℕ) (p : Package) → IsBytes bytes → all_of bytes ≡ Some p → (bytes ≡ sections p) × IsTyped p × (has_room p ≡ true)
-all_took bytes p h e =
-    let first = bind_some (sections_at bytes) ended p e in
+pub all_took : (v : Version) (bytes : List ℕ) (p : Package) → IsBytes bytes → all_of v bytes ≡ Some p → (bytes ≡ sections v p) × IsTyped p × (has_room p ≡ true)
+all_took v bytes p h e =
+    let first = bind_some (sections_at v bytes) ended p e in
     let x = first.0 in
-    let k = sections_law.took bytes x.0 x.1 h first.1 in
+    let k = (sections_law v).took bytes x.0 x.1 h first.1 in
     let end = ended_is x p (length x.1 == 0) refl first.2 in
-    let parts : bytes ≡ sections x.0 = k.parts ∙ ap (λ (l : List ℕ). sections x.0 ++ l) end.1 ∙ append-nil (sections x.0) in
-    subst (λ (q : Package). (bytes ≡ sections q) × IsTyped q × (has_room q ≡ true)) end.0 (parts, k.is_typed, k.is_fit)
+    let parts : bytes ≡ sections v x.0 = k.parts ∙ ap (λ (l : List ℕ). sections v x.0 ++ l) end.1 ∙ append-nil (sections v x.0) in
+    subst (λ (q : Package). (bytes ≡ sections v q) × IsTyped q × (has_room q ≡ true)) end.0 (parts, k.is_typed, k.is_fit)

@@ -12,10 +12,12 @@ use Rattle.run_model.specs.declared.event.Event.{Event}
 use Rattle.package_layout.specs.declared.group.Group.{Group}
 use Rattle.package_layout.specs.declared.part.ReadPart.{ReadPart}
 use Rattle.package_layout.specs.declared.part.MadePart.{MadePart}
-use Rattle.package_layout.specs.Fields.{Found, both_at, made_at, tagged_at, number_at, list_at, text_at, text_spelling, list_spelling}
-use Rattle.package_layout.specs.Groups.{groups, group_spelling, placed_at}
-use Rattle.package_layout.specs.Parts.{read_part_spelling, made_part_spelling, read_part_at, made_part_at, need_table, need_part, need_of, member_table, member_part, member_of}
-use Rattle.package_layout.specs.Typed.{IsU32}
+use Rattle.package_layout.specs.Fields.{Found, both_at, made_at, tagged_at, number_at, list_at, text_at}
+use Rattle.package_layout.specs.Fields.{text_spelling, list_spelling}
+use Rattle.package_layout.specs.Groups.{groups, group_spelling, grouped_at}
+use Rattle.package_layout.specs.Parts.{read_part_spelling, made_part_spelling, read_part_at, made_part_at}
+use Rattle.package_layout.specs.Parts.{need_table, need_part, need_of, member_table, member_part, member_of}
+pub use Rattle.package_layout.specs.Typed.{TypedNeed, TypedMember, TypedAct, TypedEvent}
 use Rattle.package_layout.specs.Room.{some_thousands}
 
 -- ---- spelling
@@ -60,38 +62,12 @@ act_spelling (acts.Removed path) = 10 ∷ text_spelling path
 act_spelling (acts.Tested path found) = 11 ∷ flagged_spelling path found
 act_spelling (acts.Waited child) = 12 ∷ to_be_bytes w32 child
 act_spelling (acts.Ended status) = 13 ∷ to_be_bytes w8 status
-act_spelling (acts.Asked statement tables reads made) = 14 ∷ (to_be_bytes w32 statement ++ (names_spelling tables ++ (needs_spelling reads ++ members_spelling made)))
+act_spelling (acts.Asked statement tables reads made) =
+    14 ∷ (to_be_bytes w32 statement
+    ++ (names_spelling tables ++ (needs_spelling reads ++ members_spelling made)))
 
 abbrev pub event_spelling : Event → List ℕ
 event_spelling e = to_be_bytes w32 e.step ++ (to_be_bytes w32 e.process ++ act_spelling e.act)
-
--- ---- values in memory
-
-abbrev pub TypedNeed : Need → Type 0
-TypedNeed n = IsUtf8 n.member.table × (IsU32 n.member.row × IsU32 n.member.version)
-
-abbrev pub TypedMember : Member → Type 0
-TypedMember m = IsUtf8 m.table × (IsU32 m.row × IsU32 m.version)
-
-abbrev pub TypedAct : Act → Type 0
-TypedAct (acts.Started path) = IsUtf8 path
-TypedAct (acts.Spawned path) = IsUtf8 path
-TypedAct (acts.Unspawned path found) = IsUtf8 path
-TypedAct (acts.OpenedRead path) = IsUtf8 path
-TypedAct (acts.OpenedWrite path) = IsUtf8 path
-TypedAct (acts.OpenedAppend path found) = IsUtf8 path
-TypedAct (acts.OpenedNew path) = IsUtf8 path
-TypedAct (acts.Unopened path found) = IsUtf8 path
-TypedAct (acts.Read path) = IsUtf8 path
-TypedAct (acts.Wrote path) = IsUtf8 path
-TypedAct (acts.Removed path) = IsUtf8 path
-TypedAct (acts.Tested path found) = IsUtf8 path
-TypedAct (acts.Waited child) = IsU32 child
-TypedAct (acts.Ended status) = status < 256
-TypedAct (acts.Asked statement tables reads made) = IsU32 statement × (AllByRecursion IsUtf8 tables × (AllByRecursion TypedNeed reads × AllByRecursion TypedMember made))
-
-abbrev pub TypedEvent : Event → Type 0
-TypedEvent e = IsU32 e.step × (IsU32 e.process × TypedAct e.act)
 
 -- ---- what the format has room for
 
@@ -100,7 +76,8 @@ abbrev pub needs_room : List Need → Bool
 needs_room needs = some_thousands (need_groups needs) && list_all (λ n. sql_name_test (need_table n)) needs
 
 abbrev pub members_room : List Member → Bool
-members_room members = some_thousands (member_groups members) && list_all (λ m. sql_name_test (member_table m)) members
+members_room members =
+    some_thousands (member_groups members) && list_all (λ m. sql_name_test (member_table m)) members
 
 abbrev pub act_room : Act → Bool
 act_room (acts.Started path) = true
@@ -117,7 +94,8 @@ act_room (acts.Removed path) = true
 act_room (acts.Tested path found) = true
 act_room (acts.Waited child) = true
 act_room (acts.Ended status) = true
-act_room (acts.Asked statement tables reads made) = some_thousands tables && (needs_room reads && members_room made)
+act_room (acts.Asked statement tables reads made) =
+    some_thousands tables && (needs_room reads && members_room made)
 
 abbrev pub event_room : Event → Bool
 event_room e = act_room e.act
@@ -136,10 +114,10 @@ abbrev pub names_at : List ℕ → Found (List (List ℕ))
 names_at = list_at w16 text_at
 
 abbrev pub needs_at : List ℕ → Found (List Need)
-needs_at = placed_at need_of read_part_at
+needs_at = grouped_at need_of read_part_at
 
 abbrev pub members_at : List ℕ → Found (List Member)
-members_at = placed_at member_of made_part_at
+members_at = grouped_at member_of made_part_at
 
 abbrev pub plain_at : (List ℕ → Act) → List ℕ → Found Act
 plain_at make = made_at (λ path. Some (make path)) text_at
@@ -147,27 +125,33 @@ plain_at make = made_at (λ path. Some (make path)) text_at
 abbrev pub flagged_at : (List ℕ → Bool → Act) → List ℕ → Found Act
 flagged_at make = made_at (λ p. Some (make p.0 p.1)) (both_at text_at flag_at)
 
-abbrev pub act_body : ℕ → List ℕ → Found Act
-act_body zero = plain_at acts.Started
-act_body (suc zero) = plain_at acts.Spawned
-act_body (suc (suc zero)) = flagged_at acts.Unspawned
-act_body (suc (suc (suc zero))) = plain_at acts.OpenedRead
-act_body (suc (suc (suc (suc zero)))) = plain_at acts.OpenedWrite
-act_body (suc (suc (suc (suc (suc zero))))) = flagged_at acts.OpenedAppend
-act_body (suc (suc (suc (suc (suc (suc zero)))))) = plain_at acts.OpenedNew
-act_body (suc (suc (suc (suc (suc (suc (suc zero))))))) = flagged_at acts.Unopened
-act_body (suc (suc (suc (suc (suc (suc (suc (suc zero)))))))) = plain_at acts.Read
-act_body (suc (suc (suc (suc (suc (suc (suc (suc (suc zero))))))))) = plain_at acts.Wrote
-act_body (suc (suc (suc (suc (suc (suc (suc (suc (suc (suc zero)))))))))) = plain_at acts.Removed
-act_body (suc (suc (suc (suc (suc (suc (suc (suc (suc (suc (suc zero))))))))))) = flagged_at acts.Tested
-act_body (suc (suc (suc (suc (suc (suc (suc (suc (suc (suc (suc (suc zero)))))))))))) = made_at (λ child. Some (acts.Waited child)) (number_at w32)
-act_body (suc (suc (suc (suc (suc (suc (suc (suc (suc (suc (suc (suc (suc zero))))))))))))) = made_at (λ status. Some (acts.Ended status)) (number_at w8)
-act_body (suc (suc (suc (suc (suc (suc (suc (suc (suc (suc (suc (suc (suc (suc zero)))))))))))))) =
-    made_at (λ a. Some (acts.Asked a.0 a.1.0 a.1.1.0 a.1.1.1)) (both_at (number_at w32) (both_at names_at (both_at needs_at members_at)))
-act_body (suc (suc (suc (suc (suc (suc (suc (suc (suc (suc (suc (suc (suc (suc (suc n))))))))))))))) = λ bytes. None
+abbrev pub act_of_tag : ℕ → List ℕ → Found Act
+act_of_tag zero = plain_at acts.Started
+act_of_tag (suc zero) = plain_at acts.Spawned
+act_of_tag (suc (suc zero)) = flagged_at acts.Unspawned
+act_of_tag (suc (suc (suc zero))) = plain_at acts.OpenedRead
+act_of_tag (suc (suc (suc (suc zero)))) = plain_at acts.OpenedWrite
+act_of_tag (suc (suc (suc (suc (suc zero))))) = flagged_at acts.OpenedAppend
+act_of_tag (suc (suc (suc (suc (suc (suc zero)))))) = plain_at acts.OpenedNew
+act_of_tag (suc (suc (suc (suc (suc (suc (suc zero))))))) = flagged_at acts.Unopened
+act_of_tag (suc (suc (suc (suc (suc (suc (suc (suc zero)))))))) = plain_at acts.Read
+act_of_tag (suc (suc (suc (suc (suc (suc (suc (suc (suc zero))))))))) = plain_at acts.Wrote
+act_of_tag (suc (suc (suc (suc (suc (suc (suc (suc (suc (suc zero)))))))))) = plain_at acts.Removed
+act_of_tag (suc (suc (suc (suc (suc (suc (suc (suc (suc (suc (suc zero))))))))))) = flagged_at acts.Tested
+act_of_tag (suc (suc (suc (suc (suc (suc (suc (suc (suc (suc (suc (suc zero)))))))))))) =
+    made_at (λ child. Some (acts.Waited child)) (number_at w32)
+act_of_tag (suc (suc (suc (suc (suc (suc (suc (suc (suc (suc (suc (suc (suc zero))))))))))))) =
+    made_at (λ status. Some (acts.Ended status)) (number_at w8)
+act_of_tag (suc (suc (suc (suc (suc (suc (suc (suc (suc (suc (suc (suc (suc (suc zero)))))))))))))) =
+    made_at (λ a. Some (acts.Asked a.0 a.1.0 a.1.1.0 a.1.1.1))
+    (both_at (number_at w32) (both_at names_at (both_at needs_at members_at)))
+act_of_tag (suc (suc (suc (suc (suc (suc (suc (suc (suc (suc (suc (suc (suc (suc (suc n))))))))))))))) =
+    λ bytes. None
 
 abbrev pub act_at : List ℕ → Found Act
-act_at = tagged_at act_body
+act_at = tagged_at act_of_tag
 
 abbrev pub event_at : List ℕ → Found Event
-event_at = made_at (λ e. Some (record { step = e.0; process = e.1.0; act = e.1.1 })) (both_at (number_at w32) (both_at (number_at w32) act_at))
+event_at =
+    made_at (λ e. Some (record { step = e.0; process = e.1.0; act = e.1.1 }))
+    (both_at (number_at w32) (both_at (number_at w32) act_at))

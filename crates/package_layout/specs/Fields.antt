@@ -1,12 +1,13 @@
 -- The smallest fields of the format, how they are spelled and how they are read from the front of bytes.
-use Rattle.std.specs.Prelude.{◌≡◌, ℕ, ℤ, zero, suc, List, [], ◌∷◌, ◌++◌, length, take, drop, Option, Some, None, Result, Ok, Err, nat_lt, if◌then◌else◌}
+use Rattle.std.specs.Prelude.{◌≡◌, ℕ, ℤ, zero, suc, List, [], ◌∷◌, ◌++◌, length, take, drop, Option, Some}
+use Rattle.std.specs.Prelude.{None, Result, Ok, Err, nat_lt, if◌then◌else◌}
 use Rattle.std.specs.List.{flat_map}
 use Rattle.std.specs.Str.{is_utf8}
 use Rattle.std.specs.Int.{Width, w8, w32, w64, byte_len, to_be_bytes, from_be_bytes, cast_signed}
-use Rattle.package_layout.specs.declared.stop.Stop.{Stop}
-use Rattle.package_layout.specs.declared.stop.Stop.TheVariants.{NoMemory, NoForm}
+use Rattle.package_layout.specs.declared.decode_error.DecodeError.{DecodeError}
+use Rattle.package_layout.specs.declared.decode_error.DecodeError.TheVariants.{NoMemory, Malformed}
 
--- a value and the bytes after it, or nothing where no spelling stands at the front
+-- a value and the bytes after it, or nothing where the bytes begin with no spelling
 abbrev pub Found : Type 0 → Type 0
 Found X = Option (X × List ℕ)
 
@@ -33,19 +34,19 @@ made_at make a_at bytes = do
   Some (b, a.1)
 
 -- A function returned what reading gives, and left what reading leaves, unless memory ran out.
-abbrev pub Gives : {X : Type 0} → Result X Stop → List ℕ → Found X → Type 0
+abbrev pub Gives : {X : Type 0} → Result X DecodeError → List ℕ → Found X → Type 0
 Gives (Ok x) left read = read ≡ Some (x, left)
 Gives (Err NoMemory) left read = Unit {0}
-Gives (Err NoForm) left read = read ≡ None
+Gives (Err Malformed) left read = read ≡ None
 
 abbrev pub bytes_at : ℕ → List ℕ → Found (List ℕ)
 bytes_at n bytes = if nat_lt (length bytes) n then None else Some (take n bytes, drop n bytes)
 
 -- A function returned what a test of a part gives, unless memory ran out.
-abbrev pub Makes : {X : Type 0} → Result X Stop → Option X → Type 0
+abbrev pub Makes : {X : Type 0} → Result X DecodeError → Option X → Type 0
 Makes (Ok x) made = made ≡ Some x
 Makes (Err NoMemory) made = Unit {0}
-Makes (Err NoForm) made = made ≡ None
+Makes (Err Malformed) made = made ≡ None
 
 -- ---- numbers
 
@@ -57,13 +58,13 @@ number_at w bytes = do
 abbrev pub signed_at : List ℕ → Found ℤ
 signed_at = made_at (λ n. Some (cast_signed w64 n)) (number_at w64)
 
--- a tag of one byte, and what stands behind it
+-- a tag of one byte, and what follows it
 abbrev pub tagged_at : {X : Type 0} → (ℕ → List ℕ → Found X) → List ℕ → Found X
 tagged_at body_at bytes = do
   t ← number_at w8 bytes
   body_at t.0 t.1
 
--- ---- texts: the length and that many bytes
+-- ---- texts: the length and the bytes
 
 abbrev pub text_spelling : List ℕ → List ℕ
 text_spelling text = to_be_bytes w32 (length text) ++ text

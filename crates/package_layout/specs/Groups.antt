@@ -1,11 +1,13 @@
 -- Rows of a statement, grouped by their table: neighbours of one table make a group.
-use Rattle.std.specs.Prelude.{ℕ, List, [], ◌∷◌, ◌++◌, length, map, Bool, true, not, ◌&&◌, ◌==◌, if◌then◌else◌, Option, Some, None, bytes_eq}
+use Rattle.std.specs.Prelude.{ℕ, List, [], ◌∷◌, ◌++◌, length, map, Bool, true, not, ◌&&◌, ◌==◌, if◌then◌else◌}
+use Rattle.std.specs.Prelude.{Option, Some, None, bytes_eq}
 use Rattle.std.specs.List.{flat_map, AllByRecursion}
 use Rattle.std.specs.Str.{IsUtf8}
 use Rattle.std.specs.Int.{w16, w32}
 use Rattle.sql_model.specs.SqlNames.{sql_name_test}
 use Rattle.package_layout.specs.declared.group.Group.{Group}
-use Rattle.package_layout.specs.Fields.{Found, both_at, made_at, list_at, text_at, text_spelling, list_spelling}
+use Rattle.package_layout.specs.Fields.{Found, both_at, made_at, list_at, text_at, text_spelling}
+use Rattle.package_layout.specs.Fields.{list_spelling}
 
 abbrev pub group_spelling : {P : Type 0} → (P → List ℕ) → Group P → List ℕ
 group_spelling part_spelling g = text_spelling g.table ++ list_spelling w32 part_spelling g.parts
@@ -23,7 +25,9 @@ with_part g part = record { table = g.table; parts = g.parts ++ part ∷ [] }
 
 -- a group and the row after it
 abbrev pub after : {X P : Type 0} → (X → List ℕ) → (X → P) → Group P → X → List (Group P)
-after table_of part_of g x = if bytes_eq g.table (table_of x) then with_part g (part_of x) ∷ [] else g ∷ single table_of part_of x ∷ []
+after table_of part_of g x =
+    if bytes_eq g.table (table_of x) then with_part g (part_of x) ∷ []
+    else g ∷ single table_of part_of x ∷ []
 
 abbrev pub add : {X P : Type 0} → (X → List ℕ) → (X → P) → List (Group P) → X → List (Group P)
 add table_of part_of [] x = single table_of part_of x ∷ []
@@ -50,15 +54,15 @@ abbrev pub group_at : {P : Type 0} → (List ℕ → Found P) → List ℕ → F
 group_at part_at = made_at group_of (both_at text_at (list_at w32 part_at))
 
 -- no two neighbours are of one table, and the first isn't of the table before it
-abbrev pub is_apart : {P : Type 0} → List ℕ → List (Group P) → Bool
-is_apart before [] = true
-is_apart before (g ∷ gs) = not (bytes_eq g.table before) && is_apart g.table gs
+abbrev pub neighbours_differ : {P : Type 0} → List ℕ → List (Group P) → Bool
+neighbours_differ before [] = true
+neighbours_differ before (g ∷ gs) = not (bytes_eq g.table before) && neighbours_differ g.table gs
 
-abbrev pub spread : {X P : Type 0} → (List ℕ → P → X) → Group P → List X
-spread place g = map (place g.table) g.parts
+abbrev pub ungroup : {X P : Type 0} → (List ℕ → P → X) → Group P → List X
+ungroup place g = map (place g.table) g.parts
 
-abbrev pub placed_of : {X P : Type 0} → (List ℕ → P → X) → List (Group P) → Option (List X)
-placed_of place gs = if is_apart [] gs then Some (flat_map (spread place) gs) else None
+abbrev pub ungrouped : {X P : Type 0} → (List ℕ → P → X) → List (Group P) → Option (List X)
+ungrouped place gs = if neighbours_differ [] gs then Some (flat_map (ungroup place) gs) else None
 
-abbrev pub placed_at : {X P : Type 0} → (List ℕ → P → X) → (List ℕ → Found P) → List ℕ → Found (List X)
-placed_at place part_at = made_at (placed_of place) (list_at w16 (group_at part_at))
+abbrev pub grouped_at : {X P : Type 0} → (List ℕ → P → X) → (List ℕ → Found P) → List ℕ → Found (List X)
+grouped_at place part_at = made_at (ungrouped place) (list_at w16 (group_at part_at))

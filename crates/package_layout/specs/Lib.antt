@@ -1,14 +1,15 @@
-pub mod Answers
 pub mod Events
 pub mod Fields
 pub mod Groups
 pub mod Order
 pub mod Parts
+pub mod ReadResult
 pub mod Reading
 pub mod Room
 pub mod Spelling
 pub mod Trace
 pub mod Typed
 pub mod Valid
+pub mod Version
 pub mod Whole
 pub mod Widths

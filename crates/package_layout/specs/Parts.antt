@@ -11,7 +11,8 @@ use Rattle.package_layout.specs.Typed.{IsU32}
 use Rattle.package_layout.specs.Reading.{rule_at}
 
 abbrev pub read_part_spelling : ReadPart → List ℕ
-read_part_spelling p = to_be_bytes w32 p.row ++ (to_be_bytes w32 p.version ++ to_be_bytes w8 (rule_number p.rule))
+read_part_spelling p =
+    to_be_bytes w32 p.row ++ (to_be_bytes w32 p.version ++ to_be_bytes w8 (rule_number p.rule))
 
 abbrev pub made_part_spelling : MadePart → List ℕ
 made_part_spelling p = to_be_bytes w32 p.row ++ to_be_bytes w32 p.version
@@ -23,10 +24,13 @@ abbrev pub TypedMadePart : MadePart → Type 0
 TypedMadePart p = IsU32 p.row × IsU32 p.version
 
 abbrev pub read_part_at : List ℕ → Found ReadPart
-read_part_at = made_at (λ p. Some (record { row = p.0; version = p.1.0; rule = p.1.1 })) (both_at (number_at w32) (both_at (number_at w32) rule_at))
+read_part_at =
+    made_at (λ p. Some (record { row = p.0; version = p.1.0; rule = p.1.1 }))
+    (both_at (number_at w32) (both_at (number_at w32) rule_at))
 
 abbrev pub made_part_at : List ℕ → Found MadePart
-made_part_at = made_at (λ p. Some (record { row = p.0; version = p.1 })) (both_at (number_at w32) (number_at w32))
+made_part_at =
+    made_at (λ p. Some (record { row = p.0; version = p.1 })) (both_at (number_at w32) (number_at w32))
 
 abbrev pub need_table : Need → List ℕ
 need_table n = n.member.table
@@ -35,7 +39,10 @@ abbrev pub need_part : Need → ReadPart
 need_part n = record { row = n.member.row; version = n.member.version; rule = n.rule }
 
 abbrev pub need_of : List ℕ → ReadPart → Need
-need_of table p = record { member = record { table = table; row = p.row; version = p.version }; rule = p.rule }
+need_of table p = record {
+  member = record { table = table; row = p.row; version = p.version };
+  rule = p.rule;
+}
 
 abbrev pub member_table : Member → List ℕ
 member_table m = m.table

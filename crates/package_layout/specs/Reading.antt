@@ -8,7 +8,8 @@ use Rattle.sql_model.specs.declared.need.Rule.TheVariants.{L, H, K}
 use Rattle.sql_model.specs.declared.table.Column.{Column}
 use Rattle.sql_model.specs.declared.table.Schema.{Schema}
 use Rattle.sql_model.specs.declared.reply.SqlRefusal.{SqlRefusal}
-use Rattle.sql_model.specs.declared.reply.SqlRefusal.TheVariants.{Syntax, NoTable, NoColumn, TypeClash, NotNull, KeyTaken, Full}
+use Rattle.sql_model.specs.declared.reply.SqlRefusal.TheVariants.{Syntax, NoTable, NoColumn, TypeClash}
+use Rattle.sql_model.specs.declared.reply.SqlRefusal.TheVariants.{NotNull, KeyTaken, Full}
 use Rattle.sql_model.specs.declared.reply.Reply.{Reply}
 use Rattle.sql_model.specs.declared.reply.Reply.TheVariants.{Rows, Changed, Refused}
 use Rattle.run_model.specs.declared.name.ProcName.{ProcName}
@@ -17,32 +18,33 @@ use Rattle.run_model.specs.declared.package.PackedRow.{PackedRow}
 use Rattle.run_model.specs.declared.package.PackedTable.{PackedTable}
 use Rattle.run_model.specs.declared.package.Entry.{Entry}
 use Rattle.run_model.specs.declared.package.Log.{Log}
-use Rattle.package_layout.specs.Fields.{Found, then_at, both_at, made_at, tagged_at, number_at, signed_at, sized_at, text_at, items_at, list_at}
+use Rattle.package_layout.specs.Fields.{Found, then_at, both_at, made_at, tagged_at, number_at, signed_at}
+use Rattle.package_layout.specs.Fields.{sized_at, text_at, items_at, list_at}
 
 -- ---- values
 
-abbrev pub value_body : ℕ → List ℕ → Found Value
-value_body zero = λ bytes. Some (Null, bytes)
-value_body (suc zero) = made_at (λ z. Some (Int z)) signed_at
-value_body (suc (suc zero)) = made_at (λ t. Some (Text t)) text_at
-value_body (suc (suc (suc n))) = λ bytes. None
+abbrev pub value_of_tag : ℕ → List ℕ → Found Value
+value_of_tag zero = λ bytes. Some (Null, bytes)
+value_of_tag (suc zero) = made_at (λ z. Some (Int z)) signed_at
+value_of_tag (suc (suc zero)) = made_at (λ t. Some (Text t)) text_at
+value_of_tag (suc (suc (suc n))) = λ bytes. None
 
 abbrev pub value_at : List ℕ → Found Value
-value_at = tagged_at value_body
+value_at = tagged_at value_of_tag
 
 abbrev pub values_at : List ℕ → Found (List Value)
 values_at = list_at w16 value_at
 
 -- ---- files
 
-abbrev pub content_body : ℕ → List ℕ → Found (Option (List ℕ))
-content_body zero = λ bytes. None
-content_body (suc zero) = made_at (λ b. Some (Some b)) sized_at
-content_body (suc (suc zero)) = λ bytes. Some (None, bytes)
-content_body (suc (suc (suc n))) = λ bytes. None
+abbrev pub content_of_tag : ℕ → List ℕ → Found (Option (List ℕ))
+content_of_tag zero = λ bytes. None
+content_of_tag (suc zero) = made_at (λ b. Some (Some b)) sized_at
+content_of_tag (suc (suc zero)) = λ bytes. Some (None, bytes)
+content_of_tag (suc (suc (suc n))) = λ bytes. None
 
 abbrev pub content_at : List ℕ → Found (Option (List ℕ))
-content_at = tagged_at content_body
+content_at = tagged_at content_of_tag
 
 abbrev pub file_at : List ℕ → Found PackedFile
 file_at = made_at (λ f. Some (record { path = f.0; content = f.1 })) (both_at text_at content_at)
@@ -61,7 +63,8 @@ abbrev pub kind_at : List ℕ → Found (Bool × Bool)
 kind_at = made_at kind_of (number_at w8)
 
 abbrev pub column_at : List ℕ → Found Column
-column_at = made_at (λ c. Some (record { name = c.0; text = c.1.0; not_null = c.1.1 })) (both_at text_at kind_at)
+column_at =
+    made_at (λ c. Some (record { name = c.0; text = c.1.0; not_null = c.1.1 })) (both_at text_at kind_at)
 
 abbrev pub rule_of : ℕ → Option Rule
 rule_of zero = None
@@ -73,9 +76,17 @@ rule_of (suc (suc (suc (suc n)))) = None
 abbrev pub rule_at : List ℕ → Found Rule
 rule_at = made_at rule_of (number_at w8)
 
--- a row of a table of so many columns
+abbrev pub reason_at : List ℕ → Found (ℕ × Rule)
+reason_at = both_at (number_at w32) rule_at
+
+-- the values of a row of a table with the given number of columns
+abbrev pub cells_at : ℕ → List ℕ → Found (List Value)
+cells_at columns = items_at value_at columns
+
 abbrev pub row_at : ℕ → List ℕ → Found PackedRow
-row_at columns = made_at (λ r. Some (record { number = r.0; statement = r.1.0; rule = r.1.1.0; values = r.1.1.1 })) (both_at (number_at w32) (both_at (number_at w32) (both_at rule_at (items_at value_at columns))))
+row_at columns =
+    made_at (λ r. Some (record { number = r.0; statement = r.1.0.0; rule = r.1.0.1; values = r.1.1 }))
+    (both_at (number_at w32) (both_at reason_at (cells_at columns)))
 
 abbrev pub rows_at : ℕ → List ℕ → Found (List PackedRow)
 rows_at columns = list_at w32 (row_at columns)
@@ -87,39 +98,45 @@ abbrev pub schema_at : List ℕ → Found Schema
 schema_at = made_at (λ s. Some (record { columns = s.0; key = s.1 })) (both_at (list_at w8 column_at) key_at)
 
 abbrev pub table_at : List ℕ → Found PackedTable
-table_at = made_at (λ t. Some (record { name = t.0; schema = t.1.0; next = t.1.1.0; rows = t.1.1.1 })) (both_at text_at (then_at schema_at (λ s. both_at (number_at w32) (rows_at (length s.columns)))))
+table_at =
+    made_at (λ t. Some (record { name = t.0; schema = t.1.0; next = t.1.1.0; rows = t.1.1.1 }))
+    (both_at text_at (then_at schema_at (λ s. both_at (number_at w32) (rows_at (length s.columns)))))
 
 -- ---- logs
 
-abbrev pub refusal_body : ℕ → List ℕ → Found SqlRefusal
-refusal_body zero = λ bytes. None
-refusal_body (suc zero) = λ bytes. Some (Syntax, bytes)
-refusal_body (suc (suc zero)) = λ bytes. Some (NoTable, bytes)
-refusal_body (suc (suc (suc zero))) = λ bytes. Some (NoColumn, bytes)
-refusal_body (suc (suc (suc (suc zero)))) = λ bytes. Some (TypeClash, bytes)
-refusal_body (suc (suc (suc (suc (suc zero))))) = λ bytes. Some (NotNull, bytes)
-refusal_body (suc (suc (suc (suc (suc (suc zero)))))) = made_at (λ k. Some (KeyTaken k.0 k.1)) (both_at text_at (list_at w8 value_at))
-refusal_body (suc (suc (suc (suc (suc (suc (suc zero))))))) = λ bytes. Some (Full, bytes)
-refusal_body (suc (suc (suc (suc (suc (suc (suc (suc n)))))))) = λ bytes. None
+abbrev pub refusal_of_code : ℕ → List ℕ → Found SqlRefusal
+refusal_of_code zero = λ bytes. None
+refusal_of_code (suc zero) = λ bytes. Some (Syntax, bytes)
+refusal_of_code (suc (suc zero)) = λ bytes. Some (NoTable, bytes)
+refusal_of_code (suc (suc (suc zero))) = λ bytes. Some (NoColumn, bytes)
+refusal_of_code (suc (suc (suc (suc zero)))) = λ bytes. Some (TypeClash, bytes)
+refusal_of_code (suc (suc (suc (suc (suc zero))))) = λ bytes. Some (NotNull, bytes)
+refusal_of_code (suc (suc (suc (suc (suc (suc zero)))))) =
+    made_at (λ k. Some (KeyTaken k.0 k.1)) (both_at text_at (list_at w8 value_at))
+refusal_of_code (suc (suc (suc (suc (suc (suc (suc zero))))))) = λ bytes. Some (Full, bytes)
+refusal_of_code (suc (suc (suc (suc (suc (suc (suc (suc n)))))))) = λ bytes. None
 
 abbrev pub refusal_at : List ℕ → Found SqlRefusal
-refusal_at = tagged_at refusal_body
+refusal_at = tagged_at refusal_of_code
 
-abbrev pub reply_body : ℕ → List ℕ → Found Reply
-reply_body zero = λ bytes. None
-reply_body (suc zero) = made_at (λ rows. Some (Rows rows)) (list_at w32 values_at)
-reply_body (suc (suc zero)) = made_at (λ n. Some (Changed n)) (number_at w64)
-reply_body (suc (suc (suc zero))) = made_at (λ r. Some (Refused r)) refusal_at
-reply_body (suc (suc (suc (suc n)))) = λ bytes. None
+abbrev pub reply_of_tag : ℕ → List ℕ → Found Reply
+reply_of_tag zero = λ bytes. None
+reply_of_tag (suc zero) = made_at (λ rows. Some (Rows rows)) (list_at w32 values_at)
+reply_of_tag (suc (suc zero)) = made_at (λ n. Some (Changed n)) (number_at w64)
+reply_of_tag (suc (suc (suc zero))) = made_at (λ r. Some (Refused r)) refusal_at
+reply_of_tag (suc (suc (suc (suc n)))) = λ bytes. None
 
 abbrev pub reply_at : List ℕ → Found Reply
-reply_at = tagged_at reply_body
+reply_at = tagged_at reply_of_tag
 
 abbrev pub entry_at : List ℕ → Found Entry
-entry_at = made_at (λ e. Some (record { text = e.0; params = e.1.0; reply = e.1.1 })) (both_at text_at (both_at values_at reply_at))
+entry_at =
+    made_at (λ e. Some (record { text = e.0; params = e.1.0; reply = e.1.1 }))
+    (both_at text_at (both_at values_at reply_at))
 
 abbrev pub name_at : List ℕ → Found ProcName
 name_at = made_at (λ parts. Some (record { parts = parts })) (list_at w16 (number_at w32))
 
 abbrev pub log_at : List ℕ → Found Log
-log_at = made_at (λ l. Some (record { process = l.0; entries = l.1 })) (both_at name_at (list_at w32 entry_at))
+log_at =
+    made_at (λ l. Some (record { process = l.0; entries = l.1 })) (both_at name_at (list_at w32 entry_at))

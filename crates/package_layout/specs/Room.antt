@@ -1,9 +1,11 @@
 -- What the fields of the format have room for: counts within their fields, and in each row of a table
--- one value for each column. A list with a count of four bytes that is too long for it is too long for a package.
+-- one value for each column. A list with a count of four bytes that is too long for it is too long for a
+-- package.
 use Rattle.std.specs.Prelude.{ℕ, ◌^◌, List, length, Bool, true, ◌&&◌, ◌==◌, nat_lt}
 use Rattle.std.specs.List.{list_all}
 use Rattle.sql_model.specs.declared.reply.SqlRefusal.{SqlRefusal}
-use Rattle.sql_model.specs.declared.reply.SqlRefusal.TheVariants.{Syntax, NoTable, NoColumn, TypeClash, NotNull, KeyTaken, Full}
+use Rattle.sql_model.specs.declared.reply.SqlRefusal.TheVariants.{Syntax, NoTable, NoColumn, TypeClash}
+use Rattle.sql_model.specs.declared.reply.SqlRefusal.TheVariants.{NotNull, KeyTaken, Full}
 use Rattle.sql_model.specs.declared.reply.Reply.{Reply}
 use Rattle.sql_model.specs.declared.reply.Reply.TheVariants.{Rows, Changed, Refused}
 use Rattle.run_model.specs.declared.package.PackedRow.{PackedRow}
@@ -26,7 +28,9 @@ abbrev pub row_room : ℕ → PackedRow → Bool
 row_room columns r = length r.values == columns
 
 abbrev pub table_room : PackedTable → Bool
-table_room t = few t.schema.columns && (key_room t.schema.key && list_all (row_room (length t.schema.columns)) t.rows)
+table_room t =
+    few t.schema.columns
+    && (key_room t.schema.key && list_all (row_room (length t.schema.columns)) t.rows)
 
 -- a refused key has at most 255 values
 abbrev pub refusal_room : SqlRefusal → Bool

@@ -1,4 +1,4 @@
--- The bytes of each part of a package. Numbers stand with their highest byte first.
+-- The bytes of each part of a package. Numbers have their highest byte first.
 use Rattle.std.specs.Prelude.{ℕ, List, [], ◌∷◌, ◌++◌, Bool, true, false, Option, Some, None}
 use Rattle.std.specs.List.{flat_map}
 use Rattle.std.specs.Int.{w8, w16, w32, w64, to_be_bytes, cast_unsigned}
@@ -9,7 +9,8 @@ use Rattle.sql_model.specs.declared.need.Rule.TheVariants.{L, H, K}
 use Rattle.sql_model.specs.declared.table.Column.{Column}
 use Rattle.sql_model.specs.declared.table.Schema.{Schema}
 use Rattle.sql_model.specs.declared.reply.SqlRefusal.{SqlRefusal}
-use Rattle.sql_model.specs.declared.reply.SqlRefusal.TheVariants.{Syntax, NoTable, NoColumn, TypeClash, NotNull, KeyTaken, Full}
+use Rattle.sql_model.specs.declared.reply.SqlRefusal.TheVariants.{Syntax, NoTable, NoColumn, TypeClash}
+use Rattle.sql_model.specs.declared.reply.SqlRefusal.TheVariants.{NotNull, KeyTaken, Full}
 use Rattle.sql_model.specs.declared.reply.Reply.{Reply}
 use Rattle.sql_model.specs.declared.reply.Reply.TheVariants.{Rows, Changed, Refused}
 use Rattle.run_model.specs.declared.package.PackedFile.{PackedFile}
@@ -55,15 +56,28 @@ rule_number L = 1
 rule_number H = 2
 rule_number K = 3
 
--- a row has as many values as its table has columns, so their number isn't written
+-- a row has a number, a reason for which it is packed, and values, each with a spelling of its own
+abbrev pub number_spelling : ℕ → List ℕ
+number_spelling number = to_be_bytes w32 number
+
+-- the first statement that needed the row, and the rule by which it did
+abbrev pub reason_spelling : ℕ → Rule → List ℕ
+reason_spelling statement rule = to_be_bytes w32 statement ++ to_be_bytes w8 (rule_number rule)
+
+-- a value for each column of the table, so their number isn't written
+abbrev pub cells_spelling : List Value → List ℕ
+cells_spelling values = flat_map value_spelling values
+
 abbrev pub row_spelling : PackedRow → List ℕ
-row_spelling r = to_be_bytes w32 r.number ++ (to_be_bytes w32 r.statement ++ (to_be_bytes w8 (rule_number r.rule) ++ flat_map value_spelling r.values))
+row_spelling r = number_spelling r.number ++ (reason_spelling r.statement r.rule ++ cells_spelling r.values)
 
 abbrev pub schema_spelling : Schema → List ℕ
 schema_spelling s = list_spelling w8 column_spelling s.columns ++ list_spelling w8 (to_be_bytes w8) s.key
 
 abbrev pub table_spelling : PackedTable → List ℕ
-table_spelling t = text_spelling t.name ++ (schema_spelling t.schema ++ (to_be_bytes w32 t.next ++ list_spelling w32 row_spelling t.rows))
+table_spelling t =
+    text_spelling t.name
+    ++ (schema_spelling t.schema ++ (to_be_bytes w32 t.next ++ list_spelling w32 row_spelling t.rows))
 
 -- ---- logs
 

@@ -4,111 +4,118 @@ ghost use Rattle.std.specs.Prelude.{◌≡◌, ◌++◌, ◌∷◌, OnOk};
 ghost use Rattle.std.specs.List.{AllByRecursion};
 ghost use Rattle.std.specs.Str.{IsUtf8};
 ghost use Rattle.package_layout.specs.Fields.{Gives, Makes, text_spelling};
-ghost use Rattle.package_layout.specs.Events.{flag_spelling, flag_of, flag_at, flagged_spelling, needs_spelling, members_spelling, TypedNeed, TypedMember, act_spelling, TypedAct, needs_at, members_at, act_body, act_at};
+ghost use Rattle.package_layout.specs.Events.{flag_spelling, flag_of, flag_at, flagged_spelling};
+ghost use Rattle.package_layout.specs.Events.{needs_spelling, members_spelling, TypedNeed, TypedMember};
+ghost use Rattle.package_layout.specs.Events.{act_spelling, TypedAct, needs_at, members_at, act_of_tag};
+ghost use Rattle.package_layout.specs.Events.{act_at};
 
-use crate::group::{put_placed, read_placed};
-use crate::left::Left;
-use crate::number::{put_u8, put_u32, read_u8, read_u32};
+use crate::codec::{Decode, Encode, decode_list, encode_list};
+use crate::cursor::Cursor;
+use crate::decode_error::DecodeError;
+use crate::group::{decode_grouped, encode_grouped};
+use crate::number::{decode_u8, decode_u32, encode_u8, encode_u32};
 use crate::part::{MadePart, ReadPart};
-use crate::spelled::{Readable, Spelled, put_list, read_list};
-use crate::stop::Stop;
-use crate::text::{put_text, read_text};
+use crate::text::{decode_text, encode_text};
 use crate::width::Width;
 use ldv_value::{Bytes, Utf8};
 use run_model::{Act, Event};
 use sql_model::{Member, Members, Need, Needs};
 use std::alloc::{AllocError, Global};
 
-fn put_flag(found: bool, to: &mut Bytes) -> Result<(), AllocError>
+fn encode_flag(found: bool, to: &mut Bytes) -> Result<(), AllocError>
     ensures { OnOk result (to.new ≡ to.old ++ flag_spelling found) }
 {
-    if found { put_u8(1, to) } else { put_u8(0, to) }
+    if found {
+        encode_u8(1, to)
+    } else {
+        encode_u8(0, to)
+    }
 }
 
-fn read_flag(left: &mut Left) -> Result<bool, Stop>
-    ensures { Gives result left.new (flag_at left.old) }
+fn decode_flag(cursor: &mut Cursor) -> Result<bool, DecodeError>
+    ensures { Gives result cursor.new (flag_at cursor.old) }
 {
-    let number = read_u8(left)?;
+    let number = decode_u8(cursor)?;
     flag_of(number)
 }
 
-fn flag_of(number: u8) -> Result<bool, Stop>
+fn flag_of(number: u8) -> Result<bool, DecodeError>
     ensures { Makes result (flag_of number) }
 {
     match number {
         0 => Ok(false),
         1 => Ok(true),
-        _ => Err(Stop::NoForm),
+        _ => Err(DecodeError::Malformed),
     }
 }
 
-fn put_plain(tag: u8, path: &Utf8, to: &mut Bytes) -> Result<(), AllocError>
+fn encode_plain(tag: u8, path: &Utf8, to: &mut Bytes) -> Result<(), AllocError>
     ensures bytes { OnOk result (to.new ≡ to.old ++ tag ∷ text_spelling path.now) }
     ensures typed { OnOk result (IsUtf8 path.now) }
 {
-    put_u8(tag, to)?;
-    put_text(path, to)
+    encode_u8(tag, to)?;
+    encode_text(path, to)
 }
 
-fn put_flagged(tag: u8, path: &Utf8, found: bool, to: &mut Bytes) -> Result<(), AllocError>
+fn encode_flagged(tag: u8, path: &Utf8, found: bool, to: &mut Bytes) -> Result<(), AllocError>
     ensures bytes { OnOk result (to.new ≡ to.old ++ tag ∷ flagged_spelling path.now found) }
     ensures typed { OnOk result (IsUtf8 path.now) }
 {
-    put_u8(tag, to)?;
-    put_text(path, to)?;
-    put_flag(found, to)
+    encode_u8(tag, to)?;
+    encode_text(path, to)?;
+    encode_flag(found, to)
 }
 
-fn put_needs(needs: &Needs, to: &mut Bytes) -> Result<(), AllocError>
+fn encode_needs(needs: &Needs, to: &mut Bytes) -> Result<(), AllocError>
     ensures bytes { OnOk result (to.new ≡ to.old ++ needs_spelling needs.now) }
     ensures typed { OnOk result (AllByRecursion TypedNeed needs.now) }
 {
-    put_placed::<ReadPart, Need>(needs, to)
+    encode_grouped::<ReadPart, Need>(needs, to)
 }
 
-fn put_members(members: &Members, to: &mut Bytes) -> Result<(), AllocError>
+fn encode_members(members: &Members, to: &mut Bytes) -> Result<(), AllocError>
     ensures bytes { OnOk result (to.new ≡ to.old ++ members_spelling members.now) }
     ensures typed { OnOk result (AllByRecursion TypedMember members.now) }
 {
-    put_placed::<MadePart, Member>(members, to)
+    encode_grouped::<MadePart, Member>(members, to)
 }
 
-fn read_needs(alloc: Global, left: &mut Left) -> Result<Needs, Stop>
-    ensures { Gives result left.new (needs_at left.old) }
+fn decode_needs(alloc: Global, cursor: &mut Cursor) -> Result<Needs, DecodeError>
+    ensures { Gives result cursor.new (needs_at cursor.old) }
 {
-    read_placed::<ReadPart, Need>(alloc, left)
+    decode_grouped::<ReadPart, Need>(alloc, cursor)
 }
 
-fn read_members(alloc: Global, left: &mut Left) -> Result<Members, Stop>
-    ensures { Gives result left.new (members_at left.old) }
+fn decode_members(alloc: Global, cursor: &mut Cursor) -> Result<Members, DecodeError>
+    ensures { Gives result cursor.new (members_at cursor.old) }
 {
-    read_placed::<MadePart, Member>(alloc, left)
+    decode_grouped::<MadePart, Member>(alloc, cursor)
 }
 
-fn put_act(act: &Act, to: &mut Bytes) -> Result<(), AllocError>
+fn encode_act(act: &Act, to: &mut Bytes) -> Result<(), AllocError>
     ensures bytes { OnOk result (to.new ≡ to.old ++ act_spelling act.now) }
     ensures typed { OnOk result (TypedAct act.now) }
 {
     match act {
-        Act::Started { path } => put_plain(0, path, to),
-        Act::Spawned { path } => put_plain(1, path, to),
-        Act::Unspawned { path, found } => put_flagged(2, path, *found, to),
-        Act::OpenedRead { path } => put_plain(3, path, to),
-        Act::OpenedWrite { path } => put_plain(4, path, to),
-        Act::OpenedAppend { path, found } => put_flagged(5, path, *found, to),
-        Act::OpenedNew { path } => put_plain(6, path, to),
-        Act::Unopened { path, found } => put_flagged(7, path, *found, to),
-        Act::Read { path } => put_plain(8, path, to),
-        Act::Wrote { path } => put_plain(9, path, to),
-        Act::Removed { path } => put_plain(10, path, to),
-        Act::Tested { path, found } => put_flagged(11, path, *found, to),
+        Act::Started { path } => encode_plain(0, path, to),
+        Act::Spawned { path } => encode_plain(1, path, to),
+        Act::Unspawned { path, found } => encode_flagged(2, path, *found, to),
+        Act::OpenedRead { path } => encode_plain(3, path, to),
+        Act::OpenedWrite { path } => encode_plain(4, path, to),
+        Act::OpenedAppend { path, found } => encode_flagged(5, path, *found, to),
+        Act::OpenedNew { path } => encode_plain(6, path, to),
+        Act::Unopened { path, found } => encode_flagged(7, path, *found, to),
+        Act::Read { path } => encode_plain(8, path, to),
+        Act::Wrote { path } => encode_plain(9, path, to),
+        Act::Removed { path } => encode_plain(10, path, to),
+        Act::Tested { path, found } => encode_flagged(11, path, *found, to),
         Act::Waited { child } => {
-            put_u8(12, to)?;
-            child.put(to)
+            encode_u8(12, to)?;
+            child.encode(to)
         }
         Act::Ended { status } => {
-            put_u8(13, to)?;
-            put_u8(*status, to)
+            encode_u8(13, to)?;
+            encode_u8(*status, to)
         }
         Act::Asked {
             statement,
@@ -116,84 +123,84 @@ fn put_act(act: &Act, to: &mut Bytes) -> Result<(), AllocError>
             reads,
             made,
         } => {
-            put_u8(14, to)?;
-            statement.put(to)?;
-            put_list(Width::Two, tables, to)?;
-            put_needs(reads, to)?;
-            put_members(made, to)
+            encode_u8(14, to)?;
+            statement.encode(to)?;
+            encode_list(Width::Two, tables, to)?;
+            encode_needs(reads, to)?;
+            encode_members(made, to)
         }
     }
 }
 
-fn read_act(alloc: Global, left: &mut Left) -> Result<Act, Stop>
-    ensures { Gives result left.new (act_at left.old) }
+fn decode_act(alloc: Global, cursor: &mut Cursor) -> Result<Act, DecodeError>
+    ensures { Gives result cursor.new (act_at cursor.old) }
 {
-    let tag = read_u8(left)?;
-    act_behind(alloc, tag, left)
+    let tag = decode_u8(cursor)?;
+    act_of_tag(alloc, tag, cursor)
 }
 
-fn act_behind(alloc: Global, tag: u8, left: &mut Left) -> Result<Act, Stop>
-    ensures { Gives result left.new (act_body tag left.old) }
+fn act_of_tag(alloc: Global, tag: u8, cursor: &mut Cursor) -> Result<Act, DecodeError>
+    ensures { Gives result cursor.new (act_of_tag tag cursor.old) }
 {
     match tag {
         0 => Ok(Act::Started {
-            path: read_text(alloc, left)?,
+            path: decode_text(alloc, cursor)?,
         }),
         1 => Ok(Act::Spawned {
-            path: read_text(alloc, left)?,
+            path: decode_text(alloc, cursor)?,
         }),
         2 => Ok(Act::Unspawned {
-            path: read_text(alloc, left)?,
-            found: read_flag(left)?,
+            path: decode_text(alloc, cursor)?,
+            found: decode_flag(cursor)?,
         }),
         3 => Ok(Act::OpenedRead {
-            path: read_text(alloc, left)?,
+            path: decode_text(alloc, cursor)?,
         }),
         4 => Ok(Act::OpenedWrite {
-            path: read_text(alloc, left)?,
+            path: decode_text(alloc, cursor)?,
         }),
         5 => Ok(Act::OpenedAppend {
-            path: read_text(alloc, left)?,
-            found: read_flag(left)?,
+            path: decode_text(alloc, cursor)?,
+            found: decode_flag(cursor)?,
         }),
         6 => Ok(Act::OpenedNew {
-            path: read_text(alloc, left)?,
+            path: decode_text(alloc, cursor)?,
         }),
         7 => Ok(Act::Unopened {
-            path: read_text(alloc, left)?,
-            found: read_flag(left)?,
+            path: decode_text(alloc, cursor)?,
+            found: decode_flag(cursor)?,
         }),
         8 => Ok(Act::Read {
-            path: read_text(alloc, left)?,
+            path: decode_text(alloc, cursor)?,
         }),
         9 => Ok(Act::Wrote {
-            path: read_text(alloc, left)?,
+            path: decode_text(alloc, cursor)?,
         }),
         10 => Ok(Act::Removed {
-            path: read_text(alloc, left)?,
+            path: decode_text(alloc, cursor)?,
         }),
         11 => Ok(Act::Tested {
-            path: read_text(alloc, left)?,
-            found: read_flag(left)?,
+            path: decode_text(alloc, cursor)?,
+            found: decode_flag(cursor)?,
         }),
         12 => Ok(Act::Waited {
-            child: read_u32(left)?,
+            child: decode_u32(cursor)?,
         }),
         13 => Ok(Act::Ended {
-            status: read_u8(left)?,
+            status: decode_u8(cursor)?,
         }),
-        14 => read_asked(alloc, left),
-        _ => Err(Stop::NoForm),
+        14 => decode_asked(alloc, cursor),
+        _ => Err(DecodeError::Malformed),
     }
 }
 
-fn read_asked(alloc: Global, left: &mut Left) -> Result<Act, Stop>
-    ensures { Gives result left.new (act_body 14 left.old) }
+fn decode_asked(alloc: Global, cursor: &mut Cursor) -> Result<Act, DecodeError>
+    ensures { Gives result cursor.new (act_of_tag 14 cursor.old) }
 {
-    let statement = read_u32(left)?;
-    let tables = read_list(alloc, Width::Two, left)?;
-    let reads = read_needs(alloc, left)?;
-    let made = read_members(alloc, left)?;
+    let statement = decode_u32(cursor)?;
+    let tables = decode_list(alloc, Width::Two, cursor)?;
+    let reads = decode_needs(alloc, cursor)?;
+    let made = decode_members(alloc, cursor)?;
     Ok(Act::Asked {
         statement,
         tables,
@@ -202,29 +209,29 @@ fn read_asked(alloc: Global, left: &mut Left) -> Result<Act, Stop>
     })
 }
 
-impl Spelled for Event {
+impl Encode for Event {
     ghost use Rattle.package_layout.specs.Events.{event_spelling, TypedEvent};
 
     ghost spelling = { event_spelling };
 
     ghost typed = { TypedEvent };
 
-    fn put(&self, to: &mut Bytes) -> Result<(), AllocError> {
-        self.step.put(to)?;
-        self.process.put(to)?;
-        put_act(&self.act, to)
+    fn encode(&self, to: &mut Bytes) -> Result<(), AllocError> {
+        self.step.encode(to)?;
+        self.process.encode(to)?;
+        encode_act(&self.act, to)
     }
 }
 
-impl Readable for Event {
+impl Decode for Event {
     ghost use Rattle.package_layout.specs.Events.{event_at};
 
     ghost reading = { event_at };
 
-    fn read(alloc: Global, left: &mut Left) -> Result<Event, Stop> {
-        let step = read_u32(left)?;
-        let process = read_u32(left)?;
-        let act = read_act(alloc, left)?;
+    fn decode(alloc: Global, cursor: &mut Cursor) -> Result<Event, DecodeError> {
+        let step = decode_u32(cursor)?;
+        let process = decode_u32(cursor)?;
+        let act = decode_act(alloc, cursor)?;
         Ok(Event { step, process, act })
     }
 }

@@ -2,19 +2,19 @@
 
 ghost use Rattle.std.specs.Prelude.{◌≡◌, ◌++◌, OnOk};
 ghost use Rattle.package_layout.specs.Fields.{Gives};
-ghost use Rattle.package_layout.specs.Reading.{content_at, content_body};
+ghost use Rattle.package_layout.specs.Reading.{content_at, content_of_tag};
 ghost use Rattle.package_layout.specs.Spelling.{content_spelling};
 
-use crate::left::Left;
-use crate::number::{put_u8, read_u8};
-use crate::spelled::{Readable, Spelled};
-use crate::stop::Stop;
-use crate::text::{put_sized, put_text, read_sized, read_text};
+use crate::codec::{Decode, Encode};
+use crate::cursor::Cursor;
+use crate::decode_error::DecodeError;
+use crate::number::{decode_u8, encode_u8};
+use crate::text::{decode_sized, decode_text, encode_sized, encode_text};
 use ldv_value::Bytes;
 use run_model::PackedFile;
 use std::alloc::{AllocError, Global};
 
-impl Spelled for PackedFile {
+impl Encode for PackedFile {
     ghost use Rattle.package_layout.specs.Spelling.{file_spelling};
     ghost use Rattle.package_layout.specs.Typed.{TypedFile};
 
@@ -22,49 +22,49 @@ impl Spelled for PackedFile {
 
     ghost typed = { TypedFile };
 
-    fn put(&self, to: &mut Bytes) -> Result<(), AllocError> {
-        put_text(&self.path, to)?;
-        put_content(&self.content, to)
+    fn encode(&self, to: &mut Bytes) -> Result<(), AllocError> {
+        encode_text(&self.path, to)?;
+        encode_content(&self.content, to)
     }
 }
 
-fn put_content(content: &Option<Bytes>, to: &mut Bytes) -> Result<(), AllocError>
+fn encode_content(content: &Option<Bytes>, to: &mut Bytes) -> Result<(), AllocError>
     ensures { OnOk result (to.new ≡ to.old ++ content_spelling content.now) }
 {
     match content {
         Some(bytes) => {
-            put_u8(1, to)?;
-            put_sized(bytes.as_slice(), to)
+            encode_u8(1, to)?;
+            encode_sized(bytes.as_slice(), to)
         }
-        None => put_u8(2, to),
+        None => encode_u8(2, to),
     }
 }
 
-impl Readable for PackedFile {
+impl Decode for PackedFile {
     ghost use Rattle.package_layout.specs.Reading.{file_at};
 
     ghost reading = { file_at };
 
-    fn read(alloc: Global, left: &mut Left) -> Result<PackedFile, Stop> {
-        let path = read_text(alloc, left)?;
-        let content = read_content(alloc, left)?;
+    fn decode(alloc: Global, cursor: &mut Cursor) -> Result<PackedFile, DecodeError> {
+        let path = decode_text(alloc, cursor)?;
+        let content = decode_content(alloc, cursor)?;
         Ok(PackedFile { path, content })
     }
 }
 
-fn read_content(alloc: Global, left: &mut Left) -> Result<Option<Bytes>, Stop>
-    ensures { Gives result left.new (content_at left.old) }
+fn decode_content(alloc: Global, cursor: &mut Cursor) -> Result<Option<Bytes>, DecodeError>
+    ensures { Gives result cursor.new (content_at cursor.old) }
 {
-    let tag = read_u8(left)?;
-    content_behind(alloc, tag, left)
+    let tag = decode_u8(cursor)?;
+    content_of_tag(alloc, tag, cursor)
 }
 
-fn content_behind(alloc: Global, tag: u8, left: &mut Left) -> Result<Option<Bytes>, Stop>
-    ensures { Gives result left.new (content_body tag left.old) }
+fn content_of_tag(alloc: Global, tag: u8, cursor: &mut Cursor) -> Result<Option<Bytes>, DecodeError>
+    ensures { Gives result cursor.new (content_of_tag tag cursor.old) }
 {
     match tag {
-        1 => Ok(Some(read_sized(alloc, left)?)),
+        1 => Ok(Some(decode_sized(alloc, cursor)?)),
         2 => Ok(None),
-        _ => Err(Stop::NoForm),
+        _ => Err(DecodeError::Malformed),
     }
 }

@@ -4,19 +4,21 @@ ghost use Rattle.std.specs.Prelude.{◌≡◌, ◌++◌, [], IfOk, OnOk, ℕ, Li
 ghost use Rattle.std.specs.List.{flat_map, AllByRecursion};
 ghost use Rattle.std.specs.Int.{w16};
 ghost use Rattle.package_layout.specs.Fields.{Gives, Makes, list_spelling};
-ghost use Rattle.package_layout.specs.Groups.{single, with_part, after, add, groups, group_spelling, TypedGroup, group_of, is_apart, spread, placed_of, placed_at};
+ghost use Rattle.package_layout.specs.Groups.{single, with_part, after, add, groups, group_spelling};
+ghost use Rattle.package_layout.specs.Groups.{TypedGroup, group_of, neighbours_differ, ungroup, ungrouped};
+ghost use Rattle.package_layout.specs.Groups.{grouped_at};
 
-use crate::left::Left;
-use crate::spelled::{Readable, Spelled, put_list, read_list};
-use crate::stop::Stop;
-use crate::text::{put_text, read_text};
+use crate::codec::{Decode, Encode, decode_list, encode_list};
+use crate::cursor::Cursor;
+use crate::decode_error::DecodeError;
+use crate::text::{decode_text, encode_text};
 use crate::width::Width;
 use ldv_value::{Bytes, List as Listed, Utf8};
 use sql_model::is_sql_name;
 use std::alloc::{AllocError, Global};
 
-/// A row that belongs to a table, and what the format writes of it behind the table's name.
-pub(crate) trait Placed<P>: Drop {
+/// A row that belongs to a table, and what the format writes of it after the table's name.
+pub(crate) trait GroupedRow<P>: Drop {
     ghost table_of: { Self → List ℕ };
 
     ghost part_of: { Self → P };
@@ -27,10 +29,10 @@ pub(crate) trait Placed<P>: Drop {
     fn table(&self) -> &Utf8
         ensures { result.now ≡ table_of self.now };
 
-    fn part(&self) -> P
+    fn payload(&self) -> P
         ensures { result ≡ part_of self.now };
 
-    fn placed(table: Utf8, part: P) -> Self
+    fn of_group(table: Utf8, part: P) -> Self
         ensures { result ≡ place table part };
 }
 
@@ -41,53 +43,55 @@ pub(crate) struct Group<P> {
     pub(crate) parts: Listed<P>,
 }
 
-impl<P: Spelled> Spelled for Group<P> {
+impl<P: Encode> Encode for Group<P> {
     ghost spelling = { group_spelling P.spelling };
 
     ghost typed = { TypedGroup P.typed };
 
-    fn put(&self, to: &mut Bytes) -> Result<(), AllocError> {
-        put_text(&self.table, to)?;
-        put_list(Width::Four, &self.parts, to)
+    fn encode(&self, to: &mut Bytes) -> Result<(), AllocError> {
+        encode_text(&self.table, to)?;
+        encode_list(Width::Four, &self.parts, to)
     }
 }
 
-impl<P: Readable> Readable for Group<P> {
+impl<P: Decode> Decode for Group<P> {
     ghost use Rattle.package_layout.specs.Groups.{group_at};
 
     ghost reading = { group_at P.reading };
 
-    fn read(alloc: Global, left: &mut Left) -> Result<Group<P>, Stop> {
-        let table = read_text(alloc, left)?;
-        let parts = read_list(alloc, Width::Four, left)?;
+    fn decode(alloc: Global, cursor: &mut Cursor) -> Result<Group<P>, DecodeError> {
+        let table = decode_text(alloc, cursor)?;
+        let parts = decode_list(alloc, Width::Four, cursor)?;
         group_of(table, parts)
     }
 }
 
 // A group has a name and isn't empty.
-fn group_of<P: Drop>(table: Utf8, parts: Listed<P>) -> Result<Group<P>, Stop>
+fn group_of<P: Drop>(table: Utf8, parts: Listed<P>) -> Result<Group<P>, DecodeError>
     ensures { Makes result (group_of (record { 0 = table; 1 = parts })) }
 {
     if is_sql_name(table.as_str()) && !parts.is_empty() {
         Ok(Group { table, parts })
     } else {
-        Err(Stop::NoForm)
+        Err(DecodeError::Malformed)
     }
 }
 
 /// Appends rows, group by group.
-pub(crate) fn put_placed<P: Spelled, X: Placed<P>>(
+pub(crate) fn encode_grouped<P: Encode, X: GroupedRow<P>>(
     items: &Listed<X>,
     to: &mut Bytes,
 ) -> Result<(), AllocError>
-    ensures bytes { OnOk result (to.new ≡ to.old ++ list_spelling w16 (group_spelling P.spelling) (groups X.table_of X.part_of items.now)) }
-    ensures typed { OnOk result (AllByRecursion (TypedGroup P.typed) (groups X.table_of X.part_of items.now)) }
+    ensures bytes { OnOk result (to.new ≡ to.old
+        ++ list_spelling w16 (group_spelling P.spelling) (groups X.table_of X.part_of items.now)) }
+    ensures typed { OnOk result
+        (AllByRecursion (TypedGroup P.typed) (groups X.table_of X.part_of items.now)) }
 {
     let groups = groups_of(to.allocator(), items)?;
-    put_list(Width::Two, &groups, to)
+    encode_list(Width::Two, &groups, to)
 }
 
-fn groups_of<P: Drop, X: Placed<P>>(
+fn groups_of<P: Drop, X: GroupedRow<P>>(
     alloc: Global,
     items: &Listed<X>,
 ) -> Result<Listed<Group<P>>, AllocError>
@@ -101,7 +105,7 @@ fn groups_of<P: Drop, X: Placed<P>>(
 }
 
 // Adds a row to the last group where that is its table's, else in a group of its own.
-fn add<P: Drop, X: Placed<P>>(
+fn add<P: Drop, X: GroupedRow<P>>(
     alloc: Global,
     found: &mut Vec<Group<P>>,
     item: &X,
@@ -117,7 +121,7 @@ fn add<P: Drop, X: Placed<P>>(
     }
 }
 
-fn add_after<P: Drop, X: Placed<P>>(
+fn add_after<P: Drop, X: GroupedRow<P>>(
     alloc: Global,
     found: &mut Vec<Group<P>>,
     last: Group<P>,
@@ -126,7 +130,7 @@ fn add_after<P: Drop, X: Placed<P>>(
     ensures { OnOk result (found.new.items ≡ found.old.items ++ after X.table_of X.part_of last item.now) }
 {
     if last.table.is_same(item.table()) {
-        found.push(with_part(last, item.part())?)?;
+        found.push(with_part(last, item.payload())?)?;
         Ok(())
     } else {
         found.push(last)?;
@@ -135,12 +139,12 @@ fn add_after<P: Drop, X: Placed<P>>(
     }
 }
 
-fn single<P: Drop, X: Placed<P>>(alloc: Global, item: &X) -> Result<Group<P>, AllocError>
+fn single<P: Drop, X: GroupedRow<P>>(alloc: Global, item: &X) -> Result<Group<P>, AllocError>
     ensures { IfOk result (λ made. made ≡ single X.table_of X.part_of item.now) }
 {
     let table = item.table().copy()?;
     let mut parts = Listed::new(alloc);
-    parts.push(item.part())?;
+    parts.push(item.payload())?;
     Ok(Group { table, parts })
 }
 
@@ -153,31 +157,31 @@ fn with_part<P: Drop>(group: Group<P>, part: P) -> Result<Group<P>, AllocError>
 }
 
 /// Reads rows, group by group. Neighbouring groups have different tables.
-pub(crate) fn read_placed<P: Readable + Copy, X: Placed<P>>(
+pub(crate) fn decode_grouped<P: Decode + Copy, X: GroupedRow<P>>(
     alloc: Global,
-    left: &mut Left,
-) -> Result<Listed<X>, Stop>
-    ensures { Gives result left.new (placed_at X.place P.reading left.old) }
+    cursor: &mut Cursor,
+) -> Result<Listed<X>, DecodeError>
+    ensures { Gives result cursor.new (grouped_at X.place P.reading cursor.old) }
 {
-    let groups = read_list(alloc, Width::Two, left)?;
-    placed_of(alloc, &groups)
+    let groups = decode_list(alloc, Width::Two, cursor)?;
+    ungrouped(alloc, &groups)
 }
 
-fn placed_of<P: Copy + Drop, X: Placed<P>>(
+fn ungrouped<P: Copy + Drop, X: GroupedRow<P>>(
     alloc: Global,
     groups: &Listed<Group<P>>,
-) -> Result<Listed<X>, Stop>
-    ensures { Makes result (placed_of X.place groups.now) }
+) -> Result<Listed<X>, DecodeError>
+    ensures { Makes result (ungrouped X.place groups.now) }
 {
-    if is_apart(groups) {
-        Ok(spread_all(alloc, groups)?)
+    if neighbours_differ(groups) {
+        Ok(ungroup_all(alloc, groups)?)
     } else {
-        Err(Stop::NoForm)
+        Err(DecodeError::Malformed)
     }
 }
 
-fn is_apart<P>(groups: &Listed<Group<P>>) -> bool
-    ensures { result ≡ is_apart [] groups.now }
+fn neighbours_differ<P>(groups: &Listed<Group<P>>) -> bool
+    ensures { result ≡ neighbours_differ [] groups.now }
 {
     let mut before: &[u8] = &[];
     for group in groups.items() {
@@ -190,28 +194,28 @@ fn is_apart<P>(groups: &Listed<Group<P>>) -> bool
     true
 }
 
-fn spread_all<P: Copy + Drop, X: Placed<P>>(
+fn ungroup_all<P: Copy + Drop, X: GroupedRow<P>>(
     alloc: Global,
     groups: &Listed<Group<P>>,
 ) -> Result<Listed<X>, AllocError>
-    ensures { IfOk result (λ made. made ≡ flat_map (spread X.place) groups.now) }
+    ensures { IfOk result (λ made. made ≡ flat_map (ungroup X.place) groups.now) }
 {
     let mut found = Listed::new(alloc);
     for group in groups.items() {
-        spread(group, &mut found)?;
+        ungroup(group, &mut found)?;
     }
     Ok(found)
 }
 
-fn spread<P: Copy + Drop, X: Placed<P>>(
+fn ungroup<P: Copy + Drop, X: GroupedRow<P>>(
     group: &Group<P>,
     found: &mut Listed<X>,
 ) -> Result<(), AllocError>
-    ensures { OnOk result (found.new ≡ found.old ++ spread X.place group.now) }
+    ensures { OnOk result (found.new ≡ found.old ++ ungroup X.place group.now) }
 {
     for part in group.parts.items() {
         let table = group.table.copy()?;
-        found.push(X::placed(table, *part))?;
+        found.push(X::of_group(table, *part))?;
     }
     Ok(())
 }

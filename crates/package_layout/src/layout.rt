@@ -1,17 +1,21 @@
 //! A package and its bytes.
 
-ghost use Rattle.std.specs.Prelude.{◌≡◌, ◌<◌, ◌≤◌, ◌-◌, ◌^◌, ◌↔◌, ◌++◌, None, Ok, Err, IfOk, IfSome, OnOk, IsErrOf, length, take, drop, bytes_eq};
+ghost use Rattle.std.specs.Prelude.{◌≡◌, ◌<◌, ◌≤◌, ◌-◌, ◌^◌, ◌↔◌, ◌++◌, None, Ok, Err, IfOk, IfSome, OnOk};
+ghost use Rattle.std.specs.Prelude.{IsErrOf, length, take, drop, bytes_eq};
 ghost use Rattle.sha2.specs.Sha256.{sha256};
+ghost use Rattle.ldv_value.specs.Limits.{input_limit};
 ghost use Rattle.package_layout.specs.Fields.{Makes};
 ghost use Rattle.package_layout.specs.Whole.{body, spelling, IsTyped};
-ghost use Rattle.package_layout.specs.Valid.{Valid, HasMagic, HasDigest, IsNoSpelling, before_digest, middle, package_in, has_magic, has_digest, reading};
-ghost use Rattle.package_layout.specs.Answers.{damage_before, Answers};
+ghost use Rattle.package_layout.specs.Valid.{Valid, HasMagic, HasDigest, IsNoSpelling, before_digest, middle};
+ghost use Rattle.package_layout.specs.Valid.{package_in, has_magic, has_digest, reading};
+ghost use Rattle.package_layout.specs.ReadResult.{damage_before, ReadsAs};
+ghost use Rattle.package_layout.specs.Version.{One};
 ghost use Rattle.run_model.specs.declared.package.Package.{Package};
 
 use crate::damage::DamageKind;
-use crate::sections::{put_sections, read_all};
-use crate::stop::Stop;
-use crate::validity::meets_rules;
+use crate::decode_error::DecodeError;
+use crate::sections::{decode_all, encode_sections};
+use crate::validity::is_valid_package;
 use ldv_value::{Bytes, INPUT_LIMIT};
 use run_model::Package;
 use sha2::{Digest, Sha256};
@@ -26,7 +30,7 @@ const DIGEST_LENGTH: usize = 32;
 pub enum SpellStop {
     /// Its spelling has more than 67,108,864 bytes.
     TooLong,
-    /// Want of memory.
+    /// Out of memory.
     NoMemory,
 }
 
@@ -35,7 +39,7 @@ pub enum SpellStop {
 pub enum PackageStop {
     /// They spell no valid package.
     Damaged(DamageKind),
-    /// Want of memory.
+    /// Out of memory.
     NoMemory,
 }
 
@@ -54,8 +58,8 @@ impl From<AllocError> for SpellStop {
 /// counted.
 pub fn spell(alloc: Global, package: &Package) -> Result<Bytes, SpellStop>
     ensures bytes { IfOk result (λ bytes. bytes ≡ spelling «package».now) }
-    ensures within { IfOk result (λ bytes. length bytes ≤ 67108864) }
-    ensures too_long { IsErrOf result SpellStop.TooLong → 67108864 < length (spelling «package».now) }
+    ensures within { IfOk result (λ bytes. length bytes ≤ input_limit) }
+    ensures too_long { IsErrOf result SpellStop.TooLong → input_limit < length (spelling «package».now) }
     // What every package in memory meets, and a law over all packages asks for.
     ensures typed { OnOk result (IsTyped «package».now) }
 {
@@ -67,11 +71,11 @@ pub fn spell(alloc: Global, package: &Package) -> Result<Bytes, SpellStop>
 }
 
 fn body_of(alloc: Global, package: &Package) -> Result<Bytes, AllocError>
-    ensures bytes { IfOk result (λ bytes. bytes ≡ body «package».now) }
+    ensures bytes { IfOk result (λ bytes. bytes ≡ body One «package».now) }
     ensures typed { OnOk result (IsTyped «package».now) }
 {
     let mut bytes = Bytes::of_slice(alloc, MAGIC)?;
-    put_sections(package, &mut bytes)?;
+    encode_sections(package, &mut bytes)?;
     Ok(bytes)
 }
 
@@ -87,21 +91,26 @@ fn with_digest(body: Bytes) -> Result<Bytes, AllocError>
 /// The valid package that bytes spell. They are `Damaged` where there is none: by `Magic` where they
 /// don't begin with the magic, else by `Digest` where they are too short for a digest or end with another
 /// one, else by `Form`.
+///
+/// A count of four bytes can't tell a list of 2^32 items or more from a shorter one, so `form` says that
+/// they spell no valid package where they are fewer than 2^32.
 pub fn read_package(alloc: Global, bytes: &[u8]) -> Result<Package, PackageStop>
-    requires { length bytes.now ≤ 67108864 }
     ensures found { IfOk result (λ p. IsTyped p × Valid p × (spelling p ≡ bytes.now)) }
-    ensures magic { (result ≡ Err (PackageStop.Damaged DamageKind.Magic)) ↔ (¬ HasMagic bytes.now) }
-    ensures digest { (result ≡ Err (PackageStop.Damaged DamageKind.Digest)) ↔ (HasMagic bytes.now × (¬ HasDigest bytes.now)) }
-    ensures form { result ≡ Err (PackageStop.Damaged DamageKind.Form) → HasMagic bytes.now × HasDigest bytes.now × IsNoSpelling bytes.now }
+    ensures magic { (result ≡ Err (PackageStop.Damaged DamageKind.Magic)) ↔ (¬ HasMagic One bytes.now) }
+    ensures digest { (result ≡ Err (PackageStop.Damaged DamageKind.Digest))
+        ↔ (HasMagic One bytes.now × (¬ HasDigest bytes.now)) }
+    ensures form { result ≡ Err (PackageStop.Damaged DamageKind.Form) →
+        HasMagic One bytes.now × HasDigest bytes.now
+        × (length bytes.now < 2 ^ 32 → IsNoSpelling One bytes.now) }
     // The same as one function of the bytes.
-    ensures reading { Answers result (reading bytes.now) }
+    ensures reading { ReadsAs result (reading bytes.now) }
 {
     answer(alloc, bytes)
 }
 
 fn answer(alloc: Global, bytes: &[u8]) -> Result<Package, PackageStop>
-    ensures due { Answers result (reading bytes.now) }
-    ensures at_once { IfSome (damage_before bytes.now) (λ kind. result ≡ Err (PackageStop.Damaged kind)) }
+    ensures due { ReadsAs result (reading bytes.now) }
+    ensures at_once { IfSome (damage_before One bytes.now) (λ kind. result ≡ Err (PackageStop.Damaged kind)) }
 {
     match damage_before(bytes) {
         Some(kind) => Err(PackageStop::Damaged(kind)),
@@ -111,7 +120,7 @@ fn answer(alloc: Global, bytes: &[u8]) -> Result<Package, PackageStop>
 
 // Whether bytes have a magic and a digest, which takes no memory.
 fn damage_before(bytes: &[u8]) -> Option<DamageKind>
-    ensures { result ≡ damage_before bytes.now }
+    ensures { result ≡ damage_before One bytes.now }
 {
     if has_magic(bytes) {
         if has_digest(bytes) {
@@ -125,7 +134,7 @@ fn damage_before(bytes: &[u8]) -> Option<DamageKind>
 }
 
 fn has_magic(bytes: &[u8]) -> bool
-    ensures { result ≡ has_magic bytes.now }
+    ensures { result ≡ has_magic One bytes.now }
 {
     first_eight(bytes) == MAGIC.as_slice()
 }
@@ -157,13 +166,13 @@ fn ends_with_digest(bytes: &[u8]) -> bool
 }
 
 fn read_middle(alloc: Global, bytes: &[u8]) -> Result<Package, PackageStop>
-    requires { damage_before bytes.now ≡ None }
-    ensures { Answers result (reading bytes.now) }
+    requires { damage_before One bytes.now ≡ None }
+    ensures { ReadsAs result (reading bytes.now) }
 {
     match package_in(alloc, middle(bytes)) {
         Ok(package) => Ok(package),
-        Err(Stop::NoForm) => Err(PackageStop::Damaged(DamageKind::Form)),
-        Err(Stop::NoMemory) => Err(PackageStop::NoMemory),
+        Err(DecodeError::Malformed) => Err(PackageStop::Damaged(DamageKind::Form)),
+        Err(DecodeError::NoMemory) => Err(PackageStop::NoMemory),
     }
 }
 
@@ -176,20 +185,22 @@ fn middle(bytes: &[u8]) -> &[u8]
     middle
 }
 
-fn package_in(alloc: Global, middle: &[u8]) -> Result<Package, Stop>
-    ensures { Makes result (package_in middle.now) }
+fn package_in(alloc: Global, middle: &[u8]) -> Result<Package, DecodeError>
+    ensures { Makes result (package_in One middle.now) }
 {
-    let package = read_all(alloc, middle)?;
-    if meets_rules(alloc, &package)? {
+    let package = decode_all(alloc, middle)?;
+    if is_valid_package(alloc, &package)? {
         Ok(package)
     } else {
-        Err(Stop::NoForm)
+        Err(DecodeError::Malformed)
     }
 }
 
 /// The law of the layout, over all packages that memory can hold: two valid packages with one spelling are
 /// equal, and the spelling of a valid one is read as that package, where it isn't too long.
 pub fn round_trip_law()
-    ensures unique { (p q : Package) → IsTyped p → IsTyped q → Valid p → Valid q → length (spelling p) ≤ 67108864 → spelling p ≡ spelling q → p ≡ q }
-    ensures again { (p : Package) → IsTyped p → Valid p → length (spelling p) ≤ 67108864 → reading (spelling p) ≡ Ok p }
+    ensures unique { (p q : Package) → IsTyped p → IsTyped q → Valid p → Valid q →
+        length (spelling p) ≤ input_limit → spelling p ≡ spelling q → p ≡ q }
+    ensures again { (p : Package) → IsTyped p → Valid p →
+        length (spelling p) ≤ input_limit → reading (spelling p) ≡ Ok p }
 {}

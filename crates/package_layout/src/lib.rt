@@ -5,12 +5,13 @@
 //!   (`specs/Whole.antt`, `spelling`; its parts in `specs/Spelling.antt` and `specs/Events.antt`);
 //! - `read_package` gives the valid package that bytes spell, and where there is none says how they are
 //!   damaged: by their magic, else by their digest, else by their form, each exactly there;
-//! - what a package meets to be valid is `valid_test` of `specs/Valid.antt`, a test for each rule, with
-//!   the rules for traces in `specs/Trace.antt` and those on counts in `specs/Room.antt`;
+//! - what a package meets to be valid is `valid_test` of `specs/Valid.antt`: the rules of `run_model`
+//!   (`ValidPackage` and `ValidTrace`, a test for each rule), and that the format has room for it
+//!   (`specs/Room.antt`);
 //! - two valid packages with one spelling are equal, and the spelling of a valid one is read as that
 //!   package (`round_trip_law`).
 //!
-//! Clauses range over all numbers and lists, so `IsTyped` of `specs/Whole.antt` says what every package in
+//! Clauses range over all numbers and lists, so `IsTyped` of `run_model` says what every package in
 //! memory meets: its numbers are those of their types, its texts are UTF-8. `spell` and `read_package` give
 //! it, so that no caller has to show it.
 //!
@@ -19,21 +20,21 @@
 //! whatever follows, and what is read was spelled so.
 #![tactic(auto)]
 
+mod codec;
+mod cursor;
 mod damage;
+mod decode_error;
 mod event;
 mod file;
 mod group;
 mod keys;
 mod layout;
-mod left;
 mod log;
 mod number;
 mod order;
 mod part;
 mod rules;
 mod sections;
-mod spelled;
-mod stop;
 mod table;
 mod text;
 mod trace;

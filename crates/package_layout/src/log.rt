@@ -2,49 +2,49 @@
 
 ghost use Rattle.std.specs.Prelude.{◌≡◌, ◌++◌, OnOk};
 ghost use Rattle.package_layout.specs.Fields.{Gives};
-ghost use Rattle.package_layout.specs.Reading.{name_at, refusal_at, refusal_body, reply_body};
+ghost use Rattle.package_layout.specs.Reading.{name_at, refusal_at, refusal_of_code, reply_of_tag};
 ghost use Rattle.package_layout.specs.Spelling.{refusal_spelling};
 ghost use Rattle.package_layout.specs.Typed.{TypedRefusal};
 
-use crate::left::Left;
-use crate::number::{put_u8, put_u64, read_u8, read_u64};
-use crate::spelled::{Readable, Spelled, put_list, read_list};
-use crate::stop::Stop;
-use crate::text::{put_text, read_text};
+use crate::codec::{Decode, Encode, decode_list, encode_list};
+use crate::cursor::Cursor;
+use crate::decode_error::DecodeError;
+use crate::number::{decode_u8, decode_u64, encode_u8, encode_u64};
+use crate::text::{decode_text, encode_text};
 use crate::width::Width;
 use ldv_value::Bytes;
 use run_model::{Entry, Log, ProcName};
 use sql_model::{Reply, SqlRefusal};
 use std::alloc::{AllocError, Global};
 
-fn put_refusal(refusal: &SqlRefusal, to: &mut Bytes) -> Result<(), AllocError>
+fn encode_refusal(refusal: &SqlRefusal, to: &mut Bytes) -> Result<(), AllocError>
     ensures bytes { OnOk result (to.new ≡ to.old ++ refusal_spelling refusal.now) }
     ensures typed { OnOk result (TypedRefusal refusal.now) }
 {
     match refusal {
-        SqlRefusal::Syntax => put_u8(1, to),
-        SqlRefusal::NoTable => put_u8(2, to),
-        SqlRefusal::NoColumn => put_u8(3, to),
-        SqlRefusal::TypeClash => put_u8(4, to),
-        SqlRefusal::NotNull => put_u8(5, to),
+        SqlRefusal::Syntax => encode_u8(1, to),
+        SqlRefusal::NoTable => encode_u8(2, to),
+        SqlRefusal::NoColumn => encode_u8(3, to),
+        SqlRefusal::TypeClash => encode_u8(4, to),
+        SqlRefusal::NotNull => encode_u8(5, to),
         SqlRefusal::KeyTaken { table, key } => {
-            put_u8(6, to)?;
-            put_text(table, to)?;
-            put_list(Width::One, key, to)
+            encode_u8(6, to)?;
+            encode_text(table, to)?;
+            encode_list(Width::One, key, to)
         }
-        SqlRefusal::Full => put_u8(7, to),
+        SqlRefusal::Full => encode_u8(7, to),
     }
 }
 
-fn read_refusal(alloc: Global, left: &mut Left) -> Result<SqlRefusal, Stop>
-    ensures { Gives result left.new (refusal_at left.old) }
+fn decode_refusal(alloc: Global, cursor: &mut Cursor) -> Result<SqlRefusal, DecodeError>
+    ensures { Gives result cursor.new (refusal_at cursor.old) }
 {
-    let code = read_u8(left)?;
-    refusal_behind(alloc, code, left)
+    let code = decode_u8(cursor)?;
+    refusal_of_code(alloc, code, cursor)
 }
 
-fn refusal_behind(alloc: Global, code: u8, left: &mut Left) -> Result<SqlRefusal, Stop>
-    ensures { Gives result left.new (refusal_body code left.old) }
+fn refusal_of_code(alloc: Global, code: u8, cursor: &mut Cursor) -> Result<SqlRefusal, DecodeError>
+    ensures { Gives result cursor.new (refusal_of_code code cursor.old) }
 {
     match code {
         1 => Ok(SqlRefusal::Syntax),
@@ -53,16 +53,16 @@ fn refusal_behind(alloc: Global, code: u8, left: &mut Left) -> Result<SqlRefusal
         4 => Ok(SqlRefusal::TypeClash),
         5 => Ok(SqlRefusal::NotNull),
         6 => {
-            let table = read_text(alloc, left)?;
-            let key = read_list(alloc, Width::One, left)?;
+            let table = decode_text(alloc, cursor)?;
+            let key = decode_list(alloc, Width::One, cursor)?;
             Ok(SqlRefusal::KeyTaken { table, key })
         }
         7 => Ok(SqlRefusal::Full),
-        _ => Err(Stop::NoForm),
+        _ => Err(DecodeError::Malformed),
     }
 }
 
-impl Spelled for Reply {
+impl Encode for Reply {
     ghost use Rattle.package_layout.specs.Spelling.{reply_spelling};
     ghost use Rattle.package_layout.specs.Typed.{TypedReply};
 
@@ -70,47 +70,47 @@ impl Spelled for Reply {
 
     ghost typed = { TypedReply };
 
-    fn put(&self, to: &mut Bytes) -> Result<(), AllocError> {
+    fn encode(&self, to: &mut Bytes) -> Result<(), AllocError> {
         match self {
             Reply::Rows(rows) => {
-                put_u8(1, to)?;
-                put_list(Width::Four, rows, to)
+                encode_u8(1, to)?;
+                encode_list(Width::Four, rows, to)
             }
             Reply::Changed(count) => {
-                put_u8(2, to)?;
-                put_u64(*count, to)
+                encode_u8(2, to)?;
+                encode_u64(*count, to)
             }
             Reply::Refused(refusal) => {
-                put_u8(3, to)?;
-                put_refusal(refusal, to)
+                encode_u8(3, to)?;
+                encode_refusal(refusal, to)
             }
         }
     }
 }
 
-impl Readable for Reply {
+impl Decode for Reply {
     ghost use Rattle.package_layout.specs.Reading.{reply_at};
 
     ghost reading = { reply_at };
 
-    fn read(alloc: Global, left: &mut Left) -> Result<Reply, Stop> {
-        let tag = read_u8(left)?;
-        reply_behind(alloc, tag, left)
+    fn decode(alloc: Global, cursor: &mut Cursor) -> Result<Reply, DecodeError> {
+        let tag = decode_u8(cursor)?;
+        reply_of_tag(alloc, tag, cursor)
     }
 }
 
-fn reply_behind(alloc: Global, tag: u8, left: &mut Left) -> Result<Reply, Stop>
-    ensures { Gives result left.new (reply_body tag left.old) }
+fn reply_of_tag(alloc: Global, tag: u8, cursor: &mut Cursor) -> Result<Reply, DecodeError>
+    ensures { Gives result cursor.new (reply_of_tag tag cursor.old) }
 {
     match tag {
-        1 => Ok(Reply::Rows(read_list(alloc, Width::Four, left)?)),
-        2 => Ok(Reply::Changed(read_u64(left)?)),
-        3 => Ok(Reply::Refused(read_refusal(alloc, left)?)),
-        _ => Err(Stop::NoForm),
+        1 => Ok(Reply::Rows(decode_list(alloc, Width::Four, cursor)?)),
+        2 => Ok(Reply::Changed(decode_u64(cursor)?)),
+        3 => Ok(Reply::Refused(decode_refusal(alloc, cursor)?)),
+        _ => Err(DecodeError::Malformed),
     }
 }
 
-impl Spelled for Entry {
+impl Encode for Entry {
     ghost use Rattle.package_layout.specs.Spelling.{entry_spelling};
     ghost use Rattle.package_layout.specs.Typed.{TypedEntry};
 
@@ -118,22 +118,22 @@ impl Spelled for Entry {
 
     ghost typed = { TypedEntry };
 
-    fn put(&self, to: &mut Bytes) -> Result<(), AllocError> {
-        put_text(&self.text, to)?;
-        self.params.put(to)?;
-        self.reply.put(to)
+    fn encode(&self, to: &mut Bytes) -> Result<(), AllocError> {
+        encode_text(&self.text, to)?;
+        self.params.encode(to)?;
+        self.reply.encode(to)
     }
 }
 
-impl Readable for Entry {
+impl Decode for Entry {
     ghost use Rattle.package_layout.specs.Reading.{entry_at};
 
     ghost reading = { entry_at };
 
-    fn read(alloc: Global, left: &mut Left) -> Result<Entry, Stop> {
-        let text = read_text(alloc, left)?;
-        let params = read_list(alloc, Width::Two, left)?;
-        let reply = Reply::read(alloc, left)?;
+    fn decode(alloc: Global, cursor: &mut Cursor) -> Result<Entry, DecodeError> {
+        let text = decode_text(alloc, cursor)?;
+        let params = decode_list(alloc, Width::Two, cursor)?;
+        let reply = Reply::decode(alloc, cursor)?;
         Ok(Entry {
             text,
             params,
@@ -142,14 +142,14 @@ impl Readable for Entry {
     }
 }
 
-fn read_name(alloc: Global, left: &mut Left) -> Result<ProcName, Stop>
-    ensures { Gives result left.new (name_at left.old) }
+fn decode_name(alloc: Global, cursor: &mut Cursor) -> Result<ProcName, DecodeError>
+    ensures { Gives result cursor.new (name_at cursor.old) }
 {
-    let parts = read_list(alloc, Width::Two, left)?;
+    let parts = decode_list(alloc, Width::Two, cursor)?;
     Ok(ProcName { parts })
 }
 
-impl Spelled for Log {
+impl Encode for Log {
     ghost use Rattle.package_layout.specs.Spelling.{log_spelling};
     ghost use Rattle.package_layout.specs.Typed.{TypedLog};
 
@@ -157,20 +157,20 @@ impl Spelled for Log {
 
     ghost typed = { TypedLog };
 
-    fn put(&self, to: &mut Bytes) -> Result<(), AllocError> {
-        put_list(Width::Two, &self.process.parts, to)?;
-        put_list(Width::Four, &self.entries, to)
+    fn encode(&self, to: &mut Bytes) -> Result<(), AllocError> {
+        encode_list(Width::Two, &self.process.parts, to)?;
+        encode_list(Width::Four, &self.entries, to)
     }
 }
 
-impl Readable for Log {
+impl Decode for Log {
     ghost use Rattle.package_layout.specs.Reading.{log_at};
 
     ghost reading = { log_at };
 
-    fn read(alloc: Global, left: &mut Left) -> Result<Log, Stop> {
-        let process = read_name(alloc, left)?;
-        let entries = read_list(alloc, Width::Four, left)?;
+    fn decode(alloc: Global, cursor: &mut Cursor) -> Result<Log, DecodeError> {
+        let process = decode_name(alloc, cursor)?;
+        let entries = decode_list(alloc, Width::Four, cursor)?;
         Ok(Log { process, entries })
     }
 }

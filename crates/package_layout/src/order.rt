@@ -1,37 +1,38 @@
-//! Lists that rise.
+//! Lists that are strictly increasing.
 
 ghost use Rattle.std.specs.Prelude.{◌≡◌, Bool};
-ghost use Rattle.package_layout.specs.Order.{rises, is_below_next, is_below, row_after_table};
+ghost use Rattle.ldv_value.specs.Sorted.{is_strictly_sorted, precedes_first, text_precedes};
+ghost use Rattle.run_model.specs.ValidTrace.{row_after_table};
 
 use ldv_value::{List, Utf8};
 use run_model::{Log, PackedFile, PackedRow, PackedTable};
 use sql_model::{Member, Need};
 use std::cmp::Ordering;
 
-/// An item that has its place among others.
+/// An item that comes before or after others.
 pub(crate) trait Ranked {
-    ghost below: { Self → Self → Bool };
+    ghost is_before: { Self → Self → Bool };
 
-    fn is_below(&self, other: &Self) -> bool
-        ensures { result ≡ below self.now other.now };
+    fn precedes(&self, other: &Self) -> bool
+        ensures { result ≡ is_before self.now other.now };
 }
 
-/// Whether each item is below the next.
-pub(crate) fn rises<X: Ranked>(items: &List<X>) -> bool
-    ensures { result ≡ rises X.below items.now }
+/// Whether each item comes before the next.
+pub(crate) fn is_strictly_sorted<X: Ranked>(items: &List<X>) -> bool
+    ensures { result ≡ is_strictly_sorted X.is_before items.now }
 {
-    slice_rises(items.items())
+    is_sorted_slice(items.items())
 }
 
-fn slice_rises<X: Ranked>(items: &[X]) -> bool
-    ensures { result ≡ rises X.below items.now }
+fn is_sorted_slice<X: Ranked>(items: &[X]) -> bool
+    ensures { result ≡ is_strictly_sorted X.is_before items.now }
 {
     let mut left = items;
     loop {
         match left {
             [] => return true,
             [first, rest @ ..] => {
-                if !is_below_next(first, rest) {
+                if !precedes_first(first, rest) {
                     return false;
                 }
                 left = rest;
@@ -40,28 +41,28 @@ fn slice_rises<X: Ranked>(items: &[X]) -> bool
     }
 }
 
-fn is_below_next<X: Ranked>(item: &X, rest: &[X]) -> bool
-    ensures { result ≡ is_below_next X.below item.now rest.now }
+fn precedes_first<X: Ranked>(item: &X, rest: &[X]) -> bool
+    ensures { result ≡ precedes_first X.is_before item.now rest.now }
 {
     match rest {
         [] => true,
-        [next, ..] => item.is_below(next),
+        [next, ..] => item.precedes(next),
     }
 }
 
-fn is_text_below(a: &Utf8, b: &Utf8) -> bool
-    ensures { result ≡ is_below a.now b.now }
+fn text_precedes(a: &Utf8, b: &Utf8) -> bool
+    ensures { result ≡ text_precedes a.now b.now }
 {
     a.as_str().cmp(b.as_str()).is_lt()
 }
 
-fn is_name_below(a: &[u32], b: &[u32]) -> bool
-    ensures { result ≡ is_below a.now b.now }
+fn name_precedes(a: &[u32], b: &[u32]) -> bool
+    ensures { result ≡ text_precedes a.now b.now }
 {
     a.cmp(b).is_lt()
 }
 
-fn is_row_after_table(between: Ordering, m: u32, n: u32) -> bool
+fn row_after_table(between: Ordering, m: u32, n: u32) -> bool
     ensures { result ≡ row_after_table between m n }
 {
     match between {
@@ -72,70 +73,70 @@ fn is_row_after_table(between: Ordering, m: u32, n: u32) -> bool
 }
 
 impl Ranked for Utf8 {
-    ghost below = { is_below };
+    ghost is_before = { text_precedes };
 
-    fn is_below(&self, other: &Utf8) -> bool {
-        is_text_below(self, other)
+    fn precedes(&self, other: &Utf8) -> bool {
+        text_precedes(self, other)
     }
 }
 
 impl Ranked for PackedFile {
-    ghost use Rattle.package_layout.specs.Order.{file_below};
+    ghost use Rattle.run_model.specs.ValidPackage.{packed_file_precedes};
 
-    ghost below = { file_below };
+    ghost is_before = { packed_file_precedes };
 
-    fn is_below(&self, other: &PackedFile) -> bool {
-        is_text_below(&self.path, &other.path)
+    fn precedes(&self, other: &PackedFile) -> bool {
+        text_precedes(&self.path, &other.path)
     }
 }
 
 impl Ranked for PackedTable {
-    ghost use Rattle.package_layout.specs.Order.{table_below};
+    ghost use Rattle.run_model.specs.ValidPackage.{packed_table_precedes};
 
-    ghost below = { table_below };
+    ghost is_before = { packed_table_precedes };
 
-    fn is_below(&self, other: &PackedTable) -> bool {
-        is_text_below(&self.name, &other.name)
+    fn precedes(&self, other: &PackedTable) -> bool {
+        text_precedes(&self.name, &other.name)
     }
 }
 
 impl Ranked for PackedRow {
-    ghost use Rattle.package_layout.specs.Order.{row_below};
+    ghost use Rattle.run_model.specs.ValidPackage.{packed_row_precedes};
 
-    ghost below = { row_below };
+    ghost is_before = { packed_row_precedes };
 
-    fn is_below(&self, other: &PackedRow) -> bool {
+    fn precedes(&self, other: &PackedRow) -> bool {
         self.number < other.number
     }
 }
 
 impl Ranked for Log {
-    ghost use Rattle.package_layout.specs.Order.{log_below};
+    ghost use Rattle.run_model.specs.ValidPackage.{log_precedes};
 
-    ghost below = { log_below };
+    ghost is_before = { log_precedes };
 
-    fn is_below(&self, other: &Log) -> bool {
-        is_name_below(self.process.parts.items(), other.process.parts.items())
+    fn precedes(&self, other: &Log) -> bool {
+        name_precedes(self.process.parts.items(), other.process.parts.items())
     }
 }
 
 impl Ranked for Member {
-    ghost use Rattle.package_layout.specs.Order.{member_below};
+    ghost use Rattle.run_model.specs.ValidTrace.{member_precedes};
 
-    ghost below = { member_below };
+    ghost is_before = { member_precedes };
 
-    fn is_below(&self, other: &Member) -> bool {
+    fn precedes(&self, other: &Member) -> bool {
         let between = self.table.as_str().cmp(other.table.as_str());
-        is_row_after_table(between, self.row, other.row)
+        row_after_table(between, self.row, other.row)
     }
 }
 
 impl Ranked for Need {
-    ghost use Rattle.package_layout.specs.Order.{need_below};
+    ghost use Rattle.run_model.specs.ValidTrace.{need_precedes};
 
-    ghost below = { need_below };
+    ghost is_before = { need_precedes };
 
-    fn is_below(&self, other: &Need) -> bool {
-        self.member.is_below(&other.member)
+    fn precedes(&self, other: &Need) -> bool {
+        self.member.precedes(&other.member)
     }
 }

@@ -1,11 +1,11 @@
 //! What an event writes of a row, and rows that are grouped by their table.
 
-use crate::group::Placed;
-use crate::left::Left;
-use crate::number::{put_u8, put_u32, read_u32};
-use crate::spelled::{Readable, Spelled};
-use crate::stop::Stop;
-use crate::table::{number_of_rule, read_rule};
+use crate::codec::{Decode, Encode};
+use crate::cursor::Cursor;
+use crate::decode_error::DecodeError;
+use crate::group::GroupedRow;
+use crate::number::{decode_u32, encode_u8, encode_u32};
+use crate::table::{decode_rule, number_of_rule};
 use ldv_value::{Bytes, Utf8};
 use sql_model::{Member, Need, Rule};
 use std::alloc::{AllocError, Global};
@@ -25,59 +25,59 @@ pub(crate) struct MadePart {
     version: u32,
 }
 
-impl Spelled for ReadPart {
+impl Encode for ReadPart {
     ghost use Rattle.package_layout.specs.Parts.{read_part_spelling, TypedReadPart};
 
     ghost spelling = { read_part_spelling };
 
     ghost typed = { TypedReadPart };
 
-    fn put(&self, to: &mut Bytes) -> Result<(), AllocError> {
-        self.row.put(to)?;
-        self.version.put(to)?;
-        put_u8(number_of_rule(self.rule), to)
+    fn encode(&self, to: &mut Bytes) -> Result<(), AllocError> {
+        self.row.encode(to)?;
+        self.version.encode(to)?;
+        encode_u8(number_of_rule(self.rule), to)
     }
 }
 
-impl Readable for ReadPart {
+impl Decode for ReadPart {
     ghost use Rattle.package_layout.specs.Parts.{read_part_at};
 
     ghost reading = { read_part_at };
 
-    fn read(_alloc: Global, left: &mut Left) -> Result<ReadPart, Stop> {
-        let row = read_u32(left)?;
-        let version = read_u32(left)?;
-        let rule = read_rule(left)?;
+    fn decode(_alloc: Global, cursor: &mut Cursor) -> Result<ReadPart, DecodeError> {
+        let row = decode_u32(cursor)?;
+        let version = decode_u32(cursor)?;
+        let rule = decode_rule(cursor)?;
         Ok(ReadPart { row, version, rule })
     }
 }
 
-impl Spelled for MadePart {
+impl Encode for MadePart {
     ghost use Rattle.package_layout.specs.Parts.{made_part_spelling, TypedMadePart};
 
     ghost spelling = { made_part_spelling };
 
     ghost typed = { TypedMadePart };
 
-    fn put(&self, to: &mut Bytes) -> Result<(), AllocError> {
-        self.row.put(to)?;
-        self.version.put(to)
+    fn encode(&self, to: &mut Bytes) -> Result<(), AllocError> {
+        self.row.encode(to)?;
+        self.version.encode(to)
     }
 }
 
-impl Readable for MadePart {
+impl Decode for MadePart {
     ghost use Rattle.package_layout.specs.Parts.{made_part_at};
 
     ghost reading = { made_part_at };
 
-    fn read(_alloc: Global, left: &mut Left) -> Result<MadePart, Stop> {
-        let row = read_u32(left)?;
-        let version = read_u32(left)?;
+    fn decode(_alloc: Global, cursor: &mut Cursor) -> Result<MadePart, DecodeError> {
+        let row = decode_u32(cursor)?;
+        let version = decode_u32(cursor)?;
         Ok(MadePart { row, version })
     }
 }
 
-impl Placed<ReadPart> for Need {
+impl GroupedRow<ReadPart> for Need {
     ghost use Rattle.package_layout.specs.Parts.{need_table, need_part, need_of};
 
     ghost table_of = { need_table };
@@ -90,7 +90,7 @@ impl Placed<ReadPart> for Need {
         &self.member.table
     }
 
-    fn part(&self) -> ReadPart {
+    fn payload(&self) -> ReadPart {
         ReadPart {
             row: self.member.row,
             version: self.member.version,
@@ -98,7 +98,7 @@ impl Placed<ReadPart> for Need {
         }
     }
 
-    fn placed(table: Utf8, part: ReadPart) -> Need {
+    fn of_group(table: Utf8, part: ReadPart) -> Need {
         Need {
             member: Member {
                 table,
@@ -110,7 +110,7 @@ impl Placed<ReadPart> for Need {
     }
 }
 
-impl Placed<MadePart> for Member {
+impl GroupedRow<MadePart> for Member {
     ghost use Rattle.package_layout.specs.Parts.{member_table, member_part, member_of};
 
     ghost table_of = { member_table };
@@ -123,14 +123,14 @@ impl Placed<MadePart> for Member {
         &self.table
     }
 
-    fn part(&self) -> MadePart {
+    fn payload(&self) -> MadePart {
         MadePart {
             row: self.row,
             version: self.version,
         }
     }
 
-    fn placed(table: Utf8, part: MadePart) -> Member {
+    fn of_group(table: Utf8, part: MadePart) -> Member {
         Member {
             table,
             row: part.row,

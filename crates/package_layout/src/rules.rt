@@ -4,16 +4,21 @@ ghost use Rattle.std.specs.Prelude.{◌≡◌, ◌==◌, slice_get};
 ghost use Rattle.std.specs.List.{list_all, list_any, zip};
 ghost use Rattle.sql_model.specs.SqlNames.{sql_name_test};
 ghost use Rattle.sql_model.specs.Keys.{repeats};
-ghost use Rattle.package_layout.specs.Valid.{is_short_text, start_rule, content_rule, file_rule, files_rule, has_same_name, columns_rule, is_not_null, key_rule, is_short, value_rule, values_rule, row_rule, table_rule, tables_rule, refusal_rule, reply_rule, entry_rule, is_of_first, log_rule, logs_rule};
+ghost use Rattle.package_layout.specs.Valid.{is_short_text, start_rule, content_rule, file_rule, files_rule};
+ghost use Rattle.package_layout.specs.Valid.{has_same_name, columns_rule, is_not_null, key_rule, is_short};
+ghost use Rattle.package_layout.specs.Valid.{value_rule, values_rule, row_rule, table_rule, tables_rule};
+ghost use Rattle.package_layout.specs.Valid.{refusal_rule, reply_rule, entry_rule, is_root_process, log_rule};
+ghost use Rattle.package_layout.specs.Valid.{logs_rule};
 
-use crate::order::rises;
+use crate::order::is_strictly_sorted;
 use ldv_value::{
-    Bytes, FILE_LIMIT, Parts, Places, RowList, TEXT_LIMIT, Utf8, Value, Values, Words, is_path,
+    Bytes, FILE_LIMIT, MAX_COLUMNS, MAX_FILES, MAX_PARAMS, MAX_TABLES, Parts, Places, RowList,
+    TEXT_LIMIT, Utf8, Value, Values, Words, is_path,
 };
 use run_model::{Entry, Log, Logs, PackedFile, PackedFiles, PackedRow, PackedTable, PackedTables};
 use sql_model::{Column, Columns, Reply, Schema, SqlRefusal, is_sql_name};
 
-pub(crate) fn meets_start(words: &Words) -> bool
+pub(crate) fn is_valid_start(words: &Words) -> bool
     ensures { result ≡ start_rule words.now }
 {
     match words.items() {
@@ -36,25 +41,25 @@ fn is_short_text(text: &Utf8) -> bool
     text.len() <= TEXT_LIMIT
 }
 
-pub(crate) fn meets_files(files: &PackedFiles) -> bool
+pub(crate) fn is_valid_files(files: &PackedFiles) -> bool
     ensures { result ≡ files_rule files.now }
 {
-    files.len() <= 65536 && each_file(files) && rises(files)
+    files.len() <= MAX_FILES && each_file(files) && is_strictly_sorted(files)
 }
 
 fn each_file(files: &PackedFiles) -> bool
     ensures { result ≡ list_all file_rule files.now }
 {
-    files.items().iter().all(|file| meets_file(file))
+    files.items().iter().all(|file| is_valid_file(file))
 }
 
-fn meets_file(file: &PackedFile) -> bool
+fn is_valid_file(file: &PackedFile) -> bool
     ensures { result ≡ file_rule file.now }
 {
-    is_path(file.path.as_str()) && meets_content(&file.content)
+    is_path(file.path.as_str()) && is_valid_content(&file.content)
 }
 
-fn meets_content(content: &Option<Bytes>) -> bool
+fn is_valid_content(content: &Option<Bytes>) -> bool
     ensures { result ≡ content_rule content.now }
 {
     match content {
@@ -63,33 +68,33 @@ fn meets_content(content: &Option<Bytes>) -> bool
     }
 }
 
-pub(crate) fn meets_tables(tables: &PackedTables) -> bool
+pub(crate) fn is_valid_tables(tables: &PackedTables) -> bool
     ensures { result ≡ tables_rule tables.now }
 {
-    tables.len() <= 256 && each_table(tables) && rises(tables)
+    tables.len() <= MAX_TABLES && each_table(tables) && is_strictly_sorted(tables)
 }
 
 fn each_table(tables: &PackedTables) -> bool
     ensures { result ≡ list_all table_rule tables.now }
 {
-    tables.items().iter().all(|table| meets_table(table))
+    tables.items().iter().all(|table| is_valid_table(table))
 }
 
-fn meets_table(table: &PackedTable) -> bool
+fn is_valid_table(table: &PackedTable) -> bool
     ensures { result ≡ table_rule table.now }
 {
     is_sql_name(table.name.as_str())
-        && meets_columns(&table.schema.columns)
-        && meets_key(&table.schema)
+        && is_valid_columns(&table.schema.columns)
+        && is_valid_key(&table.schema)
         && each_row(table)
-        && rises(&table.rows)
+        && is_strictly_sorted(&table.rows)
 }
 
-fn meets_columns(columns: &Columns) -> bool
+fn is_valid_columns(columns: &Columns) -> bool
     ensures { result ≡ columns_rule columns.now }
 {
     1 <= columns.len()
-        && columns.len() <= 64
+        && columns.len() <= MAX_COLUMNS
         && are_named(columns)
         && !has_name_twice(columns.items())
 }
@@ -103,7 +108,7 @@ fn are_named(columns: &Columns) -> bool
         .all(|column| is_sql_name(column.name.as_str()))
 }
 
-// There are 64 columns at most.
+// There are MAX_COLUMNS columns at most.
 fn has_name_twice(columns: &[Column]) -> bool
     ensures { result ≡ repeats has_same_name columns.now }
 {
@@ -127,7 +132,7 @@ fn has_same_name(column: &Column, columns: &[Column]) -> bool
     columns.iter().any(|other| column.name.is_same(&other.name))
 }
 
-fn meets_key(schema: &Schema) -> bool
+fn is_valid_key(schema: &Schema) -> bool
     ensures { result ≡ key_rule schema.now }
 {
     are_not_null(&schema.columns, &schema.key) && !has_place_twice(schema.key.items())
@@ -177,26 +182,30 @@ fn has_place(place: u32, places: &[u32]) -> bool
 fn each_row(table: &PackedTable) -> bool
     ensures { result ≡ list_all (row_rule table.now) table.now.rows }
 {
-    table.rows.items().iter().all(|row| meets_row(table, row))
+    table
+        .rows
+        .items()
+        .iter()
+        .all(|row| is_valid_row(table, row))
 }
 
-fn meets_row(table: &PackedTable, row: &PackedRow) -> bool
+fn is_valid_row(table: &PackedTable, row: &PackedRow) -> bool
     ensures { result ≡ row_rule table.now row.now }
 {
-    row.number < table.next && meets_values(&table.schema.columns, &row.values)
+    row.number < table.next && is_valid_values(&table.schema.columns, &row.values)
 }
 
-fn meets_values(columns: &Columns, values: &Values) -> bool
+fn is_valid_values(columns: &Columns, values: &Values) -> bool
     ensures { result ≡ values_rule columns.now values.now }
 {
     columns
         .items()
         .iter()
         .zip(values.items().iter())
-        .all(|(column, value)| meets_value(column, value))
+        .all(|(column, value)| is_valid_value(column, value))
 }
 
-fn meets_value(column: &Column, value: &Value) -> bool
+fn is_valid_value(column: &Column, value: &Value) -> bool
     ensures { result ≡ value_rule column.now value.now }
 {
     match value {
@@ -206,26 +215,26 @@ fn meets_value(column: &Column, value: &Value) -> bool
     }
 }
 
-pub(crate) fn meets_logs(logs: &Logs) -> bool
+pub(crate) fn is_valid_logs(logs: &Logs) -> bool
     ensures { result ≡ logs_rule logs.now }
 {
-    each_log(logs) && rises(logs)
+    each_log(logs) && is_strictly_sorted(logs)
 }
 
 fn each_log(logs: &Logs) -> bool
     ensures { result ≡ list_all log_rule logs.now }
 {
-    logs.items().iter().all(|log| meets_log(log))
+    logs.items().iter().all(|log| is_valid_log(log))
 }
 
-fn meets_log(log: &Log) -> bool
+fn is_valid_log(log: &Log) -> bool
     ensures { result ≡ log_rule log.now }
 {
-    is_of_first(&log.process.parts) && !log.entries.is_empty() && each_entry(log)
+    is_root_process(&log.process.parts) && !log.entries.is_empty() && each_entry(log)
 }
 
-fn is_of_first(parts: &Parts) -> bool
-    ensures { result ≡ is_of_first parts.now }
+fn is_root_process(parts: &Parts) -> bool
+    ensures { result ≡ is_root_process parts.now }
 {
     match parts.items() {
         [] => false,
@@ -236,16 +245,19 @@ fn is_of_first(parts: &Parts) -> bool
 fn each_entry(log: &Log) -> bool
     ensures { result ≡ list_all entry_rule log.now.entries }
 {
-    log.entries.items().iter().all(|entry| meets_entry(entry))
+    log.entries
+        .items()
+        .iter()
+        .all(|entry| is_valid_entry(entry))
 }
 
-fn meets_entry(entry: &Entry) -> bool
+fn is_valid_entry(entry: &Entry) -> bool
     ensures { result ≡ entry_rule entry.now }
 {
     is_short_text(&entry.text)
-        && entry.params.len() <= 255
+        && entry.params.len() <= MAX_PARAMS
         && are_short_values(&entry.params)
-        && meets_reply(&entry.reply)
+        && is_valid_reply(&entry.reply)
 }
 
 fn are_short_values(values: &Values) -> bool
@@ -264,13 +276,13 @@ fn is_short(value: &Value) -> bool
     }
 }
 
-fn meets_reply(reply: &Reply) -> bool
+fn is_valid_reply(reply: &Reply) -> bool
     ensures { result ≡ reply_rule reply.now }
 {
     match reply {
         Reply::Rows(rows) => are_short_rows(rows),
         Reply::Changed(_) => true,
-        Reply::Refused(refusal) => meets_refusal(refusal),
+        Reply::Refused(refusal) => is_valid_refusal(refusal),
     }
 }
 
@@ -280,7 +292,7 @@ fn are_short_rows(rows: &RowList) -> bool
     rows.items().iter().all(|row| are_short_values(row))
 }
 
-fn meets_refusal(refusal: &SqlRefusal) -> bool
+fn is_valid_refusal(refusal: &SqlRefusal) -> bool
     ensures { result ≡ refusal_rule refusal.now }
 {
     match refusal {

@@ -2,12 +2,14 @@
 
 ghost use Rattle.std.specs.Prelude.{◌≡◌, ◌++◌, OnOk};
 ghost use Rattle.package_layout.specs.Fields.{Gives, Makes};
-ghost use Rattle.package_layout.specs.Whole.{mode_number, mode_of, mode_at, parts, numbers, sections, sections_at, TypedParts, TypedNumbers, IsTyped, all_of};
+ghost use Rattle.package_layout.specs.Version.{One};
+ghost use Rattle.package_layout.specs.Whole.{mode_number, mode_of, mode_at, parts, numbers, sections};
+ghost use Rattle.package_layout.specs.Whole.{sections_at, TypedParts, TypedNumbers, IsTyped, all_of};
 
-use crate::left::Left;
-use crate::number::{put_u8, put_u32, put_u64, read_u8, read_u32, read_u64};
-use crate::spelled::{put_list, read_list};
-use crate::stop::Stop;
+use crate::codec::{decode_list, encode_list};
+use crate::cursor::Cursor;
+use crate::decode_error::DecodeError;
+use crate::number::{decode_u8, decode_u32, decode_u64, encode_u8, encode_u32, encode_u64};
 use crate::width::Width;
 use ldv_value::Bytes;
 use run_model::{Mode, Package};
@@ -22,63 +24,63 @@ fn number_of_mode(mode: Mode) -> u8
     }
 }
 
-fn read_mode(left: &mut Left) -> Result<Mode, Stop>
-    ensures { Gives result left.new (mode_at left.old) }
+fn decode_mode(cursor: &mut Cursor) -> Result<Mode, DecodeError>
+    ensures { Gives result cursor.new (mode_at cursor.old) }
 {
-    let number = read_u8(left)?;
+    let number = decode_u8(cursor)?;
     mode_of(number)
 }
 
-fn mode_of(number: u8) -> Result<Mode, Stop>
+fn mode_of(number: u8) -> Result<Mode, DecodeError>
     ensures { Makes result (mode_of number) }
 {
     match number {
         1 => Ok(Mode::Included),
         2 => Ok(Mode::Excluded),
-        _ => Err(Stop::NoForm),
+        _ => Err(DecodeError::Malformed),
     }
 }
 
 /// Appends the sections of a package.
-pub(crate) fn put_sections(package: &Package, to: &mut Bytes) -> Result<(), AllocError>
-    ensures bytes { OnOk result (to.new ≡ to.old ++ sections «package».now) }
+pub(crate) fn encode_sections(package: &Package, to: &mut Bytes) -> Result<(), AllocError>
+    ensures bytes { OnOk result (to.new ≡ to.old ++ sections One «package».now) }
     ensures typed { OnOk result (IsTyped «package».now) }
 {
-    put_u8(number_of_mode(package.mode), to)?;
-    put_list(Width::Two, &package.start, to)?;
-    put_numbers(package, to)
+    encode_u8(number_of_mode(package.mode), to)?;
+    encode_list(Width::Two, &package.start, to)?;
+    encode_numbers(package, to)
 }
 
-fn put_numbers(package: &Package, to: &mut Bytes) -> Result<(), AllocError>
-    ensures bytes { OnOk result (to.new ≡ to.old ++ numbers «package».now) }
+fn encode_numbers(package: &Package, to: &mut Bytes) -> Result<(), AllocError>
+    ensures bytes { OnOk result (to.new ≡ to.old ++ numbers One «package».now) }
     ensures typed { OnOk result (TypedNumbers «package».now) }
 {
-    put_u64(package.seed, to)?;
-    put_u32(package.steps, to)?;
-    put_parts(package, to)
+    encode_u64(package.seed, to)?;
+    encode_u32(package.steps, to)?;
+    encode_parts(package, to)
 }
 
-fn put_parts(package: &Package, to: &mut Bytes) -> Result<(), AllocError>
-    ensures bytes { OnOk result (to.new ≡ to.old ++ parts «package».now) }
+fn encode_parts(package: &Package, to: &mut Bytes) -> Result<(), AllocError>
+    ensures bytes { OnOk result (to.new ≡ to.old ++ parts One «package».now) }
     ensures typed { OnOk result (TypedParts «package».now) }
 {
-    put_list(Width::Four, &package.files, to)?;
-    put_list(Width::Two, &package.tables, to)?;
-    put_list(Width::Four, &package.logs, to)?;
-    put_list(Width::Four, &package.events, to)
+    encode_list(Width::Four, &package.files, to)?;
+    encode_list(Width::Two, &package.tables, to)?;
+    encode_list(Width::Four, &package.logs, to)?;
+    encode_list(Width::Four, &package.events, to)
 }
 
-fn read_sections(alloc: Global, left: &mut Left) -> Result<Package, Stop>
-    ensures { Gives result left.new (sections_at left.old) }
+fn decode_sections(alloc: Global, cursor: &mut Cursor) -> Result<Package, DecodeError>
+    ensures { Gives result cursor.new (sections_at One cursor.old) }
 {
-    let mode = read_mode(left)?;
-    let start = read_list(alloc, Width::Two, left)?;
-    let seed = read_u64(left)?;
-    let steps = read_u32(left)?;
-    let files = read_list(alloc, Width::Four, left)?;
-    let tables = read_list(alloc, Width::Two, left)?;
-    let logs = read_list(alloc, Width::Four, left)?;
-    let events = read_list(alloc, Width::Four, left)?;
+    let mode = decode_mode(cursor)?;
+    let start = decode_list(alloc, Width::Two, cursor)?;
+    let seed = decode_u64(cursor)?;
+    let steps = decode_u32(cursor)?;
+    let files = decode_list(alloc, Width::Four, cursor)?;
+    let tables = decode_list(alloc, Width::Two, cursor)?;
+    let logs = decode_list(alloc, Width::Four, cursor)?;
+    let events = decode_list(alloc, Width::Four, cursor)?;
     Ok(Package {
         mode,
         start,
@@ -92,14 +94,14 @@ fn read_sections(alloc: Global, left: &mut Left) -> Result<Package, Stop>
 }
 
 /// Reads the sections of a package, which are all of the bytes.
-pub(crate) fn read_all(alloc: Global, bytes: &[u8]) -> Result<Package, Stop>
-    ensures { Makes result (all_of bytes.now) }
+pub(crate) fn decode_all(alloc: Global, bytes: &[u8]) -> Result<Package, DecodeError>
+    ensures { Makes result (all_of One bytes.now) }
 {
-    let mut left = Left::of(bytes);
-    let package = read_sections(alloc, &mut left)?;
-    if left.is_empty() {
+    let mut cursor = Cursor::of(bytes);
+    let package = decode_sections(alloc, &mut cursor)?;
+    if cursor.is_empty() {
         Ok(package)
     } else {
-        Err(Stop::NoForm)
+        Err(DecodeError::Malformed)
     }
 }

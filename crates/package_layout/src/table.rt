@@ -4,22 +4,23 @@ ghost use Rattle.std.specs.Prelude.{◌≡◌, ◌++◌, length, OnOk};
 ghost use Rattle.std.specs.Int.{w8, to_be_bytes};
 ghost use Rattle.std.specs.List.{AllByRecursion};
 ghost use Rattle.package_layout.specs.Fields.{Gives, Makes, number_at, items_at, list_spelling};
-ghost use Rattle.package_layout.specs.Reading.{kind_of, kind_at, rule_of, rule_at, key_at, row_at, rows_at, schema_at};
-ghost use Rattle.package_layout.specs.Spelling.{kind_number, rule_number, schema_spelling};
+ghost use Rattle.package_layout.specs.Reading.{kind_of, kind_at, rule_of, rule_at, reason_at, key_at, row_at};
+ghost use Rattle.package_layout.specs.Reading.{rows_at, schema_at};
+ghost use Rattle.package_layout.specs.Spelling.{kind_number, rule_number, reason_spelling, schema_spelling};
 ghost use Rattle.package_layout.specs.Typed.{TypedColumn};
 
-use crate::left::Left;
-use crate::number::{put_count, put_u8, put_u32, read_count, read_u8, read_u32};
-use crate::spelled::{Readable, Spelled, put_items, put_list, read_items, read_list};
-use crate::stop::Stop;
-use crate::text::{put_text, read_text};
+use crate::codec::{Decode, Encode, decode_items, decode_list, encode_items, encode_list};
+use crate::cursor::Cursor;
+use crate::decode_error::DecodeError;
+use crate::number::{decode_count, decode_u8, decode_u32, encode_count, encode_u8, encode_u32};
+use crate::text::{decode_text, encode_text};
 use crate::width::Width;
 use ldv_value::{Bytes, List, Places};
 use run_model::{PackedRow, PackedRows, PackedTable};
 use sql_model::{Column, Columns, Rule, Schema};
 use std::alloc::{AllocError, Global};
 
-impl Spelled for Column {
+impl Encode for Column {
     ghost use Rattle.package_layout.specs.Spelling.{column_spelling};
     ghost use Rattle.package_layout.specs.Typed.{TypedColumn};
 
@@ -27,9 +28,9 @@ impl Spelled for Column {
 
     ghost typed = { TypedColumn };
 
-    fn put(&self, to: &mut Bytes) -> Result<(), AllocError> {
-        put_text(&self.name, to)?;
-        put_u8(number_of_kind(self.text, self.not_null), to)
+    fn encode(&self, to: &mut Bytes) -> Result<(), AllocError> {
+        encode_text(&self.name, to)?;
+        encode_u8(number_of_kind(self.text, self.not_null), to)
     }
 }
 
@@ -44,14 +45,14 @@ fn number_of_kind(text: bool, not_null: bool) -> u8
     }
 }
 
-impl Readable for Column {
+impl Decode for Column {
     ghost use Rattle.package_layout.specs.Reading.{column_at};
 
     ghost reading = { column_at };
 
-    fn read(alloc: Global, left: &mut Left) -> Result<Column, Stop> {
-        let name = read_text(alloc, left)?;
-        let (text, not_null) = read_kind(left)?;
+    fn decode(alloc: Global, cursor: &mut Cursor) -> Result<Column, DecodeError> {
+        let name = decode_text(alloc, cursor)?;
+        let (text, not_null) = decode_kind(cursor)?;
         Ok(Column {
             name,
             text,
@@ -60,14 +61,14 @@ impl Readable for Column {
     }
 }
 
-fn read_kind(left: &mut Left) -> Result<(bool, bool), Stop>
-    ensures { Gives result left.new (kind_at left.old) }
+fn decode_kind(cursor: &mut Cursor) -> Result<(bool, bool), DecodeError>
+    ensures { Gives result cursor.new (kind_at cursor.old) }
 {
-    let number = read_u8(left)?;
+    let number = decode_u8(cursor)?;
     kind_of(number)
 }
 
-fn kind_of(number: u8) -> Result<(bool, bool), Stop>
+fn kind_of(number: u8) -> Result<(bool, bool), DecodeError>
     ensures { Makes result (kind_of number) }
 {
     match number {
@@ -75,7 +76,7 @@ fn kind_of(number: u8) -> Result<(bool, bool), Stop>
         2 => Ok((true, false)),
         3 => Ok((false, true)),
         4 => Ok((true, true)),
-        _ => Err(Stop::NoForm),
+        _ => Err(DecodeError::Malformed),
     }
 }
 
@@ -90,25 +91,25 @@ pub(crate) fn number_of_rule(rule: Rule) -> u8
     }
 }
 
-pub(crate) fn read_rule(left: &mut Left) -> Result<Rule, Stop>
-    ensures { Gives result left.new (rule_at left.old) }
+pub(crate) fn decode_rule(cursor: &mut Cursor) -> Result<Rule, DecodeError>
+    ensures { Gives result cursor.new (rule_at cursor.old) }
 {
-    let number = read_u8(left)?;
+    let number = decode_u8(cursor)?;
     rule_of(number)
 }
 
-fn rule_of(number: u8) -> Result<Rule, Stop>
+fn rule_of(number: u8) -> Result<Rule, DecodeError>
     ensures { Makes result (rule_of number) }
 {
     match number {
         1 => Ok(Rule::L),
         2 => Ok(Rule::H),
         3 => Ok(Rule::K),
-        _ => Err(Stop::NoForm),
+        _ => Err(DecodeError::Malformed),
     }
 }
 
-impl Spelled for PackedRow {
+impl Encode for PackedRow {
     ghost use Rattle.package_layout.specs.Spelling.{row_spelling};
     ghost use Rattle.package_layout.specs.Typed.{TypedRow};
 
@@ -116,21 +117,34 @@ impl Spelled for PackedRow {
 
     ghost typed = { TypedRow };
 
-    fn put(&self, to: &mut Bytes) -> Result<(), AllocError> {
-        self.number.put(to)?;
-        self.statement.put(to)?;
-        put_u8(number_of_rule(self.rule), to)?;
-        put_items(&self.values, to)
+    fn encode(&self, to: &mut Bytes) -> Result<(), AllocError> {
+        self.number.encode(to)?;
+        encode_reason(self.statement, self.rule, to)?;
+        encode_items(&self.values, to)
     }
 }
 
-fn read_row(alloc: Global, columns: usize, left: &mut Left) -> Result<PackedRow, Stop>
-    ensures { Gives result left.new (row_at columns left.old) }
+fn encode_reason(statement: u32, rule: Rule, to: &mut Bytes) -> Result<(), AllocError>
+    ensures { OnOk result (to.new ≡ to.old ++ reason_spelling statement rule) }
 {
-    let number = read_u32(left)?;
-    let statement = read_u32(left)?;
-    let rule = read_rule(left)?;
-    let values = read_items(alloc, columns, left)?;
+    encode_u32(statement, to)?;
+    encode_u8(number_of_rule(rule), to)
+}
+
+fn decode_reason(cursor: &mut Cursor) -> Result<(u32, Rule), DecodeError>
+    ensures { Gives result cursor.new (reason_at cursor.old) }
+{
+    let statement = decode_u32(cursor)?;
+    let rule = decode_rule(cursor)?;
+    Ok((statement, rule))
+}
+
+fn decode_row(alloc: Global, columns: usize, cursor: &mut Cursor) -> Result<PackedRow, DecodeError>
+    ensures { Gives result cursor.new (row_at columns cursor.old) }
+{
+    let number = decode_u32(cursor)?;
+    let (statement, rule) = decode_reason(cursor)?;
+    let values = decode_items(alloc, columns, cursor)?;
     Ok(PackedRow {
         number,
         statement,
@@ -139,59 +153,63 @@ fn read_row(alloc: Global, columns: usize, left: &mut Left) -> Result<PackedRow,
     })
 }
 
-fn read_rows(alloc: Global, columns: &Columns, left: &mut Left) -> Result<PackedRows, Stop>
-    ensures { Gives result left.new (rows_at (length columns.now) left.old) }
+fn decode_rows(
+    alloc: Global,
+    columns: &Columns,
+    cursor: &mut Cursor,
+) -> Result<PackedRows, DecodeError>
+    ensures { Gives result cursor.new (rows_at (length columns.now) cursor.old) }
 {
-    let count = read_u32(left)?;
-    read_some_rows(alloc, columns.len(), count, left)
+    let count = decode_u32(cursor)?;
+    decode_some_rows(alloc, columns.len(), count, cursor)
 }
 
-fn read_some_rows(
+fn decode_some_rows(
     alloc: Global,
     columns: usize,
     count: u32,
-    left: &mut Left,
-) -> Result<PackedRows, Stop>
-    ensures { Gives result left.new (items_at (row_at columns) count left.old) }
+    cursor: &mut Cursor,
+) -> Result<PackedRows, DecodeError>
+    ensures { Gives result cursor.new (items_at (row_at columns) count cursor.old) }
 {
     let mut rows = List::new(alloc);
     for _turn in 0..count {
-        let row = read_row(alloc, columns, left)?;
+        let row = decode_row(alloc, columns, cursor)?;
         rows.push(row)?;
     }
     Ok(rows)
 }
 
 /// The places of a key are below 64, so each has one byte.
-fn put_key(key: &Places, to: &mut Bytes) -> Result<(), AllocError>
+fn encode_key(key: &Places, to: &mut Bytes) -> Result<(), AllocError>
     ensures { OnOk result (to.new ≡ to.old ++ list_spelling w8 (to_be_bytes w8) key.now) }
 {
-    put_count(Width::One, key.len(), to)?;
+    encode_count(Width::One, key.len(), to)?;
     for place in key.items() {
-        put_count(Width::One, *place as usize, to)?;
+        encode_count(Width::One, *place as usize, to)?;
     }
     Ok(())
 }
 
-fn read_key(alloc: Global, left: &mut Left) -> Result<Places, Stop>
-    ensures { Gives result left.new (key_at left.old) }
+fn decode_key(alloc: Global, cursor: &mut Cursor) -> Result<Places, DecodeError>
+    ensures { Gives result cursor.new (key_at cursor.old) }
 {
-    let count = read_u8(left)?;
-    read_places(alloc, count, left)
+    let count = decode_u8(cursor)?;
+    decode_places(alloc, count, cursor)
 }
 
-fn read_places(alloc: Global, count: u8, left: &mut Left) -> Result<Places, Stop>
-    ensures { Gives result left.new (items_at (number_at w8) count left.old) }
+fn decode_places(alloc: Global, count: u8, cursor: &mut Cursor) -> Result<Places, DecodeError>
+    ensures { Gives result cursor.new (items_at (number_at w8) count cursor.old) }
 {
     let mut places = List::new(alloc);
     for _turn in 0..count {
-        let place = read_u8(left)?;
+        let place = decode_u8(cursor)?;
         places.push(u32::from(place))?;
     }
     Ok(places)
 }
 
-impl Spelled for PackedTable {
+impl Encode for PackedTable {
     ghost use Rattle.package_layout.specs.Spelling.{table_spelling};
     ghost use Rattle.package_layout.specs.Typed.{TypedTable};
 
@@ -199,40 +217,40 @@ impl Spelled for PackedTable {
 
     ghost typed = { TypedTable };
 
-    fn put(&self, to: &mut Bytes) -> Result<(), AllocError> {
-        put_text(&self.name, to)?;
-        put_schema(&self.schema, to)?;
-        self.next.put(to)?;
-        put_list(Width::Four, &self.rows, to)
+    fn encode(&self, to: &mut Bytes) -> Result<(), AllocError> {
+        encode_text(&self.name, to)?;
+        encode_schema(&self.schema, to)?;
+        self.next.encode(to)?;
+        encode_list(Width::Four, &self.rows, to)
     }
 }
 
-fn put_schema(schema: &Schema, to: &mut Bytes) -> Result<(), AllocError>
+fn encode_schema(schema: &Schema, to: &mut Bytes) -> Result<(), AllocError>
     ensures bytes { OnOk result (to.new ≡ to.old ++ schema_spelling schema.now) }
     ensures typed { OnOk result (AllByRecursion TypedColumn schema.now.columns) }
 {
-    put_list(Width::One, &schema.columns, to)?;
-    put_key(&schema.key, to)
+    encode_list(Width::One, &schema.columns, to)?;
+    encode_key(&schema.key, to)
 }
 
-fn read_schema(alloc: Global, left: &mut Left) -> Result<Schema, Stop>
-    ensures { Gives result left.new (schema_at left.old) }
+fn decode_schema(alloc: Global, cursor: &mut Cursor) -> Result<Schema, DecodeError>
+    ensures { Gives result cursor.new (schema_at cursor.old) }
 {
-    let columns = read_list(alloc, Width::One, left)?;
-    let key = read_key(alloc, left)?;
+    let columns = decode_list(alloc, Width::One, cursor)?;
+    let key = decode_key(alloc, cursor)?;
     Ok(Schema { columns, key })
 }
 
-impl Readable for PackedTable {
+impl Decode for PackedTable {
     ghost use Rattle.package_layout.specs.Reading.{table_at};
 
     ghost reading = { table_at };
 
-    fn read(alloc: Global, left: &mut Left) -> Result<PackedTable, Stop> {
-        let name = read_text(alloc, left)?;
-        let schema = read_schema(alloc, left)?;
-        let next = read_u32(left)?;
-        let rows = read_rows(alloc, &schema.columns, left)?;
+    fn decode(alloc: Global, cursor: &mut Cursor) -> Result<PackedTable, DecodeError> {
+        let name = decode_text(alloc, cursor)?;
+        let schema = decode_schema(alloc, cursor)?;
+        let next = decode_u32(cursor)?;
+        let rows = decode_rows(alloc, &schema.columns, cursor)?;
         Ok(PackedTable {
             name,
             schema,

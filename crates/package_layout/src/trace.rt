@@ -3,10 +3,13 @@
 ghost use Rattle.std.specs.Prelude.{◌≡◌, ◌<◌, ◌≤◌, ◌^◌, ◌+◌, [], ◌∷◌};
 ghost use Rattle.std.specs.List.{list_all};
 ghost use Rattle.sql_model.specs.SqlNames.{sql_name_test};
-ghost use Rattle.package_layout.specs.Order.{rises, is_below, need_below, member_below};
-ghost use Rattle.package_layout.specs.Trace.{act_rule, event_rule, made_after, is_asked, asked_after, progress_after, follows, at_start, starts_on, starts, trace_test, asked_count};
+ghost use Rattle.ldv_value.specs.Sorted.{is_strictly_sorted, text_precedes};
+ghost use Rattle.run_model.specs.ValidTrace.{need_precedes, member_precedes};
+ghost use Rattle.package_layout.specs.Trace.{act_rule, event_rule, made_after, is_asked, asked_after};
+ghost use Rattle.package_layout.specs.Trace.{progress_after, follows, at_start, starts_on, starts};
+ghost use Rattle.package_layout.specs.Trace.{trace_test, asked_count, progress_of};
 
-use crate::order::rises;
+use crate::order::is_strictly_sorted;
 use ldv_value::{Names, Utf8, is_path};
 use run_model::{Act, Event, Events};
 use sql_model::{Members, Needs, is_sql_name};
@@ -20,7 +23,7 @@ pub(crate) struct Progress {
     step: u32,
 }
 
-/// Whether events are those of a run that starts with a path and has so many steps.
+/// Whether events are those of a run that starts with a path and has the given number of steps.
 pub(crate) fn is_trace(path: &Utf8, steps: u32, events: &Events) -> bool
     ensures { result ≡ trace_test path.now steps events.now }
 {
@@ -54,7 +57,7 @@ fn follows(steps: u32, events: &[Event]) -> bool
         step: 1,
     };
     for event in events {
-        if !meets_event(steps, progress, event) {
+        if !is_valid_event(steps, progress, event) {
             return false;
         }
         progress = progress_after(progress, event);
@@ -62,17 +65,17 @@ fn follows(steps: u32, events: &[Event]) -> bool
     true
 }
 
-fn meets_event(steps: u32, before: Progress, event: &Event) -> bool
-    ensures { result ≡ event_rule steps before event.now }
+fn is_valid_event(steps: u32, before: Progress, event: &Event) -> bool
+    ensures { result ≡ event_rule steps (progress_of before) event.now }
 {
     before.step <= event.step
         && event.step <= steps
         && event.process < before.made
-        && meets_act(before, &event.act)
+        && is_valid_act(before, &event.act)
 }
 
-fn meets_act(before: Progress, act: &Act) -> bool
-    ensures { result ≡ act_rule before act.now }
+fn is_valid_act(before: Progress, act: &Act) -> bool
+    ensures { result ≡ act_rule (progress_of before) act.now }
 {
     match act {
         Act::Started { path: _ } => false,
@@ -97,9 +100,9 @@ fn meets_act(before: Progress, act: &Act) -> bool
         } => {
             u64::from(*statement) == before.asked
                 && are_names(tables)
-                && rises(tables)
-                && rises(reads)
-                && rises(made)
+                && is_strictly_sorted(tables)
+                && is_strictly_sorted(reads)
+                && is_strictly_sorted(made)
         }
     }
 }
@@ -113,7 +116,7 @@ fn are_names(names: &Names) -> bool
 fn progress_after(before: Progress, event: &Event) -> Progress
     requires made { before.made ≤ 65535 }
     requires asked { before.asked + 1 < 2 ^ 64 }
-    ensures { result ≡ progress_after before event.now }
+    ensures { progress_of result ≡ progress_after (progress_of before) event.now }
 {
     Progress {
         made: made_after(before.made, &event.act),

@@ -1,55 +1,56 @@
 //! The rules for a whole package.
 
-ghost use Rattle.std.specs.Prelude.{◌≡◌, ◌≤◌, IfOk, bytes_eq, find, length, nat_lt};
+ghost use Rattle.std.specs.Prelude.{◌≡◌, IfOk, bytes_eq, find, nat_lt};
 ghost use Rattle.std.specs.List.{list_all};
 ghost use Rattle.std.specs.Option.{option_map, is_some};
 ghost use Rattle.script_parse.specs.Script.{script_of};
-ghost use Rattle.package_layout.specs.Valid.{mode_rule, steps_rule, is_script, is_script_file, script_rule, trace_rule, reasons_rule, parts_rule, whole_rule, rules};
+ghost use Rattle.package_layout.specs.Valid.{mode_rule, steps_rule, is_script, is_script_file, script_rule};
+ghost use Rattle.package_layout.specs.Valid.{trace_rule, reasons_rule, parts_rule, whole_rule, rules};
 
-use crate::keys::meets_keys;
-use crate::rules::{meets_files, meets_logs, meets_start, meets_tables};
+use crate::keys::is_valid_keys;
+use crate::rules::{is_valid_files, is_valid_logs, is_valid_start, is_valid_tables};
 use crate::trace::{asked_count, is_trace};
-use ldv_value::{Bytes, FILE_LIMIT, Utf8, Words};
+use ldv_value::{Bytes, FILE_LIMIT, MAX_STEPS, Utf8, Words};
 use run_model::{Events, Logs, Mode, Package, PackedFile, PackedFiles, PackedTable, PackedTables};
 use script_parse::{ScriptStop, parse_script};
 use std::alloc::{AllocError, Global};
 
-/// Whether a package that was read meets the rules for valid packages. `AllocError` means want of memory
-/// alone.
-pub(crate) fn meets_rules(alloc: Global, package: &Package) -> Result<bool, AllocError>
+/// Whether a package that was read meets the rules for valid packages. `AllocError` means out of memory
+/// and nothing else.
+pub(crate) fn is_valid_package(alloc: Global, package: &Package) -> Result<bool, AllocError>
     ensures { IfOk result (λ holds. holds ≡ rules «package».now) }
 {
-    if !meets_parts(package) {
+    if !is_valid_parts(package) {
         return Ok(false);
     }
-    if !meets_whole(package) {
+    if !is_valid_whole(package) {
         return Ok(false);
     }
-    if !meets_keys(alloc, &package.tables)? {
+    if !is_valid_keys(alloc, &package.tables)? {
         return Ok(false);
     }
     starts_script(alloc, &package.start, &package.files)
 }
 
-fn meets_parts(package: &Package) -> bool
+fn is_valid_parts(package: &Package) -> bool
     ensures { result ≡ parts_rule «package».now }
 {
-    meets_start(&package.start)
-        && meets_files(&package.files)
-        && meets_tables(&package.tables)
-        && meets_logs(&package.logs)
+    is_valid_start(&package.start)
+        && is_valid_files(&package.files)
+        && is_valid_tables(&package.tables)
+        && is_valid_logs(&package.logs)
 }
 
-fn meets_whole(package: &Package) -> bool
+fn is_valid_whole(package: &Package) -> bool
     ensures { result ≡ whole_rule «package».now }
 {
-    meets_mode(package.mode, &package.tables, &package.logs)
-        && meets_steps(package.steps)
-        && meets_trace(&package.start, package.steps, &package.events)
-        && meets_reasons(asked_count(&package.events), &package.tables)
+    is_valid_mode(package.mode, &package.tables, &package.logs)
+        && is_valid_steps(package.steps)
+        && is_valid_trace(&package.start, package.steps, &package.events)
+        && is_valid_reasons(asked_count(&package.events), &package.tables)
 }
 
-fn meets_mode(mode: Mode, tables: &PackedTables, logs: &Logs) -> bool
+fn is_valid_mode(mode: Mode, tables: &PackedTables, logs: &Logs) -> bool
     ensures { result ≡ mode_rule mode tables.now logs.now }
 {
     match mode {
@@ -58,13 +59,13 @@ fn meets_mode(mode: Mode, tables: &PackedTables, logs: &Logs) -> bool
     }
 }
 
-fn meets_steps(steps: u32) -> bool
+fn is_valid_steps(steps: u32) -> bool
     ensures { result ≡ steps_rule steps }
 {
-    1 <= steps && steps <= 10_000_000
+    1 <= steps && steps <= MAX_STEPS
 }
 
-fn meets_trace(words: &Words, steps: u32, events: &Events) -> bool
+fn is_valid_trace(words: &Words, steps: u32, events: &Events) -> bool
     ensures { result ≡ trace_rule words.now steps events.now }
 {
     match words.items() {
@@ -73,16 +74,16 @@ fn meets_trace(words: &Words, steps: u32, events: &Events) -> bool
     }
 }
 
-fn meets_reasons(asked: u64, tables: &PackedTables) -> bool
+fn is_valid_reasons(asked: u64, tables: &PackedTables) -> bool
     ensures { result ≡ reasons_rule asked tables.now }
 {
     tables
         .items()
         .iter()
-        .all(|table| meets_table_reasons(asked, table))
+        .all(|table| is_valid_table_reasons(asked, table))
 }
 
-fn meets_table_reasons(asked: u64, table: &PackedTable) -> bool
+fn is_valid_table_reasons(asked: u64, table: &PackedTable) -> bool
     ensures { result ≡ list_all (λ row. nat_lt row.statement asked) table.now.rows }
 {
     table
@@ -132,7 +133,6 @@ fn is_script(alloc: Global, content: &Option<Bytes>) -> Result<bool, AllocError>
 }
 
 fn parses(alloc: Global, bytes: &[u8]) -> Result<bool, AllocError>
-    requires { length bytes.now ≤ 16777216 }
     ensures { IfOk result (λ holds. holds ≡ is_some (script_of bytes.now)) }
 {
     match parse_script(alloc, bytes) {

@@ -2,18 +2,18 @@
 
 ghost use Rattle.std.specs.Prelude.{◌≡◌, ◌++◌, OnOk};
 ghost use Rattle.package_layout.specs.Fields.{Gives};
-ghost use Rattle.package_layout.specs.Reading.{value_body};
+ghost use Rattle.package_layout.specs.Reading.{value_of_tag};
 
-use crate::left::Left;
-use crate::number::{put_i64, put_u8, read_i64, read_u8};
-use crate::spelled::{Readable, Spelled, put_list, read_list};
-use crate::stop::Stop;
-use crate::text::{put_text, read_text};
+use crate::codec::{Decode, Encode, decode_list, encode_list};
+use crate::cursor::Cursor;
+use crate::decode_error::DecodeError;
+use crate::number::{decode_i64, decode_u8, encode_i64, encode_u8};
+use crate::text::{decode_text, encode_text};
 use crate::width::Width;
 use ldv_value::{Bytes, Utf8, Value, Values};
 use std::alloc::{AllocError, Global};
 
-impl Spelled for Utf8 {
+impl Encode for Utf8 {
     ghost use Rattle.std.specs.Str.{IsUtf8};
     ghost use Rattle.package_layout.specs.Fields.{text_spelling};
 
@@ -21,22 +21,22 @@ impl Spelled for Utf8 {
 
     ghost typed = { IsUtf8 };
 
-    fn put(&self, to: &mut Bytes) -> Result<(), AllocError> {
-        put_text(self, to)
+    fn encode(&self, to: &mut Bytes) -> Result<(), AllocError> {
+        encode_text(self, to)
     }
 }
 
-impl Readable for Utf8 {
+impl Decode for Utf8 {
     ghost use Rattle.package_layout.specs.Fields.{text_at};
 
     ghost reading = { text_at };
 
-    fn read(alloc: Global, left: &mut Left) -> Result<Utf8, Stop> {
-        read_text(alloc, left)
+    fn decode(alloc: Global, cursor: &mut Cursor) -> Result<Utf8, DecodeError> {
+        decode_text(alloc, cursor)
     }
 }
 
-impl Spelled for Value {
+impl Encode for Value {
     ghost use Rattle.package_layout.specs.Spelling.{value_spelling};
     ghost use Rattle.package_layout.specs.Typed.{TypedValue};
 
@@ -44,44 +44,44 @@ impl Spelled for Value {
 
     ghost typed = { TypedValue };
 
-    fn put(&self, to: &mut Bytes) -> Result<(), AllocError> {
+    fn encode(&self, to: &mut Bytes) -> Result<(), AllocError> {
         match self {
-            Value::Null => put_u8(0, to),
+            Value::Null => encode_u8(0, to),
             Value::Int(number) => {
-                put_u8(1, to)?;
-                put_i64(*number, to)
+                encode_u8(1, to)?;
+                encode_i64(*number, to)
             }
             Value::Text(text) => {
-                put_u8(2, to)?;
-                put_text(text, to)
+                encode_u8(2, to)?;
+                encode_text(text, to)
             }
         }
     }
 }
 
-impl Readable for Value {
+impl Decode for Value {
     ghost use Rattle.package_layout.specs.Reading.{value_at};
 
     ghost reading = { value_at };
 
-    fn read(alloc: Global, left: &mut Left) -> Result<Value, Stop> {
-        let tag = read_u8(left)?;
-        value_behind(alloc, tag, left)
+    fn decode(alloc: Global, cursor: &mut Cursor) -> Result<Value, DecodeError> {
+        let tag = decode_u8(cursor)?;
+        value_of_tag(alloc, tag, cursor)
     }
 }
 
-fn value_behind(alloc: Global, tag: u8, left: &mut Left) -> Result<Value, Stop>
-    ensures { Gives result left.new (value_body tag left.old) }
+fn value_of_tag(alloc: Global, tag: u8, cursor: &mut Cursor) -> Result<Value, DecodeError>
+    ensures { Gives result cursor.new (value_of_tag tag cursor.old) }
 {
     match tag {
         0 => Ok(Value::Null),
-        1 => Ok(Value::Int(read_i64(left)?)),
-        2 => Ok(Value::Text(read_text(alloc, left)?)),
-        _ => Err(Stop::NoForm),
+        1 => Ok(Value::Int(decode_i64(cursor)?)),
+        2 => Ok(Value::Text(decode_text(alloc, cursor)?)),
+        _ => Err(DecodeError::Malformed),
     }
 }
 
-impl Spelled for Values {
+impl Encode for Values {
     ghost use Rattle.package_layout.specs.Spelling.{values_spelling};
     ghost use Rattle.package_layout.specs.Typed.{TypedValues};
 
@@ -89,17 +89,17 @@ impl Spelled for Values {
 
     ghost typed = { TypedValues };
 
-    fn put(&self, to: &mut Bytes) -> Result<(), AllocError> {
-        put_list(Width::Two, self, to)
+    fn encode(&self, to: &mut Bytes) -> Result<(), AllocError> {
+        encode_list(Width::Two, self, to)
     }
 }
 
-impl Readable for Values {
+impl Decode for Values {
     ghost use Rattle.package_layout.specs.Reading.{values_at};
 
     ghost reading = { values_at };
 
-    fn read(alloc: Global, left: &mut Left) -> Result<Values, Stop> {
-        read_list(alloc, Width::Two, left)
+    fn decode(alloc: Global, cursor: &mut Cursor) -> Result<Values, DecodeError> {
+        decode_list(alloc, Width::Two, cursor)
     }
 }

@@ -1,80 +1,147 @@
--- What is kept of a list of needed rows, and of the tables that a statement names.
-use Rattle.std.proofs.Common.{◌≡◌, ℕ, List, [], ◌∷◌, ◌++◌, refl, sym, ◌∙◌, subst, Bool, true, false, inl, inr}
-use Rattle.std.specs.Prelude.{Some, map, find, ◌&&◌, ◌||◌, ◌==◌, if◌then◌else◌}
+-- What acts and events need isn't cut, said act by act.
+use Rattle.std.proofs.Common.{◌≡◌, ℕ, List, [], ◌∷◌, ◌++◌, refl, sym, ap, ◌∙◌, Bool, true, false, inl, inr}
+use Rattle.std.specs.Prelude.{Option, Some, None, is_some, map, not, ◌||◌, ◌==◌}
+use Rattle.std.specs.List.{list_any}
 use Rattle.std.proofs.lemmas.Bool.{cases_Bool}
-use Rattle.std.proofs.lemmas.Bool.Decides.{Decides-eqb}
-use Rattle.std.proofs.lemmas.Slice.Eq.{bytes_eq-Decides}
-use Rattle.sql_model.specs.declared.need.Rule.{Rule}
-use Rattle.sql_model.specs.Answers.{Origin}
-use Rattle.sql_model.specs.Needs.{NeededRow, needed_by, is_same_row, is_earlier_row, put_row, rising_rows}
+use Rattle.sql_model.specs.Needs.{Versions, NeededRow}
 use Rattle.sql_model.specs.Scope.{same_text}
-use Rattle.run_model.specs.Events.{Past, read_of}
-use Rattle.run_model.specs.Slice.{Cut, KeepsReads}
-
-pub and_first : (a b : Bool) → (a && b) ≡ true → a ≡ true
-and_first true b both = refl
-and_first false b both = both
-
-pub and_second : (a b : Bool) → (a && b) ≡ true → b ≡ true
-and_second true b both = both
-and_second false b both = cc
-
-pub or_second : (a b : Bool) → b ≡ true → (a || b) ≡ true
-or_second true b second = refl
-or_second false b second = second
-
-pub same_text_is : (a b : List ℕ) → same_text a b ≡ true → a ≡ b
-same_text_is a b same = (bytes_eq-Decides a b).0 same
-
-pub number_is : (a b : ℕ) → (a == b) ≡ true → a ≡ b
-number_is a b same = (Decides-eqb a b).0 same
-
--- what is found passes the test
-pub found_passes : {X : Type 0} (p : X → Bool) (xs : List X) (x : X) → find p xs ≡ Some x → p x ≡ true
-found_passes p [] x is = cc
-found_passes p (y ∷ ys) x is = elim (cases_Bool (p y)) [
-  | inl hit ↦ let e : Some y ≡ Some x = rw hit at is in let same : y ≡ x = cc in subst (λ z. p z ≡ true) same hit
-  | inr miss ↦ found_passes p ys x (rw miss at is)
-]
+use Rattle.sql_laws.specs.QueryLaw.{Keep}
+use Rattle.sql_laws.specs.QueryLaw.{KeepsNeeded as KeepsRows}
+use Rattle.sql_laws.specs.StatementLaw.{keep_others}
+use Rattle.replay_db.specs.Types.{Need, Table, Act, Asked, Event}
+use Rattle.run_model.specs.Between.{Cut, KeepsFile, KeepsNeeded, is_initial, is_row_needed}
+use Rattle.run_model.specs.Events.{event_at}
+use Rattle.run_model.specs.Slice.{Reason, is_read, reason_in, act_reason, reason_or, first_reason, names_table, is_table_needed, file_need}
+use Rattle.run_model.specs.SqlDatabase.{read_of}
+use Rattle.replay_db.proofs.Tests.{or_first, or_second, self_text, self_number}
 
 module _ (cut : Cut) where
-  abbrev pub KeepsRows : List NeededRow → Type 0
-  KeepsRows [] = Unit {0}
-  KeepsRows (n ∷ ns) = (cut.row n.table n.row ≡ true) × KeepsRows ns
+  abbrev pub KeepsTables : List (List ℕ) → Type 0
+  KeepsTables [] = Unit {0}
+  KeepsTables (table ∷ tables) = (cut.table table ≡ true) × KeepsTables tables
 
-  pub rows_of_reads : (past : Past) (ns : List NeededRow) → KeepsReads cut (map (read_of past) ns) → KeepsRows ns
-  rows_of_reads past [] k = tt
-  rows_of_reads past (n ∷ ns) k = (k.0, rows_of_reads past ns k.1)
+  abbrev pub KeepsReads : List Need → Type 0
+  KeepsReads [] = Unit {0}
+  KeepsReads (need ∷ needs) = (cut.row need.member.table need.member.row ≡ true) × KeepsReads needs
 
-  abbrev pub KeepsOrigins : List Origin → Type 0
-  KeepsOrigins [] = Unit {0}
-  KeepsOrigins (o ∷ os) = (cut.row o.table o.row ≡ true) × KeepsOrigins os
+  -- the tables and rows of a statement stay
+  abbrev pub KeepsAct : Act → Type 0
+  KeepsAct (Asked statement tables needs made) = KeepsTables tables × KeepsReads needs
+  KeepsAct other = Unit {0}
 
-  pub origins_of_rows : (rule : Rule) (os : List Origin) → KeepsRows (map (needed_by rule) os) → KeepsOrigins os
-  origins_of_rows rule [] k = tt
-  origins_of_rows rule (o ∷ os) k = (k.0, origins_of_rows rule os k.1)
+  abbrev pub KeepsEvents : List Event → Type 0
+  KeepsEvents [] = Unit {0}
+  KeepsEvents (e ∷ es) = KeepsAct e.act × KeepsEvents es
 
-  pub keeps_split : (xs ys : List Origin) → KeepsOrigins (xs ++ ys) → KeepsOrigins xs × KeepsOrigins ys
-  keeps_split [] ys k = (tt, k)
-  keeps_split (x ∷ xs) ys k = let more = keeps_split xs ys k.1 in ((k.0, more.0), more.1)
+  pub keeps_events_split : (xs ys : List Event) → KeepsEvents (xs ++ ys) → KeepsEvents xs × KeepsEvents ys
+  keeps_events_split [] ys k = (tt, k)
+  keeps_events_split (x ∷ xs) ys k = let more = keeps_events_split xs ys k.1 in ((k.0, more.0), more.1)
 
-  kept_same : (n m : NeededRow) → is_same_row n m ≡ true → cut.row n.table n.row ≡ true → cut.row m.table m.row ≡ true
-  kept_same n m same stays =
-      let tables : n.table ≡ m.table = same_text_is n.table m.table (and_first (same_text n.table m.table) (n.row == m.row) same) in
-      let rows : n.row ≡ m.row = number_is n.row m.row (and_second (same_text n.table m.table) (n.row == m.row) same) in
-      sym (λ j. cut.row (tables j) (rows j)) ∙ stays
+  pub rows_of_reads : (versions : Versions) (ns : List NeededRow) → KeepsReads (map (read_of versions) ns)
+      → KeepsRows cut.row ns
+  rows_of_reads versions [] k = tt
+  rows_of_reads versions (n ∷ ns) k = (k.0, rows_of_reads versions ns k.1)
 
-  keeps_put : (n : NeededRow) (ms : List NeededRow) → KeepsRows (put_row n ms) → (cut.row n.table n.row ≡ true) × KeepsRows ms
-  keeps_put n [] k = (k.0, tt)
-  keeps_put n (m ∷ ms) k = elim (cases_Bool (is_same_row n m)) [
-    | inl same ↦ let kk : KeepsRows (n ∷ ms) = rw same at k in (kk.0, (kept_same n m same kk.0, kk.1))
-    | inr differs ↦ let k2 : KeepsRows (if is_earlier_row n m then n ∷ m ∷ ms else m ∷ put_row n ms) = rw differs at k in elim (cases_Bool (is_earlier_row n m)) [
-      | inl earlier ↦ let kk : KeepsRows (n ∷ m ∷ ms) = rw earlier at k2 in (kk.0, kk.1)
-      | inr later ↦ let kk : KeepsRows (m ∷ put_row n ms) = rw later at k2 in let more = keeps_put n ms kk.1 in (more.0, (kk.0, more.1))
-    ]
+-- ---- a cut that keeps all rows but some of a database
+
+-- only rows of these tables are cut
+abbrev pub others_stay : Cut → List Table → Cut
+others_stay cut tables = record { file = cut.file; table = cut.table; row = keep_others cut.row tables }
+
+module _ (cut : Cut) (tables : List Table) where
+  abbrev more : Cut
+  more = others_stay cut tables
+
+  reads_more : (needs : List Need) → KeepsReads cut needs → KeepsReads more needs
+  reads_more [] k = tt
+  reads_more (need ∷ needs) k =
+      (or_first (cut.row need.member.table need.member.row) (not (is_initial tables need.member.table need.member.row)) k.0, reads_more needs k.1)
+
+  act_more : (act : Act) → KeepsAct cut act → KeepsAct more act
+  act_more (Asked statement names needs made) k = (names_more names k.0, reads_more needs k.1)
+    where
+      names_more : (names : List (List ℕ)) → KeepsTables cut names → KeepsTables more names
+      names_more [] k = tt
+      names_more (name ∷ names) k = (k.0, names_more names k.1)
+  act_more other k = tt
+
+  pub events_more : (es : List Event) → KeepsEvents cut es → KeepsEvents more es
+  events_more [] k = tt
+  events_more (e ∷ es) k = (act_more e.act k.0, events_more es k.1)
+
+-- ---- all that is needed stays, also what the run made
+
+pub record KeepsAll (cut : Cut) (events : List Event) : Type 0 where
+  pub files : (path : List ℕ) → KeepsFile (file_need path events) (cut.file path)
+  pub tables : (name : List ℕ) → is_table_needed events name ≡ true → cut.table name ≡ true
+  pub rows : (name : List ℕ) (number : ℕ) → is_row_needed events name number ≡ true → cut.row name number ≡ true
+
+pub others_keep : (cut : Cut) (tables : List Table) (events : List Event) → KeepsNeeded cut tables events
+    → KeepsAll (others_stay cut tables) events
+others_keep cut tables events keeps = record {
+  files = keeps.files;
+  tables = keeps.tables;
+  rows = λ name number needed. elim (cases_Bool (is_initial tables name number)) [
+    | inl first ↦ or_first (cut.row name number) (not (is_initial tables name number)) (keeps.rows name number first needed)
+    | inr made ↦ or_second (cut.row name number) (not (is_initial tables name number)) (ap not made)
+  ];
+}
+
+module _ (all : List Event) (cut : Cut) (keeps : KeepsAll cut all) where
+  tables_part : (names : List (List ℕ))
+      → ((name : List ℕ) → list_any (λ other. same_text other name) names ≡ true → is_table_needed all name ≡ true)
+      → KeepsTables cut names
+  tables_part [] among = tt
+  tables_part (name ∷ names) among = (
+    keeps.tables name (among name (or_first (same_text name name) (list_any (λ other. same_text other name) names) (self_text name))),
+    tables_part names (λ other more. among other (or_second (same_text name other) (list_any (λ n. same_text n other) names) more)),
+  )
+
+  some_later : (statement : ℕ) (table : List ℕ) (row : ℕ) (need : Need) (needs : List Need)
+      → is_some (reason_in statement table row needs) ≡ true
+      → is_some (reason_in statement table row (need ∷ needs)) ≡ true
+  some_later statement table row need needs found = elim (cases_Bool (is_read table row need)) [
+    | inl hit ↦ rw hit refl
+    | inr miss ↦ rw miss found
   ]
 
-  -- a rising list has each row of the list
-  pub keeps_rising : (ns : List NeededRow) → KeepsRows (rising_rows ns) → KeepsRows ns
-  keeps_rising [] k = tt
-  keeps_rising (n ∷ ns) k = let both = keeps_put n (rising_rows ns) k in (both.0, keeps_rising ns both.1)
+  reads_part : (statement : ℕ) (needs : List Need)
+      → ((table : List ℕ) (row : ℕ) → is_some (reason_in statement table row needs) ≡ true → is_row_needed all table row ≡ true)
+      → KeepsReads cut needs
+  reads_part statement [] among = tt
+  reads_part statement (need ∷ needs) among =
+      let self : is_read need.member.table need.member.row need ≡ true = rw (self_text need.member.table, self_number need.member.row) refl in (
+        keeps.rows need.member.table need.member.row (among need.member.table need.member.row (rw self refl)),
+        reads_part statement needs (λ table row more. among table row (some_later statement table row need needs more)),
+      )
+
+  act_part : (act : Act) → ((table : List ℕ) → names_table table act ≡ true → is_table_needed all table ≡ true)
+      → ((table : List ℕ) (row : ℕ) → is_some (act_reason table row act) ≡ true → is_row_needed all table row ≡ true)
+      → KeepsAct cut act
+  act_part (Asked statement names needs made) tables_among rows_among = (tables_part names tables_among, reads_part statement needs rows_among)
+  act_part other tables_among rows_among = tt
+
+  first_some : (now later : Option Reason) → is_some now ≡ true → is_some (reason_or now later) ≡ true
+  first_some None later found = cc
+  first_some (Some reason) later found = refl
+
+  later_some : (now later : Option Reason) → is_some later ≡ true → is_some (reason_or now later) ≡ true
+  later_some None later found = found
+  later_some (Some reason) later found = refl
+
+  events_part : (es : List Event) → ((table : List ℕ) → is_table_needed es table ≡ true → is_table_needed all table ≡ true)
+      → ((table : List ℕ) (row : ℕ) → is_row_needed es table row ≡ true → is_row_needed all table row ≡ true)
+      → KeepsEvents cut es
+  events_part [] tables_among rows_among = tt
+  events_part (e ∷ es) tables_among rows_among = (
+    act_part e.act
+        (λ table here. tables_among table (or_first (names_table table e.act) (is_table_needed es table) here))
+        (λ table row here. rows_among table row (first_some (act_reason table row e.act) (first_reason table row es) here)),
+    events_part es
+        (λ table more. tables_among table (or_second (names_table table e.act) (is_table_needed es table) more))
+        (λ table row more. rows_among table row (later_some (act_reason table row e.act) (first_reason table row es) more)),
+  )
+
+  -- what each event needs stays
+  pub keeps_events : KeepsEvents cut all
+  keeps_events = events_part all (λ table more. more) (λ table row more. more)

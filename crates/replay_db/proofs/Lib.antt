@@ -1,23 +1,29 @@
-mod EndedLaw
+pub mod EndedLaw
 mod FileLaws
 mod Keeps
 mod PackageLaws
+mod RunSame
+mod SliceLaws
+mod SortedNeeds
+mod StatementSame
+mod StatementVersions
+mod Targets
+pub mod Tests
+mod WorldLaws
+mod SortedLists
+mod TraceLists
+mod Membership
+pub mod WorldRules
+mod NeedsSound
+mod NeedsSorted
+mod RowGroups
+mod TraceState
+mod StatementNames
+mod StatementEvents
+mod TraceReasons
+mod TraceRun
 mod PackageValid
 mod PackageValidLists
 mod PackageValidParts
 mod PackageValidTyped
-mod PicksLaw
-mod RunSame
-mod SliceLaws
-mod StatementLaw
-mod TraceGroups
-mod TraceLists
-mod TraceReasons
-mod TraceRows
-mod TraceRun
-mod TraceState
-mod TraceTables
-mod WorldLaws
-pub mod BuiltStatements
-pub mod SelectionNeeds
 pub mod TraceValid

@@ -1,58 +1,31 @@
 -- The package of a valid world's run that has ended is valid, and typed.
-use Rattle.std.proofs.Common.{◌≡◌, ℕ, suc, ◌≤◌, List, [], ◌∷◌, ◌++◌, length, map, Some, refl, ap, ◌∙◌, le_trans, Bool, true, ◌&&◌, IsTrue, nat_le, nat_lt, slice_get, arith}
+use Rattle.std.proofs.Common.{◌≡◌, ℕ, suc, ◌≤◌, List, [], ◌∷◌, ◌++◌, length, map, Some, refl, sym, ap, ◌∙◌, le_trans, Bool, true, false, ◌&&◌, IsTrue, nat_le, nat_lt, slice_get, arith, inl, inr}
+use Rattle.std.specs.Prelude.{Option, None}
 use Rattle.std.specs.List.{list_all, AllByRecursion}
 use Rattle.std.proofs.lemmas.Bool.{and_parts, and_from, le-leb}
 use Rattle.std.proofs.lemmas.Bool.Decides.{nat_tests}
-use Rattle.std.proofs.lemmas.Slice.Eq.{bytes_eq-Decides}
 use Rattle.ldv_value.specs.Names.{path_test}
-use Rattle.ldv_value.specs.declared.file.File.{File}
-use Rattle.script_parse.specs.declared.script.Instr.{Instr}
-use Rattle.sql_model.specs.Scope.{same_text}
-use Rattle.run_model.specs.declared.event.Act.TheVariants.{Started}
-use Rattle.run_model.specs.declared.event.Event.{Event}
-use Rattle.run_model.specs.declared.package.Package.{Package}
-use Rattle.run_model.specs.declared.world.World.{World}
-use Rattle.run_model.specs.Built.{built_within}
-use Rattle.run_model.specs.Events.{event_at, events_from, no_past, start_events, script_events, events_within}
-use Rattle.run_model.specs.Run.{all_ended, run}
-use Rattle.run_model.specs.Slice.{Whole, file_need, files_needed, tables_needed, world_steps, included_package}
-use Rattle.run_model.specs.Start.{start_script}
-use Rattle.run_model.specs.State.{start_state}
+use Rattle.replay_db.specs.Types.{File, Instr, Started, Event, Included, Package, World}
+use Rattle.run_model.specs.Events.{event_at, events, start_events}
+use Rattle.run_model.specs.Package.{package_of}
+use Rattle.run_model.specs.Slice.{Whole, file_need, files_needed, tables_needed}
+use Rattle.run_model.specs.SqlDatabase.{sql_base}
+use Rattle.run_model.specs.Start.{start_script, start_state}
+use Rattle.run_model.specs.WorldRun.{ends_in, ends_within, steps_by, events_in, events_within}
+use Rattle.sql_model.specs.Tables.{tables_test}
 use Rattle.package_layout.specs.Events.{TypedEvent, event_room}
 use Rattle.package_layout.specs.Order.{rises, table_below}
 use Rattle.package_layout.specs.Room.{some_thousands, table_room, log_room}
 use Rattle.package_layout.specs.Trace.{asked_count}
 use Rattle.package_layout.specs.Typed.{IsU32}
-use Rattle.package_layout.specs.Valid.{is_short_text, start_rule, files_rule, table_rule, tables_rule, keys_rule, script_rule, is_script_file, steps_rule, trace_rule, reasons_rule, parts_rule, whole_rule, rules}
+use Rattle.package_layout.specs.Valid.{is_short_text, start_rule, files_rule, table_rule, tables_rule, keys_rule, script_rule, is_script_file, steps_rule, trace_rule, reasons_rule, parts_rule, whole_rule, rules, Valid}
 use Rattle.package_layout.specs.Whole.{IsTyped, tables_room, has_room}
-use Rattle.replay_db.specs.Worlds.{all_of_file, all_of_world, rules_of_parts, world_rules, ValidPackageLaw, TypedPackageLaw}
+use Rattle.replay_db.specs.Worlds.{all_of_file, all_of_world, TypedWorld, world_rules, ValidPackageLaw, TypedPackageLaw}
 use Rattle.replay_db.proofs.PackageValidParts.{files_valid, whole_found, rooms_valid, keys_valid, tables_valid}
 use Rattle.replay_db.proofs.PackageValidTyped.{files_typed, tables_typed}
-use Rattle.replay_db.proofs.TraceValid.{trace_valid, steps_at_least_one, steps_at_most, reasons_valid, trace_room, trace_typed}
-
--- ---- the rules, one by one
-
-pub record Ruled (p : Package) : Type 0 where
-  pub start : start_rule p.start ≡ true
-  pub files : files_rule p.files ≡ true
-  pub tables : tables_rule p.tables ≡ true
-  pub room : list_all table_room p.tables ≡ true
-  pub keys : keys_rule p.tables ≡ true
-  pub script : script_rule p.start p.files ≡ true
-
-pub ruled_by : (p : Package) → IsTrue (rules_of_parts p) → Ruled p
-ruled_by p met =
-    let start : Bool = start_rule p.start in
-    let files : Bool = files_rule p.files in
-    let tables : Bool = tables_rule p.tables in
-    let room : Bool = list_all table_room p.tables in
-    let keys : Bool = keys_rule p.tables in
-    let a = and_parts (start && files && tables && room && keys) (script_rule p.start p.files) met in
-    let b = and_parts (start && files && tables && room) keys a.0 in
-    let c = and_parts (start && files && tables) room b.0 in
-    let d = and_parts (start && files) tables c.0 in
-    let e = and_parts start files d.0 in
-    record { start = e.0; files = e.1; tables = d.1; room = c.1; keys = b.1; script = a.1 }
+use Rattle.replay_db.proofs.Tests.{cases_option, self_text}
+use Rattle.replay_db.proofs.TraceValid.{trace_is, steps_at_least_one, steps_at_most, reasons_valid, room_is, typed_is}
+use Rattle.replay_db.proofs.WorldRules.{Ruled, ruled_by, RuledList, ruled_list, world_tables}
 
 -- ---- start words
 
@@ -73,7 +46,7 @@ tables_few count within = grind (arith, nat_tests)
 
 -- the file that is started is needed whole
 started_whole : (word : List ℕ) (later : List Event) → file_need word (event_at 0 0 (Started word) ∷ later) ≡ Some Whole
-started_whole word later = let self : same_text word word ≡ true = (bytes_eq-Decides word word).1 refl in rw self refl
+started_whole word later = rw (self_text word) refl
 
 script_still : (start : List (List ℕ)) (later events : List Event) (files : List File) → events ≡ start_events (slice_get start 0) ++ later → script_rule start (map all_of_file files) ≡ true → script_rule start (files_needed events files) ≡ true
 script_still [] later events files begins met = cc
@@ -91,49 +64,78 @@ steps_small count n most less = omega arith
 
 -- ---- a run
 
-module _ (n : ℕ) (w : World) (script : List Instr) (is : start_script w ≡ Some script) where
-  begins : events_within n w ≡ start_events (slice_get w.start 0) ++ events_from n 1 no_past (start_state w script)
-  begins = ap (script_events n w) is
+module _ (n : ℕ) (w : World) (met : IsTrue (world_rules w)) (valid : tables_test w.tables ≡ true) (less : n ≤ 10000000) (script : List Instr)
+    (is : start_script w ≡ Some script) (ended : ends_within n w ≡ true) where
+  abbrev p : Package
+  p = package_of Included n w
 
-  steps_valid : n ≤ 10000000 → all_ended (run n (start_state w script)) ≡ true → steps_rule (world_steps n w (start_script w)) ≡ true
-  steps_valid less end = steps_between (world_steps n w (start_script w)) n (steps_at_least_one n w script is end) (steps_at_most n w) less
+  abbrev later : List Event
+  later = events sql_base n 1 [] (start_state w script)
 
-  room_valid : built_within n w ≡ true → IsTrue (world_rules w) → all_ended (run n (start_state w script)) ≡ true → Ruled (all_of_world w) → tables_rule (tables_needed (events_within n w) w.tables) ≡ true → has_room (included_package n w) ≡ true
-  room_valid built met end ruled tables =
-      let p : Package = included_package n w in
-      let few : Bool = nat_le (length p.tables) 256 in
-      let parts = and_parts (few && list_all table_rule p.tables) (rises table_below p.tables) tables in
-      let count = and_parts few (list_all table_rule p.tables) parts.0 in
-      let room : tables_room p ≡ true = and_from (some_thousands p.tables) (list_all table_room p.tables) (tables_few (length p.tables) count.0) (rooms_valid p.events w.tables ruled.room) in
+  begins : events_within n w ≡ start_events (slice_get w.start 0) ++ later
+  begins = ap (events_in n [] w) is
+
+  ruled : Ruled (all_of_world w)
+  ruled = ruled_by (all_of_world w) met
+
+  steps_valid : steps_rule p.steps ≡ true
+  steps_valid = steps_between p.steps n (steps_at_least_one n [] w script is ended) (steps_at_most n [] w) less
+
+  files : files_rule p.files ≡ true
+  files = files_valid p.events w.files ruled.files
+
+  tables : tables_rule p.tables ≡ true
+  tables = tables_valid p.events w.tables ruled.tables
+
+  room_valid : has_room p ≡ true
+  room_valid =
+      let list : RuledList p.tables = ruled_list p.tables tables in
+      let room : tables_room p ≡ true = and_from (some_thousands p.tables) (list_all table_room p.tables) (tables_few (length p.tables) list.few) (rooms_valid p.events w.tables ruled.room) in
       and_from (some_thousands p.start) (tables_room p && (list_all log_room p.logs && list_all event_room p.events)) (start_room p.start ruled.start)
-      (and_from (tables_room p) (list_all log_room p.logs && list_all event_room p.events) room (trace_room n w script is built met end))
+      (and_from (tables_room p) (list_all log_room p.logs && list_all event_room p.events) room (room_is n [] w script is met valid))
+
+  parts : parts_rule p ≡ true
+  parts =
+      and_from (start_rule p.start && files_rule p.files && tables_rule p.tables) true
+      (and_from (start_rule p.start && files_rule p.files) (tables_rule p.tables) (and_from (start_rule p.start) (files_rule p.files) ruled.start files) tables) refl
+
+  trace : trace_rule p.start p.steps p.events ≡ true
+  trace = trace_is n [] w script is met valid
+
+  whole : whole_rule p ≡ true
+  whole =
+      and_from (steps_rule p.steps && trace_rule p.start p.steps p.events) (reasons_rule (asked_count p.events) p.tables)
+      (and_from (steps_rule p.steps) (trace_rule p.start p.steps p.events) steps_valid trace) (reasons_valid n [] w script is met valid)
+
+  all_rules : rules p ≡ true
+  all_rules =
+      let starts : script_rule p.start p.files ≡ true = script_still w.start later p.events w.files begins ruled.script in
+      and_from (parts_rule p && whole_rule p && keys_rule p.tables) (script_rule p.start p.files)
+      (and_from (parts_rule p && whole_rule p) (keys_rule p.tables) (and_from (parts_rule p) (whole_rule p) parts whole) (keys_valid p.events w.tables ruled.keys)) starts
+
+  script_valid : Valid p
+  script_valid = and_from (has_room p) (rules p) room_valid all_rules
+
+  script_typed : TypedWorld w → IsTyped p
+  script_typed t =
+      let asked : AllByRecursion TypedEvent p.events = typed_is n [] w script is met valid t less in
+      (t.0, (t.1.0, (steps_small p.steps n (steps_at_most n [] w) less, (files_typed p.events w.files t.1.1.1.0, (tables_typed p.events asked w.tables t.1.1.1.1.0, (tt, asked))))))
 
 -- ---- the laws
 
+-- a run that has ended had a script
+has_script : (n : ℕ) (w : World) → ends_within n w ≡ true → (script : List Instr) × (start_script w ≡ Some script)
+has_script n w ended = elim (cases_option (start_script w)) [
+  | inl none ↦ let never : false ≡ true = sym (ap (ends_in n [] w) none) ∙ ended in absurd cc
+  | inr script ↦ script
+]
+
 pub valid_package : ValidPackageLaw
-valid_package n w script is built met less end =
-    let p : Package = included_package n w in
-    let events : List Event = p.events in
-    let ruled : Ruled (all_of_world w) = ruled_by (all_of_world w) met in
-    let files : files_rule p.files ≡ true = files_valid events w.files ruled.files in
-    let tables : tables_rule p.tables ≡ true = tables_valid events w.tables ruled.tables in
-    let parts : parts_rule p ≡ true = and_from (start_rule p.start && files_rule p.files && tables_rule p.tables) true
-    (and_from (start_rule p.start && files_rule p.files) (tables_rule p.tables) (and_from (start_rule p.start) (files_rule p.files) ruled.start files) tables) refl in
-    let steps : steps_rule p.steps ≡ true = steps_valid n w script is less end in
-    let trace : trace_rule p.start p.steps events ≡ true = trace_valid n w script is built met end in
-    let reasons : reasons_rule (asked_count events) p.tables ≡ true = reasons_valid n w script is built met end in
-    let whole : whole_rule p ≡ true = and_from (steps_rule p.steps && trace_rule p.start p.steps events) (reasons_rule (asked_count events) p.tables)
-    (and_from (steps_rule p.steps) (trace_rule p.start p.steps events) steps trace) reasons in
-    let keys : keys_rule p.tables ≡ true = keys_valid events w.tables ruled.keys in
-    let starts : script_rule p.start p.files ≡ true = script_still w.start (events_from n 1 no_past (start_state w script)) events w.files (begins n w script is) ruled.script in
-    let all : rules p ≡ true = and_from (parts_rule p && whole_rule p && keys_rule p.tables) (script_rule p.start p.files)
-    (and_from (parts_rule p && whole_rule p) (keys_rule p.tables) (and_from (parts_rule p) (whole_rule p) parts whole) keys) starts in
-    and_from (has_room p) (rules p) (room_valid n w script is built met end ruled tables) all
+valid_package n w met valid less ended =
+    let script = has_script n w ended in
+    script_valid n w met valid less script.0 script.1 ended
 
 pub typed_package : TypedPackageLaw
-typed_package n w script is built valid less end =
-    let events : List Event = events_within n w in
-    let asked : AllByRecursion TypedEvent events = trace_typed n w script is built valid less end in
-    let few : world_steps n w (start_script w) ≤ n = steps_at_most n w in
-    let t : IsTyped (all_of_world w) = valid.typed in
-    (t.0, (t.1.0, (steps_small (world_steps n w (start_script w)) n few less, (files_typed events w.files t.1.1.1.0, (tables_typed events asked w.tables t.1.1.1.1.0, (tt, asked))))))
+typed_package n w valid less ended =
+    let script = has_script n w ended in
+    script_typed n w valid.ruled (world_tables w valid) less script.0 script.1 ended valid.typed

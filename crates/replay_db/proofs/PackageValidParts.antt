@@ -6,15 +6,9 @@ use Rattle.std.proofs.lemmas.Bool.{and_parts, and_from, not-true, not_from_false
 use Rattle.std.proofs.lemmas.Bool.Decides.{nat_tests}
 use Rattle.std.proofs.lemmas.Slice.Eq.{bytes_eq-Decides}
 use Rattle.ldv_value.specs.Names.{path_test}
-use Rattle.ldv_value.specs.declared.file.File.{File}
+use Rattle.replay_db.specs.Types.{File, Table, TableRow, Event, PackedFile, PackedRow, PackedTable}
 use Rattle.ldv_value.specs.declared.value.Value.{Value}
 use Rattle.sql_model.specs.SqlNames.{sql_name_test}
-use Rattle.sql_model.specs.declared.table.Table.{Table}
-use Rattle.sql_model.specs.declared.table.TableRow.{TableRow}
-use Rattle.run_model.specs.declared.event.Event.{Event}
-use Rattle.run_model.specs.declared.package.PackedFile.{PackedFile}
-use Rattle.run_model.specs.declared.package.PackedRow.{PackedRow}
-use Rattle.run_model.specs.declared.package.PackedTable.{PackedTable}
 use Rattle.run_model.specs.Slice.{FileNeed, Whole, Present, file_need, packed_as, packed_file, files_needed, Reason, first_reason, packed_because, packed_row, rows_needed, is_table_needed, packed_table, tables_needed}
 use Rattle.sql_model.specs.Keys.{repeats, same_values, values_at}
 use Rattle.package_layout.specs.Order.{rises, is_below, file_below, row_below, table_below}

@@ -2,15 +2,7 @@
 use Rattle.std.proofs.Common.{◌≡◌, ℕ, ◌∷◌, List, [], map, Option, Some, None, option_map, sym, subst, inl, inr}
 use Rattle.std.specs.List.{AllByRecursion}
 use Rattle.std.proofs.lemmas.Bool.{cases_Bool}
-use Rattle.ldv_value.specs.declared.file.File.{File}
-use Rattle.sql_model.specs.declared.need.Need.{Need}
-use Rattle.sql_model.specs.declared.table.Table.{Table}
-use Rattle.sql_model.specs.declared.table.TableRow.{TableRow}
-use Rattle.run_model.specs.declared.event.Act.{Act}
-use Rattle.run_model.specs.declared.event.Act.TheVariants.{Asked}
-use Rattle.run_model.specs.declared.event.Event.{Event}
-use Rattle.run_model.specs.declared.package.PackedFile.{PackedFile}
-use Rattle.run_model.specs.declared.package.PackedRow.{PackedRow}
+use Rattle.replay_db.specs.Types.{File, Need, Table, TableRow, Act, Asked, Event, PackedFile, PackedRow}
 use Rattle.run_model.specs.Slice.{FileNeed, Whole, Present, file_need, packed_as, packed_file, files_needed, Reason, is_read, reason_in, act_reason, reason_or, first_reason, packed_row, packed_table, tables_needed}
 use Rattle.package_layout.specs.Events.{TypedAct, TypedEvent}
 use Rattle.package_layout.specs.Typed.{IsU32, TypedValues, TypedFile, TypedRow, TypedTable}

@@ -11,10 +11,6 @@ use Rattle.std.proofs.lemmas.Cmp.{nat_list_cmp_total, tied_itself}
 use Rattle.package_layout.specs.Order.{is_below_next, rises, is_below}
 use Rattle.package_layout.proofs.Laws.{both_true, and_true}
 
-pub cases_option : {A : Type 0} (o : Option A) → (o ≡ None) ⊎ ((x : A) × (o ≡ Some x))
-cases_option None = inl refl
-cases_option (Some x) = inr (x, refl)
-
 -- ---- each item
 
 module _ {X : Type 0} (P : X → Type 0) where

@@ -4,18 +4,13 @@ use Rattle.std.specs.Prelude.{Option, Some, None, map, filter, ◌&&◌, ◌==�
 use Rattle.std.specs.List.{list_all}
 use Rattle.std.proofs.lemmas.Bool.{cases_Bool, lt-ltb, eqb-true}
 use Rattle.sql_model.specs.SqlNames.{sql_name_test}
-use Rattle.sql_model.specs.declared.need.Need.{Need}
-use Rattle.sql_model.specs.declared.table.Table.{Table}
-use Rattle.sql_model.specs.declared.table.TableRow.{TableRow}
-use Rattle.run_model.specs.declared.event.Act.{Act}
-use Rattle.run_model.specs.declared.event.Act.TheVariants.{Started, Asked}
-use Rattle.run_model.specs.declared.event.Event.{Event}
+use Rattle.replay_db.specs.Types.{Need, Table, TableRow, Act, Started, Asked, Event}
 use Rattle.run_model.specs.Slice.{Reason, is_read, reason_in, act_reason, reason_or, first_reason, rows_needed, is_table_needed, packed_table, tables_needed}
 use Rattle.package_layout.specs.Order.{rises, is_below, need_below, member_below}
 use Rattle.package_layout.specs.Trace.{act_rule, made_after, is_asked, asked_after, follows, at_start, starts_on, starts, trace_test, asked_among, asked_count}
 use Rattle.package_layout.specs.Valid.{trace_rule, reasons_rule}
 use Rattle.package_layout.proofs.Laws.{both_true, and_true}
-use Rattle.replay_db.proofs.TraceLists.{cases_option}
+use Rattle.replay_db.proofs.Tests.{cases_option}
 
 -- ---- statements are counted
 

@@ -1,45 +1,51 @@
--- The law of worlds between.
-use Rattle.std.proofs.Common.{◌≡◌, ℕ, List, [], ◌++◌, refl, sym, ap, ◌∙◌, subst, true, inl, inr}
-use Rattle.std.specs.Prelude.{Option, Some, None, option_and_then, slice_get, ◌⊎◌}
+-- The law of worlds between, by the cut.
+use Rattle.std.proofs.Common.{◌≡◌, ℕ, List, [], ◌++◌, refl, sym, ap, ◌∙◌, subst, Bool, true, inl, inr}
+use Rattle.std.specs.Prelude.{Option, Some, None, option_and_then, map, filter, slice_get, if◌then◌else◌}
 use Rattle.std.proofs.lemmas.Slice.Eq.{bytes_eq-Decides}
-use Rattle.ldv_value.specs.declared.file.File.{File}
-use Rattle.script_parse.specs.declared.script.Instr.{Instr}
 use Rattle.script_parse.specs.Script.{script_of}
 use Rattle.sql_model.specs.Scope.{same_text}
-use Rattle.run_model.specs.declared.event.Event.{Event}
-use Rattle.run_model.specs.declared.package.Mode.TheVariants.{Included}
-use Rattle.run_model.specs.declared.world.World.{World}
-use Rattle.run_model.specs.Built.{script_built, built_within}
-use Rattle.run_model.specs.Events.{no_past, events_from, steps_within, start_events, script_events, events_within}
+use Rattle.sql_model.specs.Tables.{tables_test}
+use Rattle.sql_laws.specs.StatementLaw.{keep_others}
+use Rattle.sql_laws.proofs.OtherRows.{database_same}
+use Rattle.replay_db.specs.Types.{File, Instr, Event, Log, Mode, Included, Excluded, Outcome, PathOutcome, World, Table}
+use Rattle.run_model.specs.Between.{Cut, FileCut, Gone, Same, Other, cut_world, cut_core, cut_state, cut_files, table_stays, KeepsFile, KeepsNeeded, CutOf, slice_of}
+use Rattle.run_model.specs.Core.{Core, all_ended}
+use Rattle.run_model.specs.Events.{events, start_events}
+use Rattle.run_model.specs.Outcome.{outcome_of_process, outcome_of, outcome_at, by_name}
+use Rattle.run_model.specs.Package.{logs_of_mode, package_by, tables_of}
 use Rattle.run_model.specs.Run.{run}
-use Rattle.run_model.specs.Slice.{FileNeed, Whole, file_need, files_needed, tables_needed, world_steps, Cut, Kept, Gone, Same, Other, cut_world, cut_state, cut_files, KeepsFile, KeepsEvents, KeepsNeeded, slice_cut, slice_of, Between}
-use Rattle.run_model.specs.Start.{file_at, start_script}
-use Rattle.run_model.specs.State.{State, start_state}
-use Rattle.replay_db.specs.Laws.{SameRun, BetweenLaw, ReplayLaw}
-use Rattle.replay_db.proofs.FileLaws.{file_same}
-use Rattle.replay_db.proofs.PackageLaws.{files_same, tables_same}
-use Rattle.replay_db.proofs.RunSame.{keeps_events_split, run_law, outcome_law}
-use Rattle.replay_db.proofs.SliceLaws.{slice_keeps, own_law}
+use Rattle.run_model.specs.Slice.{FileNeed, Whole, file_need, files_needed}
+use Rattle.run_model.specs.SqlDatabase.{SqlDatabase, sql_base}
+use Rattle.ldv_value.specs.FileState.{file_at}
+use Rattle.run_model.specs.Start.{start_script, start_state}
+use Rattle.run_model.specs.State.{State}
+use Rattle.run_model.specs.WorldRun.{core_after, ends_in, ends_by, outcome_in, outcome_by, steps_in, steps_by, events_in, events_by, logs_of, logs_in, logs_by}
+use Rattle.replay_db.specs.Laws.{SameRun, BetweenLaw, InterleavingLaw, ReplayLaw}
+use Rattle.replay_db.proofs.FileLaws.{file_same, outcomes_same}
+use Rattle.replay_db.proofs.Keeps.{KeepsEvents, keeps_events_split, others_stay, KeepsAll, others_keep, keeps_events}
+use Rattle.replay_db.proofs.PackageLaws.{files_same, tables_of_same}
+use Rattle.replay_db.proofs.RunSame.{SameRuns, run_law}
+use Rattle.replay_db.proofs.SliceLaws.{slice_law, own_law}
+use Rattle.replay_db.proofs.Tests.{cases_option, self_text}
 
-cases_option : {A : Type 0} (o : Option A) → (o ≡ None) ⊎ ((x : A) × (o ≡ Some x))
-cases_option None = inl refl
-cases_option (Some x) = inr (x, refl)
+-- ---- the script
 
 -- a file that is needed whole stays as it is
-whole_stays : (need : Option FileNeed) (k : Kept) → need ≡ Some Whole → KeepsFile need k → k ≡ Same
+whole_stays : (need : Option FileNeed) (k : FileCut) → need ≡ Some Whole → KeepsFile need k → k ≡ Same
 whole_stays need k is keeps = by k (subst (λ (o : Option FileNeed). KeepsFile o k) is keeps)
   where
-    by : (k : Kept) → KeepsFile (Some Whole) k → k ≡ Same
+    by : (k : FileCut) → KeepsFile (Some Whole) k → k ≡ Same
     by Gone keeps = absurd keeps
     by Same keeps = refl
     by (Other bytes) keeps = absurd keeps
 
 -- the start file is needed whole
 start_needed : (path : List ℕ) (events : List Event) → file_need path (start_events (Some path) ++ events) ≡ Some Whole
-start_needed path events = let self : same_text path path ≡ true = (bytes_eq-Decides path path).1 refl in rw self refl
+start_needed path events = rw (self_text path) refl
 
 -- the script is that of the first start word's file, which is needed whole
-pub script_law : (w : World) (script : List Instr) → start_script w ≡ Some script → (cut : Cut) (events : List Event) → KeepsNeeded cut (start_events (slice_get w.start 0) ++ events) → start_script (cut_world cut w) ≡ Some script
+script_law : (w : World) (script : List Instr) → start_script w ≡ Some script → (cut : Cut) (events : List Event)
+    → KeepsAll cut (start_events (slice_get w.start 0) ++ events) → start_script (cut_world cut w) ≡ Some script
 script_law w script is cut events keeps = elim (cases_option (slice_get w.start 0)) [
   | inl none ↦ let never : None ≡ Some script = rw none at is in cc
   | inr word ↦
@@ -52,51 +58,108 @@ script_law w script is cut events keeps = elim (cases_option (slice_get w.start 
       ap (option_and_then (λ (file : File). script_of file.content)) (at_word (cut_files cut [] w.files) ∙ found ∙ sym (at_word w.files)) ∙ is
 ]
 
-module _ (n : ℕ) (w : World) (script : List Instr) (is : start_script w ≡ Some script) (built : built_within n w ≡ true) (cut : Cut) (keeps : KeepsNeeded cut (events_within n w)) where
-  abbrev start : State
+-- ---- outcomes
+
+outcome_cut : (cut : Cut) (c : Core) → outcome_of (cut_core cut c) ≡ outcome_of c
+outcome_cut cut c = λ j. record {
+  processes = map outcome_of_process (by_name c.processes);
+  paths = outcomes_same cut c.files j;
+}
+
+outcome_at_cut : (cut : Cut) (c : Core) → outcome_at (cut_core cut c) ≡ outcome_at c
+outcome_at_cut cut c = ap (λ (o : Outcome). if all_ended c then Some o else None) (outcome_cut cut c)
+
+module _ (n : ℕ) (picks : List ℕ) (w : World) (script : List Instr) (is : start_script w ≡ Some script)
+    (valid : tables_test w.tables ≡ true) (cut : Cut) (keeps : KeepsAll cut (events_by n picks w)) where
+  abbrev start : State SqlDatabase
   start = start_state w script
 
-  events_are : events_within n w ≡ start_events (slice_get w.start 0) ++ events_from n 1 no_past start
-  events_are = ap (script_events n w) is
+  abbrev small : World
+  small = cut_world cut w
 
-  script_stays : start_script (cut_world cut w) ≡ Some script
-  script_stays = script_law w script is cut (events_from n 1 no_past start) (subst (KeepsNeeded cut) events_are keeps)
+  abbrev later : List Event
+  later = events sql_base n 1 picks start
 
-  keeps_run : KeepsEvents cut (events_from n 1 no_past start)
-  keeps_run =
-      (keeps_events_split cut (start_events (slice_get w.start 0)) (events_from n 1 no_past start) (subst (KeepsEvents cut) events_are keeps.rows)).1
+  events_are : events_by n picks w ≡ start_events (slice_get w.start 0) ++ later
+  events_are = ap (events_in n picks w) is
 
-  runs_same : (run n (cut_state cut start) ≡ cut_state cut (run n start)) × (events_from n 1 no_past (cut_state cut start) ≡ events_from n 1 no_past start) × (steps_within n (cut_state cut start) ≡ steps_within n start)
-  runs_same = run_law cut n 1 no_past start (sym (ap (script_built n w) is) ∙ built) keeps_run
+  script_stays : start_script small ≡ Some script
+  script_stays = script_law w script is cut later (subst (KeepsAll cut) events_are keeps)
 
-  events_stay : events_within n (cut_world cut w) ≡ events_within n w
+  keeps_run : KeepsEvents cut later
+  keeps_run = (keeps_events_split cut (start_events (slice_get w.start 0)) later (subst (KeepsEvents cut) events_are (keeps_events (events_by n picks w) cut keeps))).1
+
+  runs : SameRuns n 1 picks cut start
+  runs = run_law n 1 picks cut start valid keeps_run
+
+  core_same : core_after n picks small script ≡ cut_core runs.end (core_after n picks w script)
+  core_same = ap (λ (s : State SqlDatabase). s.core) runs.state
+
+  events_stay : events_by n picks small ≡ events_by n picks w
   events_stay =
-      ap (script_events n (cut_world cut w)) script_stays
-      ∙ ap (λ (es : List Event). start_events (slice_get w.start 0) ++ es) runs_same.1
+      ap (events_in n picks small) script_stays
+      ∙ ap (λ (es : List Event). start_events (slice_get w.start 0) ++ es) runs.told
       ∙ sym events_are
 
-  steps_stay : world_steps n (cut_world cut w) (start_script (cut_world cut w)) ≡ world_steps n w (start_script w)
-  steps_stay = ap (world_steps n (cut_world cut w)) script_stays ∙ runs_same.2 ∙ sym (ap (world_steps n w) is)
+  steps_stay : steps_by n picks small ≡ steps_by n picks w
+  steps_stay = ap (steps_in n picks small) script_stays ∙ runs.count ∙ sym (ap (steps_in n picks w) is)
 
-  files_stay : files_needed (events_within n (cut_world cut w)) (cut_world cut w).files ≡ files_needed (events_within n w) w.files
-  files_stay = ap (λ (es : List Event). files_needed es (cut_world cut w).files) events_stay ∙ files_same cut (events_within n w) keeps.files w.files
+  ends_stay : ends_by n picks small ≡ ends_by n picks w
+  ends_stay = ap (ends_in n picks small) script_stays ∙ ap all_ended core_same ∙ sym (ap (ends_in n picks w) is)
 
-  tables_stay : tables_needed (events_within n (cut_world cut w)) (cut_world cut w).tables ≡ tables_needed (events_within n w) w.tables
-  tables_stay = ap (λ (es : List Event). tables_needed es (cut_world cut w).tables) events_stay ∙ tables_same cut (events_within n w) keeps.rows w.tables
+  outcome_stays : outcome_by n picks small ≡ outcome_by n picks w
+  outcome_stays =
+      ap (outcome_in n picks small) script_stays
+      ∙ ap outcome_at core_same
+      ∙ outcome_at_cut runs.end (core_after n picks w script)
+      ∙ sym (ap (outcome_in n picks w) is)
 
-  pub cut_law : SameRun n (cut_world cut w) w script
-  cut_law = record {
+  logs_stay : (mode : Mode) → logs_of_mode mode n picks small ≡ logs_of_mode mode n picks w
+  logs_stay Included = refl
+  logs_stay Excluded = ap (logs_in n picks small) script_stays ∙ ap logs_of core_same ∙ sym (ap (logs_in n picks w) is)
+
+  files_stay : files_needed (events_by n picks small) small.files ≡ files_needed (events_by n picks w) w.files
+  files_stay = ap (λ (es : List Event). files_needed es small.files) events_stay ∙ files_same cut (events_by n picks w) keeps w.files
+
+  tables_stay : (mode : Mode) → tables_of mode (events_by n picks small) small.tables ≡ tables_of mode (events_by n picks w) w.tables
+  tables_stay mode = ap (λ (es : List Event). tables_of mode es small.tables) events_stay ∙ tables_of_same cut (events_by n picks w) keeps mode w.tables
+
+  kept_law : SameRun n picks small w script
+  kept_law = record {
     script_same = script_stays;
-    outcome = outcome_law cut n start runs_same.0;
+    ends = ends_stay;
+    outcome = outcome_stays;
     events = events_stay;
-    packed = λ j. record { mode = Included; start = w.start; seed = w.seed; steps = steps_stay j; files = files_stay j; tables = tables_stay j; logs = []; events = events_stay j };
+    packed = λ mode j. record {
+      mode = mode;
+      start = w.start;
+      seed = w.seed;
+      steps = steps_stay j;
+      files = files_stay j;
+      tables = tables_stay mode j;
+      logs = logs_stay mode j;
+      events = events_stay j;
+    };
   }
 
-pub between_law : BetweenLaw
-between_law n w v script is built between = subst (λ (x : World). SameRun n x w script) (sym between.2) (cut_law n w script is built between.0 between.1)
+-- a cut of the world's rows alone is the same cut of the world
+others_same : (cut : Cut) (w : World) → cut_world (others_stay cut w.tables) w ≡ cut_world cut w
+others_same cut w = λ j. record {
+  start = w.start;
+  seed = w.seed;
+  files = cut_files cut [] w.files;
+  tables = filter (table_stays cut) (database_same cut.row w.tables j);
+}
 
-pub slice_law : (n : ℕ) (w : World) → Between n (slice_of n w) w
-slice_law n w = (slice_cut (events_within n w), slice_keeps (events_within n w), refl)
+pub interleaving_law : InterleavingLaw
+interleaving_law n picks w v script is valid (cut, keeps, same) =
+    let others : KeepsAll (others_stay cut w.tables) (events_by n picks w) = others_keep cut w.tables (events_by n picks w) keeps in
+    subst (λ (x : World). SameRun n picks x w script) (others_same cut w ∙ sym same)
+    (kept_law n picks w script is valid (others_stay cut w.tables) others)
+
+pub between_law : BetweenLaw
+between_law n w v script is valid between = interleaving_law n [] w v script is valid between
 
 pub replay_law : ReplayLaw
-replay_law n w script is built = subst (λ (x : World). SameRun n x w script) (sym (own_law n w)) (between_law n w (slice_of n w) script is built (slice_law n w))
+replay_law n w script is valid =
+    subst (λ (x : World). SameRun n [] x w script) (sym (own_law n w)) (between_law n w (slice_of n w) script is valid (slice_law n w))

@@ -1,22 +1,12 @@
 -- Valid worlds: what a world's parts meet is what the layout asks of a package that has all of them.
-use Rattle.std.specs.Prelude.{◌≡◌, ◌≤◌, ℕ, List, [], map, Bool, true, ◌&&◌, Some, IsTrue}
+use Rattle.std.specs.Prelude.{◌≡◌, ◌≤◌, ℕ, [], map, Bool, true, ◌&&◌, Some, IsTrue}
 use Rattle.std.specs.List.{list_all}
-use Rattle.ldv_value.specs.declared.file.File.{File}
 use Rattle.sql_model.specs.declared.need.Rule.TheVariants.{L}
-use Rattle.sql_model.specs.declared.table.Table.{Table}
-use Rattle.sql_model.specs.declared.table.TableRow.{TableRow}
-use Rattle.run_model.specs.declared.package.Mode.TheVariants.{Included}
-use Rattle.run_model.specs.declared.package.Package.{Package}
-use Rattle.run_model.specs.declared.package.PackedFile.{PackedFile}
-use Rattle.run_model.specs.declared.package.PackedRow.{PackedRow}
-use Rattle.run_model.specs.declared.package.PackedTable.{PackedTable}
-use Rattle.run_model.specs.declared.world.World.{World}
-use Rattle.run_model.specs.Built.{built_within}
-use Rattle.run_model.specs.Run.{all_ended, run}
-use Rattle.run_model.specs.Slice.{included_package}
-use Rattle.run_model.specs.Start.{start_script}
-use Rattle.run_model.specs.State.{start_state}
-use Rattle.script_parse.specs.declared.script.Instr.{Instr}
+use Rattle.sql_model.specs.Tables.{tables_test}
+use Rattle.replay_db.specs.Types.{File, Table, TableRow, Included, Package, PackedFile, PackedRow}
+use Rattle.replay_db.specs.Types.{PackedTable, World}
+use Rattle.run_model.specs.Package.{package_of}
+use Rattle.run_model.specs.WorldRun.{ends_within}
 use Rattle.package_layout.specs.Room.{table_room}
 use Rattle.package_layout.specs.Valid.{start_rule, files_rule, tables_rule, keys_rule, script_rule, Valid}
 use Rattle.package_layout.specs.Whole.{IsTyped}
@@ -30,10 +20,24 @@ abbrev pub all_of_row : TableRow → PackedRow
 all_of_row row = record { number = row.number; statement = 0; rule = L; values = row.values }
 
 abbrev pub all_of_table : Table → PackedTable
-all_of_table table = record { name = table.name; schema = table.schema; next = table.next; rows = map all_of_row table.rows }
+all_of_table table = record {
+  name = table.name;
+  schema = table.schema;
+  next = table.next;
+  rows = map all_of_row table.rows;
+}
 
 abbrev pub all_of_world : World → Package
-all_of_world w = record { mode = Included; start = w.start; seed = w.seed; steps = 1; files = map all_of_file w.files; tables = map all_of_table w.tables; logs = []; events = [] }
+all_of_world w = record {
+  mode = Included;
+  start = w.start;
+  seed = w.seed;
+  steps = 1;
+  files = map all_of_file w.files;
+  tables = map all_of_table w.tables;
+  logs = [];
+  events = [];
+}
 
 -- ---- what a world meets
 
@@ -43,7 +47,9 @@ TypedWorld w = IsTyped (all_of_world w)
 
 -- start words, files, tables and keys meet the rules, and the first start word is a file that is a script
 abbrev pub rules_of_parts : Package → Bool
-rules_of_parts p = start_rule p.start && files_rule p.files && tables_rule p.tables && list_all table_room p.tables && keys_rule p.tables && script_rule p.start p.files
+rules_of_parts p =
+    start_rule p.start && files_rule p.files && tables_rule p.tables && list_all table_room p.tables
+    && keys_rule p.tables && script_rule p.start p.files
 
 abbrev pub world_rules : World → Bool
 world_rules w = rules_of_parts (all_of_world w)
@@ -52,13 +58,21 @@ pub record ValidWorld (w : World) : Type 0 where
   pub typed : TypedWorld w
   pub ruled : IsTrue (world_rules w)
 
--- ---- the package of a run
+-- ---- laws
 
--- the package of a world that meets the rules is valid, where its run ends within so many steps and asks
--- built statements alone
+-- the tables of a valid world are valid, and so a database
+abbrev pub WorldTablesLaw : Type 0
+WorldTablesLaw = (w : World) → ValidWorld w → tables_test w.tables ≡ true
+
+-- the package of a world that meets the rules and has valid tables, and whose run ends within so many steps,
+-- is valid
 abbrev pub ValidPackageLaw : Type 0
-ValidPackageLaw = (n : ℕ) (w : World) (script : List Instr) → start_script w ≡ Some script → built_within n w ≡ true → IsTrue (world_rules w) → n ≤ 10000000 → all_ended (run n (start_state w script)) ≡ true → Valid (included_package n w)
+ValidPackageLaw = (n : ℕ) (w : World) → IsTrue (world_rules w) → tables_test w.tables ≡ true
+    → n ≤ 10000000
+    → ends_within n w ≡ true
+    → Valid (package_of Included n w)
 
--- its numbers are those of their types and its texts are UTF-8
+-- of a valid world, its numbers are those of their types and its texts are UTF-8
 abbrev pub TypedPackageLaw : Type 0
-TypedPackageLaw = (n : ℕ) (w : World) (script : List Instr) → start_script w ≡ Some script → built_within n w ≡ true → ValidWorld w → n ≤ 10000000 → all_ended (run n (start_state w script)) ≡ true → IsTyped (included_package n w)
+TypedPackageLaw = (n : ℕ) (w : World) → ValidWorld w → n ≤ 10000000 → ends_within n w ≡ true
+    → IsTyped (package_of Included n w)

@@ -1,16 +1,16 @@
 -- The values that the parts of a chain hold.
-use Rattle.std.proofs.Common.{◌≡◌, ℕ, zero, suc, ◌+◌, ◌-◌, ◌<◌, ◌≤◌, List, [], ◌∷◌, ◌++◌, Option, Some, None, true, false, leb, length, take, get_or, refl, ap, sym, ◌∙◌, arith, append-nil, add-one, subst, length-append}
+use Rattle.std.proofs.Common.{◌≡◌, ℕ, zero, suc, ◌+◌, ◌-◌, ◌^◌, ◌<◌, ◌≤◌, List, [], ◌∷◌, ◌++◌, Option, Some, None, true, false, leb, length, take, get_or, refl, ap, sym, ◌∙◌, arith, append-nil, add-one, subst, length-append}
 use Rattle.std.specs.Prelude.{filter, if◌then◌else◌, nat_le, slice_get, is_some, IsSome, vec_len}
 use Rattle.std.specs.Option.{option_map}
 use Rattle.std.proofs.lemmas.List.{map-append}
 use Rattle.std.specs.List.Sorted.{IsNonDecreasingBy}
 use Rattle.std.proofs.lemmas.List.Sorted.{IsNonDecreasingBy-short, IsNonDecreasingBy-from_all_adjacent}
 use Rattle.ldv_value.specs.declared.value.Value.{Value}
-use Rattle.row_version.specs.History.{Change, History, ends, current, as_of, last_time, version as version_of, IsRising, IsRisingFrom}
+use Rattle.row_version.specs.History.{Change, History, deleted, current, as_of, last_time, version as version_of, IsSorted, IsSortedFrom}
 use Rattle.row_version.specs.Versions.{change_of, changes_of, end_of, ended_by, history_of, IsChain}
 use Rattle.row_version.specs.declared.chain.Chain.TheInside.{Inside}
 use Rattle.row_version.specs.declared.versions.Version.{Version}
-use Rattle.row_version.proofs.Later.{current_after, as_of_after, rising_after}
+use Rattle.row_version.proofs.Later.{current_after, as_of_after, sorted_after}
 
 -- the last place of a list holds its last item
 last_from : (first : Version) (rest : List Version) → current (changes_of (first ∷ rest)) ≡ option_map (λ (v : Version). v.values) (slice_get (first ∷ rest) (length rest))
@@ -23,24 +23,24 @@ latest_is (first ∷ rest) = let last : length (first ∷ rest) - 1 ≡ length r
 
 pub current_ended : (changes : List Change) (ended : Option ℕ) → current (changes ++ end_of ended) ≡ (if is_some ended then None else current changes)
 current_ended changes None = ap current (append-nil changes)
-current_ended changes (Some end) = current_after changes (ends end)
+current_ended changes (Some end) = current_after changes (deleted end)
 
 pub as_of_ended : (changes : List Change) (ended : Option ℕ) (time : ℕ) → as_of (changes ++ end_of ended) time ≡ (if ended_by ended time then None else as_of changes time)
 as_of_ended changes None time = ap (λ (l : List Change). as_of l time) (append-nil changes)
-as_of_ended changes (Some end) time = as_of_after changes (ends end) time
+as_of_ended changes (Some end) time = as_of_after changes (deleted end) time
 
-later_by : (first : Version) (rest : List Version) → IsRisingFrom first.time (changes_of rest) → (k : ℕ) (d : Version) → k < length rest → (get_or (first ∷ rest) k d).time ≤ (get_or rest k d).time
-later_by first [] rising k d within = absurd (omega arith)
-later_by first (next ∷ rest) rising zero d within = omega (arith, rising.0)
-later_by first (next ∷ rest) rising (suc k) d within = later_by next rest rising.1 k d (omega arith)
+later_by : (first : Version) (rest : List Version) → IsSortedFrom first.time (changes_of rest) → (k : ℕ) (d : Version) → k < length rest → (get_or (first ∷ rest) k d).time ≤ (get_or rest k d).time
+later_by first [] sorted k d within = absurd (omega arith)
+later_by first (next ∷ rest) sorted zero d within = omega (arith, sorted.0)
+later_by first (next ∷ rest) sorted (suc k) d within = later_by next rest sorted.1 k d (omega arith)
 
--- the times of the versions never fall
-pub times_rise : (versions : List Version) → IsRising (changes_of versions) → IsNonDecreasingBy (λ (v : Version). v.time) versions
-times_rise [] rising = IsNonDecreasingBy-short (λ (v : Version). v.time) [] (omega arith)
-times_rise (first ∷ rest) rising =
-    IsNonDecreasingBy-from_all_adjacent (λ (v : Version). v.time) (first ∷ rest) (λ k d within. rw add-one (later_by first rest rising k d (omega arith)))
+-- the times of the versions are sorted
+pub times_sorted : (versions : List Version) → IsSorted (changes_of versions) → IsNonDecreasingBy (λ (v : Version). v.time) versions
+times_sorted [] sorted = IsNonDecreasingBy-short (λ (v : Version). v.time) [] (omega arith)
+times_sorted (first ∷ rest) sorted =
+    IsNonDecreasingBy-from_all_adjacent (λ (v : Version). v.time) (first ∷ rest) (λ k d within. rw add-one (later_by first rest sorted k d (omega arith)))
 
--- what is kept by a time stands in front of what isn't
+-- what is kept by a time comes before what isn't
 pub kept_in_front : (versions : List Version) (time i : ℕ)
     → ((k : ℕ) (d : Version) → k < i → leb (get_or versions k d).time time ≡ true)
     → ((k : ℕ) (d : Version) → i ≤ k → k < length versions → leb (get_or versions k d).time time ≡ false)
@@ -54,63 +54,63 @@ kept_in_front (first ∷ rest) time (suc i) early late =
     let hit : leb first.time time ≡ true = early 0 first (omega arith) in
     rw hit (ap (λ (l : List Change). change_of first ∷ l) (kept_in_front rest time i (λ k d below. early (suc k) d (omega arith)) (λ k d from within. late (suc k) d (omega arith) (omega arith))))
 
-front_from : (first : Change) (rest back : List Change) → IsRisingFrom first.time (rest ++ back) → IsRisingFrom first.time rest
-front_from first [] back rising = tt
-front_from first (next ∷ rest) back rising = (rising.0, front_from next rest back rising.1)
+front_from : (first : Change) (rest back : List Change) → IsSortedFrom first.time (rest ++ back) → IsSortedFrom first.time rest
+front_from first [] back sorted = tt
+front_from first (next ∷ rest) back sorted = (sorted.0, front_from next rest back sorted.1)
 
-pub rising_front : (front back : List Change) → IsRising (front ++ back) → IsRising front
-rising_front [] back rising = tt
-rising_front (first ∷ rest) back rising = front_from first rest back rising
+pub sorted_front : (front back : List Change) → IsSorted (front ++ back) → IsSorted front
+sorted_front [] back sorted = tt
+sorted_front (first ∷ rest) back sorted = front_from first rest back sorted
 
 no_end : (changes : List Change) (ended : Option ℕ) → IsSome (current (changes ++ end_of ended)) → ended ≡ None
-no_end changes None standing = refl
-no_end changes (Some end) standing = let none : IsSome {T = List Value} None = subst (λ (o : Option (List Value)). IsSome o) (current_after changes (ends end)) standing in cc
+no_end changes None live = refl
+no_end changes (Some end) live = let none : IsSome {T = List Value} None = subst (λ (o : Option (List Value)). IsSome o) (current_after changes (deleted end)) live in cc
 
 -- one more version makes one more change
 grown : (old new : Inside) (version : Version) → IsChain old → IsSome (current (history_of old).changes)
-    → version_of (history_of old).changes < 4294967295 → last_time (history_of old).changes < version.time
+    → version_of (history_of old).changes < 2 ^ 32 - 1 → last_time (history_of old).changes < version.time
     → new.held.items ≡ old.held.items ++ version ∷ [] → vec_len new.held ≡ vec_len old.held + 1 → new.ended ≡ old.ended
     → ((history_of new).changes ≡ (history_of old).changes ++ change_of version ∷ []) × IsChain new
-grown old new version chain standing few later items long same =
-    let none : old.ended ≡ None = no_end (changes_of old.held.items) old.ended standing in
+grown old new version chain live few later items long same =
+    let none : old.ended ≡ None = no_end (changes_of old.held.items) old.ended live in
     let is : (history_of new).changes ≡ (history_of old).changes ++ change_of version ∷ [] = rw (same, none, items) (append-nil (changes_of (old.held.items ++ version ∷ [])) ∙ map-append change_of old.held.items (version ∷ []) ∙ ap (λ (l : List Change). l ++ change_of version ∷ []) (sym (append-nil (changes_of old.held.items)))) in (
       is,
       record {
         begun = omega arith;
         counted = rw is (omega (arith, length-append (history_of old).changes (change_of version ∷ []), chain.counted));
-        rising = rw is (rising_after (history_of old).changes (change_of version) chain.rising later);
+        sorted = rw is (sorted_after (history_of old).changes (change_of version) chain.sorted later);
       },
     )
 
 -- an end makes one more change
 shut : (old : Inside) (time : ℕ) → IsChain old → IsSome (current (history_of old).changes)
-    → version_of (history_of old).changes < 4294967295 → last_time (history_of old).changes < time
-    → ((history_of (record old { ended = Some time })).changes ≡ (history_of old).changes ++ ends time ∷ []) × IsChain (record old { ended = Some time })
-shut old time chain standing few later =
-    let none : old.ended ≡ None = no_end (changes_of old.held.items) old.ended standing in
-    let is : (history_of (record old { ended = Some time })).changes ≡ (history_of old).changes ++ ends time ∷ [] = rw none (ap (λ (l : List Change). l ++ ends time ∷ []) (sym (append-nil (changes_of old.held.items)))) in (
+    → version_of (history_of old).changes < 2 ^ 32 - 1 → last_time (history_of old).changes < time
+    → ((history_of (record old { ended = Some time })).changes ≡ (history_of old).changes ++ deleted time ∷ []) × IsChain (record old { ended = Some time })
+shut old time chain live few later =
+    let none : old.ended ≡ None = no_end (changes_of old.held.items) old.ended live in
+    let is : (history_of (record old { ended = Some time })).changes ≡ (history_of old).changes ++ deleted time ∷ [] = rw none (ap (λ (l : List Change). l ++ deleted time ∷ []) (sym (append-nil (changes_of old.held.items)))) in (
       is,
       record {
         begun = chain.begun;
-        counted = rw is (omega (arith, length-append (history_of old).changes (ends time ∷ []), chain.counted));
-        rising = rw is (rising_after (history_of old).changes (ends time) chain.rising later);
+        counted = rw is (omega (arith, length-append (history_of old).changes (deleted time ∷ []), chain.counted));
+        sorted = rw is (sorted_after (history_of old).changes (deleted time) chain.sorted later);
       },
     )
 
--- what one more version makes of a chain that stands, and is seen as a history
+-- one more version of a chain that has no end
 pub added : (old new : Inside) (seen : History) (version : Version) → history_of old ≡ seen → IsChain old → IsSome (current seen.changes)
-    → version_of seen.changes < 4294967295 → last_time seen.changes < version.time
+    → version_of seen.changes < 2 ^ 32 - 1 → last_time seen.changes < version.time
     → new.held.items ≡ old.held.items ++ version ∷ [] → vec_len new.held ≡ vec_len old.held + 1 → new.ended ≡ old.ended
     → ((history_of new).changes ≡ seen.changes ++ change_of version ∷ []) × IsChain new
 added old new seen version is chain =
-    subst (λ (h : History). IsSome (current h.changes) → version_of h.changes < 4294967295 → last_time h.changes < version.time
+    subst (λ (h : History). IsSome (current h.changes) → version_of h.changes < 2 ^ 32 - 1 → last_time h.changes < version.time
     → new.held.items ≡ old.held.items ++ version ∷ [] → vec_len new.held ≡ vec_len old.held + 1 → new.ended ≡ old.ended
     → ((history_of new).changes ≡ h.changes ++ change_of version ∷ []) × IsChain new) is (grown old new version chain)
 
--- what an end makes of a chain that stands, and is seen as a history
+-- an end of a chain that has none
 pub closed : (old : Inside) (seen : History) (time : ℕ) → history_of old ≡ seen → IsChain old → IsSome (current seen.changes)
-    → version_of seen.changes < 4294967295 → last_time seen.changes < time
-    → ((history_of (record old { ended = Some time })).changes ≡ seen.changes ++ ends time ∷ []) × IsChain (record old { ended = Some time })
+    → version_of seen.changes < 2 ^ 32 - 1 → last_time seen.changes < time
+    → ((history_of (record old { ended = Some time })).changes ≡ seen.changes ++ deleted time ∷ []) × IsChain (record old { ended = Some time })
 closed old seen time is chain =
-    subst (λ (h : History). IsSome (current h.changes) → version_of h.changes < 4294967295 → last_time h.changes < time
-    → ((history_of (record old { ended = Some time })).changes ≡ h.changes ++ ends time ∷ []) × IsChain (record old { ended = Some time })) is (shut old time chain)
+    subst (λ (h : History). IsSome (current h.changes) → version_of h.changes < 2 ^ 32 - 1 → last_time h.changes < time
+    → ((history_of (record old { ended = Some time })).changes ≡ h.changes ++ deleted time ∷ []) × IsChain (record old { ended = Some time })) is (shut old time chain)

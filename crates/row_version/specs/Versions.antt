@@ -1,11 +1,12 @@
 -- What the parts of a chain mean.
-use Rattle.std.specs.Prelude.{ℕ, ◌-◌, ◌<◌, ◌≤◌, ◌^◌, List, [], ◌∷◌, ◌++◌, Option, Some, None, length, map, vec_len, vec_capacity, Bool, false, nat_le}
-use Rattle.row_version.specs.History.{Change, History, stands, ends, IsRising}
+use Rattle.std.specs.Prelude.{ℕ, ◌-◌, ◌<◌, ◌≤◌, ◌^◌, List, [], ◌∷◌, ◌++◌, Option, Some, None, length, map}
+use Rattle.std.specs.Prelude.{vec_len, vec_capacity, Bool, false, nat_le}
+use Rattle.row_version.specs.History.{Change, History, written, deleted, IsSorted}
 use Rattle.row_version.specs.declared.versions.Version.{Version}
 use Rattle.row_version.specs.declared.chain.Chain.TheInside.{Inside}
 
 abbrev pub change_of : Version → Change
-change_of version = stands version.time version.values
+change_of version = written version.time version.values
 
 -- the changes that the versions make
 abbrev pub changes_of : List Version → List Change
@@ -14,7 +15,7 @@ changes_of versions = map change_of versions
 -- the change that an end makes, where there is one
 abbrev pub end_of : Option ℕ → List Change
 end_of None = []
-end_of (Some time) = ends time ∷ []
+end_of (Some time) = deleted time ∷ []
 
 abbrev pub history_of : Inside → History
 history_of a = record {
@@ -25,9 +26,9 @@ history_of a = record {
 pub record IsChain (a : Inside) : Type 0 where
   pub begun : 0 < vec_len a.held
   pub counted : length (history_of a).changes ≤ 2 ^ 32
-  pub rising : IsRising (history_of a).changes
+  pub sorted : IsSorted (history_of a).changes
 
--- whether an end has come by a time
+-- whether the row has ended by a time
 abbrev pub ended_by : Option ℕ → ℕ → Bool
 ended_by None time = false
 ended_by (Some end) time = nat_le end time

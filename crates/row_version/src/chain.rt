@@ -1,8 +1,9 @@
 //! The chain of one row's versions.
 
-ghost use Rattle.std.specs.Prelude.{◌≡◌, ◌+◌, ◌<◌, ◌≤◌, ◌∷◌, [], ◌++◌, IfOk, IsOk, IsSome, OnOk, OnErr};
+ghost use Rattle.std.specs.Prelude.{◌≡◌, ◌+◌, ◌-◌, ◌^◌, ◌<◌, ◌≤◌, ◌∷◌, [], ◌++◌};
+ghost use Rattle.std.specs.Prelude.{IfOk, IsOk, IsSome, OnOk, OnErr};
 ghost use Rattle.std.specs.Option.{option_map};
-ghost use Rattle.row_version.specs.History.{stands, ends, as_of, current, version, last_time, IsRising};
+ghost use Rattle.row_version.specs.History.{written, deleted, as_of, current, version, last_time, IsSorted};
 ghost use Rattle.row_version.specs.Versions.{ended_by};
 
 use crate::versions::{Version, latest, latest_by};
@@ -10,12 +11,12 @@ use ldv_value::Values;
 use std::alloc::{AllocError, Global};
 use std::marker::Model;
 
-/// The values of one row through time. Contracts see the list of its changes, rising in time, and
-/// `spare`, for how many more values there is room.
+/// The values of one row through time. Contracts see the list of its changes, sorted by time, and
+/// `spare`, the number of values for which there is room.
 #[derive(Drop)]
 pub struct Chain {
     held: Vec<Version>,
-    // The time of the end stands apart from the versions, so that an end takes no memory.
+    // The time of the end is kept apart from the versions, so that an end takes no memory.
     ended: Option<u32>,
 }
 
@@ -32,20 +33,20 @@ impl Model for Chain {
 }
 
 impl Chain {
-    /// The chain whose first values stand from `time` on. `AllocError` means want of memory alone.
+    /// The chain whose first values are written at `time`.
     pub fn new(alloc: Global, time: u32, values: Values) -> Result<Chain, AllocError>
-        ensures { IfOk result (λ chain. chain.changes ≡ stands time values ∷ []) }
+        ensures { IfOk result (λ chain. chain.changes ≡ written time values ∷ []) }
     {
         let mut held = Vec::with_capacity(alloc, 1)?;
         held.push(Version { time, values })?;
         Ok(Chain { held, ended: None })
     }
 
-    /// The present values; `None` once the chain has ended.
+    /// The current values; `None` once the chain has ended.
     #[tactic(auto, using(crate::proofs::Parts::current_ended))]
     pub fn current(&self) -> Option<&Values>
         ensures values { option_map (λ x. x.now) result ≡ current self.now.changes }
-        ensures rising { IsRising self.now.changes }
+        ensures sorted { IsSorted self.now.changes }
     {
         if self.ended.is_some() {
             return None;
@@ -53,11 +54,11 @@ impl Chain {
         latest(self.held.as_slice())
     }
 
-    /// The values after `time`; `None` before the first values and from the end's time on.
-    #[tactic(auto, using(crate::proofs::Parts::as_of_ended, crate::proofs::Parts::rising_front))]
+    /// The values as of `time`; `None` before the first values and from the end's time on.
+    #[tactic(auto, using(crate::proofs::Parts::as_of_ended, crate::proofs::Parts::sorted_front))]
     pub fn as_of(&self, time: u32) -> Option<&Values>
         ensures values { option_map (λ x. x.now) result ≡ as_of self.now.changes time }
-        ensures rising { IsRising self.now.changes }
+        ensures sorted { IsSorted self.now.changes }
     {
         if is_ended_by(self.ended, time) {
             return None;
@@ -65,7 +66,7 @@ impl Chain {
         latest_by(self.held.as_slice(), time)
     }
 
-    /// How often the chain was changed by `add` and `end` since `new`.
+    /// The number of changes by `add` and `end` since `new`.
     pub fn version(&self) -> u32
         ensures { result ≡ version self.now.changes }
     {
@@ -76,8 +77,7 @@ impl Chain {
         }
     }
 
-    /// Makes room for one more value. `AllocError` means want of memory alone, and the chain is as it
-    /// was.
+    /// Makes room for one more value. On `AllocError` the chain is as it was.
     pub fn reserve(&mut self) -> Result<(), AllocError>
         ensures changes { self.new.changes ≡ self.old.changes }
         ensures room { OnOk result (1 ≤ self.new.spare) }
@@ -87,14 +87,14 @@ impl Chain {
         self.held.reserve(1)
     }
 
-    /// Gives the row new values from `time` on. `AllocError` means want of memory alone; it never comes
-    /// where `spare` is at least 1, and the chain is then as it was.
-    #[tactic(auto, using(crate::proofs::Later::rising_after))]
+    /// Gives the row new values from `time` on. `AllocError` never comes where `spare` is at least 1, and
+    /// the chain is then as it was.
+    #[tactic(auto, using(crate::proofs::Later::sorted_after))]
     pub fn add(&mut self, time: u32, values: Values) -> Result<(), AllocError>
-        requires standing { IsSome (current self.old.changes) }
-        requires few { version self.old.changes < 4294967295 }
+        requires live { IsSome (current self.old.changes) }
+        requires few { version self.old.changes < 2 ^ 32 - 1 }
         requires later { last_time self.old.changes < time }
-        ensures ok { OnOk result (self.new.changes ≡ self.old.changes ++ stands time values ∷ []) }
+        ensures ok { OnOk result (self.new.changes ≡ self.old.changes ++ written time values ∷ []) }
         ensures spare { self.old.spare ≤ self.new.spare + 1 }
         ensures succeeds { 1 ≤ self.old.spare → IsOk result }
         ensures err { OnErr result (self.new ≡ self.old) }
@@ -104,20 +104,20 @@ impl Chain {
         Ok(())
     }
 
-    /// Ends the row at `time`: from then on no values stand.
-    #[tactic(auto, using(crate::proofs::Later::rising_after))]
+    /// Ends the row at `time`: from then on it has no values.
+    #[tactic(auto, using(crate::proofs::Later::sorted_after))]
     pub fn end(&mut self, time: u32)
-        requires standing { IsSome (current self.old.changes) }
-        requires few { version self.old.changes < 4294967295 }
+        requires live { IsSome (current self.old.changes) }
+        requires few { version self.old.changes < 2 ^ 32 - 1 }
         requires later { last_time self.old.changes < time }
-        ensures changes { self.new.changes ≡ self.old.changes ++ ends time ∷ [] }
+        ensures changes { self.new.changes ≡ self.old.changes ++ deleted time ∷ [] }
         ensures spare { self.new.spare ≡ self.old.spare }
     {
         self.ended = Some(time);
     }
 }
 
-// Whether an end has come by a time.
+// Whether the row has ended by a time.
 fn is_ended_by(ended: Option<u32>, time: u32) -> bool
     ensures { result ≡ ended_by ended time }
 {

@@ -1,13 +1,13 @@
-//! Versions in the order of their times.
+//! Versions, sorted by time.
 
 ghost use Rattle.std.specs.Prelude.{◌≡◌};
 ghost use Rattle.std.specs.Option.{option_map};
-ghost use Rattle.row_version.specs.History.{as_of, current, IsRising};
+ghost use Rattle.row_version.specs.History.{as_of, current, IsSorted};
 ghost use Rattle.row_version.specs.Versions.{changes_of};
 
 use ldv_value::Values;
 
-/// Values that stand from a time on.
+/// Values that were written at a time.
 #[derive(Drop)]
 pub(crate) struct Version {
     pub(crate) time: u32,
@@ -27,7 +27,7 @@ pub(crate) fn latest(versions: &[Version]) -> Option<&Values>
 
 /// The values of the last version whose time is at most `time`, found by bisection.
 pub(crate) fn latest_by(versions: &[Version], time: u32) -> Option<&Values>
-    requires { IsRising (changes_of versions.now) }
+    requires { IsSorted (changes_of versions.now) }
     ensures { option_map (λ x. x.now) result ≡ as_of (changes_of versions.now) time }
 {
     let after = versions.partition_point(|version| version.time <= time);

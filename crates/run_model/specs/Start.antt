@@ -1,14 +1,13 @@
--- The script that a world starts with.
-use Rattle.std.specs.Prelude.{ℕ, List, length, find, Bool, nat_le, Option, bytes_eq, option_and_then, slice_get}
+-- The script that a world starts with, and the state in which its run starts.
+use Rattle.std.specs.Prelude.{List, length, Bool, nat_le, Option, option_and_then, slice_get}
 use Rattle.std.specs.List.{list_all}
-use Rattle.ldv_value.specs.declared.file.File.{File}
+use Rattle.ldv_value.specs.FileState.{file_at}
+use Rattle.ldv_value.specs.Limits.{file_limit}
 use Rattle.script_parse.specs.Script.{script_of}
-use Rattle.script_parse.specs.declared.script.Instr.{Instr}
-use Rattle.run_model.specs.declared.world.World.{World}
-
--- the file at a path
-abbrev pub file_at : List ℕ → List File → Option File
-file_at path files = find (λ file. bytes_eq path file.path) files
+use Rattle.run_model.specs.Types.{File, Instr, World}
+use Rattle.run_model.specs.Core.{start_core}
+use Rattle.run_model.specs.SqlDatabase.{SqlDatabase, unchanged}
+use Rattle.run_model.specs.State.{State}
 
 -- the file that the first start word names
 abbrev pub start_file : World → Option File
@@ -20,4 +19,11 @@ start_script w = option_and_then (λ file. script_of file.content) (start_file w
 
 -- each file is within its limit
 abbrev pub has_small_files : World → Bool
-has_small_files w = list_all (λ file. nat_le (length file.content) 16777216) w.files
+has_small_files w = list_all (λ file. nat_le (length file.content) file_limit) w.files
+
+-- over the world's tables
+abbrev pub start_state : World → List Instr → State SqlDatabase
+start_state w script = record {
+  core = start_core w.start w.seed w.files script;
+  db = unchanged w.tables;
+}

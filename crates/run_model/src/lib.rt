@@ -1,7 +1,20 @@
 //! Worlds, runs, events, packages and outcomes.
+//!
+//! A run is defined over any database (`specs/Database.antt`): its core (`specs/Core.antt`), one step
+//! (`specs/Step.antt`), the scheduler (`specs/Schedule.antt`), runs (`specs/Run.antt`), events
+//! (`specs/Events.antt`) and outcomes (`specs/Outcome.antt`) don't name tables. SQL over tables is one
+//! database (`specs/SqlDatabase.antt`), and the run of a world is the run over its tables
+//! (`specs/WorldRun.antt`). From the events follow what a run needs (`specs/Slice.antt`), its package
+//! (`specs/Package.antt`) and the worlds that lie between what it needs and its own (`specs/Between.antt`).
+//!
+//! It promises to the layers above:
+//! - `never_stuck_law`: over any database, a run that hasn't ended has a process that may run
+//!   (`specs/RunLaw.antt`);
+//! - `outcome_text`: the text of an outcome (`specs/OutcomeText.antt`).
 #![tactic(auto)]
 
 mod event;
+mod law;
 mod name;
 mod outcome;
 mod package;
@@ -9,6 +22,7 @@ mod text;
 mod world;
 
 pub use event::{Act, Event, Events};
+pub use law::never_stuck_law;
 pub use name::ProcName;
 pub use outcome::{Outcome, PathOutcome, PathOutcomes, ProcOutcome, ProcOutcomes};
 pub use package::{

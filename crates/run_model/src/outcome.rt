@@ -1,4 +1,4 @@
-//! What a run comes to.
+//! The outcome of a run.
 
 use crate::name::ProcName;
 use ldv_value::{Bytes, List, Utf8};
@@ -12,7 +12,7 @@ pub struct Outcome {
     pub paths: PathOutcomes,
 }
 
-/// What a process comes to: its exit status, its printed bytes and the replies to its statements.
+/// The outcome of a process: its exit status, its printed bytes and the replies to its statements.
 #[derive(Drop)]
 pub struct ProcOutcome {
     pub name: ProcName,
@@ -21,7 +21,7 @@ pub struct ProcOutcome {
     pub replies: Replies,
 }
 
-/// What a touched path comes to: its bytes, or that it is absent.
+/// A touched path at the end: its bytes, or that it is absent.
 #[derive(Drop)]
 pub struct PathOutcome {
     pub path: Utf8,

@@ -3,7 +3,10 @@
 ghost use Rattle.std.specs.Prelude.{◌≡◌, ◌++◌, ◌∷◌, [], codes, length, IfOk, OnOk};
 ghost use Rattle.std.specs.List.{flat_map};
 ghost use Rattle.std.specs.Fmt.{decimal, signed_decimal};
-ghost use Rattle.run_model.specs.OutcomeText.{line, value_text, values_text, row_text, refusal_text, reply_text, name_text, head_text, process_text, file_text, content_text, path_text, outcome_text_of};
+ghost use Rattle.run_model.specs.OutcomeText.{line, utf8_text, value_text, values_text, row_text, rows_text};
+ghost use Rattle.run_model.specs.OutcomeText.{key_text, refusal_text, reply_text, parts_text, name_text};
+ghost use Rattle.run_model.specs.OutcomeText.{head_text, process_text, file_text, removed_text, content_text};
+ghost use Rattle.run_model.specs.OutcomeText.{path_text, outcome_text_of};
 
 use crate::name::ProcName;
 use crate::outcome::{Outcome, PathOutcome, ProcOutcome};
@@ -11,8 +14,7 @@ use ldv_value::{Bytes, RowList, Utf8, Value, Values};
 use sql_model::{Replies, Reply, SqlRefusal};
 use std::alloc::{AllocError, Global};
 
-/// The text of an outcome: its counts, its processes and its touched paths. `AllocError` means want of
-/// memory alone.
+/// The text of an outcome: its counts, its processes and its touched paths.
 pub fn outcome_text(alloc: Global, outcome: &Outcome) -> Result<Bytes, AllocError>
     ensures { IfOk result (λ text. text ≡ outcome_text_of outcome.now) }
 {
@@ -72,7 +74,7 @@ fn append_value(to: &mut Bytes, value: &Value) -> Result<(), AllocError>
 }
 
 fn append_text_value(to: &mut Bytes, text: &Utf8) -> Result<(), AllocError>
-    ensures { OnOk result (to.new ≡ to.old ++ line (codes "text " ++ decimal (length text.now)) ++ line text.now) }
+    ensures { OnOk result (to.new ≡ to.old ++ utf8_text text.now) }
 {
     append_counted(to, b"text ", text.len() as u64)?;
     append_line(to, text.as_str().as_bytes())
@@ -107,18 +109,13 @@ fn append_refusal(to: &mut Bytes, refusal: &SqlRefusal) -> Result<(), AllocError
     ensures { OnOk result (to.new ≡ to.old ++ refusal_text refusal.now) }
 {
     match refusal {
-        SqlRefusal::Syntax => append_counted(to, b"refused ", 1),
-        SqlRefusal::NoTable => append_counted(to, b"refused ", 2),
-        SqlRefusal::NoColumn => append_counted(to, b"refused ", 3),
-        SqlRefusal::TypeClash => append_counted(to, b"refused ", 4),
-        SqlRefusal::NotNull => append_counted(to, b"refused ", 5),
         SqlRefusal::KeyTaken { table, key } => append_key(to, table, key),
-        SqlRefusal::Full => append_counted(to, b"refused ", 7),
+        _ => append_counted(to, b"refused ", refusal.code() as u64),
     }
 }
 
 fn append_key(to: &mut Bytes, table: &Utf8, key: &Values) -> Result<(), AllocError>
-    ensures { OnOk result (to.new ≡ to.old ++ line (codes "refused 6 " ++ table.now ++ codes " " ++ decimal (length key.now)) ++ values_text key.now) }
+    ensures { OnOk result (to.new ≡ to.old ++ key_text table.now key.now) }
 {
     to.extend(b"refused 6 ")?;
     to.extend(table.as_str().as_bytes())?;
@@ -137,7 +134,7 @@ fn append_reply(to: &mut Bytes, reply: &Reply) -> Result<(), AllocError>
 }
 
 fn append_answer(to: &mut Bytes, rows: &RowList) -> Result<(), AllocError>
-    ensures { OnOk result (to.new ≡ to.old ++ line (codes "rows " ++ decimal (length rows.now)) ++ flat_map row_text rows.now) }
+    ensures { OnOk result (to.new ≡ to.old ++ rows_text rows.now) }
 {
     append_counted(to, b"rows ", rows.len() as u64)?;
     append_rows(to, rows.items())
@@ -153,7 +150,7 @@ fn append_replies(to: &mut Bytes, replies: &[Reply]) -> Result<(), AllocError>
 }
 
 fn append_parts(to: &mut Bytes, parts: &[u32]) -> Result<(), AllocError>
-    ensures { OnOk result (to.new ≡ to.old ++ flat_map (λ part. 46 ∷ decimal part) parts.now) }
+    ensures { OnOk result (to.new ≡ to.old ++ parts_text parts.now) }
 {
     for part in parts {
         to.extend(b".")?;
@@ -178,7 +175,7 @@ fn append_joined(to: &mut Bytes, parts: &[u32]) -> Result<(), AllocError>
 }
 
 fn append_parts_from(to: &mut Bytes, first: u32, rest: &[u32]) -> Result<(), AllocError>
-    ensures { OnOk result (to.new ≡ to.old ++ decimal first ++ flat_map (λ part. 46 ∷ decimal part) rest.now) }
+    ensures { OnOk result (to.new ≡ to.old ++ decimal first ++ parts_text rest.now) }
 {
     append_number(to, first as u64)?;
     append_parts(to, rest)
@@ -223,7 +220,7 @@ fn append_path(to: &mut Bytes, path: &PathOutcome) -> Result<(), AllocError>
 }
 
 fn append_removed(to: &mut Bytes, path: &Utf8) -> Result<(), AllocError>
-    ensures { OnOk result (to.new ≡ to.old ++ line (codes "removed " ++ decimal (length path.now)) ++ line path.now) }
+    ensures { OnOk result (to.new ≡ to.old ++ removed_text path.now) }
 {
     append_counted(to, b"removed ", path.len() as u64)?;
     append_line(to, path.as_str().as_bytes())

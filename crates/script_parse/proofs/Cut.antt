@@ -1,104 +1,97 @@
 -- The first line of bytes.
-use Rattle.std.proofs.Common.{◌≡◌, ℕ, suc, ◌+◌, ◌-◌, ◌<◌, ◌≤◌, List, [], ◌∷◌, length, take, drop, refl, ◌&&◌, ap, ◌∙◌, sym, inl, inr, true, false, arith, add-one, length-take, length-drop, take_all, Bool}
-use Rattle.std.specs.Prelude.{◌==◌, slice_get}
-use Rattle.std.proofs.lemmas.Bool.{cases_Bool}
-use Rattle.script_parse.specs.Lines.{lines_of, feed_place, without_return, grow, starts_with_feed, ends_with_return, is_return}
+use Rattle.std.proofs.Common.{◌≡◌, ◌≢◌, ◌⊎◌, ℕ, suc, ◌+◌, ◌-◌, ◌<◌, ◌≤◌, List, [], ◌∷◌, ◌++◌, length, take, drop, get_or, refl, ap, ◌∙◌, sym, subst, inl, inr, true, false, None, Some, arith, length-append, length-drop, take_all, take-append-drop, append_assoc, Bool}
+use Rattle.std.specs.Prelude.{◌==◌, nat_lt, position, nat_eq}
+use Rattle.std.specs.Cmp.Lexicographic.{pointwise}
+use Rattle.std.specs.List.{position_or_len, before_first, AllByRecursion}
+use Rattle.std.proofs.lemmas.Bool.{cases_Bool, eqb-true, false≢true, ltb-true, ltb-false}
+use Rattle.std.proofs.lemmas.List.Quantifiers.{position-Some}
+use Rattle.std.proofs.lemmas.List.Sums.{split_at_first}
+use Rattle.std.proofs.lemmas.Option.{cond_some}
+use Rattle.ldv_value.proofs.Lists.{drop-front}
+use Rattle.ldv_value.proofs.SameBytes.{bytes_eq-true, bytes_eq-itself}
+use Rattle.script_parse.specs.Lines.{lines_of}
+use Rattle.script_parse.specs.Grammar.{HasNoFeed, EndsInReturn}
+use Rattle.script_parse.proofs.LinesLaw.{eqb_ne, last_line, feed_line, return_line}
 
-return_more : (b : ℕ) (xs : List ℕ) → 0 < length xs → without_return (b ∷ xs) ≡ b ∷ without_return xs
-return_more b [] h = absurd (omega arith)
-return_more b (c ∷ cs) h = refl
+abbrev is_feed : ℕ → Bool
+is_feed b = b == 10
 
-and_false : (b : Bool) → (b && false) ≡ false
-and_false true = refl
-and_false false = refl
-
-feed_first : (bs : List ℕ) → starts_with_feed bs ≡ true → feed_place bs ≡ 0
-feed_first [] h = refl
-feed_first (b ∷ bs) h = rw h refl
-
-feed_later : (bs : List ℕ) → starts_with_feed bs ≡ false → 0 < length bs → 0 < feed_place bs
-feed_later [] h some = absurd (omega arith)
-feed_later (b ∷ bs) h some = rw h (omega arith)
-
--- the lines of a byte that is no LF, before bytes that begin with an LF
-cut_first : (b : ℕ) (bs : List ℕ) → (b == 10) ≡ false → starts_with_feed bs ≡ true → lines_of (b ∷ bs) ≡ without_return (b ∷ []) ∷ lines_of (drop 1 bs)
-cut_first b [] miss first = cc
-cut_first b (c ∷ cs) miss first = elim (cases_Bool (b == 13)) [
-  | inl is ↦ rw (miss, first, is) refl
-  | inr not ↦ rw (miss, first, not) refl
-]
-
--- and before others
-pub cut_more : (b : ℕ) (bs : List ℕ) → (b == 10) ≡ false → starts_with_feed bs ≡ false → lines_of (b ∷ bs) ≡ grow b (lines_of bs)
-cut_more b bs miss other = rw (miss, other, and_false (b == 13)) refl
-
--- the lines of bytes that aren't all before an LF
-pub cut_inside : (bs : List ℕ) → feed_place bs < length bs → lines_of bs ≡ without_return (take (feed_place bs) bs) ∷ lines_of (drop (feed_place bs + 1) bs)
-cut_inside [] h = absurd (omega arith)
-cut_inside (b ∷ bs) h = elim (cases_Bool (b == 10)) [
-  | inl hit ↦ rw hit refl
+-- before the first LF there is none
+free_front : (bs : List ℕ) → HasNoFeed (take (position_or_len is_feed bs) bs)
+free_front [] = tt
+free_front (b ∷ bs) = elim (cases_Bool (b == 10)) [
+  | inl hit ↦
+      let place : position_or_len is_feed (b ∷ bs) ≡ 0 = rw hit refl in
+      subst (λ (n : ℕ). HasNoFeed (take n (b ∷ bs))) (sym place) tt
   | inr miss ↦
-      let place : feed_place (b ∷ bs) ≡ suc (feed_place bs) = rw miss (add-one (feed_place bs)) in
-      let inside : feed_place bs < length bs = omega arith in
-      let goal : Type 0 = lines_of (b ∷ bs) ≡ without_return (b ∷ take (feed_place bs) bs) ∷ lines_of (drop (feed_place bs + 1) bs) in
-      let made : goal = elim (cases_Bool (starts_with_feed bs)) [
-        | inl first ↦ cut_first b bs miss first ∙ ap (λ (n : ℕ). without_return (b ∷ take n bs) ∷ lines_of (drop (n + 1) bs)) (sym (feed_first bs first))
-        | inr other ↦
-            cut_more b bs miss other ∙ ap (grow b) (cut_inside bs inside)
-            ∙ ap (λ (l : List ℕ). l ∷ lines_of (drop (feed_place bs + 1) bs)) (sym (return_more b (take (feed_place bs) bs) (omega (arith, length-take (feed_place bs) bs, feed_later bs other (omega arith)))))
-      ] in
-      let behind : feed_place (b ∷ bs) + 1 ≡ suc (feed_place bs + 1) = omega arith in
-      made ∙ ap (λ (n : ℕ). without_return (take n (b ∷ bs)) ∷ lines_of (drop (feed_place bs + 1) bs)) (sym place)
-      ∙ ap (λ (n : ℕ). without_return (take (feed_place (b ∷ bs)) (b ∷ bs)) ∷ lines_of (drop n (b ∷ bs))) (sym behind)
+      let one : position_or_len is_feed (b ∷ bs) ≡ 1 + position_or_len is_feed bs = rw miss refl in
+      let place : position_or_len is_feed (b ∷ bs) ≡ suc (position_or_len is_feed bs) = omega (arith, one) in
+      subst (λ (n : ℕ). HasNoFeed (take n (b ∷ bs))) (sym place) (eqb_ne b 10 miss, free_front bs)
 ]
 
-pub cut_last : (bs : List ℕ) → length bs ≤ feed_place bs → 0 < length bs → lines_of bs ≡ bs ∷ []
-cut_last [] h some = absurd (omega arith)
-cut_last (b ∷ []) h some = elim (cases_Bool (b == 10)) [
-  | inl hit ↦ let place : feed_place (b ∷ []) ≡ 0 = rw hit refl in absurd (omega arith)
-  | inr miss ↦ cut_more b [] miss refl
-]
-cut_last (b ∷ c ∷ cs) h some = elim (cases_Bool (b == 10)) [
-  | inl hit ↦ let place : feed_place (b ∷ c ∷ cs) ≡ 0 = rw hit refl in absurd (omega arith)
-  | inr miss ↦
-      let place : feed_place (b ∷ c ∷ cs) ≡ feed_place (c ∷ cs) + 1 = rw miss refl in
-      elim (cases_Bool (starts_with_feed (c ∷ cs))) [
-        | inl first ↦ absurd (omega (arith, feed_first (c ∷ cs) first))
-        | inr other ↦ cut_more b (c ∷ cs) miss other ∙ ap (grow b) (cut_last (c ∷ cs) (omega arith) (omega arith))
-      ]
+abbrev SplitAt : List ℕ → ℕ → Type 0
+SplitAt bs n = (n < length bs) × HasNoFeed (take n bs) × (bs ≡ take n bs ++ 10 ∷ drop (n + 1) bs)
+
+feed_split : (bs : List ℕ) (n : ℕ) → position is_feed bs ≡ Some n → SplitAt bs n
+feed_split bs n e =
+    let p = position-Some is_feed bs n 0 e in
+    let q = cond_some (nat_lt (position_or_len is_feed bs) (length bs)) (position_or_len is_feed bs) n e in
+    let whole : bs ≡ take n bs ++ (get_or bs n 0 ∷ drop (n + 1) bs) =
+    subst (λ (k : ℕ). bs ≡ take k bs ++ (get_or bs k 0 ∷ drop (k + 1) bs)) q.1 (split_at_first is_feed bs 0 (omega (arith, q.1, p.0))) in
+    (p.0, subst (λ (k : ℕ). HasNoFeed (take k bs)) q.1 (free_front bs), whole ∙ ap (λ (c : ℕ). take n bs ++ (c ∷ drop (n + 1) bs)) (eqb-true (get_or bs n 0) 10 p.1))
+
+none_some : (n : ℕ) → Some n ≡ None → ⊥
+none_some n h = cc
+
+free_all : (bs : List ℕ) → position is_feed bs ≡ None → HasNoFeed bs
+free_all bs e = elim (cases_Bool (nat_lt (position_or_len is_feed bs) (length bs))) [
+  | inl inside ↦
+      let some : position is_feed bs ≡ Some (position_or_len is_feed bs) = rw inside refl in
+      absurd (none_some _ (sym some ∙ e))
+  | inr beyond ↦
+      let all : take (position_or_len is_feed bs) bs ≡ bs = take_all _ _ (omega (arith, ltb-false (position_or_len is_feed bs) (length bs) beyond)) in
+      subst HasNoFeed all (free_front bs)
 ]
 
--- the same, as a slice from the place behind an LF to the end
-pub cut_slice : (bs : List ℕ) (n : ℕ) → n ≡ feed_place bs → n < length bs → lines_of bs ≡ without_return (take n bs) ∷ lines_of (take (length bs - (n + 1)) (drop (n + 1) bs))
-cut_slice bs n is h =
+free_start : (xs ys : List ℕ) → HasNoFeed (xs ++ ys) → HasNoFeed xs
+free_start [] ys h = tt
+free_start (x ∷ xs) ys h = (h.0, free_start xs ys h.1)
+
+-- a line without the CR at its end
+abbrev pub IsStripped : List ℕ → List ℕ → Type 0
+IsStripped whole line = (whole ≡ line ++ 13 ∷ []) ⊎ ((line ≡ whole) × (¬ EndsInReturn whole))
+
+line_is : (bs : List ℕ) (n : ℕ) (line : List ℕ) → SplitAt bs n → IsStripped (take n bs) line → lines_of bs ≡ line ∷ lines_of (drop (n + 1) bs)
+line_is bs n line (inside, free, split) (inl ended) =
+    let whole : bs ≡ line ++ 13 ∷ 10 ∷ drop (n + 1) bs = split ∙ ap (λ (l : List ℕ). l ++ 10 ∷ drop (n + 1) bs) ended ∙ append_assoc line (13 ∷ []) (10 ∷ drop (n + 1) bs) in
+    ap lines_of whole ∙ return_line line (drop (n + 1) bs) (free_start line (13 ∷ []) (subst HasNoFeed ended free))
+line_is bs n line (inside, free, split) (inr (same, plain)) =
+    ap lines_of split ∙ feed_line (take n bs) (drop (n + 1) bs) free plain ∙ ap (λ (l : List ℕ). l ∷ lines_of (drop (n + 1) bs)) (sym same)
+
+-- the same with the rest as a slice to the end
+pub cut_line : (bs : List ℕ) (n : ℕ) (line : List ℕ) → position is_feed bs ≡ Some n → IsStripped (take n bs) line
+    → lines_of bs ≡ line ∷ lines_of (take (length bs - (n + 1)) (drop (n + 1) bs))
+cut_line bs n line e stripped =
     let rest : take (length bs - (n + 1)) (drop (n + 1) bs) ≡ drop (n + 1) bs = take_all _ _ (omega (arith, length-drop (n + 1) bs)) in
-    let cut : lines_of bs ≡ without_return (take n bs) ∷ lines_of (drop (n + 1) bs) = rw is (cut_inside bs (omega arith)) in
-    cut ∙ ap (λ (l : List ℕ). without_return (take n bs) ∷ lines_of l) (sym rest)
+    line_is bs n line (feed_split bs n e) stripped ∙ ap (λ (l : List ℕ). line ∷ lines_of l) (sym rest)
 
-pub cut_rest : (bs : List ℕ) (n : ℕ) → n ≡ feed_place bs → length bs ≤ n → 0 < length bs → lines_of bs ≡ bs ∷ lines_of (take (length bs - n) (drop n bs))
-cut_rest bs n is h some =
-    let none : length bs - n ≡ 0 = omega arith in
-    cut_last bs (omega arith) some ∙ ap (λ (k : ℕ). bs ∷ lines_of (take k (drop n bs))) (sym none)
+pub cut_inside : (bs : List ℕ) (n : ℕ) → position is_feed bs ≡ Some n → n < length bs
+cut_inside bs n e = (position-Some is_feed bs n 0 e).0
 
-last_more : (n : ℕ) → suc (suc n) - 1 ≡ suc (suc n - 1)
-last_more n = omega arith
+some_bytes : (bs : List ℕ) → 0 < length bs → bs ≢ []
+some_bytes [] h e = absurd (omega arith)
+some_bytes (b ∷ bs) h e = cc
 
-pub ends_last : (line : List ℕ) → ends_with_return line ≡ is_return (slice_get line (length line - 1))
-ends_last [] = refl
-ends_last (b ∷ []) = refl
-ends_last (b ∷ c ∷ bs) = ends_last (c ∷ bs) ∙ ap (λ (n : ℕ). is_return (slice_get (b ∷ c ∷ bs) n)) (sym (last_more (length bs)))
+pub cut_last : (bs : List ℕ) → position is_feed bs ≡ None → 0 < length bs → lines_of bs ≡ bs ∷ lines_of (take (length bs - length bs) (drop (length bs) bs))
+cut_last bs e some =
+    let nothing : length bs - length bs ≡ 0 = omega arith in
+    last_line bs (free_all bs e) (some_bytes bs some) ∙ ap (λ (k : ℕ). bs ∷ lines_of (take k (drop (length bs) bs))) (sym nothing)
 
-pub stripped : (line : List ℕ) → ends_with_return line ≡ true → take (length line - 1) line ≡ without_return line
-stripped [] h = cc
-stripped (b ∷ []) h = rw h refl
-stripped (b ∷ c ∷ bs) h =
-    ap (λ (n : ℕ). take n (b ∷ c ∷ bs)) (last_more (length bs)) ∙ ap (λ (l : List ℕ). b ∷ l) (stripped (c ∷ bs) h)
+-- RETURNS
 
-pub kept : (line : List ℕ) → ends_with_return line ≡ false → line ≡ without_return line
-kept [] h = refl
-kept (b ∷ []) h = rw h refl
-kept (b ∷ c ∷ bs) h = ap (λ (l : List ℕ). b ∷ l) (kept (c ∷ bs) h)
+pub stripped : (line rest : List ℕ) → pointwise nat_eq (drop (length line - 1) line) (13 ∷ []) ≡ true → rest ≡ take (length line - 1) line → IsStripped line rest
+stripped line rest h is =
+    let last : drop (length line - 1) line ≡ 13 ∷ [] = bytes_eq-true (drop (length line - 1) line) (13 ∷ []) h in
+    inl (sym (take-append-drop (length line - 1) line) ∙ ap (λ (l : List ℕ). l ++ drop (length line - 1) line) (sym is) ∙ ap (λ (l : List ℕ). rest ++ l) last)
 
-pub ruleset cut_rules = (cut_slice, cut_rest)
-
-pub ruleset return_rules = (ends_last, stripped, kept)
+pub ruleset cut_rules = (cut_line, cut_inside, cut_last)

@@ -1,9 +1,10 @@
 -- A list item by item.
 use Rattle.std.proofs.Common.{◌≡◌, ℕ, ◌+◌, ◌<◌, List, [], ◌∷◌, ◌++◌, refl, length, get_or, drop, drop-cons, append_assoc, add-one, ap, ◌∙◌, sym, Some, None}
 use Rattle.std.specs.Prelude.{Option}
-use Rattle.script_parse.specs.declared.refused.Refused.{Refused}
-use Rattle.script_parse.specs.declared.refused.Refused.TheVariants.{Bad, NoMemory}
-use Rattle.script_parse.specs.Gives.{◌>>=◌, Fails}
+use Rattle.script_parse.specs.declared.line_error.LineError.{LineError}
+use Rattle.script_parse.specs.declared.line_error.LineError.TheVariants.{Malformed, NoMemory}
+use Rattle.ldv_value.specs.Options.{◌>>=◌}
+use Rattle.script_parse.specs.Gives.{Fails}
 use Rattle.script_parse.specs.Forms.{each}
 
 -- these items, and then those of the rest
@@ -17,8 +18,8 @@ joined_push : {B : Type 0} (front : List B) (y : B) (o : Option (List B)) → jo
 joined_push front y None = refl
 joined_push front y (Some ys) = ap Some (sym (append_assoc front (y ∷ []) ys))
 
-pub each_fails : {A B : Type 0} (e : Refused) (f : A → Option B) (front : List B) (xs : List A) (i : ℕ) (d : A) → i < length xs → Fails e (f (get_or xs i d)) → Fails e (joined front (each f (drop i xs)))
-each_fails Bad f front xs i d h is = ap (joined front) (each_at f xs i d h ∙ ap (λ o. o >>= λ y. each f (drop (i + 1) xs) >>= λ ys. Some (y ∷ ys)) is)
+pub each_fails : {A B : Type 0} (e : LineError) (f : A → Option B) (front : List B) (xs : List A) (i : ℕ) (d : A) → i < length xs → Fails e (f (get_or xs i d)) → Fails e (joined front (each f (drop i xs)))
+each_fails Malformed f front xs i d h is = ap (joined front) (each_at f xs i d h ∙ ap (λ o. o >>= λ y. each f (drop (i + 1) xs) >>= λ ys. Some (y ∷ ys)) is)
 each_fails NoMemory f front xs i d h is = tt
 
 pub each_goes : {A B : Type 0} (f : A → Option B) (front : List B) (y : B) (xs : List A) (i : ℕ) (d : A) → i < length xs → f (get_or xs i d) ≡ Some y → joined front (each f (drop i xs)) ≡ joined (front ++ y ∷ []) (each f (drop (i + 1) xs))

@@ -19,10 +19,10 @@ use Rattle.script_parse.specs.declared.keyword.Sign.{Sign}
 use Rattle.script_parse.specs.declared.keyword.Sign.TheVariants.{Plus, Minus, Times, Join}
 use Rattle.script_parse.specs.declared.line.Line.{Line}
 use Rattle.script_parse.specs.declared.line.Line.TheVariants.{Quiet, Label, Plain, Jumping}
-use Rattle.script_parse.specs.Gives.{◌>>=◌}
+use Rattle.ldv_value.specs.Options.{◌>>=◌, only_if}
 use Rattle.script_parse.specs.Names.{is_text, name_test}
 use Rattle.script_parse.specs.Keywords.{sign_text, comparison_text, mode_text}
-use Rattle.script_parse.specs.Forms.{each, is_word, only_if, name_in, name_of, operand_of, operands_of, operands_from_one, names_from_one, sign_in, comparison_in, mode_in, signed, let_value, let_of, cut_of, goto_of, if_of, print_of, exit_of, write_of, copy_of, close_of, exists_of, wait_of, sql_of, count_of, status_of, last_label, else_at, else_of, open_of, readline_of, remove_of, spawn_of, fetch_of, with_else}
+use Rattle.script_parse.specs.Forms.{each, is_word, name_in, name_of, operand_of, operands_of, operands_from_one, names_from_one, sign_in, comparison_in, mode_in, signed, let_value, let_of, cut_of, goto_of, if_of, print_of, exit_of, write_of, copy_of, close_of, exists_of, wait_of, sql_of, count_of, status_of, last_label, else_at, else_of, open_of, readline_of, remove_of, spawn_of, fetch_of, with_else}
 use Rattle.script_parse.specs.Lines.{form_of}
 use Rattle.script_parse.specs.Grammar.{IsName, written, IsOperand, AreOperands, AreNames, word, tokens_for, HasForm, place_of}
 use Rattle.script_parse.proofs.Colon.{colon_found}

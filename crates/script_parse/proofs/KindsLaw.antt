@@ -9,13 +9,13 @@ use Rattle.script_parse.specs.declared.line.Line.{Line}
 use Rattle.script_parse.specs.declared.line.Line.TheVariants.{Quiet, Label, Plain, Jumping}
 use Rattle.script_parse.specs.declared.line.Entry.{Entry}
 use Rattle.script_parse.specs.declared.line.Definition.{Definition}
-use Rattle.script_parse.specs.Gives.{◌>>=◌}
-use Rattle.script_parse.specs.Forms.{only_if}
+use Rattle.ldv_value.specs.Options.{◌>>=◌, only_if}
 use Rattle.script_parse.specs.Names.{is_text}
 use Rattle.script_parse.specs.Lines.{line_of}
 use Rattle.script_parse.specs.Script.{entry_of, entries_from, Labelled, labels_from, definition_of, with_place, is_first, instructions_of}
 use Rattle.script_parse.specs.Grammar.{Kind, Blank, Names, Does, steps, labels, AllDiffer}
-use Rattle.script_parse.proofs.Options.{bind_some, only_if_some, cases_Option}
+use Rattle.ldv_value.proofs.Cases.{cases-option}
+use Rattle.ldv_value.proofs.Options.{bind-some, only_if-some}
 use Rattle.script_parse.proofs.FormsLaw.{text_is}
 use Rattle.script_parse.proofs.FormsRead.{is_false}
 
@@ -48,20 +48,20 @@ one_sound : (look : List ℕ → Option Definition) (n : ℕ) (s : Line) (rest :
     → (k : Kind) × (more : List Instr) × Fits look n s k × (instructions_of look rest ≡ Some more) × (is ≡ front k ++ more)
 one_sound look n Quiet rest is h = (Blank, is, refl, h, refl)
 one_sound look n (Label l) rest is h =
-    let a = bind_some (only_if (is_first n (look l)) (Some None)) (λ i. instructions_of look rest >>= λ is. Some (option_to_list i ++ is)) is h in
-    let first = only_if_some (is_first n (look l)) (Some None) a.0 a.1 in
-    let b = bind_some (instructions_of look rest) (λ is. Some (option_to_list a.0 ++ is)) is a.2 in
+    let a = bind-some (only_if (is_first n (look l)) (Some None)) (λ i. instructions_of look rest >>= λ is. Some (option_to_list i ++ is)) is h in
+    let first = only_if-some (is_first n (look l)) (Some None) a.0 a.1 in
+    let b = bind-some (instructions_of look rest) (λ is. Some (option_to_list a.0 ++ is)) is a.2 in
     let none : None ≡ a.0 = cc (first.1) in
     let e : option_to_list a.0 ++ b.0 ≡ is = cc (b.2) in
     (Names l, b.0, (first.0, refl), b.1, sym e ∙ ap (λ o. option_to_list o ++ b.0) (sym none))
 one_sound look n (Plain i) rest is h =
-    let b = bind_some (instructions_of look rest) (λ is. Some (i ∷ is)) is h in
+    let b = bind-some (instructions_of look rest) (λ is. Some (i ∷ is)) is h in
     let e : i ∷ b.0 ≡ is = cc (b.2) in
     (Does i, b.0, refl, b.1, sym e)
 one_sound look n (Jumping i l) rest is h =
-    let a = bind_some (look l >>= λ d. Some (Some (with_place d.place i))) (λ i. instructions_of look rest >>= λ is. Some (option_to_list i ++ is)) is h in
-    let d = bind_some (look l) (λ d. Some (Some (with_place d.place i))) a.0 a.1 in
-    let b = bind_some (instructions_of look rest) (λ is. Some (option_to_list a.0 ++ is)) is a.2 in
+    let a = bind-some (look l >>= λ d. Some (Some (with_place d.place i))) (λ i. instructions_of look rest >>= λ is. Some (option_to_list i ++ is)) is h in
+    let d = bind-some (look l) (λ d. Some (Some (with_place d.place i))) a.0 a.1 in
+    let b = bind-some (instructions_of look rest) (λ is. Some (option_to_list a.0 ++ is)) is a.2 in
     let some : Some (with_place d.0.place i) ≡ a.0 = cc (d.2) in
     let e : option_to_list a.0 ++ b.0 ≡ is = cc (b.2) in
     (Does (with_place d.0.place i), b.0, (d.0, d.1, refl), b.1, sym e ∙ ap (λ o. option_to_list o ++ b.0) (sym some))
@@ -69,7 +69,7 @@ one_sound look n (Jumping i l) rest is h =
 pub reads_sound : (look : List ℕ → Option Definition) (n : ℕ) (ls : List (List ℕ)) (is : List Instr) → instructions_of look (entries_from n ls) ≡ Some is
     → (ks : List Kind) × Reads look n ls ks × (is ≡ steps ks)
 reads_sound look n [] is h = let e : [] ≡ is = cc (h) in ([], tt, sym e)
-reads_sound look n (l ∷ ls) is h = elim (cases_Option (line_of l)) [
+reads_sound look n (l ∷ ls) is h = elim (cases-option (line_of l)) [
   | inl none ↦
       let bad : None ≡ Some is = sym (ap (λ o. instructions_of look (entry_of n o ++ entries_from (n + 1) ls)) none) ∙ h in cc
   | inr some ↦
@@ -123,7 +123,7 @@ labels_are look m n (l ∷ ls) (k ∷ ks) (s, said, fits, more) =
     ap (λ o. labels_from m (entry_of n o ++ entries_from (n + 1) ls)) said
     ∙ one_label look m n s k (entries_from (n + 1) ls) ks fits (λ j. labels_are look j (n + 1) ls ks more)
 
--- the definition that is found stands among the lines
+-- the definition that is found is among the lines
 pub at_sound : (m n : ℕ) (ks : List Kind) (l : List ℕ) (d : Definition) → definition_of (labelled m n ks) l ≡ Some d
     → (before : List Kind) × (after : List Kind) × (ks ≡ before ++ Names l ∷ after) × (d.place ≡ m + length (steps before))
 at_sound m n [] l d h = cc
@@ -175,7 +175,7 @@ labels_differ look n [] (k ∷ ks) h = absurd h
 labels_differ look n (l ∷ ls) [] h = absurd h
 labels_differ look n (l ∷ ls) (k ∷ ks) (s, said, fits, more) = differ_one look n s k ls ks fits more (labels_differ look (n + 1) ls ks more)
 
--- what stands among the lines is found
+-- what is among the lines is found
 among : (P : List ℕ → Type 0) (before : List Kind) (l : List ℕ) (after : List Kind) → AllByRecursion P (labels (before ++ Names l ∷ after)) → P l
 among P [] l after h = h.0
 among P (Blank ∷ before) l after h = among P before l after h

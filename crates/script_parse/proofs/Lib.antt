@@ -1,3 +1,4 @@
+pub mod BadLines
 pub mod Colon
 pub mod Cut
 pub mod Each
@@ -9,10 +10,8 @@ pub mod LinesLaw
 pub mod LookUp
 pub mod Magnitude
 pub mod NumberLaw
-pub mod Options
 pub mod ScriptLaw
 pub mod TokensFrom
 pub mod TokensLaw
 pub mod TokensRead
-pub mod Utf8
 pub mod Utf8Law

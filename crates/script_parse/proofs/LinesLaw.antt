@@ -4,7 +4,11 @@ use Rattle.std.specs.Prelude.{◌==◌}
 use Rattle.std.proofs.lemmas.Bool.{cases_Bool, eqb-true, eq-eqb, false≢true}
 use Rattle.script_parse.specs.Lines.{lines_of, grow, starts_with_feed}
 use Rattle.script_parse.specs.Grammar.{HasNoFeed, EndsInReturn, AreLines}
-use Rattle.script_parse.proofs.Cut.{cut_more}
+use Rattle.ldv_value.proofs.Booleans.{and-false}
+
+-- the lines of a byte that is no LF, before bytes that don't begin with one
+cut_more : (b : ℕ) (bs : List ℕ) → (b == 10) ≡ false → starts_with_feed bs ≡ false → lines_of (b ∷ bs) ≡ grow b (lines_of bs)
+cut_more b bs miss other = rw (miss, other, and-false (b == 13)) refl
 
 pub ne_eqb : (a b : ℕ) → a ≢ b → (a == b) ≡ false
 ne_eqb a b h = elim (cases_Bool (a == b)) [
@@ -76,12 +80,12 @@ lines_sound (b ∷ c ∷ cs) = elim (cases_Bool (b == 10)) [
   ]
 ]
 
-last_line : (line : List ℕ) → HasNoFeed line → line ≢ [] → lines_of line ≡ line ∷ []
+pub last_line : (line : List ℕ) → HasNoFeed line → line ≢ [] → lines_of line ≡ line ∷ []
 last_line [] free some = absurd (some refl)
 last_line (b ∷ []) free some = cut_more b [] (ne_eqb b 10 free.0) refl
 last_line (b ∷ c ∷ cs) free some = cut_more b (c ∷ cs) (ne_eqb b 10 free.0) (ne_eqb c 10 free.1.0) ∙ ap (grow b) (last_line (c ∷ cs) free.1 (cons_nil c cs))
 
-feed_line : (line rest : List ℕ) → HasNoFeed line → ¬ EndsInReturn line → lines_of (line ++ 10 ∷ rest) ≡ line ∷ lines_of rest
+pub feed_line : (line rest : List ℕ) → HasNoFeed line → ¬ EndsInReturn line → lines_of (line ++ 10 ∷ rest) ≡ line ∷ lines_of rest
 feed_line [] rest free plain = refl
 feed_line (b ∷ []) rest free plain =
     let not : (b == 13) ≡ false = ne_eqb b 13 (λ e. plain ([], ap (λ (x : ℕ). x ∷ []) e)) in
@@ -90,7 +94,7 @@ feed_line (b ∷ c ∷ cs) rest free plain =
     cut_more b (c ∷ cs ++ 10 ∷ rest) (ne_eqb b 10 free.0) (ne_eqb c 10 free.1.0)
     ∙ ap (grow b) (feed_line (c ∷ cs) rest free.1 (λ h. plain (b ∷ h.0, ap (λ (l : List ℕ). b ∷ l) h.1)))
 
-return_line : (line rest : List ℕ) → HasNoFeed line → lines_of (line ++ 13 ∷ 10 ∷ rest) ≡ line ∷ lines_of rest
+pub return_line : (line rest : List ℕ) → HasNoFeed line → lines_of (line ++ 13 ∷ 10 ∷ rest) ≡ line ∷ lines_of rest
 return_line [] rest free = refl
 return_line (b ∷ []) rest free = cut_more b (13 ∷ 10 ∷ rest) (ne_eqb b 10 free.0) refl ∙ ap (grow b) (return_line [] rest tt)
 return_line (b ∷ c ∷ cs) rest free =

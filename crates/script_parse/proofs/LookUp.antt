@@ -7,8 +7,8 @@ use Rattle.script_parse.specs.declared.parse.ScriptStop.{ScriptStop}
 use Rattle.script_parse.specs.declared.script.Instr.{Instr}
 use Rattle.script_parse.specs.Script.{Answers, instructions_of, first_bad}
 
-pub answers_same : (look found : List ℕ → Option Definition) (es : List Entry) (r : Result (List Instr) ScriptStop) → ((name : List ℕ) → look name ≡ found name)
+pub results_same : (look found : List ℕ → Option Definition) (es : List Entry) (r : Result (List Instr) ScriptStop) → ((name : List ℕ) → look name ≡ found name)
     → Answers r (instructions_of look es) (first_bad look es) → Answers r (instructions_of found es) (first_bad found es)
-answers_same look found es r same h =
+results_same look found es r same h =
     let e : look ≡ found = λ i name. same name i in
     subst (λ (f : List ℕ → Option Definition). Answers r (instructions_of f es) (first_bad f es)) e h

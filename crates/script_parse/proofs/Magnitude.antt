@@ -2,7 +2,7 @@
 use Rattle.std.proofs.Common.{◌≡◌, ℕ, suc, ◌+◌, ◌-◌, ◌*◌, ◌^◌, ◌<◌, ◌≤◌, List, [], ◌∷◌, refl, false, leb, length, get_or, drop, drop-cons, arith, ap, ◌∙◌, None, inl, inr}
 use Rattle.std.specs.List.{list_all}
 use Rattle.std.proofs.lemmas.Bool.{cases_Bool, leb-false, lt-leb}
-use Rattle.script_parse.specs.Gives.{◌>>=◌}
+use Rattle.ldv_value.specs.Options.{◌>>=◌}
 use Rattle.script_parse.specs.Number.{is_digit, digits_from, magnitude_from}
 
 digits_grow : (n : ℕ) (bs : List ℕ) → n ≤ digits_from n bs

@@ -4,10 +4,10 @@ use Rattle.std.specs.Prelude.{◌==◌, IsTrue}
 use Rattle.std.specs.List.{AllByRecursion, list_all}
 use Rattle.std.proofs.lemmas.Bool.{cases_Bool, eqb-true, false≢true, leb-true, le-leb, ltb-true, lt-ltb}
 use Rattle.std.proofs.lemmas.Option.{cond_some}
-use Rattle.script_parse.specs.Gives.{◌>>=◌}
+use Rattle.ldv_value.specs.Options.{◌>>=◌}
 use Rattle.script_parse.specs.Number.{is_digit, digits_from, magnitude_of, natural_of, negative_of, number_of}
 use Rattle.script_parse.specs.Grammar.{AreDigits, IsNumber}
-use Rattle.script_parse.proofs.Options.{bind_some}
+use Rattle.ldv_value.proofs.Options.{bind-some}
 
 and_true : (a b : Bool) → (a && b) ≡ true → (a ≡ true) × (b ≡ true)
 and_true true b h = (refl, h)
@@ -40,7 +40,7 @@ magnitude_complete (d ∷ ds) h within =
 
 natural_sound : (piece : List ℕ) (z : ℤ) → natural_of piece ≡ Some z → IsNumber piece z
 natural_sound piece z h =
-    let p = bind_some (magnitude_of piece) (λ n. cond (ltb n (2 ^ 63)) (Some (pos n)) None) z h in
+    let p = bind-some (magnitude_of piece) (λ n. cond (ltb n (2 ^ 63)) (Some (pos n)) None) z h in
     let m = magnitude_sound piece p.0 p.1 in
     let q = cond_some (ltb p.0 (2 ^ 63)) (pos p.0) z p.2 in
     let below : p.0 < 2 ^ 63 = ltb-true _ _ q.0 in
@@ -51,7 +51,7 @@ number_sound [] z h = cc
 number_sound (b ∷ bs) z h = elim (cases_Bool (b == 45)) [
   | inl is ↦
       let h2 : negative_of bs ≡ Some z = sym (ap (λ t. cond t (negative_of bs) (natural_of (b ∷ bs))) is) ∙ h in
-      let p = bind_some (magnitude_of bs) (λ n. Some (neg_ℤ (pos n))) z h2 in
+      let p = bind-some (magnitude_of bs) (λ n. Some (neg_ℤ (pos n))) z h2 in
       let m = magnitude_sound bs p.0 p.1 in
       let same : neg_ℤ (pos p.0) ≡ z = cc (p.2) in
       (bs, m.0, inr (ap (λ (x : ℕ). x ∷ bs) (eqb-true b 45 is), sym same ∙ ap (λ n. neg_ℤ (pos n)) m.1, subst (λ (n : ℕ). n ≤ 2 ^ 63) m.1 m.2))

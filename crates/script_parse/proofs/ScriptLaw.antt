@@ -9,18 +9,17 @@ use Rattle.script_parse.specs.declared.script.Instr.{Instr}
 use Rattle.script_parse.specs.declared.script.Instr.TheVariants as instr
 use Rattle.script_parse.specs.declared.token.Token.{Token}
 use Rattle.script_parse.specs.declared.token.Token.TheVariants.{Word, Number, Quoted}
-use Rattle.script_parse.specs.declared.scan.Place.TheVariants.{Between}
+use Rattle.script_parse.specs.declared.scan.LexState.TheVariants.{Between}
 use Rattle.script_parse.specs.declared.line.Line.{Line}
 use Rattle.script_parse.specs.declared.line.Line.TheVariants.{Quiet, Label, Plain, Jumping}
 use Rattle.script_parse.specs.declared.line.Definition.{Definition}
-use Rattle.script_parse.specs.Gives.{◌>>=◌}
+use Rattle.ldv_value.specs.Options.{◌>>=◌, only_if}
 use Rattle.script_parse.specs.Names.{name_test}
-use Rattle.script_parse.specs.Forms.{only_if}
 use Rattle.script_parse.specs.Tokens.{is_blank, tokens_of}
 use Rattle.script_parse.specs.Lines.{lines_of, form_of, first_shown, is_comment, is_comment_start, line_of}
 use Rattle.script_parse.specs.Script.{entries_from, definition_of, with_place, is_first, instructions_of, look_up, script_of}
 use Rattle.script_parse.specs.Grammar.{Kind, Blank, Names, Does, steps, labels, AllDiffer, AreBlanks, AreTokens, IsName, HasForm, tokens_for, place_of, IsAtPlace, IsComment, IsKind, IsLine, IsAt, IsScript}
-use Rattle.script_parse.proofs.Options.{bind_some, only_if_some}
+use Rattle.ldv_value.proofs.Options.{bind-some, only_if-some}
 use Rattle.script_parse.proofs.LinesLaw.{lines_sound, lines_complete}
 use Rattle.script_parse.proofs.TokensLaw.{tokens_sound, not_false}
 use Rattle.script_parse.proofs.TokensRead.{tokens_complete}
@@ -52,11 +51,11 @@ only_blanks [] h = refl
 only_blanks (b ∷ line) h = ap (λ t. is_comment_start (cond (not t) (Some b) (first_shown line))) h.0 ∙ only_blanks line h.1
 
 -- tokens of which the first is a word that doesn't begin with `#`
-abbrev PlainWord : List ℕ → Type 0
+abbrev pub PlainWord : List ℕ → Type 0
 PlainWord [] = ⊥
 PlainWord (c ∷ cs) = (c == 35) ≡ false
 
-abbrev BeginsPlain : List Token → Type 0
+abbrev pub BeginsPlain : List Token → Type 0
 BeginsPlain [] = ⊥
 BeginsPlain (Word w ∷ ts) = PlainWord w
 BeginsPlain (Number z ∷ ts) = ⊥
@@ -66,14 +65,14 @@ word_no_comment : (piece rest : List ℕ) → AllByRecursion (λ b. ¬ IsTrue (i
 word_no_comment [] rest h p = absurd p
 word_no_comment (c ∷ cs) rest h p = ap (λ t. is_comment_start (cond (not t) (Some c) (first_shown (cs ++ rest)))) (not_false (is_blank c) h.0) ∙ p
 
-no_comment : (ts : List Token) (line : List ℕ) → AreTokens line ts → BeginsPlain ts → is_comment line ≡ false
+pub no_comment : (ts : List Token) (line : List ℕ) → AreTokens line ts → BeginsPlain ts → is_comment line ≡ false
 no_comment [] line h p = absurd p
 no_comment (Word w ∷ ts) line (blanks, piece, rest, e, are, (same, bare, other), ends, more) p =
     ap is_comment e ∙ blanks_before blanks (piece ++ rest) are ∙ word_no_comment piece rest bare.1 (subst PlainWord (sym same) p)
 no_comment (Number z ∷ ts) line h p = absurd p
 no_comment (Quoted t ∷ ts) line h p = absurd p
 
-name_plain : (x : List ℕ) → IsName x → BeginsPlain (Word (x ++ codes ":") ∷ [])
+pub name_plain : (x : List ℕ) → IsName x → BeginsPlain (Word (x ++ codes ":") ∷ [])
 name_plain [] h = absurd (false≢true h)
 name_plain (c ∷ cs) h = elim (cases_Bool (c == 35)) [
   | inl hash ↦ absurd (false≢true (ap (λ (y : ℕ). name_test (y ∷ cs)) (sym (eqb-true c 35 hash)) ∙ h))
@@ -82,7 +81,7 @@ name_plain (c ∷ cs) h = elim (cases_Bool (c == 35)) [
 
 -- PLACES
 
-has_form_place : (i : Instr) (p : ℕ) → HasForm (with_place p i) ≡ HasForm i
+pub has_form_place : (i : Instr) (p : ℕ) → HasForm (with_place p i) ≡ HasForm i
 has_form_place (instr.Let x v) p = refl
 has_form_place (instr.Calc x o v w) p = refl
 has_form_place (instr.Glue x v w) p = refl
@@ -106,7 +105,7 @@ has_form_place (instr.Remove v q) p = refl
 has_form_place (instr.Spawn c v vs q) p = refl
 has_form_place (instr.Fetch c xs q) p = refl
 
-tokens_place : (i : Instr) (p : ℕ) (l : List ℕ) → tokens_for (with_place p i) l ≡ tokens_for i l
+pub tokens_place : (i : Instr) (p : ℕ) (l : List ℕ) → tokens_for (with_place p i) l ≡ tokens_for i l
 tokens_place (instr.Let x v) p l = refl
 tokens_place (instr.Calc x o v w) p l = refl
 tokens_place (instr.Glue x v w) p l = refl
@@ -130,7 +129,7 @@ tokens_place (instr.Remove v q) p l = refl
 tokens_place (instr.Spawn c v vs q) p l = refl
 tokens_place (instr.Fetch c xs q) p l = refl
 
-place_placed : (i : Instr) (p r : ℕ) → place_of i ≡ Some r → place_of (with_place p i) ≡ Some p
+pub place_placed : (i : Instr) (p r : ℕ) → place_of i ≡ Some r → place_of (with_place p i) ≡ Some p
 place_placed (instr.Let x v) p r h = cc
 place_placed (instr.Calc x o v w) p r h = cc
 place_placed (instr.Glue x v w) p r h = cc
@@ -178,7 +177,7 @@ placed_again (instr.Remove v q) p h = let e : q ≡ p = cc (h) in ap (λ n. inst
 placed_again (instr.Spawn c v vs q) p h = let e : q ≡ p = cc (h) in ap (λ n. instr.Spawn c v vs n) (sym e)
 placed_again (instr.Fetch c xs q) p h = let e : q ≡ p = cc (h) in ap (λ n. instr.Fetch c xs n) (sym e)
 
-begins : (i : Instr) (l : List ℕ) → BeginsPlain (tokens_for i l)
+pub begins : (i : Instr) (l : List ℕ) → BeginsPlain (tokens_for i l)
 begins (instr.Let x v) l = refl
 begins (instr.Calc x o v w) l = refl
 begins (instr.Glue x v w) l = refl
@@ -221,10 +220,10 @@ said_sound At look at line ts are (Jumping i l) form n k (d, found, is) =
       ),
     )
 
-line_sound : (At : List ℕ → ℕ → Type 0) (look : List ℕ → Option Definition) → ((l : List ℕ) (d : Definition) → look l ≡ Some d → At l d.place)
+pub line_sound : (At : List ℕ → ℕ → Type 0) (look : List ℕ → Option Definition) → ((l : List ℕ) (d : Definition) → look l ≡ Some d → At l d.place)
     → (line : List ℕ) (s : Line) → line_of line ≡ Some s → (n : ℕ) (k : Kind) → Fits look n s k → IsLine At line k
 line_sound At look at line s h n k fits =
-    let text = only_if_some (is_utf8 line) (cond (is_comment line) (Some Quiet) (tokens_of line >>= form_of)) s h in (
+    let text = only_if-some (is_utf8 line) (cond (is_comment line) (Some Quiet) (tokens_of line >>= form_of)) s h in (
       IsUtf8-from_is_utf8 line text.0,
       elim (cases_Bool (is_comment line)) [
         | inl comment ↦
@@ -234,7 +233,7 @@ line_sound At look at line s h n k fits =
             subst (IsKind At line) (sym blank) (inr (comment_sound line comment))
         | inr other ↦
             let said : (tokens_of line >>= form_of) ≡ Some s = sym (ap (λ b. cond b (Some Quiet) (tokens_of line >>= form_of)) other) ∙ text.1 in
-            let r = bind_some (tokens_of line) form_of s said in
+            let r = bind-some (tokens_of line) form_of s said in
             said_sound At look at line r.0 (tokens_sound line Between r.0 r.1) s (forms_sound r.0 s r.2) n k fits
       ],
     )
@@ -260,13 +259,13 @@ script_sound bytes is h =
 -- FROM THE GRAMMAR
 
 -- what a line of the grammar says
-abbrev Says : (List ℕ → ℕ → Type 0) → Line → Kind → Type 0
+abbrev pub Says : (List ℕ → ℕ → Type 0) → Line → Kind → Type 0
 Says At Quiet k = k ≡ Blank
 Says At (Label l) k = k ≡ Names l
 Says At (Plain i) k = k ≡ Does i
 Says At (Jumping i l) k = (p : ℕ) × At l p × (k ≡ Does (with_place p i))
 
-made_line : (line : List ℕ) (ts : List Token) (s : Line) → IsUtf8 line → AreTokens line ts → is_comment line ≡ false → IsForm s ts → line_of line ≡ Some s
+pub made_line : (line : List ℕ) (ts : List Token) (s : Line) → IsUtf8 line → AreTokens line ts → is_comment line ≡ false → IsForm s ts → line_of line ≡ Some s
 made_line line ts s u are other form =
     ap (λ b. only_if b (cond (is_comment line) (Some Quiet) (tokens_of line >>= form_of))) (is_utf8-from_IsUtf8 line u)
     ∙ ap (λ b. cond b (Some Quiet) (tokens_of line >>= form_of)) other
@@ -284,7 +283,7 @@ placed_line At line ts i (Some p) some u are form (l, name, at, e) =
       (p, at, ap Does (sym (placed_again i p some))),
     )
 
-line_complete : (At : List ℕ → ℕ → Type 0) (line : List ℕ) (k : Kind) → IsLine At line k → (s : Line) × (line_of line ≡ Some s) × Says At s k
+pub line_complete : (At : List ℕ → ℕ → Type 0) (line : List ℕ) (k : Kind) → IsLine At line k → (s : Line) × (line_of line ≡ Some s) × Says At s k
 line_complete At line Blank (u, inl blanks) = (Quiet, made_line line [] Quiet u blanks (only_blanks line blanks) refl, refl)
 line_complete At line Blank (u, inr (blanks, rest, are, e)) =
     let comment : is_comment line ≡ true = ap is_comment e ∙ blanks_before blanks (35 ∷ rest) are in (

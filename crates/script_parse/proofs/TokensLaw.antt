@@ -7,13 +7,16 @@ use Rattle.std.proofs.lemmas.Bool.{cases_Bool, eqb-true, false≢true, leb-true}
 use Rattle.std.proofs.lemmas.Option.{cond_some}
 use Rattle.script_parse.specs.declared.token.Token.{Token}
 use Rattle.script_parse.specs.declared.token.Token.TheVariants.{Word, Number, Quoted}
-use Rattle.script_parse.specs.declared.scan.Place.{Place}
-use Rattle.script_parse.specs.declared.scan.Place.TheVariants.{Between, InWord, InText, Escaped, Closed}
-use Rattle.script_parse.specs.Gives.{◌>>=◌}
+use Rattle.script_parse.specs.declared.scan.LexState.{LexState}
+use Rattle.script_parse.specs.declared.scan.LexState.TheVariants.{Between, InWord, InText, Escaped, Closed}
+use Rattle.ldv_value.specs.Options.{◌>>=◌}
 use Rattle.script_parse.specs.Number.{number_of}
-use Rattle.script_parse.specs.Tokens.{is_blank, escape_of, text_of, word_or_number, word_token, text_token, finish, before, tokens_from}
+use Rattle.ldv_value.specs.Texts.{text_of}
+use Rattle.ldv_value.specs.Scan.{before}
+use Rattle.script_parse.specs.Tokens.{is_blank, escape_of, word_or_number, word_token, text_token, finish, tokens_from}
 use Rattle.script_parse.specs.Grammar.{Escapes, Spells, IsBare, IsToken, EndsToken, AreTokens}
-use Rattle.script_parse.proofs.Options.{bind_some, cases_Option}
+use Rattle.ldv_value.proofs.Cases.{cases-option}
+use Rattle.ldv_value.proofs.Options.{bind-some}
 use Rattle.script_parse.proofs.LinesLaw.{eqb_ne}
 use Rattle.script_parse.proofs.NumberLaw.{number_sound, number_complete}
 
@@ -36,7 +39,7 @@ before_nil None = refl
 before_nil (Some ts) = refl
 
 before_some : (k : Token) (o : Option (List Token)) (ts : List Token) → before (k ∷ []) o ≡ Some ts → (more : List Token) × (o ≡ Some more) × (ts ≡ k ∷ more)
-before_some k o ts h = let p = bind_some o (λ more. Some (k ∷ more)) ts h in let e : k ∷ p.0 ≡ ts = cc (p.2) in (p.0, p.1, sym e)
+before_some k o ts h = let p = bind-some o (λ more. Some (k ∷ more)) ts h in let e : k ∷ p.0 ≡ ts = cc (p.2) in (p.0, p.1, sym e)
 
 -- ESCAPES
 
@@ -71,10 +74,10 @@ text_same : (bytes t : List ℕ) → text_of bytes ≡ Some t → (is_utf8 bytes
 text_same bytes t h = cond_some (is_utf8 bytes) bytes t h
 
 word_sound : (w : List ℕ) (k : Token) → word_token w ≡ Some k → IsBare w → IsToken w k
-word_sound w k h bare = elim (cases_Option (number_of w)) [
+word_sound w k h bare = elim (cases-option (number_of w)) [
   | inl none ↦
       let h2 : (text_of w >>= λ t. Some (Word t)) ≡ Some k = sym (ap (word_or_number w) none) ∙ h in
-      let p = bind_some (text_of w) (λ t. Some (Word t)) k h2 in
+      let p = bind-some (text_of w) (λ t. Some (Word t)) k h2 in
       let e : Word p.0 ≡ k = cc (p.2) in
       let same : w ≡ p.0 = (text_same w p.0 p.1).1 in
       subst (IsToken w) e (same, bare, λ z is. let n : None ≡ Some z = sym none ∙ number_complete w z is in cc)
@@ -88,7 +91,7 @@ quoted_sound : (body t : List ℕ) (k : Token) → text_token t ≡ Some k → S
 quoted_sound body t k h spells = elim (cases_Bool (leb (length t) 65536)) [
   | inl fits ↦
       let h2 : (text_of t >>= λ t. Some (Quoted t)) ≡ Some k = rw fits at h in
-      let p = bind_some (text_of t) (λ t. Some (Quoted t)) k h2 in
+      let p = bind-some (text_of t) (λ t. Some (Quoted t)) k h2 in
       let e : Quoted p.0 ≡ k = cc (p.2) in
       let same : t ≡ p.0 = (text_same t p.0 p.1).1 in
       subst (IsToken (34 ∷ body ++ 34 ∷ [])) (ap Quoted same ∙ e) (body, refl, spells, leb-true _ _ fits)
@@ -112,7 +115,7 @@ EscapedMeans t bs ts = (letter : ℕ) × (c : ℕ) × (rest : List ℕ) × (bs �
 abbrev pub ClosedMeans : Token → List ℕ → List Token → Type 0
 ClosedMeans k bs ts = (more : List Token) × EndsToken bs × (ts ≡ k ∷ more) × AreTokens bs more
 
-abbrev pub Means : Place → List ℕ → List Token → Type 0
+abbrev pub Means : LexState → List ℕ → List Token → Type 0
 Means Between bs ts = AreTokens bs ts
 Means (InWord w) bs ts = WordMeans w bs ts
 Means (InText t) bs ts = TextMeans t bs ts
@@ -160,11 +163,11 @@ text_escape t bs ts (letter, c, after, from, escape, (text, body, rest, k, more,
 text_end : (t bs : List ℕ) (k : Token) (ts : List Token) → text_token t ≡ Some k → ClosedMeans k bs ts → TextMeans t (34 ∷ bs) ts
 text_end t bs k ts is (more, ends, are, tokens) = ([], [], bs, k, more, refl, refl, ends, ap text_token (append_nil t) ∙ is, are, tokens)
 
-end_sound : (place : Place) (ts : List Token) → tokens_from [] place ≡ Some ts → Means place [] ts
+end_sound : (place : LexState) (ts : List Token) → tokens_from [] place ≡ Some ts → Means place [] ts
 end_sound Between ts h = let e : [] ≡ ts = cc (h) in subst (AreTokens []) e tt
 end_sound (InWord w) ts h =
-    let p = bind_some (finish (InWord w)) (λ t. Some (option_to_list t)) ts h in
-    let q = bind_some (word_token w) (λ t. Some (Some t)) p.0 p.1 in
+    let p = bind-some (finish (InWord w)) (λ t. Some (option_to_list t)) ts h in
+    let q = bind-some (word_token w) (λ t. Some (Some t)) p.0 p.1 in
     let o : Some q.0 ≡ p.0 = cc (q.2) in
     let e : option_to_list p.0 ≡ ts = cc (p.2) in
     let are : ts ≡ q.0 ∷ [] = sym e ∙ sym (ap option_to_list o) in
@@ -173,7 +176,7 @@ end_sound (InText t) ts h = cc
 end_sound (Escaped t) ts h = cc
 end_sound (Closed k) ts h = let e : k ∷ [] ≡ ts = cc (h) in ([], tt, sym e, tt)
 
-pub tokens_sound : (bs : List ℕ) (place : Place) (ts : List Token) → tokens_from bs place ≡ Some ts → Means place bs ts
+pub tokens_sound : (bs : List ℕ) (place : LexState) (ts : List Token) → tokens_from bs place ≡ Some ts → Means place bs ts
 tokens_sound [] place ts h = end_sound place ts h
 tokens_sound (b ∷ bs) Between ts h = elim (cases_Bool (is_blank b)) [
   | inl blank ↦
@@ -191,8 +194,8 @@ tokens_sound (b ∷ bs) Between ts h = elim (cases_Bool (is_blank b)) [
 tokens_sound (b ∷ bs) (InWord w) ts h = elim (cases_Bool (is_blank b)) [
   | inl blank ↦
       let h2 : ((word_token w >>= λ t. Some (Between, Some t)) >>= λ s. before (option_to_list s.1) (tokens_from bs s.0)) ≡ Some ts = rw blank at h in
-      let p = bind_some (word_token w >>= λ t. Some (Between, Some t)) (λ s. before (option_to_list s.1) (tokens_from bs s.0)) ts h2 in
-      let q = bind_some (word_token w) (λ t. Some (Between, Some t)) p.0 p.1 in
+      let p = bind-some (word_token w >>= λ t. Some (Between, Some t)) (λ s. before (option_to_list s.1) (tokens_from bs s.0)) ts h2 in
+      let q = bind-some (word_token w) (λ t. Some (Between, Some t)) p.0 p.1 in
       let h3 : before (q.0 ∷ []) (tokens_from bs Between) ≡ Some ts = ap (λ o. o >>= λ s. before (option_to_list s.1) (tokens_from bs s.0)) q.2 ∙ p.2 in
       let r = before_some q.0 (tokens_from bs Between) ts h3 in
       ([], b ∷ bs, q.0, r.0, refl, tt, blank, ap word_token (append_nil w) ∙ q.1, r.2, blank_more b bs r.0 blank (tokens_sound bs Between r.0 r.1))
@@ -203,8 +206,8 @@ tokens_sound (b ∷ bs) (InWord w) ts h = elim (cases_Bool (is_blank b)) [
 tokens_sound (b ∷ bs) (InText t) ts h = elim (cases_Bool (b == 34)) [
   | inl quote ↦
       let h2 : ((text_token t >>= λ k. Some (Closed k, None)) >>= λ s. before (option_to_list s.1) (tokens_from bs s.0)) ≡ Some ts = rw quote at h in
-      let p = bind_some (text_token t >>= λ k. Some (Closed k, None)) (λ s. before (option_to_list s.1) (tokens_from bs s.0)) ts h2 in
-      let q = bind_some (text_token t) (λ k. Some (Closed k, None)) p.0 p.1 in
+      let p = bind-some (text_token t >>= λ k. Some (Closed k, None)) (λ s. before (option_to_list s.1) (tokens_from bs s.0)) ts h2 in
+      let q = bind-some (text_token t) (λ k. Some (Closed k, None)) p.0 p.1 in
       let h3 : before [] (tokens_from bs (Closed q.0)) ≡ Some ts = ap (λ o. o >>= λ s. before (option_to_list s.1) (tokens_from bs s.0)) q.2 ∙ p.2 in
       subst (λ (x : ℕ). TextMeans t (x ∷ bs) ts) (sym (eqb-true b 34 quote)) (text_end t bs q.0 ts q.1 (tokens_sound bs (Closed q.0) ts (sym (before_nil (tokens_from bs (Closed q.0))) ∙ h3)))
   | inr other ↦ elim (cases_Bool (b == 92)) [
@@ -217,8 +220,8 @@ tokens_sound (b ∷ bs) (InText t) ts h = elim (cases_Bool (b == 34)) [
   ]
 ]
 tokens_sound (b ∷ bs) (Escaped t) ts h =
-    let p = bind_some (escape_of b >>= λ c. Some (InText (t ++ c ∷ []), None)) (λ s. before (option_to_list s.1) (tokens_from bs s.0)) ts h in
-    let q = bind_some (escape_of b) (λ c. Some (InText (t ++ c ∷ []), None)) p.0 p.1 in
+    let p = bind-some (escape_of b >>= λ c. Some (InText (t ++ c ∷ []), None)) (λ s. before (option_to_list s.1) (tokens_from bs s.0)) ts h in
+    let q = bind-some (escape_of b) (λ c. Some (InText (t ++ c ∷ []), None)) p.0 p.1 in
     let h3 : before [] (tokens_from bs (InText (t ++ q.0 ∷ []))) ≡ Some ts = ap (λ o. o >>= λ s. before (option_to_list s.1) (tokens_from bs s.0)) q.2 ∙ p.2 in
     (b, q.0, bs, refl, q.1, tokens_sound bs (InText (t ++ q.0 ∷ [])) ts (sym (before_nil (tokens_from bs (InText (t ++ q.0 ∷ [])))) ∙ h3))
 tokens_sound (b ∷ bs) (Closed k) ts h = elim (cases_Bool (is_blank b)) [

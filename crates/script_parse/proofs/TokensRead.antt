@@ -6,17 +6,20 @@ use Rattle.std.proofs.lemmas.Bool.{cases_Bool, eqb-true, eq-eqb, false≢true, l
 use Rattle.std.proofs.lemmas.Str.{is_utf8-from_IsUtf8, IsUtf8-nil}
 use Rattle.script_parse.specs.declared.token.Token.{Token}
 use Rattle.script_parse.specs.declared.token.Token.TheVariants.{Word, Number, Quoted}
-use Rattle.script_parse.specs.declared.scan.Place.{Place}
-use Rattle.script_parse.specs.declared.scan.Place.TheVariants.{Between, InWord, InText, Escaped, Closed}
-use Rattle.script_parse.specs.Gives.{◌>>=◌}
+use Rattle.script_parse.specs.declared.scan.LexState.{LexState}
+use Rattle.script_parse.specs.declared.scan.LexState.TheVariants.{Between, InWord, InText, Escaped, Closed}
+use Rattle.ldv_value.specs.Options.{◌>>=◌}
 use Rattle.script_parse.specs.Number.{is_digit, number_of}
-use Rattle.script_parse.specs.Tokens.{is_blank, text_of, word_or_number, word_token, text_token, before, tokens_from, tokens_of}
+use Rattle.ldv_value.specs.Texts.{text_of}
+use Rattle.ldv_value.specs.Scan.{before}
+use Rattle.script_parse.specs.Tokens.{is_blank, word_or_number, word_token, text_token, tokens_from, tokens_of}
 use Rattle.script_parse.specs.Grammar.{AreDigits, IsNumber, Spells, IsBare, IsToken, AreBlanks, EndsToken, AreTokens}
-use Rattle.script_parse.proofs.Options.{cases_Option}
+use Rattle.ldv_value.proofs.Cases.{cases-option}
 use Rattle.script_parse.proofs.LinesLaw.{ne_eqb}
 use Rattle.script_parse.proofs.NumberLaw.{number_sound, number_complete}
 use Rattle.script_parse.proofs.TokensLaw.{NoBlanks, not_false, append_nil, before_nil, escape_complete}
-use Rattle.script_parse.proofs.Utf8Law.{utf8_behind, utf8_cut, spells_utf8}
+use Rattle.ldv_value.proofs.Utf8Parts.{utf8-tail, utf8-cut}
+use Rattle.script_parse.proofs.Utf8Law.{spells_utf8}
 
 blank_low : (b : ℕ) → IsTrue (is_blank b) → b < 128
 blank_low b h = elim (cases_Bool (b == 32)) [
@@ -25,16 +28,16 @@ blank_low b h = elim (cases_Bool (b == 32)) [
 ]
 
 -- a step and what follows it, by what it waits for
-abbrev at_word : Option Token → Option (Place × Option Token)
+abbrev at_word : Option Token → Option (LexState × Option Token)
 at_word o = o >>= λ t. Some (Between, Some t)
 
-abbrev at_quote : Option Token → Option (Place × Option Token)
+abbrev at_quote : Option Token → Option (LexState × Option Token)
 at_quote o = o >>= λ k. Some (Closed k, None)
 
-abbrev at_letter : List ℕ → Option ℕ → Option (Place × Option Token)
+abbrev at_letter : List ℕ → Option ℕ → Option (LexState × Option Token)
 at_letter t o = o >>= λ c. Some (InText (t ++ c ∷ []), None)
 
-abbrev on : List ℕ → Option (Place × Option Token) → Option (List Token)
+abbrev on : List ℕ → Option (LexState × Option Token) → Option (List Token)
 on rest o = o >>= λ s. before (option_to_list s.1) (tokens_from rest s.0)
 
 -- blanks are passed over
@@ -129,23 +132,23 @@ number_bare piece z (ds, digits, inr (e, is, within)) = subst IsBare (sym e) (mi
 -- UTF-8 of the parts
 utf8_blanks : (front rest : List ℕ) → AreBlanks front → IsUtf8 (front ++ rest) → IsUtf8 rest
 utf8_blanks [] rest h u = u
-utf8_blanks (b ∷ front) rest h u = utf8_blanks front rest h.1 (utf8_behind b (front ++ rest) (blank_low b h.0) u)
+utf8_blanks (b ∷ front) rest h u = utf8_blanks front rest h.1 (utf8-tail b (front ++ rest) (blank_low b h.0) u)
 
 utf8_parts : (piece rest : List ℕ) → EndsToken rest → IsUtf8 (piece ++ rest) → IsUtf8 piece × IsUtf8 rest
 utf8_parts piece [] ends u = (subst IsUtf8 (append_nil piece) u, IsUtf8-nil)
-utf8_parts piece (b ∷ rest) ends u = utf8_cut piece b rest (blank_low b ends) u
+utf8_parts piece (b ∷ rest) ends u = utf8-cut piece b rest (blank_low b ends) u
 
 utf8_inside : (body : List ℕ) → IsUtf8 (34 ∷ body ++ 34 ∷ []) → IsUtf8 body
-utf8_inside body u = (utf8_cut body 34 [] (omega arith) (utf8_behind 34 (body ++ 34 ∷ []) (omega arith) u)).0
+utf8_inside body u = (utf8-cut body 34 [] (omega arith) (utf8-tail 34 (body ++ 34 ∷ []) (omega arith) u)).0
 
 word_made : (w : List ℕ) → IsUtf8 w → ((z : ℤ) → ¬ IsNumber w z) → word_token w ≡ Some (Word w)
-word_made w u not = elim (cases_Option (number_of w)) [
+word_made w u not = elim (cases-option (number_of w)) [
   | inl none ↦ ap (word_or_number w) none ∙ ap (λ b. cond b (Some w) None >>= λ t. Some (Word t)) (is_utf8-from_IsUtf8 w u)
   | inr some ↦ absurd (not some.0 (number_sound w some.0 some.1))
 ]
 
-text_made : (text : List ℕ) → IsUtf8 text → length text ≤ 65536 → text_token text ≡ Some (Quoted text)
-text_made text u fits =
+text_of-string : (text : List ℕ) → IsUtf8 text → length text ≤ 65536 → text_token text ≡ Some (Quoted text)
+text_of-string text u fits =
     let test : leb (length text) 65536 ≡ true = le-leb _ _ fits in
     ap (λ b. cond b (text_of text >>= λ t. Some (Quoted t)) None) test ∙ ap (λ b. cond b (Some text) None >>= λ t. Some (Quoted t)) (is_utf8-from_IsUtf8 text u)
 
@@ -154,7 +157,7 @@ token_run (Word w) piece rest u (e, bare, not) ends = bare_run piece rest (Word 
 token_run (Number z) piece rest u is ends = bare_run piece rest (Number z) (number_bare piece z is) ends (ap (word_or_number piece) (number_complete piece z is))
 token_run (Quoted text) piece rest u (body, e, spells, fits) ends =
     let inner : IsUtf8 body = utf8_inside body (subst IsUtf8 e u) in
-    let token : text_token text ≡ Some (Quoted text) = text_made text (spells_utf8 (length text) body text (omega arith) spells inner) fits in
+    let token : text_token text ≡ Some (Quoted text) = text_of-string text (spells_utf8 (length text) body text (omega arith) spells inner) fits in
     ap (λ (l : List ℕ). tokens_from (l ++ rest) Between) e
     ∙ before_nil (tokens_from ((body ++ 34 ∷ []) ++ rest) (InText []))
     ∙ ap (λ (l : List ℕ). tokens_from l (InText [])) (append_assoc body (34 ∷ []) rest)

@@ -1,4 +1,4 @@
--- A part of UTF-8 between bytes below 128 is UTF-8, and so is a text whose spelling is.
+-- A text is UTF-8 where its spelling is.
 use Rattle.std.proofs.Common.{◌≡◌, ℕ, zero, suc, ◌<◌, ◌≤◌, List, [], ◌∷◌, ◌++◌, length, take, drop, get_or, refl, sym, ap, ◌∙◌, subst, Bool, true, false, inl, inr, ◌&&◌, arith, length-append}
 use Rattle.std.specs.Prelude.{IsUtf8}
 use Rattle.std.specs.List.{AllByRecursion}
@@ -6,34 +6,10 @@ use lib.Utf8.{scalar, scalars, encodes, encode}
 use Rattle.std.proofs.lemmas.Bool.{cases_lt, false≢true}
 use Rattle.std.proofs.lemmas.Str.{IsUtf8-nil, IsUtf8-append, IsUtf8-take, IsUtf8-drop, IsUtf8-encode, IsUtf8-from_ascii, IsCharBoundary-before_ascii, IsCharBoundary-after_ascii, encode_ascii, inside_one, length-encode, len_utf8_bounds}
 use Rattle.std.proofs.lemmas.Str.Ascii.{IsAscii-nil, IsAscii-cons}
+use Rattle.ldv_value.proofs.Booleans.{and-parts}
+use Rattle.ldv_value.proofs.Lists.{append-nil}
+use Rattle.ldv_value.proofs.Utf8Parts.{utf8-tail, utf8-cons, utf8-cut}
 use Rattle.script_parse.specs.Grammar.{Escapes, Spells}
-
-pub utf8_behind : (b : ℕ) (bs : List ℕ) → b < 128 → IsUtf8 (b ∷ bs) → IsUtf8 bs
-utf8_behind b bs low u = IsUtf8-drop (b ∷ bs) 1 u (IsCharBoundary-after_ascii (b ∷ bs) 0 u (omega arith) low)
-
-pub utf8_before : (b : ℕ) (bs : List ℕ) → b < 128 → IsUtf8 bs → IsUtf8 (b ∷ bs)
-utf8_before b bs low u = IsUtf8-append (b ∷ []) bs (IsUtf8-from_ascii (b ∷ []) (IsAscii-cons b [] low IsAscii-nil)) u
-
-take_front : (xs ys : List ℕ) → take (length xs) (xs ++ ys) ≡ xs
-take_front [] ys = refl
-take_front (x ∷ xs) ys = ap (λ (l : List ℕ). x ∷ l) (take_front xs ys)
-
-drop_front : (xs ys : List ℕ) → drop (length xs) (xs ++ ys) ≡ ys
-drop_front [] ys = refl
-drop_front (x ∷ xs) ys = drop_front xs ys
-
-get_front : (xs : List ℕ) (b : ℕ) (ys : List ℕ) → get_or (xs ++ b ∷ ys) (length xs) 0 ≡ b
-get_front [] b ys = refl
-get_front (x ∷ xs) b ys = get_front xs b ys
-
--- cut before a byte below 128
-pub utf8_cut : (xs : List ℕ) (b : ℕ) (ys : List ℕ) → b < 128 → IsUtf8 (xs ++ b ∷ ys) → IsUtf8 xs × IsUtf8 (b ∷ ys)
-utf8_cut xs b ys low u =
-    let at : ℕ = length xs in
-    let byte : get_or (xs ++ b ∷ ys) (length xs) 0 ≡ b = get_front xs b ys in
-    let inside : length xs < length (xs ++ b ∷ ys) = omega (arith, length-append xs (b ∷ ys)) in
-    let cut = IsCharBoundary-before_ascii (xs ++ b ∷ ys) (length xs) inside (omega arith) in
-    (subst IsUtf8 (take_front xs (b ∷ ys)) (IsUtf8-take (xs ++ b ∷ ys) (length xs) u cut), subst IsUtf8 (drop_front xs (b ∷ ys)) (IsUtf8-drop (xs ++ b ∷ ys) (length xs) u cut))
 
 abbrev pub AreHigh : List ℕ → Type 0
 AreHigh = AllByRecursion (λ b. 128 ≤ b)
@@ -42,13 +18,9 @@ all_high : (p : List ℕ) → ((k : ℕ) → k < length p → 128 ≤ get_or p k
 all_high [] h = tt
 all_high (x ∷ xs) h = (h 0 (omega arith), all_high xs (λ k l. h (suc k) (omega arith)))
 
-append_nil : (xs : List ℕ) → xs ++ [] ≡ xs
-append_nil [] = refl
-append_nil (x ∷ xs) = ap (λ (l : List ℕ). x ∷ l) (append_nil xs)
-
 high_byte : (c k : ℕ) → 128 ≤ c → k < length (encode c) → 128 ≤ get_or (encode c) k 0
 high_byte c k high l = elim (cases_lt (get_or (encode c) k 0) 128) [
-  | inl low ↦ absurd (omega (arith, inside_one c [] (encode c) k (sym (append_nil (encode c))) l low))
+  | inl low ↦ absurd (omega (arith, inside_one c [] (encode c) k (sym (append-nil (encode c))) l low))
   | inr above ↦ above
 ]
 
@@ -75,10 +47,6 @@ escaped_low letter b (inr (inl (e, is))) = (omega arith, omega arith)
 escaped_low letter b (inr (inr (inl (e, is)))) = (omega arith, omega arith)
 escaped_low letter b (inr (inr (inr (e, is)))) = (omega arith, omega arith)
 
-and_true : (a b : Bool) → (a && b) ≡ true → (a ≡ true) × (b ≡ true)
-and_true true b h = (refl, h)
-and_true false b h = absurd (false≢true h)
-
 -- the first character of UTF-8 that begins with a byte from 128 on
 abbrev pub HasHighFront : List ℕ → Type 0
 HasHighFront body = (p : List ℕ) × (rest : List ℕ) × AreHigh p × (0 < length p) × IsUtf8 p × (body ≡ p ++ rest) × IsUtf8 rest
@@ -86,7 +54,7 @@ HasHighFront body = (p : List ℕ) × (rest : List ℕ) × AreHigh p × (0 < len
 high_front : (b : ℕ) (after body cs : List ℕ) → 128 ≤ b → body ≡ b ∷ after → scalars cs ≡ true → encodes cs ≡ body → HasHighFront body
 high_front b after body [] high e are is = let no : [] ≡ b ∷ after = is ∙ e in absurd cc
 high_front b after body (c ∷ cs) high e are is =
-    let p = and_true (scalar c) (scalars cs) are in
+    let p = and-parts (scalar c) (scalars cs) are in
     elim (cases_lt c 128) [
       | inl low ↦
           let same : c ∷ encodes cs ≡ b ∷ after = sym (ap (λ (l : List ℕ). l ++ encodes cs) (encode_ascii c low)) ∙ is ∙ e in
@@ -102,10 +70,10 @@ spells_utf8 zero body (b ∷ text) within spells u = absurd (omega arith)
 spells_utf8 (suc n) body (b ∷ text) within (rest, spells, inr (letter, e, escape)) u =
     let low = escaped_low letter b escape in
     let u2 : IsUtf8 (92 ∷ letter ∷ rest) = subst IsUtf8 e u in
-    let u3 : IsUtf8 rest = utf8_behind letter rest low.0 (utf8_behind 92 (letter ∷ rest) (omega arith) u2) in
-    utf8_before b text low.1 (spells_utf8 n rest text (omega arith) spells u3)
+    let u3 : IsUtf8 rest = utf8-tail letter rest low.0 (utf8-tail 92 (letter ∷ rest) (omega arith) u2) in
+    utf8-cons b text low.1 (spells_utf8 n rest text (omega arith) spells u3)
 spells_utf8 (suc n) body (b ∷ text) within (rest, spells, inl (e, quote, slash)) u = elim (cases_lt b 128) [
-  | inl low ↦ utf8_before b text low (spells_utf8 n rest text (omega arith) spells (utf8_behind b rest low (subst IsUtf8 e u)))
+  | inl low ↦ utf8-cons b text low (spells_utf8 n rest text (omega arith) spells (utf8-tail b rest low (subst IsUtf8 e u)))
   | inr high ↦
       let f = high_front b rest body u.0 high e u.1.0 u.1.1 in
       let whole : Spells body (b ∷ text) = (rest, spells, inl (e, quote, slash)) in

@@ -1,5 +1,6 @@
 -- From the tokens of a line to what the line says.
 use Rattle.std.specs.Prelude.{ℕ, ◌+◌, List, [], ◌∷◌, length, take, drop, Bool, false, not, nat_le, if◌then◌else◌, Option, Some, None, position, codes}
+use Rattle.ldv_value.specs.Limits.{max_operands}
 use Rattle.ldv_value.specs.declared.value.Value.TheVariants as value
 use Rattle.ldv_value.specs.declared.value.Cmp.{Cmp}
 use Rattle.ldv_value.specs.declared.file.OpenMode.{OpenMode}
@@ -16,7 +17,7 @@ use Rattle.script_parse.specs.declared.keyword.Sign.{Sign}
 use Rattle.script_parse.specs.declared.keyword.Sign.TheVariants.{Plus, Minus, Times, Join}
 use Rattle.script_parse.specs.declared.line.Line.{Line}
 use Rattle.script_parse.specs.declared.line.Line.TheVariants.{Plain, Jumping}
-use Rattle.script_parse.specs.Gives.{◌>>=◌}
+use Rattle.ldv_value.specs.Options.{only_if, ◌>>=◌}
 use Rattle.script_parse.specs.Keywords.{sign_of, comparison_of, mode_of}
 use Rattle.script_parse.specs.Names.{is_text, name_test}
 
@@ -35,10 +36,6 @@ is_word text (Word w) = is_text w text
 is_word text (Number z) = false
 is_word text (Quoted t) = false
 
--- nothing but the leave to go on where a test holds
-abbrev pub only_if : {A : Type 0} → Bool → Option A → Option A
-only_if b o = if b then o else None
-
 abbrev pub name_in : List ℕ → Option (List ℕ)
 name_in w = only_if (name_test w) (Some w)
 
@@ -46,7 +43,9 @@ abbrev pub name_of : Token → Option (List ℕ)
 name_of t = word_of t >>= name_in
 
 abbrev pub word_operand : List ℕ → Option Operand
-word_operand w = if is_text w (codes "null") then Some (Constant value.Null) else (name_in w >>= λ x. Some (Variable x))
+word_operand w =
+    if is_text w (codes "null") then Some (Constant value.Null)
+    else (name_in w >>= λ x. Some (Variable x))
 
 abbrev pub operand_of : Token → Option Operand
 operand_of (Word w) = word_operand w
@@ -55,17 +54,17 @@ operand_of (Quoted t) = Some (Constant (value.Text t))
 
 -- no more than 255 operands
 abbrev pub operands_of : List Token → Option (List Operand)
-operands_of ts = only_if (nat_le (length ts) 255) (each operand_of ts)
+operands_of ts = only_if (nat_le (length ts) max_operands) (each operand_of ts)
 
 -- one operand and at most 255 more
 abbrev pub operands_from_one : List Token → Option (List Operand)
 operands_from_one [] = None
-operands_from_one (t ∷ ts) = only_if (nat_le (length ts) 255) (each operand_of (t ∷ ts))
+operands_from_one (t ∷ ts) = only_if (nat_le (length ts) max_operands) (each operand_of (t ∷ ts))
 
 -- one name and at most 255 more
 abbrev pub names_from_one : List Token → Option (List (List ℕ))
 names_from_one [] = None
-names_from_one (t ∷ ts) = only_if (nat_le (length ts) 255) (each name_of (t ∷ ts))
+names_from_one (t ∷ ts) = only_if (nat_le (length ts) max_operands) (each name_of (t ∷ ts))
 
 abbrev pub sign_in : Token → Option Sign
 sign_in t = word_of t >>= sign_of
@@ -76,14 +75,14 @@ comparison_in t = word_of t >>= comparison_of
 abbrev pub mode_in : Token → Option OpenMode
 mode_in t = word_of t >>= mode_of
 
--- `x = v` with a sign and a second operand, behind `let`
+-- `x = v` with a sign and a second operand, after `let`
 abbrev pub signed : List ℕ → Operand → Operand → Sign → Instr
 signed x v w Plus = instr.Calc x Add v w
 signed x v w Minus = instr.Calc x Subtract v w
 signed x v w Times = instr.Calc x Multiply v w
 signed x v w Join = instr.Glue x v w
 
--- what stands behind `let x =`
+-- what follows `let x =`
 abbrev pub let_value : List ℕ → List Token → Option Instr
 let_value x [] = None
 let_value x (v ∷ []) = do
@@ -99,7 +98,7 @@ let_value x (v ∷ s ∷ w ∷ []) = do
   Some (signed x left right sign)
 let_value x (a ∷ b ∷ c ∷ d ∷ more) = None
 
--- Behind the first word. A place that isn't known yet stands as 0.
+-- After the first word. A place that isn't known yet is 0.
 abbrev pub let_of : List Token → Option Line
 let_of [] = None
 let_of (x ∷ []) = None

@@ -1,8 +1,9 @@
--- The grammar of scripts, as a relation between bytes and instructions. It says how each thing is written, from
--- the instructions to the bytes; no place in it says how they are read.
-use Rattle.std.specs.Prelude.{◌≡◌, ◌≢◌, ◌⊎◌, ℕ, ◌^◌, ◌<◌, ◌≤◌, List, [], ◌∷◌, ◌++◌, length, map, IsTrue, IsUtf8, ℤ, pos, neg_ℤ, codes, Option, Some, None}
+-- The grammar of scripts, as a relation between bytes and instructions. It says how each thing is written,
+-- from the instructions to the bytes; no place in it says how they are read.
+use Rattle.std.specs.Prelude.{◌≡◌, ◌≢◌, ◌⊎◌, ℕ, ◌+◌, ◌^◌, ◌<◌, ◌≤◌, List, [], ◌∷◌, ◌++◌, length, map, IsTrue, IsUtf8, ℤ, pos, neg_ℤ, codes, Option, Some, None}
 use Rattle.std.specs.List.{AllZip, AllByRecursion}
 use Prim.Native.String.{String}
+use Rattle.ldv_value.specs.Limits.{text_limit, max_operands}
 use Rattle.ldv_value.specs.declared.value.Value.TheVariants as value
 use Rattle.script_parse.specs.declared.script.Operand.{Operand}
 use Rattle.script_parse.specs.declared.script.Operand.TheVariants.{Constant, Variable}
@@ -28,12 +29,14 @@ abbrev pub EndsInReturn : List ℕ → Type 0
 EndsInReturn line = (front : List ℕ) × (line ≡ front ++ 13 ∷ [])
 
 abbrev pub IsEnded : List ℕ → List ℕ → List ℕ → Type 0
-IsEnded bytes line rest = ((bytes ≡ line ++ 10 ∷ rest) × (¬ EndsInReturn line)) ⊎ (bytes ≡ line ++ 13 ∷ 10 ∷ rest)
+IsEnded bytes line rest = ((bytes ≡ line ++ 10 ∷ rest) × (¬ EndsInReturn line))
+    ⊎ (bytes ≡ line ++ 13 ∷ 10 ∷ rest)
 
 abbrev pub AreLines : List ℕ → List (List ℕ) → Type 0
 AreLines bytes [] = bytes ≡ []
 AreLines bytes (line ∷ lines) = HasNoFeed line
-    × (((bytes ≡ line) × (line ≢ []) × (lines ≡ [])) ⊎ ((rest : List ℕ) × IsEnded bytes line rest × AreLines rest lines))
+    × (((bytes ≡ line) × (line ≢ []) × (lines ≡ [])) ⊎ ((rest : List ℕ) × IsEnded bytes line rest
+    × AreLines rest lines))
 
 -- TOKENS
 
@@ -46,29 +49,33 @@ IsNumber piece z = (ds : List ℕ) × AreDigits ds
     × (((piece ≡ ds) × (z ≡ pos (digits_from 0 ds)) × (digits_from 0 ds < 2 ^ 63))
     ⊎ ((piece ≡ 45 ∷ ds) × (z ≡ neg_ℤ (pos (digits_from 0 ds))) × (digits_from 0 ds ≤ 2 ^ 63)))
 
--- The letter behind a backslash: `n` for LF, `t` for a tab, the quote and the backslash for themselves.
+-- The letter after a backslash: `n` for LF, `t` for a tab, the quote and the backslash for themselves.
 abbrev pub Escapes : ℕ → ℕ → Type 0
-Escapes letter b = ((letter ≡ 110) × (b ≡ 10)) ⊎ ((letter ≡ 116) × (b ≡ 9)) ⊎ ((letter ≡ 34) × (b ≡ 34)) ⊎ ((letter ≡ 92) × (b ≡ 92))
+Escapes letter b = ((letter ≡ 110) × (b ≡ 10)) ⊎ ((letter ≡ 116) × (b ≡ 9)) ⊎ ((letter ≡ 34) × (b ≡ 34))
+    ⊎ ((letter ≡ 92) × (b ≡ 92))
 
--- A text between its quotes: each byte but a quote and a backslash may stand for itself.
+-- A text between its quotes: each byte but a quote and a backslash may be itself.
 abbrev pub Spells : List ℕ → List ℕ → Type 0
 Spells body [] = body ≡ []
 Spells body (b ∷ text) = (rest : List ℕ) × Spells rest text
-    × (((body ≡ b ∷ rest) × (b ≢ 34) × (b ≢ 92)) ⊎ ((letter : ℕ) × (body ≡ 92 ∷ letter ∷ rest) × Escapes letter b))
+    × (((body ≡ b ∷ rest) × (b ≢ 34) × (b ≢ 92)) ⊎ ((letter : ℕ) × (body ≡ 92 ∷ letter ∷ rest)
+    × Escapes letter b))
 
 -- Without quotes: no blank, and no quote in front.
 abbrev pub IsBare : List ℕ → Type 0
-IsBare piece = (piece ≢ []) × AllByRecursion (λ b. ¬ IsTrue (is_blank b)) piece × ((rest : List ℕ) → piece ≢ 34 ∷ rest)
+IsBare piece = (piece ≢ []) × AllByRecursion (λ b. ¬ IsTrue (is_blank b)) piece
+    × ((rest : List ℕ) → piece ≢ 34 ∷ rest)
 
 abbrev pub IsToken : List ℕ → Token → Type 0
 IsToken piece (Word w) = (piece ≡ w) × IsBare piece × ((z : ℤ) → ¬ IsNumber piece z)
 IsToken piece (Number z) = IsNumber piece z
-IsToken piece (Quoted text) = (body : List ℕ) × (piece ≡ 34 ∷ body ++ 34 ∷ []) × Spells body text × (length text ≤ 65536)
+IsToken piece (Quoted text) = (body : List ℕ) × (piece ≡ 34 ∷ body ++ 34 ∷ []) × Spells body text
+    × (length text ≤ text_limit)
 
 abbrev pub AreBlanks : List ℕ → Type 0
 AreBlanks = AllByRecursion (λ b. IsTrue (is_blank b))
 
--- what may stand behind a token
+-- what may follow a token
 abbrev pub EndsToken : List ℕ → Type 0
 EndsToken [] = Unit {0}
 EndsToken (b ∷ rest) = IsTrue (is_blank b)
@@ -77,7 +84,8 @@ EndsToken (b ∷ rest) = IsTrue (is_blank b)
 abbrev pub AreTokens : List ℕ → List Token → Type 0
 AreTokens line [] = AreBlanks line
 AreTokens line (t ∷ ts) = (front : List ℕ) × (piece : List ℕ) × (rest : List ℕ)
-    × (line ≡ front ++ (piece ++ rest)) × AreBlanks front × IsToken piece t × EndsToken rest × AreTokens rest ts
+    × (line ≡ front ++ (piece ++ rest)) × AreBlanks front × IsToken piece t × EndsToken rest
+    × AreTokens rest ts
 
 -- INSTRUCTIONS
 
@@ -113,22 +121,26 @@ calc_text Multiply = codes "*"
 -- The tokens of an instruction that names the label l, if it names one.
 abbrev pub tokens_for : Instr → List ℕ → List Token
 tokens_for (Let x v) l = word "let" ∷ Word x ∷ word "=" ∷ written v ∷ []
-tokens_for (Calc x op v w) l = word "let" ∷ Word x ∷ word "=" ∷ written v ∷ Word (calc_text op) ∷ written w ∷ []
+tokens_for (Calc x op v w) l = word "let" ∷ Word x ∷ word "=" ∷ written v ∷ Word (calc_text op) ∷ written w
+    ∷ []
 tokens_for (Glue x v w) l = word "let" ∷ Word x ∷ word "=" ∷ written v ∷ word "++" ∷ written w ∷ []
 tokens_for (ToInt x v) l = word "let" ∷ Word x ∷ word "=" ∷ word "int" ∷ written v ∷ []
 tokens_for (Cut x y v) l = word "cut" ∷ Word x ∷ Word y ∷ written v ∷ []
 tokens_for (Jump place) l = word "goto" ∷ Word l ∷ []
-tokens_for (JumpIf op v w place) l = word "if" ∷ written v ∷ Word (comparison_text op) ∷ written w ∷ word "goto" ∷ Word l ∷ []
+tokens_for (JumpIf op v w place) l = word "if" ∷ written v ∷ Word (comparison_text op) ∷ written w
+    ∷ word "goto" ∷ Word l ∷ []
 tokens_for (Print vs) l = word "print" ∷ map written vs
 tokens_for (Exit v) l = word "exit" ∷ written v ∷ []
-tokens_for (OpenPath f mode v place) l = word "open" ∷ Word f ∷ Word (mode_text mode) ∷ written v ∷ word "else" ∷ Word l ∷ []
+tokens_for (OpenPath f mode v place) l = word "open" ∷ Word f ∷ Word (mode_text mode) ∷ written v
+    ∷ word "else" ∷ Word l ∷ []
 tokens_for (ReadLine x f place) l = word "readline" ∷ Word x ∷ Word f ∷ word "else" ∷ Word l ∷ []
 tokens_for (WriteLine f vs) l = word "write" ∷ Word f ∷ map written vs
 tokens_for (CopyRest f g) l = word "copy" ∷ Word f ∷ Word g ∷ []
 tokens_for (Close f) l = word "close" ∷ Word f ∷ []
 tokens_for (Remove v place) l = word "remove" ∷ written v ∷ word "else" ∷ Word l ∷ []
 tokens_for (Exists x v) l = word "exists" ∷ Word x ∷ written v ∷ []
-tokens_for (Spawn p v vs place) l = word "spawn" ∷ Word p ∷ written v ∷ map written vs ++ word "else" ∷ Word l ∷ []
+tokens_for (Spawn p v vs place) l = word "spawn" ∷ Word p ∷ written v ∷ map written vs ++ word "else"
+    ∷ Word l ∷ []
 tokens_for (Wait x p) l = word "wait" ∷ Word x ∷ Word p ∷ []
 tokens_for (Sql c v vs) l = word "sql" ∷ Word c ∷ written v ∷ map written vs
 tokens_for (Fetch c xs place) l = word "fetch" ∷ Word c ∷ map Word xs ++ word "else" ∷ Word l ∷ []
@@ -144,19 +156,19 @@ HasForm (ToInt x v) = IsName x × IsOperand v
 HasForm (Cut x y v) = IsName x × IsName y × (x ≢ y) × IsOperand v
 HasForm (Jump place) = Unit {0}
 HasForm (JumpIf op v w place) = IsOperand v × IsOperand w
-HasForm (Print vs) = (vs ≢ []) × AreOperands 256 vs
+HasForm (Print vs) = (vs ≢ []) × AreOperands (max_operands + 1) vs
 HasForm (Exit v) = IsOperand v
 HasForm (OpenPath f mode v place) = IsName f × IsOperand v
 HasForm (ReadLine x f place) = IsName x × IsName f
-HasForm (WriteLine f vs) = IsName f × (vs ≢ []) × AreOperands 256 vs
+HasForm (WriteLine f vs) = IsName f × (vs ≢ []) × AreOperands (max_operands + 1) vs
 HasForm (CopyRest f g) = IsName f × IsName g
 HasForm (Close f) = IsName f
 HasForm (Remove v place) = IsOperand v
 HasForm (Exists x v) = IsName x × IsOperand v
-HasForm (Spawn p v vs place) = IsName p × IsOperand v × AreOperands 255 vs
+HasForm (Spawn p v vs place) = IsName p × IsOperand v × AreOperands max_operands vs
 HasForm (Wait x p) = IsName x × IsName p
-HasForm (Sql c v vs) = IsName c × IsOperand v × AreOperands 255 vs
-HasForm (Fetch c xs place) = IsName c × (xs ≢ []) × AreNames 256 xs
+HasForm (Sql c v vs) = IsName c × IsOperand v × AreOperands max_operands vs
+HasForm (Fetch c xs place) = IsName c × (xs ≢ []) × AreNames (max_operands + 1) xs
 HasForm (Count x c) = IsName x × IsName c
 HasForm (Status x c) = IsName x × IsName c
 
@@ -185,7 +197,7 @@ place_of (Sql c v vs) = None
 place_of (Count x c) = None
 place_of (Status x c) = None
 
--- At says which label stands at which place.
+-- At says which label is at which place.
 abbrev pub IsAtPlace : (List ℕ → ℕ → Type 0) → Instr → List Token → Option ℕ → Type 0
 IsAtPlace At i ts None = ts ≡ tokens_for i []
 IsAtPlace At i ts (Some place) = (l : List ℕ) × IsName l × At l place × (ts ≡ tokens_for i l)
@@ -230,10 +242,12 @@ abbrev pub AllDiffer : List (List ℕ) → Type 0
 AllDiffer [] = Unit {0}
 AllDiffer (l ∷ ls) = AllByRecursion (λ other. l ≢ other) ls × AllDiffer ls
 
--- The label stands at the place: so many instructions are before the line that defines it.
+-- The label is at the place: so many instructions are before the line that defines it.
 abbrev pub IsAt : List Kind → List ℕ → ℕ → Type 0
-IsAt kinds l place = (front : List Kind) × (back : List Kind) × (kinds ≡ front ++ Names l ∷ back) × (place ≡ length (steps front))
+IsAt kinds l place = (front : List Kind) × (back : List Kind) × (kinds ≡ front ++ Names l ∷ back)
+    × (place ≡ length (steps front))
 
 abbrev pub IsScript : List ℕ → List Instr → Type 0
 IsScript bytes instructions = (lines : List (List ℕ)) × (kinds : List Kind)
-    × AreLines bytes lines × AllZip (IsLine (IsAt kinds)) lines kinds × AllDiffer (labels kinds) × (instructions ≡ steps kinds)
+    × AreLines bytes lines × AllZip (IsLine (IsAt kinds)) lines kinds × AllDiffer (labels kinds)
+    × (instructions ≡ steps kinds)

@@ -52,7 +52,8 @@ mode_text mode.Append = codes "a"
 mode_text mode.New = codes "n"
 
 abbrev pub keywords : List Keyword
-keywords = Let ∷ Cut ∷ Goto ∷ If ∷ Print ∷ Exit ∷ Open ∷ ReadLine ∷ Write ∷ Copy ∷ Close ∷ Remove ∷ Exists ∷ Spawn ∷ Wait ∷ Sql ∷ Fetch ∷ Count ∷ Status ∷ []
+keywords = Let ∷ Cut ∷ Goto ∷ If ∷ Print ∷ Exit ∷ Open ∷ ReadLine ∷ Write ∷ Copy ∷ Close ∷ Remove ∷ Exists
+    ∷ Spawn ∷ Wait ∷ Sql ∷ Fetch ∷ Count ∷ Status ∷ []
 
 abbrev pub signs : List Sign
 signs = Plus ∷ Minus ∷ Times ∷ Join ∷ []

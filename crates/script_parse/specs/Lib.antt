@@ -1,3 +1,4 @@
+pub mod BadLine
 pub mod Forms
 pub mod Gives
 pub mod Grammar

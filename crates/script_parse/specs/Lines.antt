@@ -4,8 +4,8 @@ use Rattle.std.specs.Str.{is_utf8}
 use Rattle.script_parse.specs.declared.token.Token.{Token}
 use Rattle.script_parse.specs.declared.line.Line.{Line}
 use Rattle.script_parse.specs.declared.line.Line.TheVariants.{Quiet, Label}
-use Rattle.script_parse.specs.Forms.{only_if, word_of, name_in, instruction_of}
-use Rattle.script_parse.specs.Gives.{◌>>=◌}
+use Rattle.ldv_value.specs.Options.{only_if, ◌>>=◌}
+use Rattle.script_parse.specs.Forms.{word_of, name_in, instruction_of}
 use Rattle.script_parse.specs.Keywords.{keyword_of}
 use Rattle.script_parse.specs.Tokens.{is_blank, tokens_of}
 
@@ -21,29 +21,12 @@ grow b (line ∷ lines) = (b ∷ line) ∷ lines
 -- The lines of bytes: each ends at an LF, and a CR right before it is no part of the line.
 abbrev pub lines_of : List ℕ → List (List ℕ)
 lines_of [] = []
-lines_of (b ∷ bs) = if b == 10 then [] ∷ lines_of bs else if b == 13 && starts_with_feed bs then lines_of bs else grow b (lines_of bs)
+lines_of (b ∷ bs) =
+    if b == 10 then [] ∷ lines_of bs
+    else if b == 13 && starts_with_feed bs then lines_of bs
+    else grow b (lines_of bs)
 
--- how many bytes stand before the first LF
-abbrev pub feed_place : List ℕ → ℕ
-feed_place [] = 0
-feed_place (b ∷ bs) = if b == 10 then 0 else feed_place bs + 1
-
-abbrev pub ends_with_return : List ℕ → Bool
-ends_with_return [] = false
-ends_with_return (b ∷ []) = b == 13
-ends_with_return (b ∷ c ∷ bs) = ends_with_return (c ∷ bs)
-
-abbrev pub is_return : Option ℕ → Bool
-is_return None = false
-is_return (Some b) = b == 13
-
--- a line without the CR at its end
-abbrev pub without_return : List ℕ → List ℕ
-without_return [] = []
-without_return (b ∷ []) = if b == 13 then [] else b ∷ []
-without_return (b ∷ c ∷ bs) = b ∷ without_return (c ∷ bs)
-
--- what stands before a colon at the end
+-- what is before a colon at the end
 abbrev pub before_colon : List ℕ → Option (List ℕ)
 before_colon [] = None
 before_colon (b ∷ []) = if b == 58 then Some [] else None

@@ -1,7 +1,7 @@
 -- Numbers as scripts write them: an optional `-` and digits, within i64.
 use Rattle.std.specs.Prelude.{ℕ, ◌+◌, ◌-◌, ◌*◌, ◌^◌, List, [], ◌∷◌, Bool, ◌&&◌, ◌==◌, nat_le, nat_lt, if◌then◌else◌, Option, Some, None, ℤ, pos, neg_ℤ}
 use Rattle.std.specs.List.{list_all}
-use Rattle.script_parse.specs.Gives.{◌>>=◌}
+use Rattle.ldv_value.specs.Options.{◌>>=◌}
 
 abbrev pub is_digit : ℕ → Bool
 is_digit b = nat_le 48 b && nat_le b 57
@@ -13,7 +13,9 @@ digits_from n (b ∷ bs) = digits_from (10 * n + (b - 48)) bs
 
 -- the number of which n is the front and these are the last digits, where it is at most 2 ^ 63
 abbrev pub magnitude_from : ℕ → List ℕ → Option ℕ
-magnitude_from n bs = if list_all is_digit bs && nat_le (digits_from n bs) (2 ^ 63) then Some (digits_from n bs) else None
+magnitude_from n bs =
+    if list_all is_digit bs && nat_le (digits_from n bs) (2 ^ 63) then Some (digits_from n bs)
+    else None
 
 -- the number of one digit and more, where it is at most 2 ^ 63
 abbrev pub magnitude_of : List ℕ → Option ℕ

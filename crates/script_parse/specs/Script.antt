@@ -8,8 +8,7 @@ use Rattle.script_parse.specs.declared.line.Entry.{Entry}
 use Rattle.script_parse.specs.declared.line.Definition.{Definition}
 use Rattle.script_parse.specs.declared.parse.ScriptStop.{ScriptStop}
 use Rattle.script_parse.specs.declared.parse.ScriptStop.TheVariants.{Line, NoMemory}
-use Rattle.script_parse.specs.Forms.{only_if}
-use Rattle.script_parse.specs.Gives.{◌>>=◌}
+use Rattle.ldv_value.specs.Options.{only_if, ◌>>=◌}
 use Rattle.script_parse.specs.Lines.{lines_of, line_of}
 use Rattle.script_parse.specs.Names.{is_text}
 
@@ -38,7 +37,8 @@ pub record Labelled : Type 0 where
 abbrev pub labels_in : ℕ → ℕ → Option Said → List Labelled
 labels_in number n None = []
 labels_in number n (Some Quiet) = []
-labels_in number n (Some (Label l)) = record { name = l; definition = record { line = number; place = n } } ∷ []
+labels_in number n (Some (Label l)) = record { name = l; definition = record { line = number; place = n } }
+    ∷ []
 labels_in number n (Some (Plain i)) = []
 labels_in number n (Some (Jumping i l)) = []
 
@@ -58,10 +58,6 @@ labels_from n (e ∷ es) = labels_in e.number n e.line ++ labels_from (n + instr
 abbrev pub definition_of : List Labelled → List ℕ → Option Definition
 definition_of [] name = None
 definition_of (l ∷ ls) name = if is_text l.name name then Some l.definition else definition_of ls name
-
-abbrev pub first_of : {A : Type 0} → Option A → Option A → Option A
-first_of None o = o
-first_of (Some x) o = Some x
 
 -- an instruction with the place of its label
 abbrev pub with_place : ℕ → Instr → Instr
@@ -107,7 +103,8 @@ resolve look e = resolve_line look e.number e.line
 -- the instructions of lines, where none is bad
 abbrev pub instructions_of : (List ℕ → Option Definition) → List Entry → Option (List Instr)
 instructions_of look [] = Some []
-instructions_of look (e ∷ es) = resolve look e >>= λ i. instructions_of look es >>= λ is. Some (option_to_list i ++ is)
+instructions_of look (e ∷ es) = resolve look e >>= λ i. instructions_of look es >>= λ is.
+    Some (option_to_list i ++ is)
 
 -- the number of the first bad line, where there is one
 abbrev pub first_bad : (List ℕ → Option Definition) → List Entry → ℕ
@@ -130,7 +127,7 @@ abbrev pub IfLine : ScriptStop → (ℕ → Type 0) → Type 0
 IfLine (Line n) P = P n
 IfLine NoMemory P = Unit {0}
 
--- the answer is the list that is due, or the line that is bad where none is
+-- the result is the list that is due, or the line that is bad where none is
 abbrev pub Answers : Result (List Instr) ScriptStop → Option (List Instr) → ℕ → Type 0
 Answers (Ok is) due bad = due ≡ Some is
 Answers (Err stop) due bad = IfLine stop (λ n. (due ≡ None) × (n ≡ bad))

@@ -9,19 +9,19 @@ ghost use Rattle.script_parse.specs.Lines.{before_colon, label_in, worded, form_
 use crate::forms::instruction;
 use crate::keyword::find_keyword;
 use crate::line::Line;
+use crate::line_error::LineError;
 use crate::operand::is_name;
-use crate::refused::Refused;
 use crate::scan::{blank, tokens};
 use crate::token::Token;
 use ldv_value::Utf8;
 use std::alloc::Global;
 
 /// What a line says.
-pub(crate) fn read_line(alloc: Global, line: &[u8]) -> Result<Line, Refused>
+pub(crate) fn read_line(alloc: Global, line: &[u8]) -> Result<Line, LineError>
     ensures { Gives result (line_of line.now) }
 {
     if !is_text(line) {
-        return Err(Refused::Bad);
+        return Err(LineError::Malformed);
     }
     if is_comment(line) {
         return Ok(Line::Quiet);
@@ -30,7 +30,7 @@ pub(crate) fn read_line(alloc: Global, line: &[u8]) -> Result<Line, Refused>
     form(alloc, tokens.items())
 }
 
-#[tactic(auto, using(crate::proofs::Utf8::text_rules))]
+#[tactic(auto, using(ldv_value::proofs::Utf8Parts::text_rules))]
 fn is_text(line: &[u8]) -> bool
     ensures { result ≡ is_utf8 line.now }
 {
@@ -52,41 +52,41 @@ fn first_shown(line: &[u8]) -> Option<u8>
     line.iter().copied().find(|b| !blank(*b))
 }
 
-fn form(alloc: Global, tokens: &[Token]) -> Result<Line, Refused>
+fn form(alloc: Global, tokens: &[Token]) -> Result<Line, LineError>
     ensures { Gives result (form_of tokens.now) }
 {
     match tokens {
         [] => Ok(Line::Quiet),
         [first, rest @ ..] => match first {
             Token::Word(word) => worded(alloc, word.as_str(), rest),
-            Token::Number(_) => Err(Refused::Bad),
-            Token::Quoted(_) => Err(Refused::Bad),
+            Token::Number(_) => Err(LineError::Malformed),
+            Token::Quoted(_) => Err(LineError::Malformed),
         },
     }
 }
 
-fn worded(alloc: Global, word: &str, rest: &[Token]) -> Result<Line, Refused>
+fn worded(alloc: Global, word: &str, rest: &[Token]) -> Result<Line, LineError>
     ensures { Gives result (worded word.now rest.now) }
 {
     match rest {
         [] => label(alloc, word),
         [_, ..] => {
             let Some(keyword) = find_keyword(word) else {
-                return Err(Refused::Bad);
+                return Err(LineError::Malformed);
             };
             instruction(alloc, keyword, rest)
         }
     }
 }
 
-fn label(alloc: Global, word: &str) -> Result<Line, Refused>
+fn label(alloc: Global, word: &str) -> Result<Line, LineError>
     ensures { Gives result (label_in word.now) }
 {
     let Some(name) = before_colon(word) else {
-        return Err(Refused::Bad);
+        return Err(LineError::Malformed);
     };
     if !is_name(name) {
-        return Err(Refused::Bad);
+        return Err(LineError::Malformed);
     }
     Ok(Line::Label(Utf8::of(alloc, name)?))
 }

@@ -1,4 +1,4 @@
-//! The forms of instructions: from the tokens behind the first word to what the line says.
+//! The forms of instructions: from the tokens after the first word to what the line says.
 
 ghost use Rattle.std.specs.Prelude.{◌≡◌, ◌<◌, IfSome, length, position, codes};
 ghost use Rattle.script_parse.specs.Gives.{Gives, GivesBy};
@@ -6,8 +6,8 @@ ghost use Rattle.script_parse.specs.Forms.{is_word, sign_in, comparison_in, mode
 
 use crate::keyword::{Keyword, Sign, find_comparison, find_mode, find_sign};
 use crate::line::Line;
+use crate::line_error::LineError;
 use crate::operand::{name, names_from_one, operand, operands, operands_from_one, token_is};
-use crate::refused::Refused;
 use crate::script::{CalcOp, Instr, Operand};
 use crate::token::Token;
 use ldv_value::{Cmp, OpenMode, Utf8};
@@ -18,7 +18,7 @@ pub(crate) fn instruction(
     alloc: Global,
     keyword: Keyword,
     tokens: &[Token],
-) -> Result<Line, Refused>
+) -> Result<Line, LineError>
     ensures { Gives result (instruction_of keyword tokens.now) }
 {
     match keyword {
@@ -45,22 +45,22 @@ pub(crate) fn instruction(
 }
 
 // `x = ..`
-fn let_form(tokens: &[Token]) -> Result<Line, Refused>
+fn let_form(tokens: &[Token]) -> Result<Line, LineError>
     ensures { Gives result (let_of tokens.now) }
 {
     let [x, equals, rest @ ..] = tokens else {
-        return Err(Refused::Bad);
+        return Err(LineError::Malformed);
     };
     let to = name(x)?;
     let made = let_value(to, rest)?;
     if !token_is(equals, "=") {
-        return Err(Refused::Bad);
+        return Err(LineError::Malformed);
     }
     Ok(Line::Plain(made))
 }
 
 // `v`, `int v` or `v + w`
-fn let_value(to: Utf8, tokens: &[Token]) -> Result<Instr, Refused>
+fn let_value(to: Utf8, tokens: &[Token]) -> Result<Instr, LineError>
     ensures { Gives result (let_value to tokens.now) }
 {
     match tokens {
@@ -71,7 +71,7 @@ fn let_value(to: Utf8, tokens: &[Token]) -> Result<Instr, Refused>
         [int, v] => {
             let value = operand(v)?;
             if !token_is(int, "int") {
-                return Err(Refused::Bad);
+                return Err(LineError::Malformed);
             }
             Ok(Instr::ToInt { to, value })
         }
@@ -81,37 +81,37 @@ fn let_value(to: Utf8, tokens: &[Token]) -> Result<Instr, Refused>
             let right = operand(w)?;
             Ok(signed(to, left, right, sign))
         }
-        _ => Err(Refused::Bad),
+        _ => Err(LineError::Malformed),
     }
 }
 
-fn sign(token: &Token) -> Result<Sign, Refused>
+fn sign(token: &Token) -> Result<Sign, LineError>
     ensures { Gives result (sign_in token.now) }
 {
     match token {
-        Token::Word(word) => find_sign(word.as_str()).ok_or(Refused::Bad),
-        Token::Number(_) => Err(Refused::Bad),
-        Token::Quoted(_) => Err(Refused::Bad),
+        Token::Word(word) => find_sign(word.as_str()).ok_or(LineError::Malformed),
+        Token::Number(_) => Err(LineError::Malformed),
+        Token::Quoted(_) => Err(LineError::Malformed),
     }
 }
 
-fn comparison(token: &Token) -> Result<Cmp, Refused>
+fn comparison(token: &Token) -> Result<Cmp, LineError>
     ensures { Gives result (comparison_in token.now) }
 {
     match token {
-        Token::Word(word) => find_comparison(word.as_str()).ok_or(Refused::Bad),
-        Token::Number(_) => Err(Refused::Bad),
-        Token::Quoted(_) => Err(Refused::Bad),
+        Token::Word(word) => find_comparison(word.as_str()).ok_or(LineError::Malformed),
+        Token::Number(_) => Err(LineError::Malformed),
+        Token::Quoted(_) => Err(LineError::Malformed),
     }
 }
 
-fn mode(token: &Token) -> Result<OpenMode, Refused>
+fn mode(token: &Token) -> Result<OpenMode, LineError>
     ensures { Gives result (mode_in token.now) }
 {
     match token {
-        Token::Word(word) => find_mode(word.as_str()).ok_or(Refused::Bad),
-        Token::Number(_) => Err(Refused::Bad),
-        Token::Quoted(_) => Err(Refused::Bad),
+        Token::Word(word) => find_mode(word.as_str()).ok_or(LineError::Malformed),
+        Token::Number(_) => Err(LineError::Malformed),
+        Token::Quoted(_) => Err(LineError::Malformed),
     }
 }
 
@@ -142,45 +142,45 @@ fn signed(to: Utf8, left: Operand, right: Operand, sign: Sign) -> Instr
 }
 
 // `x y v`
-fn cut_form(tokens: &[Token]) -> Result<Line, Refused>
+fn cut_form(tokens: &[Token]) -> Result<Line, LineError>
     ensures { Gives result (cut_of tokens.now) }
 {
     let [x, y, v] = tokens else {
-        return Err(Refused::Bad);
+        return Err(LineError::Malformed);
     };
     let before = name(x)?;
     let after = name(y)?;
     let by = operand(v)?;
     if before.is_same(&after) {
-        return Err(Refused::Bad);
+        return Err(LineError::Malformed);
     }
     Ok(Line::Plain(Instr::Cut { before, after, by }))
 }
 
 // `L`
-fn goto_form(tokens: &[Token]) -> Result<Line, Refused>
+fn goto_form(tokens: &[Token]) -> Result<Line, LineError>
     ensures { Gives result (goto_of tokens.now) }
 {
     let [l] = tokens else {
-        return Err(Refused::Bad);
+        return Err(LineError::Malformed);
     };
     let label = name(l)?;
     Ok(Line::Jumping(Instr::Jump { place: 0 }, label))
 }
 
 // `v = w goto L`
-fn if_form(tokens: &[Token]) -> Result<Line, Refused>
+fn if_form(tokens: &[Token]) -> Result<Line, LineError>
     ensures { Gives result (if_of tokens.now) }
 {
     let [v, c, w, goto, l] = tokens else {
-        return Err(Refused::Bad);
+        return Err(LineError::Malformed);
     };
     let left = operand(v)?;
     let op = comparison(c)?;
     let right = operand(w)?;
     let label = name(l)?;
     if !token_is(goto, "goto") {
-        return Err(Refused::Bad);
+        return Err(LineError::Malformed);
     }
     Ok(Line::Jumping(
         Instr::JumpIf {
@@ -194,7 +194,7 @@ fn if_form(tokens: &[Token]) -> Result<Line, Refused>
 }
 
 // `v v*`
-fn print_form(alloc: Global, tokens: &[Token]) -> Result<Line, Refused>
+fn print_form(alloc: Global, tokens: &[Token]) -> Result<Line, LineError>
     ensures { Gives result (print_of tokens.now) }
 {
     let values = operands_from_one(alloc, tokens)?;
@@ -202,22 +202,22 @@ fn print_form(alloc: Global, tokens: &[Token]) -> Result<Line, Refused>
 }
 
 // `v`
-fn exit_form(tokens: &[Token]) -> Result<Line, Refused>
+fn exit_form(tokens: &[Token]) -> Result<Line, LineError>
     ensures { Gives result (exit_of tokens.now) }
 {
     let [v] = tokens else {
-        return Err(Refused::Bad);
+        return Err(LineError::Malformed);
     };
     let status = operand(v)?;
     Ok(Line::Plain(Instr::Exit { status }))
 }
 
 // `f v v*`
-fn write_form(alloc: Global, tokens: &[Token]) -> Result<Line, Refused>
+fn write_form(alloc: Global, tokens: &[Token]) -> Result<Line, LineError>
     ensures { Gives result (write_of tokens.now) }
 {
     let [f, rest @ ..] = tokens else {
-        return Err(Refused::Bad);
+        return Err(LineError::Malformed);
     };
     let file = name(f)?;
     let values = operands_from_one(alloc, rest)?;
@@ -225,11 +225,11 @@ fn write_form(alloc: Global, tokens: &[Token]) -> Result<Line, Refused>
 }
 
 // `f g`
-fn copy_form(tokens: &[Token]) -> Result<Line, Refused>
+fn copy_form(tokens: &[Token]) -> Result<Line, LineError>
     ensures { Gives result (copy_of tokens.now) }
 {
     let [f, g] = tokens else {
-        return Err(Refused::Bad);
+        return Err(LineError::Malformed);
     };
     let source = name(f)?;
     let target = name(g)?;
@@ -237,22 +237,22 @@ fn copy_form(tokens: &[Token]) -> Result<Line, Refused>
 }
 
 // `f`
-fn close_form(tokens: &[Token]) -> Result<Line, Refused>
+fn close_form(tokens: &[Token]) -> Result<Line, LineError>
     ensures { Gives result (close_of tokens.now) }
 {
     let [f] = tokens else {
-        return Err(Refused::Bad);
+        return Err(LineError::Malformed);
     };
     let file = name(f)?;
     Ok(Line::Plain(Instr::Close { file }))
 }
 
 // `x v`
-fn exists_form(tokens: &[Token]) -> Result<Line, Refused>
+fn exists_form(tokens: &[Token]) -> Result<Line, LineError>
     ensures { Gives result (exists_of tokens.now) }
 {
     let [x, v] = tokens else {
-        return Err(Refused::Bad);
+        return Err(LineError::Malformed);
     };
     let to = name(x)?;
     let path = operand(v)?;
@@ -260,11 +260,11 @@ fn exists_form(tokens: &[Token]) -> Result<Line, Refused>
 }
 
 // `x p`
-fn wait_form(tokens: &[Token]) -> Result<Line, Refused>
+fn wait_form(tokens: &[Token]) -> Result<Line, LineError>
     ensures { Gives result (wait_of tokens.now) }
 {
     let [x, p] = tokens else {
-        return Err(Refused::Bad);
+        return Err(LineError::Malformed);
     };
     let to = name(x)?;
     let child = name(p)?;
@@ -272,11 +272,11 @@ fn wait_form(tokens: &[Token]) -> Result<Line, Refused>
 }
 
 // `c v v*`
-fn sql_form(alloc: Global, tokens: &[Token]) -> Result<Line, Refused>
+fn sql_form(alloc: Global, tokens: &[Token]) -> Result<Line, LineError>
     ensures { Gives result (sql_of tokens.now) }
 {
     let [c, v, rest @ ..] = tokens else {
-        return Err(Refused::Bad);
+        return Err(LineError::Malformed);
     };
     let cursor = name(c)?;
     let text = operand(v)?;
@@ -289,11 +289,11 @@ fn sql_form(alloc: Global, tokens: &[Token]) -> Result<Line, Refused>
 }
 
 // `x c`
-fn count_form(tokens: &[Token]) -> Result<Line, Refused>
+fn count_form(tokens: &[Token]) -> Result<Line, LineError>
     ensures { Gives result (count_of tokens.now) }
 {
     let [x, c] = tokens else {
-        return Err(Refused::Bad);
+        return Err(LineError::Malformed);
     };
     let to = name(x)?;
     let cursor = name(c)?;
@@ -301,11 +301,11 @@ fn count_form(tokens: &[Token]) -> Result<Line, Refused>
 }
 
 // `x c`
-fn status_form(tokens: &[Token]) -> Result<Line, Refused>
+fn status_form(tokens: &[Token]) -> Result<Line, LineError>
     ensures { Gives result (status_of tokens.now) }
 {
     let [x, c] = tokens else {
-        return Err(Refused::Bad);
+        return Err(LineError::Malformed);
     };
     let to = name(x)?;
     let cursor = name(c)?;
@@ -313,11 +313,11 @@ fn status_form(tokens: &[Token]) -> Result<Line, Refused>
 }
 
 // The tokens before `else L` at the end, and the label.
-fn split_else(tokens: &[Token]) -> Result<(&[Token], Utf8), Refused>
+fn split_else(tokens: &[Token]) -> Result<(&[Token], Utf8), LineError>
     ensures { GivesBy (λ r. (r.0.now, r.1)) result (else_of tokens.now) }
 {
     let Some(place) = else_place(tokens) else {
-        return Err(Refused::Bad);
+        return Err(LineError::Malformed);
     };
     let label = last_label(&tokens[place + 1..])?;
     Ok((&tokens[..place], label))
@@ -330,28 +330,28 @@ fn else_place(tokens: &[Token]) -> Option<usize>
     tokens.iter().position(|token| token_is(token, "else"))
 }
 
-fn last_label(tokens: &[Token]) -> Result<Utf8, Refused>
+fn last_label(tokens: &[Token]) -> Result<Utf8, LineError>
     ensures { Gives result (last_label tokens.now) }
 {
     let [l] = tokens else {
-        return Err(Refused::Bad);
+        return Err(LineError::Malformed);
     };
     name(l)
 }
 
 // `f M v else L`
-fn open_form(tokens: &[Token]) -> Result<Line, Refused>
+fn open_form(tokens: &[Token]) -> Result<Line, LineError>
     ensures { Gives result (with_else open_of tokens.now) }
 {
     let (front, label) = split_else(tokens)?;
     open_front(front, label)
 }
 
-fn open_front(tokens: &[Token], label: Utf8) -> Result<Line, Refused>
+fn open_front(tokens: &[Token], label: Utf8) -> Result<Line, LineError>
     ensures { Gives result (open_of tokens.now label) }
 {
     let [f, m, v] = tokens else {
-        return Err(Refused::Bad);
+        return Err(LineError::Malformed);
     };
     let file = name(f)?;
     let mode = mode(m)?;
@@ -368,18 +368,18 @@ fn open_front(tokens: &[Token], label: Utf8) -> Result<Line, Refused>
 }
 
 // `x f else L`
-fn readline_form(tokens: &[Token]) -> Result<Line, Refused>
+fn readline_form(tokens: &[Token]) -> Result<Line, LineError>
     ensures { Gives result (with_else readline_of tokens.now) }
 {
     let (front, label) = split_else(tokens)?;
     readline_front(front, label)
 }
 
-fn readline_front(tokens: &[Token], label: Utf8) -> Result<Line, Refused>
+fn readline_front(tokens: &[Token], label: Utf8) -> Result<Line, LineError>
     ensures { Gives result (readline_of tokens.now label) }
 {
     let [x, f] = tokens else {
-        return Err(Refused::Bad);
+        return Err(LineError::Malformed);
     };
     let to = name(x)?;
     let file = name(f)?;
@@ -387,36 +387,36 @@ fn readline_front(tokens: &[Token], label: Utf8) -> Result<Line, Refused>
 }
 
 // `v else L`
-fn remove_form(tokens: &[Token]) -> Result<Line, Refused>
+fn remove_form(tokens: &[Token]) -> Result<Line, LineError>
     ensures { Gives result (with_else remove_of tokens.now) }
 {
     let (front, label) = split_else(tokens)?;
     remove_front(front, label)
 }
 
-fn remove_front(tokens: &[Token], label: Utf8) -> Result<Line, Refused>
+fn remove_front(tokens: &[Token], label: Utf8) -> Result<Line, LineError>
     ensures { Gives result (remove_of tokens.now label) }
 {
     let [v] = tokens else {
-        return Err(Refused::Bad);
+        return Err(LineError::Malformed);
     };
     let path = operand(v)?;
     Ok(Line::Jumping(Instr::Remove { path, place: 0 }, label))
 }
 
 // `p v v* else L`
-fn spawn_form(alloc: Global, tokens: &[Token]) -> Result<Line, Refused>
+fn spawn_form(alloc: Global, tokens: &[Token]) -> Result<Line, LineError>
     ensures { Gives result (with_else spawn_of tokens.now) }
 {
     let (front, label) = split_else(tokens)?;
     spawn_front(alloc, front, label)
 }
 
-fn spawn_front(alloc: Global, tokens: &[Token], label: Utf8) -> Result<Line, Refused>
+fn spawn_front(alloc: Global, tokens: &[Token], label: Utf8) -> Result<Line, LineError>
     ensures { Gives result (spawn_of tokens.now label) }
 {
     let [p, v, rest @ ..] = tokens else {
-        return Err(Refused::Bad);
+        return Err(LineError::Malformed);
     };
     let child = name(p)?;
     let path = operand(v)?;
@@ -433,18 +433,18 @@ fn spawn_front(alloc: Global, tokens: &[Token], label: Utf8) -> Result<Line, Ref
 }
 
 // `c x x* else L`
-fn fetch_form(alloc: Global, tokens: &[Token]) -> Result<Line, Refused>
+fn fetch_form(alloc: Global, tokens: &[Token]) -> Result<Line, LineError>
     ensures { Gives result (with_else fetch_of tokens.now) }
 {
     let (front, label) = split_else(tokens)?;
     fetch_front(alloc, front, label)
 }
 
-fn fetch_front(alloc: Global, tokens: &[Token], label: Utf8) -> Result<Line, Refused>
+fn fetch_front(alloc: Global, tokens: &[Token], label: Utf8) -> Result<Line, LineError>
     ensures { Gives result (fetch_of tokens.now label) }
 {
     let [c, rest @ ..] = tokens else {
-        return Err(Refused::Bad);
+        return Err(LineError::Malformed);
     };
     let cursor = name(c)?;
     let to = names_from_one(alloc, rest)?;

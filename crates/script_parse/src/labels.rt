@@ -2,7 +2,8 @@
 
 ghost use Rattle.std.specs.Prelude.{◌≡◌, ◌+◌, ◌<◌, ◌^◌, List, ℕ, length, IfOk, OnOk, if◌then◌else◌};
 ghost use Rattle.std.specs.BTreeMap.{get_by_text};
-ghost use Rattle.script_parse.specs.Script.{labels_from, labels_in, instructions_in, definition_of, look_up, first_of};
+ghost use Rattle.std.specs.Option.{option_or};
+ghost use Rattle.script_parse.specs.Script.{labels_from, labels_in, instructions_in, definition_of, look_up};
 ghost use Rattle.script_parse.specs.Names.{is_text};
 
 use crate::line::{Definition, Entries, Entry, Line};
@@ -48,7 +49,9 @@ fn add_label(
     entry: &Entry,
     place: u32,
 ) -> Result<(), AllocError>
-    ensures { OnOk result ((name : List ℕ) → get_by_text labels.new name ≡ first_of (get_by_text labels.old name) (definition_of (labels_in entry.now.number place entry.now.line) name)) }
+    ensures { OnOk result ((name : List ℕ)
+        → get_by_text labels.new name
+        ≡ option_or (get_by_text labels.old name) (definition_of (labels_in entry.now.number place entry.now.line) name)) }
 {
     match &entry.line {
         None => Ok(()),
@@ -74,7 +77,8 @@ fn define(
     name: &Utf8,
     definition: Definition,
 ) -> Result<(), AllocError>
-    ensures { OnOk result ((q : List ℕ) → get_by_text labels.new q ≡ first_of (get_by_text labels.old q) (if is_text name.now q then Some definition else None)) }
+    ensures { OnOk result ((q : List ℕ) → get_by_text labels.new q
+        ≡ option_or (get_by_text labels.old q) (if is_text name.now q then Some definition else None)) }
 {
     if labels.contains_key(name.as_str()) {
         return Ok(());

@@ -8,7 +8,7 @@ use ldv_value::{List, Utf8};
 pub(crate) enum Line {
     /// Nothing: it is empty or a comment.
     Quiet,
-    /// That its place has this name.
+    /// A label.
     Label(Utf8),
     /// An instruction that names no label.
     Plain(Instr),

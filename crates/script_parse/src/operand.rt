@@ -5,7 +5,7 @@ ghost use Rattle.script_parse.specs.Gives.{Gives};
 ghost use Rattle.script_parse.specs.Names.{is_reserved, name_test};
 ghost use Rattle.script_parse.specs.Forms.{each, is_word, name_in, name_of, word_operand, operand_of, operands_of, operands_from_one, names_from_one};
 
-use crate::refused::Refused;
+use crate::line_error::LineError;
 use crate::script::{Operand, Operands};
 use crate::token::Token;
 use ldv_value::{Names, Utf8, Value, is_word};
@@ -38,27 +38,27 @@ fn is_reserved(text: &str) -> bool
     text == "null" || text == "else" || text == "int"
 }
 
-fn name_in(word: &Utf8) -> Result<Utf8, Refused>
+fn name_in(word: &Utf8) -> Result<Utf8, LineError>
     ensures { Gives result (name_in word.now) }
 {
     if !is_name(word.as_str()) {
-        return Err(Refused::Bad);
+        return Err(LineError::Malformed);
     }
     Ok(word.copy()?)
 }
 
 /// The name that a token is.
-pub(crate) fn name(token: &Token) -> Result<Utf8, Refused>
+pub(crate) fn name(token: &Token) -> Result<Utf8, LineError>
     ensures { Gives result (name_of token.now) }
 {
     match token {
         Token::Word(word) => name_in(word),
-        Token::Number(_) => Err(Refused::Bad),
-        Token::Quoted(_) => Err(Refused::Bad),
+        Token::Number(_) => Err(LineError::Malformed),
+        Token::Quoted(_) => Err(LineError::Malformed),
     }
 }
 
-fn word_operand(word: &Utf8) -> Result<Operand, Refused>
+fn word_operand(word: &Utf8) -> Result<Operand, LineError>
     ensures { Gives result (word_operand word.now) }
 {
     if word.is_text("null") {
@@ -69,7 +69,7 @@ fn word_operand(word: &Utf8) -> Result<Operand, Refused>
 }
 
 /// The operand that a token is.
-pub(crate) fn operand(token: &Token) -> Result<Operand, Refused>
+pub(crate) fn operand(token: &Token) -> Result<Operand, LineError>
     ensures { Gives result (operand_of token.now) }
 {
     match token {
@@ -80,7 +80,7 @@ pub(crate) fn operand(token: &Token) -> Result<Operand, Refused>
 }
 
 #[tactic(auto, using(crate::proofs::Each::each_rules))]
-fn all_operands(alloc: Global, tokens: &[Token]) -> Result<Operands, Refused>
+fn all_operands(alloc: Global, tokens: &[Token]) -> Result<Operands, LineError>
     ensures { Gives result (each operand_of tokens.now) }
 {
     let mut operands = Operands::new(alloc);
@@ -92,7 +92,7 @@ fn all_operands(alloc: Global, tokens: &[Token]) -> Result<Operands, Refused>
 }
 
 #[tactic(auto, using(crate::proofs::Each::each_rules))]
-fn all_names(alloc: Global, tokens: &[Token]) -> Result<Names, Refused>
+fn all_names(alloc: Global, tokens: &[Token]) -> Result<Names, LineError>
     ensures { Gives result (each name_of tokens.now) }
 {
     let mut names = Names::new(alloc);
@@ -104,24 +104,24 @@ fn all_names(alloc: Global, tokens: &[Token]) -> Result<Names, Refused>
 }
 
 /// At most 255 operands.
-pub(crate) fn operands(alloc: Global, tokens: &[Token]) -> Result<Operands, Refused>
+pub(crate) fn operands(alloc: Global, tokens: &[Token]) -> Result<Operands, LineError>
     ensures { Gives result (operands_of tokens.now) }
 {
     if tokens.len() > LIST_LIMIT {
-        return Err(Refused::Bad);
+        return Err(LineError::Malformed);
     }
     all_operands(alloc, tokens)
 }
 
 /// One operand and at most 255 more.
-pub(crate) fn operands_from_one(alloc: Global, tokens: &[Token]) -> Result<Operands, Refused>
+pub(crate) fn operands_from_one(alloc: Global, tokens: &[Token]) -> Result<Operands, LineError>
     ensures { Gives result (operands_from_one tokens.now) }
 {
     match tokens {
-        [] => Err(Refused::Bad),
+        [] => Err(LineError::Malformed),
         [_, more @ ..] => {
             if more.len() > LIST_LIMIT {
-                return Err(Refused::Bad);
+                return Err(LineError::Malformed);
             }
             all_operands(alloc, tokens)
         }
@@ -129,14 +129,14 @@ pub(crate) fn operands_from_one(alloc: Global, tokens: &[Token]) -> Result<Opera
 }
 
 /// One name and at most 255 more.
-pub(crate) fn names_from_one(alloc: Global, tokens: &[Token]) -> Result<Names, Refused>
+pub(crate) fn names_from_one(alloc: Global, tokens: &[Token]) -> Result<Names, LineError>
     ensures { Gives result (names_from_one tokens.now) }
 {
     match tokens {
-        [] => Err(Refused::Bad),
+        [] => Err(LineError::Malformed),
         [_, more @ ..] => {
             if more.len() > LIST_LIMIT {
-                return Err(Refused::Bad);
+                return Err(LineError::Malformed);
             }
             all_names(alloc, tokens)
         }

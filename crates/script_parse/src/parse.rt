@@ -1,13 +1,16 @@
 //! From bytes to a script.
 
-ghost use Rattle.std.specs.Prelude.{◌≡◌, ◌<◌, ◌^◌, length, IfOk, IfErr, option_map};
+ghost use Rattle.std.specs.Prelude.{◌≡◌, ◌<◌, ◌^◌, length, List, IfOk, IfErr, option_map};
 ghost use Rattle.std.specs.BTreeMap.{get_by_text};
+ghost use Rattle.script_parse.specs.declared.script.Instr.{Instr};
+ghost use Rattle.script_parse.specs.BadLine.{IsFirstBadLine};
 ghost use Rattle.script_parse.specs.Gives.{Gives};
+ghost use Rattle.script_parse.specs.Grammar.{IsScript};
 ghost use Rattle.script_parse.specs.Script.{script_of, first_bad_line, resolve, is_first, with_place, instructions_of, first_bad, Answers, IfLine, look_up};
 
 use crate::labels::{Labels, labels};
 use crate::line::{Entries, Entry, Line};
-use crate::refused::Refused;
+use crate::line_error::LineError;
 use crate::script::{Instr, Instrs, Script};
 use crate::split::entries;
 use ldv_value::Utf8;
@@ -20,7 +23,7 @@ pub enum ScriptStop {
     /// has no form, that defines a label which an earlier line defines, or that uses a label which no
     /// line defines.
     Line(u32),
-    /// Want of memory.
+    /// Out of memory, as which a script of 2^32 lines or more counts: its numbers aren't `u32`.
     NoMemory,
 }
 
@@ -35,11 +38,25 @@ impl From<AllocError> for ScriptStop {
     }
 }
 
-/// Reads a script, in one pass over its bytes.
+/// Reads a script, in one pass over its bytes: the instructions that they spell by the grammar, or the first
+/// bad line where they spell none.
+#[tactic(auto, using(crate::proofs::BadLines::result_rules))]
 pub fn parse_script(alloc: Global, bytes: &[u8]) -> Result<Script, ScriptStop>
-    requires { length bytes.now < 2 ^ 32 }
+    ensures reading { IfOk result (λ script. IsScript bytes.now script.instructions) }
+    ensures none { IfErr result (λ stop. IfLine stop (λ n. (is : List Instr) → ¬ IsScript bytes.now is)) }
+    ensures first { IfErr result (λ stop. IfLine stop (IsFirstBadLine bytes.now)) }
+    // The same as functions of the bytes.
     ensures script { IfOk result (λ script. script_of bytes.now ≡ Some script.instructions) }
-    ensures line { IfErr result (λ stop. IfLine stop (λ n. (script_of bytes.now ≡ None) × (n ≡ first_bad_line bytes.now))) }
+    ensures line { IfErr result (λ stop. IfLine stop (λ n. (script_of bytes.now ≡ None)
+        × (n ≡ first_bad_line bytes.now))) }
+{
+    parsed(alloc, bytes)
+}
+
+fn parsed(alloc: Global, bytes: &[u8]) -> Result<Script, ScriptStop>
+    ensures script { IfOk result (λ script. script_of bytes.now ≡ Some script.instructions) }
+    ensures line { IfErr result (λ stop. IfLine stop (λ n. (script_of bytes.now ≡ None)
+        × (n ≡ first_bad_line bytes.now))) }
 {
     let entries = entries(alloc, bytes)?;
     match resolved(alloc, entries) {
@@ -49,7 +66,7 @@ pub fn parse_script(alloc: Global, bytes: &[u8]) -> Result<Script, ScriptStop>
 }
 
 // The instructions of lines, with the labels that they define.
-#[tactic(auto, using(crate::proofs::LookUp::answers_same))]
+#[tactic(auto, using(crate::proofs::LookUp::results_same))]
 fn resolved(alloc: Global, entries: Entries) -> Result<Instrs, ScriptStop>
     requires { length entries < 2 ^ 32 }
     ensures { Answers result (instructions_of (look_up entries) entries) (first_bad (look_up entries) entries) }
@@ -68,30 +85,30 @@ fn instructions(alloc: Global, labels: &Labels, entries: Entries) -> Result<Inst
         match resolve(labels, entry) {
             Ok(None) => {}
             Ok(Some(instr)) => instructions.push(instr)?,
-            Err(Refused::Bad) => return Err(ScriptStop::Line(number)),
-            Err(Refused::NoMemory) => return Err(ScriptStop::NoMemory),
+            Err(LineError::Malformed) => return Err(ScriptStop::Line(number)),
+            Err(LineError::NoMemory) => return Err(ScriptStop::NoMemory),
         }
     }
     Ok(instructions)
 }
 
-fn resolve(labels: &Labels, entry: Entry) -> Result<Option<Instr>, Refused>
+fn resolve(labels: &Labels, entry: Entry) -> Result<Option<Instr>, LineError>
     ensures { Gives result (resolve (get_by_text labels.now) entry) }
 {
     let Entry { number, line } = entry;
     match line {
-        None => Err(Refused::Bad),
+        None => Err(LineError::Malformed),
         Some(Line::Quiet) => Ok(None),
         Some(Line::Label(name)) => {
             if !is_first(labels, number, &name) {
-                return Err(Refused::Bad);
+                return Err(LineError::Malformed);
             }
             Ok(None)
         }
         Some(Line::Plain(instr)) => Ok(Some(instr)),
         Some(Line::Jumping(instr, label)) => {
             let Some(place) = place_of(labels, &label) else {
-                return Err(Refused::Bad);
+                return Err(LineError::Malformed);
             };
             Ok(Some(with_place(instr, place)))
         }

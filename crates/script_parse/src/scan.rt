@@ -4,32 +4,32 @@ ghost use Rattle.std.specs.Prelude.{◌≡◌, ◌++◌, OnErr, OnOk, option_to_
 ghost use Rattle.script_parse.specs.Gives.{Gives};
 ghost use Rattle.script_parse.specs.Tokens.{is_blank, escape_of, step_between, step_in_word, step_in_text, step_escaped, step_closed, step, finish, tokens_of};
 
-use crate::refused::Refused;
+use crate::line_error::LineError;
 use crate::token::{Token, Tokens, text_token, word_token};
 use ldv_value::Bytes;
 use std::alloc::{AllocError, Global};
 
-/// Where the reading of a line stands.
+/// The state of the scanner of a line.
 #[derive(Drop)]
-pub(crate) enum Place {
+pub(crate) enum LexState {
     /// Between two tokens, or before the first one.
     Between,
     /// In a token without quotes, of which these are the bytes.
     InWord(Bytes),
     /// In a text, of which these are the bytes with the escapes read.
     InText(Bytes),
-    /// In a text, behind a backslash.
+    /// In a text, after a backslash.
     Escaped(Bytes),
-    /// Behind the closing quote of a text.
+    /// After the closing quote of a text.
     Closed(Token),
 }
 
 /// The tokens of a line.
-pub(crate) fn tokens(alloc: Global, line: &[u8]) -> Result<Tokens, Refused>
+pub(crate) fn tokens(alloc: Global, line: &[u8]) -> Result<Tokens, LineError>
     ensures { Gives result (tokens_of line.now) }
 {
     let mut tokens = Tokens::new(alloc);
-    let mut place = Place::Between;
+    let mut place = LexState::Between;
     for b in line {
         let (next, token) = step(alloc, place, *b)?;
         add(&mut tokens, token)?;
@@ -49,93 +49,93 @@ fn add(tokens: &mut Tokens, token: Option<Token>) -> Result<(), AllocError>
     Ok(())
 }
 
-fn step(alloc: Global, place: Place, b: u8) -> Result<(Place, Option<Token>), Refused>
+fn step(alloc: Global, place: LexState, b: u8) -> Result<(LexState, Option<Token>), LineError>
     ensures { Gives result (step place b) }
 {
     match place {
-        Place::Between => between(alloc, b),
-        Place::InWord(word) => in_word(word, b),
-        Place::InText(text) => in_text(text, b),
-        Place::Escaped(text) => escaped(text, b),
-        Place::Closed(token) => closed(token, b),
+        LexState::Between => between(alloc, b),
+        LexState::InWord(word) => in_word(word, b),
+        LexState::InText(text) => in_text(text, b),
+        LexState::Escaped(text) => escaped(text, b),
+        LexState::Closed(token) => closed(token, b),
     }
 }
 
-fn between(alloc: Global, b: u8) -> Result<(Place, Option<Token>), Refused>
+fn between(alloc: Global, b: u8) -> Result<(LexState, Option<Token>), LineError>
     ensures { Gives result (step_between b) }
 {
     if blank(b) {
-        return Ok((Place::Between, None));
+        return Ok((LexState::Between, None));
     }
     let mut bytes = Bytes::new(alloc);
     if b == b'"' {
-        return Ok((Place::InText(bytes), None));
+        return Ok((LexState::InText(bytes), None));
     }
     bytes.push(b)?;
-    Ok((Place::InWord(bytes), None))
+    Ok((LexState::InWord(bytes), None))
 }
 
-fn in_word(mut word: Bytes, b: u8) -> Result<(Place, Option<Token>), Refused>
+fn in_word(mut word: Bytes, b: u8) -> Result<(LexState, Option<Token>), LineError>
     ensures { Gives result (step_in_word word b) }
 {
     if blank(b) {
         let token = word_token(word)?;
-        return Ok((Place::Between, Some(token)));
+        return Ok((LexState::Between, Some(token)));
     }
     word.push(b)?;
-    Ok((Place::InWord(word), None))
+    Ok((LexState::InWord(word), None))
 }
 
-fn in_text(mut text: Bytes, b: u8) -> Result<(Place, Option<Token>), Refused>
+fn in_text(mut text: Bytes, b: u8) -> Result<(LexState, Option<Token>), LineError>
     ensures { Gives result (step_in_text text b) }
 {
     if b == b'"' {
         let token = text_token(text)?;
-        return Ok((Place::Closed(token), None));
+        return Ok((LexState::Closed(token), None));
     }
     if b == b'\\' {
-        return Ok((Place::Escaped(text), None));
+        return Ok((LexState::Escaped(text), None));
     }
     text.push(b)?;
-    Ok((Place::InText(text), None))
+    Ok((LexState::InText(text), None))
 }
 
-fn escaped(mut text: Bytes, b: u8) -> Result<(Place, Option<Token>), Refused>
+fn escaped(mut text: Bytes, b: u8) -> Result<(LexState, Option<Token>), LineError>
     ensures { Gives result (step_escaped text b) }
 {
     let Some(meant) = escape(b) else {
-        return Err(Refused::Bad);
+        return Err(LineError::Malformed);
     };
     text.push(meant)?;
-    Ok((Place::InText(text), None))
+    Ok((LexState::InText(text), None))
 }
 
-fn closed(token: Token, b: u8) -> Result<(Place, Option<Token>), Refused>
+fn closed(token: Token, b: u8) -> Result<(LexState, Option<Token>), LineError>
     ensures { Gives result (step_closed token b) }
 {
     if blank(b) {
-        Ok((Place::Between, Some(token)))
+        Ok((LexState::Between, Some(token)))
     } else {
-        Err(Refused::Bad)
+        Err(LineError::Malformed)
     }
 }
 
-fn finish(place: Place) -> Result<Option<Token>, Refused>
+fn finish(place: LexState) -> Result<Option<Token>, LineError>
     ensures { Gives result (finish place) }
 {
     match place {
-        Place::Between => Ok(None),
-        Place::InWord(word) => {
+        LexState::Between => Ok(None),
+        LexState::InWord(word) => {
             let token = word_token(word)?;
             Ok(Some(token))
         }
-        Place::InText(_) => Err(Refused::Bad),
-        Place::Escaped(_) => Err(Refused::Bad),
-        Place::Closed(token) => Ok(Some(token)),
+        LexState::InText(_) => Err(LineError::Malformed),
+        LexState::Escaped(_) => Err(LineError::Malformed),
+        LexState::Closed(token) => Ok(Some(token)),
     }
 }
 
-/// The byte that a letter behind a backslash stands for.
+/// The byte that a letter after a backslash means.
 fn escape(letter: u8) -> Option<u8>
     ensures { result ≡ escape_of letter }
 {

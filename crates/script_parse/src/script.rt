@@ -22,9 +22,9 @@ pub enum CalcOp {
 }
 
 /// An instruction. A field `place` is the place of a label: the number of instructions before it. The
-/// number of all instructions is a place too, that of the unwritten `exit 0`. A list for one operand
+/// number of all instructions is a place too, that of the implicit `exit 0`. A list for one operand
 /// and more holds the first one too, so it has at most 256 items; in `Spawn` and `Sql` the first
-/// operand stands in its own field, and the list holds the others.
+/// operand has its own field, and the list holds the others.
 #[derive(Drop)]
 pub enum Instr {
     /// `let x = v`
@@ -151,7 +151,7 @@ pub enum Instr {
 /// Instructions, in the order of the lines.
 pub type Instrs = List<Instr>;
 
-/// A script, without the `exit 0` that stands unwritten after its last instruction.
+/// A script, without the implicit `exit 0` after its last instruction.
 #[derive(Drop)]
 pub struct Script {
     pub instructions: Instrs,

@@ -1,18 +1,17 @@
 //! From the bytes of a script to its lines.
 
-ghost use Rattle.std.specs.Prelude.{◌≡◌, ◌++◌, ◌∷◌, ◌+◌, ◌<◌, ◌≤◌, ◌^◌, length, IfOk, OnOk};
-ghost use Rattle.script_parse.specs.Lines.{lines_of, feed_place, without_return, ends_with_return};
-ghost use Rattle.script_parse.specs.Lines.{line_of};
+ghost use Rattle.std.specs.Prelude.{◌≡◌, ◌⊎◌, ◌++◌, ◌∷◌, [], ◌+◌, ◌<◌, ◌≤◌, ◌^◌, ◌==◌, length, position, IfOk, OnOk};
+ghost use Rattle.script_parse.specs.Grammar.{EndsInReturn};
+ghost use Rattle.script_parse.specs.Lines.{lines_of, line_of};
 ghost use Rattle.script_parse.specs.Script.{entry_of, entries_from, entries_of};
 
 use crate::form::read_line;
 use crate::line::{Entries, Entry, Line};
-use crate::refused::Refused;
+use crate::line_error::LineError;
 use std::alloc::{AllocError, Global};
 
-/// The lines of a script that aren't quiet.
+/// The lines of a script that aren't quiet. Numbers are `u32`, so 2^32 lines count as out of memory.
 pub(crate) fn entries(alloc: Global, bytes: &[u8]) -> Result<Entries, AllocError>
-    requires { length bytes.now < 2 ^ 32 }
     ensures all { IfOk result (λ entries. entries ≡ entries_of bytes.now) }
     ensures few { IfOk result (λ entries. length entries < 2 ^ 32) }
 {
@@ -21,8 +20,11 @@ pub(crate) fn entries(alloc: Global, bytes: &[u8]) -> Result<Entries, AllocError
     let mut done: u32 = 0;
     while !rest.is_empty() {
         let (line, next) = next_line(rest);
-        done += 1;
-        add(alloc, &mut entries, done, line)?;
+        let Some(number) = done.checked_add(1) else {
+            return Err(AllocError);
+        };
+        add(alloc, &mut entries, number, line)?;
+        done = number;
         rest = next;
     }
     Ok(entries)
@@ -48,56 +50,37 @@ fn add(alloc: Global, entries: &mut Entries, number: u32, line: &[u8]) -> Result
                 line: Some(Line::Jumping(instr, label)),
             })
         }
-        Err(Refused::Bad) => entries.push(Entry { number, line: None }),
-        Err(Refused::NoMemory) => Err(AllocError),
+        Err(LineError::Malformed) => entries.push(Entry { number, line: None }),
+        Err(LineError::NoMemory) => Err(AllocError),
     }
 }
 
-// The first line, and the bytes behind its end.
+// The first line, and the bytes after its end.
 #[tactic(auto, using(crate::proofs::Cut::cut_rules))]
 fn next_line(bytes: &[u8]) -> (&[u8], &[u8])
     requires { 0 < length bytes.now }
     ensures cut { lines_of bytes.now ≡ result.0.now ∷ lines_of result.1.now }
     ensures shorter { length result.1.now < length bytes.now }
 {
-    let end = feed_place(bytes);
-    if end < bytes.len() {
-        (without_return(&bytes[..end]), &bytes[end + 1..])
-    } else {
-        (bytes, &bytes[end..])
+    match first_feed(bytes) {
+        None => (bytes, &bytes[bytes.len()..]),
+        Some(end) => (without_return(&bytes[..end]), &bytes[end + 1..]),
     }
 }
 
-// The number of bytes before the first LF, or of all.
-fn feed_place(bytes: &[u8]) -> usize
-    ensures value { result ≡ feed_place bytes.now }
-    ensures within { result ≤ length bytes.now }
+// The place of the first LF.
+fn first_feed(bytes: &[u8]) -> Option<usize>
+    ensures { result ≡ position (λ b. b == 10) bytes.now }
 {
-    for (i, b) in bytes.iter().enumerate() {
-        if *b == b'\n' {
-            return i;
-        }
-    }
-    bytes.len()
+    bytes.iter().position(|b| *b == b'\n')
 }
 
-#[tactic(auto, using(crate::proofs::Cut::return_rules))]
+// A line without the CR at its end.
 fn without_return(line: &[u8]) -> &[u8]
-    ensures { result.now ≡ without_return line.now }
+    ensures { (line.now ≡ result.now ++ 13 ∷ []) ⊎ ((result.now ≡ line.now) × (¬ EndsInReturn line.now)) }
 {
-    if ends_with_return(line) {
-        &line[..line.len() - 1]
-    } else {
-        line
-    }
-}
-
-#[tactic(auto, using(crate::proofs::Cut::return_rules))]
-fn ends_with_return(line: &[u8]) -> bool
-    ensures { result ≡ ends_with_return line.now }
-{
-    match line.last() {
-        None => false,
-        Some(b) => *b == b'\r',
+    match line.strip_suffix(b"\r") {
+        None => line,
+        Some(front) => front,
     }
 }

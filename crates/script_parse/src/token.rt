@@ -3,10 +3,11 @@
 ghost use Rattle.std.specs.Prelude.{◌≡◌, OnErr, OnOk};
 ghost use Rattle.std.specs.Str.{is_utf8};
 ghost use Rattle.script_parse.specs.Gives.{Gives};
-ghost use Rattle.script_parse.specs.Tokens.{text_of, word_token, text_token};
+ghost use Rattle.ldv_value.specs.Texts.{text_of};
+ghost use Rattle.script_parse.specs.Tokens.{word_token, text_token};
 
+use crate::line_error::LineError;
 use crate::number::number;
-use crate::refused::Refused;
 use ldv_value::{Bytes, List, TEXT_LIMIT, Utf8};
 
 /// A token of a line.
@@ -24,7 +25,7 @@ pub enum Token {
 pub(crate) type Tokens = List<Token>;
 
 /// The token of bytes that stood without quotes.
-pub(crate) fn word_token(bytes: Bytes) -> Result<Token, Refused>
+pub(crate) fn word_token(bytes: Bytes) -> Result<Token, LineError>
     ensures { Gives result (word_token bytes) }
 {
     match number(bytes.as_slice()) {
@@ -37,22 +38,22 @@ pub(crate) fn word_token(bytes: Bytes) -> Result<Token, Refused>
 }
 
 /// The token of bytes that stood in quotes, their escapes read.
-pub(crate) fn text_token(bytes: Bytes) -> Result<Token, Refused>
+pub(crate) fn text_token(bytes: Bytes) -> Result<Token, LineError>
     ensures { Gives result (text_token bytes) }
 {
     if bytes.len() > TEXT_LIMIT {
-        return Err(Refused::Bad);
+        return Err(LineError::Malformed);
     }
     let text = text(bytes)?;
     Ok(Token::Quoted(text))
 }
 
-#[tactic(auto, using(crate::proofs::Utf8::text_rules))]
-fn text(bytes: Bytes) -> Result<Utf8, Refused>
+#[tactic(auto, using(ldv_value::proofs::Utf8Parts::text_rules))]
+fn text(bytes: Bytes) -> Result<Utf8, LineError>
     ensures { Gives result (text_of bytes) }
 {
     match String::from_utf8(bytes.into_vec()) {
         Ok(text) => Ok(Utf8::of_string(text)),
-        Err(_) => Err(Refused::Bad),
+        Err(_) => Err(LineError::Malformed),
     }
 }

@@ -3,17 +3,9 @@
 use Rattle.std.proofs.Common.{◌≡◌, ℕ, List, [], ◌∷◌, ◌++◌, map, filter, length, Bool, true, refl, ap, ◌∙◌}
 use Rattle.std.specs.Prelude.{Option, Some, None, if◌then◌else◌}
 use Rattle.std.specs.List.{list_any}
-use Rattle.sql_model.specs.declared.catalog.Catalog.{Catalog}
-use Rattle.sql_model.specs.declared.need.Member.{Member}
-use Rattle.sql_model.specs.declared.reply.Reply.{Reply}
-use Rattle.sql_model.specs.declared.reply.Reply.TheVariants.{Changed, Refused}
-use Rattle.sql_model.specs.declared.reply.SqlRefusal.{SqlRefusal}
-use Rattle.sql_model.specs.declared.reply.SqlRefusal.TheVariants.{Syntax, NoTable, NoColumn, TypeClash, NotNull, KeyTaken, Full}
-use Rattle.sql_model.specs.declared.statement.Statement.{Statement}
-use Rattle.sql_model.specs.declared.statement.Statement.TheVariants.{Query as TheQuery, Insert as TheInsert, Update as TheUpdate, Delete as TheDelete}
-use Rattle.sql_model.specs.declared.table.Table.{Table}
+use Rattle.sql_cases.proofs.Types.{Catalog, Member, Reply, Changed, Refused, SqlRefusal, Syntax, NoTable, NoColumn, TypeClash, NotNull, KeyTaken, Full, Statement, TheQuery, TheInsert, TheUpdate, TheDelete, Table}
 use Rattle.sql_model.specs.Changes.{or_else, refusal_if, has_null, key_refusal, key_clash, is_full, target_of, table_of, change_refusal, changed, changed_in, matched}
-use Rattle.sql_model.specs.Needs.{Versions, made_by, made_unless, members_made, new_member, next_member, NeededRow, need_of, needs_by, accepted_needs, matched_row, matched_rows, key_row, key_rows, stood, clash_rows, rising_rows}
+use Rattle.sql_model.specs.Needs.{Versions, made_by, made_unless, members_made, new_member, next_member, NeededRow, need_of, needs_by, accepted_needs, matched_row, matched_rows, key_row, key_rows, stood, clash_rows, sorted_needs}
 use Rattle.sql_model.specs.Refusals.{check_refusal}
 use Rattle.sql_model.specs.Scope.{catalog_of, is_table}
 use Rattle.sql_model.specs.Statements.{reply_of, reply_or, accepted_reply, matched_count, refusal_of, target, after, after_unless}
@@ -128,7 +120,7 @@ module _ (s : Statement) (table : Table) where
   abbrev pub Told : Parts → Type 0
   Told p =
       (reply_of (Some s) here ≡ reply_from (refusal_from p) p)
-      × (need_of (Some s) here ≡ rising_rows (needs_from (refusal_from p) p))
+      × (need_of (Some s) here ≡ sorted_needs (needs_from (refusal_from p) p))
       × (after (Some s) here ≡ after_from (refusal_from p) p)
       × ((versions : Versions)
       → made_by versions (Some s) here ≡ made_from versions (refusal_from p) p)
@@ -183,7 +175,7 @@ module _ (s : Statement) (table : Table) where
       change_by_parts : Told p
       change_by_parts = (
         reply_by s here r refusal ∙ (replies r ∙ ap (reply_from r) same),
-        need_by s here r refusal ∙ ap rising_rows (needs r ∙ ap (needs_from r) same),
+        need_by s here r refusal ∙ ap sorted_needs (needs r ∙ ap (needs_from r) same),
         after_by s here r refusal ∙ (left r ∙ ap (after_from r) same),
         λ versions. made_is versions s here r refusal
             ∙ (makes versions r ∙ ap (made_from versions r) same),

@@ -4,6 +4,7 @@ pub mod TermQueries
 pub mod TermReplies
 pub mod TermStatements
 pub mod Terms
+pub mod Types
 pub mod WorkedAnswers
 pub mod WorkedChanges
 pub mod WorkedClashes

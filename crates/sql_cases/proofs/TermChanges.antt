@@ -2,21 +2,13 @@
 -- the definition that it follows.
 use Rattle.std.specs.Prelude.{ℕ, ◌+◌, List, [], ◌∷◌, ◌++◌, map, filter, find, zip, length, ◌==◌, Bool, false, not, ◌&&◌, ◌||◌, if◌then◌else◌, Option, Some, None, option_map, option_to_list, unwrap_or}
 use Rattle.std.specs.List.{flat_map, list_all}
-use Rattle.ldv_value.specs.declared.value.Value.{Value}
-use Rattle.sql_model.specs.declared.catalog.Catalog.{Catalog}
-use Rattle.sql_model.specs.declared.expr.ColumnName.{ColumnName}
-use Rattle.sql_model.specs.declared.expr.Expr.TheOpen.{Expr-F}
-use Rattle.sql_model.specs.declared.reply.SqlRefusal.{SqlRefusal}
-use Rattle.sql_model.specs.declared.reply.SqlRefusal.TheVariants.{NoTable, NoColumn, TypeClash}
-use Rattle.sql_model.specs.declared.statement.Statement.{Statement}
-use Rattle.sql_model.specs.declared.table.Column.{Column}
-use Rattle.sql_model.specs.declared.table.Table.{Table}
-use Rattle.sql_model.specs.declared.table.TableRow.{TableRow}
+use Rattle.sql_cases.proofs.Types.{Value, Catalog, ColumnName, Expr-F, SqlRefusal, NoTable, NoColumn, TypeClash, Statement, Column, Table, TableRow}
 use Rattle.sql_model.specs.Changes as changes
 use Rattle.sql_model.specs.Changes.{numbered, with_rows}
-use Rattle.sql_model.specs.Refusals.{check_refusal, lacks_table, doubled, unresolved, target_columns, takes, takes_set}
+use Rattle.sql_model.specs.Keys.{repeats}
+use Rattle.sql_model.specs.Refusals.{check_refusal, lacks_table, unresolved, target_columns, takes, takes_set}
 use Rattle.sql_model.specs.Scope.{InScope, same_text, schema_at, columns_of, is_column, has_column, own_scope, environment}
-use Rattle.sql_model.specs.Sense.{Environment, or_null}
+use Rattle.sql_model.specs.Meaning.{Environment, or_null}
 use Rattle.sql_cases.proofs.Terms.{Term}
 use Rattle.sql_cases.proofs.TermQueries as queries
 use Rattle.sql_cases.proofs.TermStatements.{TermInsert, TermUpdate, TermDelete, TermSet, TermStatement, TheInsert, TheUpdate, TheDelete, update_of, statement_of}
@@ -64,7 +56,7 @@ module _ (fold : (A : Type 0) → (Expr-F A → A) → Term → A) where
   -- ---- INSERT
 
   abbrev plain_value : Term → Value
-  plain_value term = (queries.sense fold term (environment [] [] ∷ [])).value
+  plain_value term = (queries.eval fold term (environment [] [] ∷ [])).value
 
   abbrev value_given : List (List ℕ × Term) → Column → Value
   value_given given column =
@@ -90,7 +82,7 @@ module _ (fold : (A : Type 0) → (Expr-F A → A) → Term → A) where
 
   abbrev insert_clashes : TermInsert → List Column → Bool
   insert_clashes insert columns =
-      doubled (unwrap_or insert.columns [])
+      repeats same_text (unwrap_or insert.columns [])
       || not (list_all (row_fits (target_columns insert.columns columns)) insert.rows)
 
   abbrev insert_check : TermInsert → Catalog → List Column → Option SqlRefusal
@@ -113,7 +105,7 @@ module _ (fold : (A : Type 0) → (Expr-F A → A) → Term → A) where
 
   abbrev value_set : Option TermSet → Environment → Value → Value
   value_set None env old = old
-  value_set (Some set) env old = (queries.sense fold set.term (env ∷ [])).value
+  value_set (Some set) env old = (queries.eval fold set.term (env ∷ [])).value
 
   abbrev updated_value : List TermSet → Environment → Column × Value → Value
   updated_value sets env old = value_set (find (λ set. same_text set.column old.0.name) sets) env old.1
@@ -144,7 +136,7 @@ module _ (fold : (A : Type 0) → (Expr-F A → A) → Term → A) where
 
   abbrev update_clashes : TermUpdate → List Column → List InScope → Bool
   update_clashes update columns scope =
-      doubled (map (λ set. set.column) update.sets)
+      repeats same_text (map (λ set. set.column) update.sets)
       || not (list_all (set_fits columns scope) update.sets && pick_fits scope update.pick)
 
   abbrev update_check : TermUpdate → Catalog → List Column → List InScope → Option SqlRefusal

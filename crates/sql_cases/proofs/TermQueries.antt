@@ -3,28 +3,21 @@
 -- the definition that it follows.
 use Rattle.std.specs.Prelude.{ℕ, List, [], ◌∷◌, ◌++◌, map, filter, length, ◌==◌, Bool, true, false, not, ◌&&◌, ◌||◌, nat_le, if◌then◌else◌, Option, Some, None, is_none, is_some, option_map, option_and_then, option_to_list, unwrap_or}
 use Rattle.std.specs.List.{flat_map, list_any, list_all, range_with_len}
-use Rattle.ldv_value.specs.declared.value.Value.{Value}
-use Rattle.sql_model.specs.declared.expr.ColumnName.{ColumnName}
-use Rattle.sql_model.specs.declared.expr.Expr.TheOpen.{Expr-F}
-use Rattle.sql_model.specs.declared.kind.Kind.{Kind}
-use Rattle.sql_model.specs.declared.need.Rule.TheVariants.{H}
-use Rattle.sql_model.specs.declared.reply.SqlRefusal.{SqlRefusal}
-use Rattle.sql_model.specs.declared.reply.SqlRefusal.TheVariants.{NoTable, NoColumn, TypeClash}
-use Rattle.sql_model.specs.declared.table.Table.{Table}
-use Rattle.sql_model.specs.Answers.{AnswerRow, Combination, Origin, combinations, combination_rows, row_environment, environments, groups_of, first_values, single, once, united, SortKey, sort_key, sort_rows, limit_of, first_rows, other_rows, lineage_of}
+use Rattle.sql_cases.proofs.Types.{Value, ColumnName, Expr-F, Kind, H, SqlRefusal, NoTable, NoColumn, TypeClash, Table}
+use Rattle.sql_model.specs.QueryAnswer.{AnswerRow, Combination, Origin, combinations, combination_rows, row_environment, environments, groups_of, first_values, single, once, united, SortKey, sort_key, sort_rows, limit_of, first_rows, other_rows, lineage_of}
 use Rattle.sql_model.specs.Kinds.{Counting, kind_step, names_step, outer_step, aggregate_step, counting_step, own_name_step, is_condition, kind_of_column}
 use Rattle.sql_model.specs.Needs.{NeededRow, needed_by, has_merging}
 use Rattle.sql_model.specs.Refusals.{lacks_table, unresolved, is_grouped, is_order_key, kind_of_item, union_kinds, is_limit}
 use Rattle.sql_model.specs.Scope.{InScope, catalog_of, scope_of, places_in}
-use Rattle.sql_model.specs.Sense.{Environment, Sense, sense_step, is_true}
+use Rattle.sql_model.specs.Meaning.{Environment, Meaning, eval_step, is_true}
 use Rattle.sql_cases.proofs.Terms.{Term}
 use Rattle.sql_cases.proofs.TermStatements.{TermItem, TermCore, TermQuery, TheQuery, core_of, statement_of}
 
 module _ (fold : (A : Type 0) → (Expr-F A → A) → Term → A) where
   -- ---- expressions
 
-  abbrev pub sense : Term → List Environment → Sense
-  sense = fold (List Environment → Sense) sense_step
+  abbrev pub eval : Term → List Environment → Meaning
+  eval = fold (List Environment → Meaning) eval_step
 
   abbrev pub names_in : Term → List ColumnName
   names_in = fold (List ColumnName) names_step
@@ -49,7 +42,7 @@ module _ (fold : (A : Type 0) → (Expr-F A → A) → Term → A) where
       title_of (Some name) = Some name
 
   abbrev pub meets_all : List Term → Environment → Bool
-  meets_all picks env = list_all (λ term. is_true (sense term (env ∷ [])).truth) picks
+  meets_all picks env = list_all (λ term. is_true (eval term (env ∷ [])).truth) picks
 
   -- ---- cores
 
@@ -72,12 +65,12 @@ module _ (fold : (A : Type 0) → (Expr-F A → A) → Term → A) where
 
   abbrev pub is_kept : List InScope → Option Term → List Combination → Bool
   is_kept scope None group = true
-  is_kept scope (Some having) group = is_true (sense having (environments scope group)).truth
+  is_kept scope (Some having) group = is_true (eval having (environments scope group)).truth
 
   abbrev pub item_values : List InScope → Option (List TermItem) → List Combination → List Value
   item_values scope None group = first_values group
   item_values scope (Some items) group =
-      map (λ item. (sense item.term (environments scope group)).value) items
+      map (λ item. (eval item.term (environments scope group)).value) items
 
   abbrev pub group_row : List InScope → TermCore → List Combination → AnswerRow
   group_row scope core group = record {

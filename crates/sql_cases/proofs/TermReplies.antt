@@ -1,16 +1,11 @@
 -- What a statement over terms answers, needs, leaves and makes.
 use Rattle.std.proofs.Common.{◌≡◌, List, [], ◌++◌, map, refl, ap, ◌∙◌}
 use Rattle.std.specs.Prelude.{Option, Some, None}
-use Rattle.sql_model.specs.declared.need.Rule.TheVariants.{L}
-use Rattle.sql_model.specs.declared.reply.Reply.TheVariants.{Rows, Refused}
-use Rattle.sql_model.specs.declared.reply.SqlRefusal.{SqlRefusal}
-use Rattle.sql_model.specs.declared.reply.SqlRefusal.TheVariants.{Syntax, NoTable, NoColumn, TypeClash, NotNull, KeyTaken, Full}
-use Rattle.sql_model.specs.declared.statement.Statement.{Statement}
+use Rattle.sql_cases.proofs.Types.{L, Rows, Refused, SqlRefusal, Syntax, NoTable, NoColumn, TypeClash, NotNull, KeyTaken, Full, Statement, Table}
 use Rattle.sql_model.specs.declared.statement.Statement.TheVariants as statement
-use Rattle.sql_model.specs.declared.table.Table.{Table}
-use Rattle.sql_model.specs.Answers.{AnswerRow, answer, answer_values, lineage_of}
+use Rattle.sql_model.specs.QueryAnswer.{AnswerRow, answer, answer_values, lineage_of}
 use Rattle.sql_model.specs.Changes.{or_else}
-use Rattle.sql_model.specs.Needs.{Versions, made_by, made_unless, need_of, needs_by, needed_by, rising_rows, hidden_rows}
+use Rattle.sql_model.specs.Needs.{Versions, made_by, made_unless, need_of, needs_by, needed_by, sorted_needs, hidden_rows}
 use Rattle.sql_model.specs.Refusals.{check_refusal}
 use Rattle.sql_model.specs.Scope.{catalog_of}
 use Rattle.sql_model.specs.Statements.{reply_of, reply_or, refusal_of, after, after_unless}
@@ -27,9 +22,9 @@ unfolding reply_of
 reply_by s db refusal is = ap (λ r. reply_or r (Some s) db) is
 
 pub need_by : (s : Statement) (db : List Table) (refusal : Option SqlRefusal)
-    → refusal_of (Some s) db ≡ refusal → need_of (Some s) db ≡ rising_rows (needs_by refusal s db)
+    → refusal_of (Some s) db ≡ refusal → need_of (Some s) db ≡ sorted_needs (needs_by refusal s db)
 unfolding need_of
-need_by s db refusal is = ap (λ r. rising_rows (needs_by r s db)) is
+need_by s db refusal is = ap (λ r. sorted_needs (needs_by r s db)) is
 
 pub after_by : (s : Statement) (db : List Table) (refusal : Option SqlRefusal)
     → refusal_of (Some s) db ≡ refusal → after (Some s) db ≡ after_unless refusal (Some s) db
@@ -70,11 +65,11 @@ module _ (query : TermQuery) (is : Computes query) (db : List Table) where
   pub query_accepted : by_terms ≡ None
       → (reply_of (Some s) db ≡ Rows (map answer_values rows))
       × (need_of (Some s) db
-      ≡ rising_rows (map (needed_by L) (lineage_of rows) ++ queries.hidden_rows over query db))
+      ≡ sorted_needs (map (needed_by L) (lineage_of rows) ++ queries.hidden_rows over query db))
   query_accepted accepted = (
     reply_by s db None (by_expr ∙ accepted) ∙ (λ i. Rows (map answer_values (is.rows db i))),
     need_by s db None (by_expr ∙ accepted)
-        ∙ (λ i. rising_rows (map (needed_by L) (lineage_of (is.rows db i)) ++ is.hidden db i)),
+        ∙ (λ i. sorted_needs (map (needed_by L) (lineage_of (is.rows db i)) ++ is.hidden db i)),
   )
 
   no_needs : (r : SqlRefusal) → needs_by (Some r) s db ≡ []
@@ -91,5 +86,5 @@ module _ (query : TermQuery) (is : Computes query) (db : List Table) where
       → (reply_of (Some s) db ≡ Refused r) × (need_of (Some s) db ≡ [])
   query_refused r refused = (
     reply_by s db (Some r) (by_expr ∙ refused),
-    need_by s db (Some r) (by_expr ∙ refused) ∙ ap rising_rows (no_needs r),
+    need_by s db (Some r) (by_expr ∙ refused) ∙ ap sorted_needs (no_needs r),
   )

@@ -1,18 +1,7 @@
 -- Statements over terms, and the statements that they stand for.
 use Rattle.std.specs.Prelude.{ℕ, List, map, Bool, Option, option_map}
-use Rattle.ldv_value.specs.declared.value.Value.{Value}
-use Rattle.sql_model.specs.declared.expr.ColumnName.{ColumnName}
-use Rattle.sql_model.specs.declared.statement.Core.{Core}
-use Rattle.sql_model.specs.declared.statement.Delete.{Delete}
-use Rattle.sql_model.specs.declared.statement.FromItem.{FromItem}
-use Rattle.sql_model.specs.declared.statement.Insert.{Insert}
-use Rattle.sql_model.specs.declared.statement.Item.{Item}
-use Rattle.sql_model.specs.declared.statement.Order.{Order}
-use Rattle.sql_model.specs.declared.statement.Query.{Query}
-use Rattle.sql_model.specs.declared.statement.Set.{Set}
-use Rattle.sql_model.specs.declared.statement.Statement.{Statement}
+use Rattle.sql_cases.proofs.Types.{Value, ColumnName, Core, Delete, FromItem, Insert, Item, Order, Query, Set, Statement, Update}
 use Rattle.sql_model.specs.declared.statement.Statement.TheVariants as statement
-use Rattle.sql_model.specs.declared.statement.Update.{Update}
 use Rattle.sql_cases.proofs.Terms.{Term, expr_of}
 
 pub record TermItem : Type 0 where

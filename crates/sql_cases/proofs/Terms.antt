@@ -1,15 +1,10 @@
 -- Expressions over which a fold computes, and the equation that joins them to those of statements.
 use Rattle.std.specs.Prelude.{Bool, Some, None}
 use Rattle.std.proofs.Common.{◌≡◌, ap, ◌∙◌}
-use Rattle.ldv_value.specs.declared.value.Value.{Value}
-use Rattle.sql_model.specs.declared.expr.ColumnName.{ColumnName}
-use Rattle.sql_model.specs.declared.expr.Expr.{Expr}
+use Rattle.sql_cases.proofs.Types.{Value, ColumnName, Expr, Expr-F, Fold, Operator}
 use Rattle.sql_model.specs.declared.expr.Expr.TheVariants as expr
 use Rattle.sql_model.specs.declared.expr.Expr.TheOpen as open_expr
-use Rattle.sql_model.specs.declared.expr.Expr.TheOpen.{Expr-F}
 use Rattle.sql_model.specs.declared.expr.Expr.TheFolds.{fold-Expr}
-use Rattle.sql_model.specs.declared.expr.Fold.{Fold}
-use Rattle.sql_model.specs.declared.expr.Operator.{Operator}
 use Rattle.sql_model.proofs.Folds.{fold-Constant, fold-Column, fold-Negate, fold-Not, fold-Both, fold-IsNull, fold-Count, fold-Aggregate}
 
 pub data Term : Type 0 where

@@ -1,14 +1,10 @@
 -- Whole answers with what they need, tried at the table t.
 use Rattle.std.specs.Prelude.{◌≡◌, refl, List, [], ◌∷◌, map, take, false, true, Some, None, pos, codes}
+use Rattle.sql_cases.proofs.Types.{Null, Int, Text, Add, Or, L, H, Name, Table}
 use Rattle.ldv_value.specs.declared.value.Cmp.TheVariants.{Eq, Lt, Gt}
-use Rattle.ldv_value.specs.declared.value.Value.TheVariants.{Null, Int, Text}
 use Rattle.sql_model.specs.declared.expr.Fold.TheVariants.{Count as CountOf, Sum, Max}
-use Rattle.sql_model.specs.declared.expr.Operator.TheVariants.{Add, Or}
-use Rattle.sql_model.specs.declared.need.Rule.TheVariants.{L, H}
-use Rattle.sql_model.specs.declared.statement.OrderKey.TheVariants.{Name}
-use Rattle.sql_model.specs.declared.table.Table.{Table}
-use Rattle.sql_model.specs.Answers as answers
-use Rattle.sql_model.specs.Needs.{needed_by, rising_rows}
+use Rattle.sql_model.specs.QueryAnswer as answers
+use Rattle.sql_model.specs.Needs.{needed_by, sorted_needs}
 use Rattle.sql_cases.proofs.TermQueries.{query_refusal, answer, hidden_rows}
 use Rattle.sql_cases.proofs.TermReplies.{Computes, query_accepted}
 use Rattle.sql_cases.proofs.TermStatements.{TermQuery, query_of}
@@ -54,9 +50,9 @@ distinct_join = query_accepted twins twins_computes db refl
 
 -- its first row, 'a', comes from the rows 0 and 1 and, by the join, from 4
 united_lineage :
-    rising_rows (map (needed_by L) (answers.lineage_of (take 1 (answers.answer (query_of twins) db))))
+    sorted_needs (map (needed_by L) (answers.lineage_of (take 1 (answers.answer (query_of twins) db))))
     ≡ needed L 0 ∷ needed L 1 ∷ needed L 4 ∷ []
-united_lineage = λ i. rising_rows
+united_lineage = λ i. sorted_needs
     (map (needed_by L) (answers.lineage_of (take 1 (twins_computes.rows db i))))
 
 -- SELECT COUNT(*), SUM(v) FROM t WHERE k > 9

@@ -1,15 +1,8 @@
 -- Changes, with what they need, leave and make, tried at the table t.
 use Rattle.std.proofs.Common.{List, [], ◌∷◌, ◌++◌, map, refl, pos}
 use Rattle.std.specs.Prelude.{ℕ, Some, None, codes}
+use Rattle.sql_cases.proofs.Types.{Null, Int, Text, Catalog, Add, L, K, Changed, Refused, NotNull, KeyTaken, Full, Table, TableRow}
 use Rattle.ldv_value.specs.declared.value.Cmp.TheVariants.{Eq, Lt}
-use Rattle.ldv_value.specs.declared.value.Value.TheVariants.{Null, Int, Text}
-use Rattle.sql_model.specs.declared.catalog.Catalog.{Catalog}
-use Rattle.sql_model.specs.declared.expr.Operator.TheVariants.{Add}
-use Rattle.sql_model.specs.declared.need.Rule.TheVariants.{L, K}
-use Rattle.sql_model.specs.declared.reply.Reply.TheVariants.{Changed, Refused}
-use Rattle.sql_model.specs.declared.reply.SqlRefusal.TheVariants.{NotNull, KeyTaken, Full}
-use Rattle.sql_model.specs.declared.table.Table.{Table}
-use Rattle.sql_model.specs.declared.table.TableRow.{TableRow}
 use Rattle.sql_model.specs.Scope.{catalog_of}
 use Rattle.sql_cases.proofs.ChangesByParts.{insert_by_terms, update_by_terms, delete_by_terms}
 use Rattle.sql_cases.proofs.TermChanges.{made_of, updated, insert_parts, update_parts, delete_parts}

@@ -1,11 +1,8 @@
 -- Refused queries, tried at the table t. None of them needs a row.
 use Rattle.std.specs.Prelude.{◌≡◌, refl, List, [], ◌∷◌, None, Some, codes}
+use Rattle.sql_cases.proofs.Types.{Null, Refused, Syntax, NoTable, NoColumn, TypeClash, Table}
 use Rattle.ldv_value.specs.declared.value.Cmp.TheVariants.{Eq, Gt}
-use Rattle.ldv_value.specs.declared.value.Value.TheVariants.{Null}
 use Rattle.sql_model.specs.declared.expr.Fold.TheVariants.{Count as CountOf, Sum}
-use Rattle.sql_model.specs.declared.reply.Reply.TheVariants.{Refused}
-use Rattle.sql_model.specs.declared.reply.SqlRefusal.TheVariants.{Syntax, NoTable, NoColumn, TypeClash}
-use Rattle.sql_model.specs.declared.table.Table.{Table}
 use Rattle.sql_model.specs.Needs.{need_of}
 use Rattle.sql_model.specs.Statements.{reply_of}
 use Rattle.sql_cases.proofs.TermQueries.{query_refusal, answer, hidden_rows}

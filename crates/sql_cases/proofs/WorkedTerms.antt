@@ -1,18 +1,6 @@
 -- Statements over the table t, written by terms, and what is said of them.
 use Rattle.std.specs.Prelude.{◌≡◌, ℕ, ◌+◌, List, [], ◌∷◌, map, false, true, Option, Some, None, pos, codes}
-use Rattle.ldv_value.specs.declared.value.Cmp.{Cmp}
-use Rattle.ldv_value.specs.declared.value.Value.{Value}
-use Rattle.ldv_value.specs.declared.value.Value.TheVariants.{Int, Text}
-use Rattle.sql_model.specs.declared.expr.ColumnName.{ColumnName}
-use Rattle.sql_model.specs.declared.expr.Operator.TheVariants.{Compare}
-use Rattle.sql_model.specs.declared.need.Member.{Member}
-use Rattle.sql_model.specs.declared.need.Rule.{Rule}
-use Rattle.sql_model.specs.declared.reply.Reply.{Reply}
-use Rattle.sql_model.specs.declared.reply.Reply.TheVariants.{Rows, Refused}
-use Rattle.sql_model.specs.declared.reply.SqlRefusal.{SqlRefusal}
-use Rattle.sql_model.specs.declared.statement.FromItem.{FromItem}
-use Rattle.sql_model.specs.declared.statement.Order.{Order}
-use Rattle.sql_model.specs.declared.table.Table.{Table}
+use Rattle.sql_cases.proofs.Types.{Cmp, Value, Int, Text, ColumnName, Compare, Member, Rule, Reply, Rows, Refused, SqlRefusal, FromItem, Order, Table}
 use Rattle.sql_model.specs.Needs.{NeededRow, need_of, needed_row, Versions, made_by}
 use Rattle.sql_model.specs.Statements.{reply_of, after}
 use Rattle.sql_cases.proofs.TermStatements.{TermItem, TermCore, TermQuery, TermSet, TermStatement, TheQuery, TheInsert, statement_of}

@@ -2,5 +2,5 @@
 //! the rows that it needs, and the table after it, value by value.
 //!
 //! It has no code and promises nothing to other crates. Its lemmas (`proofs/`) are checked against the
-//! definitions of `sql_model`, so that a definition which comes to mean something else is refused here.
+//! definitions of `sql_model`, so that a definition with another meaning is refused here.
 #![tactic(auto)]

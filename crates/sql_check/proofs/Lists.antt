@@ -9,14 +9,6 @@ use Rattle.sql_model.specs.declared.expr.ColumnName.{ColumnName}
 use Rattle.sql_model.specs.Scope.{InScope, place_of, places_in}
 use Rattle.sql_check.specs.Sources.{is_among, all_among}
 
-pub and-true : (b : Bool) → (b && true) ≡ b
-and-true true = refl
-and-true false = refl
-
-pub or-false : (b : Bool) → (b || false) ≡ b
-or-false true = refl
-or-false false = refl
-
 module _ {X Y : Type 0} (p : Y → Bool) (f : X → List Y) where
   pub list_all-flat_map : (xs : List X) → list_all p (flat_map f xs) ≡ list_all (λ x. list_all p (f x)) xs
   list_all-flat_map [] = refl

@@ -17,7 +17,7 @@ use Rattle.sql_model.specs.Refusals.{tables_of_core, is_missing, items_of, names
 use Rattle.sql_model.specs.Scope.{InScope}
 use Rattle.sql_check.specs.Sources.{is_among, all_among}
 use Rattle.sql_check.proofs.Lists.{list_all-flat_map, all_among-append}
-use Rattle.sql_check.proofs.Mapped.{any_mapped}
+use Rattle.ldv_value.proofs.Lists.{list_any-map}
 
 -- ---- tables
 
@@ -25,7 +25,7 @@ pub missing_cores : (catalog : Catalog) (cores : List Core) → list_any (is_mis
 missing_cores catalog [] = refl
 missing_cores catalog (core ∷ cores) =
     list_any-append (is_missing catalog) (tables_of_core core) (flat_map tables_of_core cores)
-    ∙ (λ j. any_mapped (is_missing catalog) (λ (item : FromItem). item.table) core.from j || missing_cores catalog cores j)
+    ∙ (λ j. list_any-map (is_missing catalog) (λ (item : FromItem). item.table) core.from j || missing_cores catalog cores j)
 
 -- ---- names
 

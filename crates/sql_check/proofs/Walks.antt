@@ -15,7 +15,8 @@ use Rattle.sql_model.specs.Kinds.{kind_of_value, kind_of_column, is_number, is_l
 use Rattle.sql_model.specs.Scope.{InScope, is_meant, place_of, places_in}
 use Rattle.sql_model.proofs.Folds.{fold-Constant, fold-Column, fold-Negate, fold-Not, fold-Both, fold-IsNull, fold-Count, fold-Aggregate}
 use Rattle.sql_check.specs.Sources.{is_among, all_among}
-use Rattle.sql_check.proofs.Lists.{and-true, append-map, all_among-append}
+use Rattle.ldv_value.proofs.Booleans.{and-true}
+use Rattle.sql_check.proofs.Lists.{append-map, all_among-append}
 
 -- ---- kinds
 

@@ -1,5 +1,6 @@
--- How a check answers what the definition of a check gives.
-use Rattle.std.specs.Prelude.{◌≡◌, Result, Ok, Err}
+-- How a check that may run out of memory gives what the definition of a check gives.
+use Rattle.std.specs.Prelude.{◌≡◌, Result, Err}
+use Rattle.ldv_value.specs.Gives.{GivesOr}
 use Rattle.sql_check.specs.declared.stop.CheckStop.{CheckStop}
 use Rattle.sql_check.specs.declared.stop.CheckStop.TheVariants.{NoTable, NoColumn, TypeClash, NoMemory}
 use Rattle.sql_model.specs.declared.catalog.Checked.{Checked}
@@ -12,8 +13,6 @@ Stops NoColumn due = due ≡ Err NoColumnRefusal
 Stops TypeClash due = due ≡ Err TypeClashRefusal
 Stops NoMemory due = Unit {0}
 
--- the answer is the checked statement that is due, or the refusal that is due; want of memory may come
--- in the place of either
+-- the result is the checked statement that is due, or the refusal that is due, or out of memory
 abbrev pub Gives : Result Checked CheckStop → Result Checked SqlRefusal → Type 0
-Gives (Ok checked) due = due ≡ Ok checked
-Gives (Err stop) due = Stops stop due
+Gives = GivesOr Stops

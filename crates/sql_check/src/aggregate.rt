@@ -6,7 +6,7 @@ ghost use Rattle.sql_model.specs.Refusals.{counts};
 
 use sql_model::{Expr, Fold};
 
-/// Whether an aggregate stands in an expression.
+/// Whether an expression has an aggregate.
 #[tactic(auto, using(crate::proofs::Walks::aggregate_forms))]
 pub(crate) fn has_aggregate(expr: &Expr) -> bool
     ensures { result ≡ has_aggregate expr.now }

@@ -3,30 +3,30 @@
 ghost use Rattle.sql_model.specs.Places.{checked_of};
 ghost use Rattle.sql_check.specs.Gives.{Gives};
 
-use crate::clash::clashes;
-use crate::columns::lacks_column;
+use crate::clash::has_type_clash;
+use crate::columns::has_unknown_column;
 use crate::places::places_of;
 use crate::stop::CheckStop;
-use crate::tables::lacks_table;
+use crate::tables::has_unknown_table;
 use ldv_value::CopyItem;
 use sql_model::{Catalog, Checked, Statement};
 use std::alloc::Global;
 
 /// A copy of a statement with the places of its columns, where the catalog has what the statement names
-/// and its kinds fit. The names of the catalog rise, each with its schema. The refusals are tried in the
+/// and its kinds fit. The names of the catalog are sorted, each with its schema. The refusals are tried in the
 /// order of `CheckStop`, each over the whole statement: `NoTable`, `NoColumn` and `TypeClash` come exactly
-/// where `specs/Refusals.antt` of `sql_model` has them, as `docs/SQL.md` says in words. `NoMemory` means
-/// want of memory alone, as which a joined row of 2^32 columns and more counts too.
+/// where `specs/Refusals.antt` of `sql_model` has them, as `docs/SQL.md` says in words. `NoMemory`: out of
+/// memory, or a joined row of 2^32 or more columns, whose places aren't `u32`.
 pub fn check(alloc: Global, statement: &Statement, catalog: &Catalog) -> Result<Checked, CheckStop>
     ensures { Gives result (checked_of statement.now catalog.now) }
 {
-    if lacks_table(statement, catalog) {
+    if has_unknown_table(alloc, statement, catalog)? {
         return Err(CheckStop::NoTable);
     }
-    if lacks_column(alloc, statement, catalog)? {
+    if has_unknown_column(alloc, statement, catalog)? {
         return Err(CheckStop::NoColumn);
     }
-    if clashes(alloc, statement, catalog)? {
+    if has_type_clash(alloc, statement, catalog)? {
         return Err(CheckStop::TypeClash);
     }
     Ok(Checked {

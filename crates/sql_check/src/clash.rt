@@ -1,13 +1,13 @@
 //! Kinds and counts that don't fit.
 
-ghost use Rattle.std.specs.Prelude.{◌≡◌, IfOk, Some, option_to_list};
+ghost use Rattle.std.specs.Prelude.{◌≡◌, ◌&&◌, IfOk, Some, option_to_list};
 ghost use Rattle.std.specs.List.{list_all, list_any};
 ghost use Rattle.ldv_value.specs.declared.value.Value.TheVariants.{Int};
 ghost use Rattle.sql_model.specs.Kinds.{is_condition};
 ghost use Rattle.sql_model.specs.Refusals.{is_pick, is_having, counts, counts_joined, conditions_fit, is_limit, query_clashes, takes, set_fits, pick_fits, update_clashes, clashes};
 
 use crate::aggregate::counts;
-use crate::double::doubles_set;
+use crate::duplicate::has_duplicate_column;
 use crate::kinds::{comparable, group_kind, is_logical, kind_of_column, row_kind};
 use crate::part::items_of;
 use crate::scope::{Entry, column_at, columns_of, own_scope};
@@ -17,8 +17,8 @@ use ldv_value::Value;
 use sql_model::{Catalog, Column, Core, Expr, Item, Kind, Query, Set, Statement, Update};
 use std::alloc::{AllocError, Global};
 
-/// Whether kinds or counts don't fit. `AllocError` means want of memory alone.
-pub(crate) fn clashes(
+/// Whether kinds or counts don't fit.
+pub(crate) fn has_type_clash(
     alloc: Global,
     statement: &Statement,
     catalog: &Catalog,
@@ -33,7 +33,7 @@ pub(crate) fn clashes(
         Statement::Update(update) => {
             let scope = own_scope(alloc, &update.table, catalog)?;
             let columns = columns_of(catalog, &update.table);
-            Ok(update_clashes(update, columns, &scope))
+            update_clashes(alloc, update, columns, &scope)
         }
         Statement::Delete(delete) => {
             let scope = own_scope(alloc, &delete.table, catalog)?;
@@ -146,11 +146,25 @@ pub(crate) fn takes(column: &Column, kind: Option<Kind>) -> bool
     }
 }
 
-fn update_clashes(update: &Update, columns: &[Column], scope: &[Entry]) -> bool
-    ensures { result ≡ update_clashes update.now columns.now scope.now }
+fn update_clashes(
+    alloc: Global,
+    update: &Update,
+    columns: &[Column],
+    scope: &[Entry],
+) -> Result<bool, AllocError>
+    ensures { IfOk result (λ clash. clash ≡ update_clashes update.now columns.now scope.now) }
 {
-    doubles_set(update.sets.items())
-        || !(sets_fit(columns, scope, update.sets.items()) && pick_fits(scope, &update.pick))
+    if has_duplicate_column(alloc, update.sets.items())? {
+        return Ok(true);
+    }
+    Ok(!update_fits(update, columns, scope))
+}
+
+fn update_fits(update: &Update, columns: &[Column], scope: &[Entry]) -> bool
+    ensures { result ≡ (list_all (set_fits columns.now scope.now) update.now.sets
+        && pick_fits scope.now update.now.pick) }
+{
+    sets_fit(columns, scope, update.sets.items()) && pick_fits(scope, &update.pick)
 }
 
 fn sets_fit(columns: &[Column], scope: &[Entry], sets: &[Set]) -> bool

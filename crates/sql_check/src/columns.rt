@@ -1,4 +1,4 @@
-//! Columns that aren't there, or that aren't one alone, and columns that aren't grouped by.
+//! Columns that aren't there or are ambiguous, and columns that aren't grouped by.
 
 ghost use Rattle.std.specs.Prelude.{◌≡◌, ◌||◌, ◌&&◌, ◌++◌, IfOk, not};
 ghost use Rattle.std.specs.List.{list_all, list_any, range_with_len};
@@ -7,9 +7,9 @@ ghost use Rattle.sql_model.specs.Refusals.{groups, item_places, having_places, l
 ghost use Rattle.sql_model.specs.Scope.{has_column, resolves, places_in};
 ghost use Rattle.sql_check.specs.Sources.{is_among, all_among};
 
+use crate::output_column::{OutputColumn, answer_titles, is_order_key};
 use crate::part::{core_resolves, exprs_resolve, groups, names_of, optional_resolves};
 use crate::scope::{Entry, columns_of, has_column, own_scope, place_of, scope_of};
-use crate::title::{Title, answer_titles, is_order_key};
 use crate::walk::{all_among, all_resolve, is_among};
 use ldv_value::Utf8;
 use sql_model::{
@@ -18,9 +18,9 @@ use sql_model::{
 };
 use std::alloc::{AllocError, Global};
 
-/// Whether a column isn't there or isn't one alone, or isn't in GROUP BY where it must be, or a key of
-/// ORDER BY is no answer column. `AllocError` means want of memory alone.
-pub(crate) fn lacks_column(
+/// Whether a column isn't there or is ambiguous, or isn't in GROUP BY where it must be, or a key of
+/// ORDER BY is no output column.
+pub(crate) fn has_unknown_column(
     alloc: Global,
     statement: &Statement,
     catalog: &Catalog,
@@ -99,7 +99,9 @@ fn name_places(
 // Whether a core groups, and a column outside its aggregates isn't grouped by.
 #[tactic(auto, using(crate::proofs::Parts::all_both_places))]
 fn ungrouped(scope: &[Entry], core: &Core, grouped: &[usize]) -> bool
-    ensures { result ≡ (groups core.now && not (list_all (is_among grouped.now) (item_places scope.now core.now.items ++ having_places scope.now core.now.having))) }
+    ensures { result
+        ≡ (groups core.now && not (list_all (is_among grouped.now) (item_places scope.now core.now.items
+        ++ having_places scope.now core.now.having))) }
 {
     groups(core)
         && !(items_grouped(scope, grouped, &core.items)
@@ -141,7 +143,7 @@ fn having_grouped(scope: &[Entry], grouped: &[usize], having: &Option<Expr>) -> 
     }
 }
 
-fn are_order_keys(titles: &[Title], order: &[Order]) -> bool
+fn are_order_keys(titles: &[OutputColumn], order: &[Order]) -> bool
     ensures { result ≡ list_all (λ part. is_order_key titles.now part.key) order.now }
 {
     order.iter().all(|part| is_order_key(titles, &part.key))
@@ -161,7 +163,8 @@ fn are_columns(columns: &[Column], names: &[Utf8]) -> bool
 }
 
 fn rows_resolve(scope: &[Entry], rows: &[Exprs]) -> bool
-    ensures { result ≡ list_all (λ row. list_all (λ expr. list_all (resolves scope.now) (names_in expr)) row) rows.now }
+    ensures { result
+        ≡ list_all (λ row. list_all (λ expr. list_all (resolves scope.now) (names_in expr)) row) rows.now }
 {
     rows.iter().all(|row| exprs_resolve(scope, row.items()))
 }

@@ -9,7 +9,7 @@ use crate::scope::Entry;
 use ldv_value::Value;
 use sql_model::{Column, ColumnName, Expr, Fold, Kind, Operator};
 
-/// The kind of an expression over a row, where no aggregate stands; `None` where kinds clash in it.
+/// The kind of an expression over a row, without aggregates; `None` where kinds clash in it.
 pub(crate) fn row_kind(scope: &[Entry], expr: &Expr) -> Option<Kind>
     ensures { result ≡ row_kind scope.now expr.now }
 {
@@ -63,7 +63,8 @@ pub(crate) fn kind_of_column(column: &Column) -> Kind
 }
 
 fn kind_of_name(scope: &[Entry], name: &ColumnName) -> Option<Kind>
-    ensures { result ≡ option_map (λ entry. kind_of_column entry.column) (find (is_meant name.now) scope.now) }
+    ensures { result
+        ≡ option_map (λ entry. kind_of_column entry.column) (find (is_meant name.now) scope.now) }
 {
     match scope.iter().find(|entry| entry.is_meant(name)) {
         None => None,
@@ -123,7 +124,7 @@ fn is_textual(kind: Kind) -> bool
     }
 }
 
-// Of what unary minus stands before.
+// The kind of `-x`, from the kind of `x`.
 fn negated(inner: Option<Kind>) -> Option<Kind>
     ensures { result ≡ option_and_then (λ k. kind_if (is_number k) IntKind) inner }
 {
@@ -133,7 +134,7 @@ fn negated(inner: Option<Kind>) -> Option<Kind>
     }
 }
 
-// Of what NOT stands before.
+// The kind of `NOT x`, from the kind of `x`.
 fn inverted(inner: Option<Kind>) -> Option<Kind>
     ensures { result ≡ option_and_then (λ k. kind_if (is_logical k) TruthKind) inner }
 {
@@ -143,7 +144,7 @@ fn inverted(inner: Option<Kind>) -> Option<Kind>
     }
 }
 
-// Of what IS NULL stands behind.
+// The kind of `x IS NULL`, from the kind of `x`.
 fn tested(inner: Option<Kind>) -> Option<Kind>
     ensures { result ≡ option_and_then (λ k. kind_if (not (is_logical k)) TruthKind) inner }
 {
@@ -153,7 +154,7 @@ fn tested(inner: Option<Kind>) -> Option<Kind>
     }
 }
 
-// Of two operands and the operator between them.
+// The kind of two operands with the operator between them.
 fn joined(operator: Operator, left: Option<Kind>, right: Option<Kind>) -> Option<Kind>
     ensures { result ≡ option_and_then (λ k. option_and_then (kind_both operator k) right) left }
 {
@@ -179,7 +180,7 @@ fn kind_both(operator: Operator, left: Kind, right: Kind) -> Option<Kind>
     }
 }
 
-// Of an aggregate without an argument, which stands over groups alone.
+// The kind of an aggregate without an argument, which is over groups only.
 fn counted(fold: Fold, over_groups: bool) -> Option<Kind>
     ensures { result ≡ (if over_groups then counted_kind fold else None) }
 {
@@ -191,7 +192,7 @@ fn counted(fold: Fold, over_groups: bool) -> Option<Kind>
     }
 }
 
-// Of an aggregate over its argument, which stands over groups alone.
+// The kind of an aggregate over its argument, which is over groups only.
 fn folded(fold: Fold, inner: Option<Kind>, over_groups: bool) -> Option<Kind>
     ensures { result ≡ (if over_groups then option_and_then (folded_kind fold) inner else None) }
 {

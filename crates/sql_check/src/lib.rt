@@ -1,27 +1,27 @@
 //! The check of SQL statements against schemas.
 //!
-//! It promises to the layers above that `check` answers what `checked_of` of `sql_model` gives for the
+//! It promises to the layers above that `check` returns what `checked_of` of `sql_model` gives for the
 //! statement and the catalog (its `specs/Places.antt`, over `Refusals`, `Kinds` and `Scope`): the statement
 //! with the places of its columns, or the first of the three refusals that applies, exactly where it gives
-//! that. Want of memory alone is free (`specs/Gives.antt`).
+//! that. Only out of memory is free (`specs/Gives.antt`).
 //!
 //! The way of a statement: `tables` looks for tables that aren't there, `columns` for columns that aren't
 //! there or aren't grouped by, `clash` for kinds and counts that don't fit, over all of it before the next
-//! begins. Then `places` lists where its columns stand. `scope` says what a name can mean.
+//! begins. Then `places` lists the places of its columns. `scope` says what a name can mean.
 #![tactic(auto)]
 
 mod aggregate;
 mod checking;
 mod clash;
 mod columns;
-mod double;
+mod duplicate;
 mod kinds;
+mod output_column;
 mod part;
 mod places;
 mod scope;
 mod stop;
 mod tables;
-mod title;
 mod union;
 mod values;
 mod walk;

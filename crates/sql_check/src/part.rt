@@ -45,7 +45,7 @@ fn items_aggregate(items: &[Item]) -> bool
     items.iter().any(|item| has_aggregate(&item.expr))
 }
 
-/// Whether each column name of a core means one column alone.
+/// Whether each column name of a core means exactly one column.
 #[tactic(auto, using(crate::proofs::Parts::all_core_names))]
 pub(crate) fn core_resolves(scope: &[Entry], core: &Core) -> bool
     ensures { result ≡ list_all (resolves scope.now) (core_names core.now) }
@@ -61,7 +61,7 @@ fn items_resolve(scope: &[Entry], items: &[Item]) -> bool
     items.iter().all(|item| all_resolve(scope, &item.expr))
 }
 
-/// Whether each column name of some expressions means one column alone.
+/// Whether each column name of some expressions means exactly one column.
 pub(crate) fn exprs_resolve(scope: &[Entry], exprs: &[Expr]) -> bool
     ensures { result ≡ list_all (λ expr. list_all (resolves scope.now) (names_in expr)) exprs.now }
 {
@@ -74,7 +74,7 @@ fn names_resolve(scope: &[Entry], names: &[ColumnName]) -> bool
     names.iter().all(|name| resolves(scope, name))
 }
 
-/// Whether each column name of an expression that may be missing means one column alone.
+/// Whether each column name of an expression that may be missing means exactly one column.
 #[tactic(auto, using(crate::proofs::Parts::all_optional))]
 pub(crate) fn optional_resolves(scope: &[Entry], expr: &Option<Expr>) -> bool
     ensures { result ≡ list_all (resolves scope.now) (flat_map names_in (option_to_list expr.now)) }

@@ -7,9 +7,9 @@ ghost use Rattle.sql_model.specs.Places.{core_places, order_places, query_places
 ghost use Rattle.sql_model.specs.Refusals.{update_names, delete_names, names_of_items};
 ghost use Rattle.sql_model.specs.Scope.{places_in};
 
+use crate::output_column::{OutputColumn, answer_titles, key_place};
 use crate::part::items_of;
 use crate::scope::{Entry, own_scope, place_of, scope_of};
-use crate::title::{Title, answer_titles, key_place};
 use crate::walk::{number, push_places};
 use ldv_value::{List, PlaceLists, Places};
 use sql_model::{
@@ -17,7 +17,7 @@ use sql_model::{
 };
 use std::alloc::{AllocError, Global};
 
-/// The lists of places that a checked statement has. `AllocError` means want of memory alone.
+/// The lists of places that a checked statement has.
 pub(crate) fn places_of(
     alloc: Global,
     statement: &Statement,
@@ -107,7 +107,8 @@ fn push_item_places(
     scope: &[Entry],
     items: &[Item],
 ) -> Result<(), AllocError>
-    ensures { OnOk result (places.new.items ≡ places.old.items ++ places_in scope.now (names_of_items items.now)) }
+    ensures { OnOk result (places.new.items ≡ places.old.items
+        ++ places_in scope.now (names_of_items items.now)) }
 {
     for item in items {
         push_places(places, scope, &item.expr)?;
@@ -116,7 +117,8 @@ fn push_item_places(
 }
 
 fn push_set_places(places: &mut Vec<u32>, scope: &[Entry], sets: &[Set]) -> Result<(), AllocError>
-    ensures { OnOk result (places.new.items ≡ places.old.items ++ places_in scope.now (flat_map (λ set. names_in set.expr) sets.now)) }
+    ensures { OnOk result (places.new.items ≡ places.old.items
+        ++ places_in scope.now (flat_map (λ set. names_in set.expr) sets.now)) }
 {
     for set in sets {
         push_places(places, scope, &set.expr)?;
@@ -129,7 +131,8 @@ fn push_expr_places(
     scope: &[Entry],
     exprs: &[Expr],
 ) -> Result<(), AllocError>
-    ensures { OnOk result (places.new.items ≡ places.old.items ++ places_in scope.now (flat_map names_in exprs.now)) }
+    ensures { OnOk result (places.new.items ≡ places.old.items
+        ++ places_in scope.now (flat_map names_in exprs.now)) }
 {
     for expr in exprs {
         push_places(places, scope, expr)?;
@@ -156,7 +159,8 @@ fn push_optional_places(
     scope: &[Entry],
     expr: &Option<Expr>,
 ) -> Result<(), AllocError>
-    ensures { OnOk result (places.new.items ≡ places.old.items ++ places_in scope.now (flat_map names_in (option_to_list expr.now))) }
+    ensures { OnOk result (places.new.items ≡ places.old.items
+        ++ places_in scope.now (flat_map names_in (option_to_list expr.now))) }
 {
     match expr {
         None => Ok(()),
@@ -164,7 +168,11 @@ fn push_optional_places(
     }
 }
 
-fn order_places(alloc: Global, titles: &[Title], order: &[Order]) -> Result<Places, AllocError>
+fn order_places(
+    alloc: Global,
+    titles: &[OutputColumn],
+    order: &[Order],
+) -> Result<Places, AllocError>
     ensures { IfOk result (λ places. places ≡ order_places titles.now order.now) }
 {
     let mut places = Vec::with_capacity(alloc, order.len())?;

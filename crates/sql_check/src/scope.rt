@@ -133,7 +133,7 @@ fn push_entries<'a>(
     Ok(())
 }
 
-/// Whether a name means one column alone.
+/// Whether a name means exactly one column.
 pub(crate) fn resolves(scope: &[Entry], name: &ColumnName) -> bool
     ensures { result ≡ resolves scope.now name.now }
 {

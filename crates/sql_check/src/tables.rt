@@ -1,41 +1,52 @@
 //! Tables that aren't there, and sources of one name.
 
-ghost use Rattle.std.specs.Prelude.{◌≡◌, ◌||◌};
+ghost use Rattle.std.specs.Prelude.{◌≡◌, ◌||◌, IfOk};
 ghost use Rattle.std.specs.List.{flat_map, list_any};
 ghost use Rattle.sql_model.specs.Refusals.{tables_of_core, is_missing, doubles_source, lacks_table};
 
-use crate::double::doubles_source;
+use crate::duplicate::has_duplicate_source;
 use crate::scope::schema_at;
 use ldv_value::Utf8;
 use sql_model::{Catalog, Core, Statement};
+use std::alloc::{AllocError, Global};
 
 /// Whether a table isn't there, or two sources of one core have one name.
 #[tactic(auto, using(crate::proofs::Mapped::last_test))]
-pub(crate) fn lacks_table(statement: &Statement, catalog: &Catalog) -> bool
-    ensures { result ≡ lacks_table statement.now catalog.now }
+pub(crate) fn has_unknown_table(
+    alloc: Global,
+    statement: &Statement,
+    catalog: &Catalog,
+) -> Result<bool, AllocError>
+    ensures { IfOk result (λ lacks. lacks ≡ lacks_table statement.now catalog.now) }
 {
     match statement {
-        Statement::Query(query) => cores_lack_table(query.cores.items(), catalog),
-        Statement::Insert(insert) => is_missing(catalog, &insert.table),
-        Statement::Update(update) => is_missing(catalog, &update.table),
-        Statement::Delete(delete) => is_missing(catalog, &delete.table),
+        Statement::Query(query) => cores_lack_table(alloc, query.cores.items(), catalog),
+        Statement::Insert(insert) => Ok(is_missing(catalog, &insert.table)),
+        Statement::Update(update) => Ok(is_missing(catalog, &update.table)),
+        Statement::Delete(delete) => Ok(is_missing(catalog, &delete.table)),
     }
 }
 
 #[tactic(auto, using(crate::proofs::Parts::missing_cores))]
-fn cores_lack_table(cores: &[Core], catalog: &Catalog) -> bool
-    ensures { result ≡ (list_any (is_missing catalog.now) (flat_map tables_of_core cores.now) || list_any doubles_source cores.now) }
+fn cores_lack_table(alloc: Global, cores: &[Core], catalog: &Catalog) -> Result<bool, AllocError>
+    ensures { IfOk result (λ lacks. lacks
+        ≡ (list_any (is_missing catalog.now) (flat_map tables_of_core cores.now)
+        || list_any doubles_source cores.now)) }
 {
-    cores_miss(cores, catalog) || cores_double(cores)
+    if have_unknown_table(cores, catalog) {
+        return Ok(true);
+    }
+    have_duplicate_source(alloc, cores)
 }
 
-fn cores_miss(cores: &[Core], catalog: &Catalog) -> bool
-    ensures { result ≡ list_any (λ core. list_any (λ item. is_missing catalog.now item.table) core.from) cores.now }
+fn have_unknown_table(cores: &[Core], catalog: &Catalog) -> bool
+    ensures { result
+        ≡ list_any (λ core. list_any (λ item. is_missing catalog.now item.table) core.from) cores.now }
 {
-    cores.iter().any(|core| core_misses(core, catalog))
+    cores.iter().any(|core| names_unknown_table(core, catalog))
 }
 
-fn core_misses(core: &Core, catalog: &Catalog) -> bool
+fn names_unknown_table(core: &Core, catalog: &Catalog) -> bool
     ensures { result ≡ list_any (λ item. is_missing catalog.now item.table) core.now.from }
 {
     core.from
@@ -53,8 +64,13 @@ fn is_missing(catalog: &Catalog, name: &Utf8) -> bool
     }
 }
 
-fn cores_double(cores: &[Core]) -> bool
-    ensures { result ≡ list_any doubles_source cores.now }
+fn have_duplicate_source(alloc: Global, cores: &[Core]) -> Result<bool, AllocError>
+    ensures { IfOk result (λ twice. twice ≡ list_any doubles_source cores.now) }
 {
-    cores.iter().any(|core| doubles_source(core.from.items()))
+    for core in cores {
+        if has_duplicate_source(alloc, core.from.items())? {
+            return Ok(true);
+        }
+    }
+    Ok(false)
 }

@@ -12,7 +12,7 @@ use ldv_value::List;
 use sql_model::{Catalog, Core, Item, Items, Kind};
 use std::alloc::{AllocError, Global};
 
-/// Kinds of answer columns.
+/// Kinds of output columns.
 pub(crate) type Kinds = List<Kind>;
 
 /// The kinds of a query's columns, its cores taken from the left; `None` where it clashes.
@@ -54,7 +54,8 @@ fn with_core(
     kinds: Option<Kinds>,
     core: &Core,
 ) -> Result<Option<Kinds>, AllocError>
-    ensures { IfOk result (λ united. united ≡ option_and_then (λ ks. option_and_then (union_kinds ks) (core_kinds catalog.now core.now)) kinds) }
+    ensures { IfOk result (λ united. united
+        ≡ option_and_then (λ ks. option_and_then (union_kinds ks) (core_kinds catalog.now core.now)) kinds) }
 {
     let Some(kinds) = kinds else {
         return Ok(None);
@@ -123,7 +124,7 @@ fn kinds_of_items(
     Ok(Some(List::of_vec(kinds)))
 }
 
-// Of a value that is answered.
+// The kind of an output column.
 fn kind_of_item(kind: Option<Kind>) -> Option<Kind>
     ensures { result ≡ kind_of_item kind }
 {
@@ -133,7 +134,7 @@ fn kind_of_item(kind: Option<Kind>) -> Option<Kind>
     }
 }
 
-// Column by column, of as many.
+// Kinds combined column by column; `None` where the counts differ.
 #[tactic(auto, using(crate::proofs::Unions::union_rules))]
 fn union_kinds(alloc: Global, left: &Kinds, right: &Kinds) -> Result<Option<Kinds>, AllocError>
     ensures { IfOk result (λ kinds. kinds ≡ union_kinds left.now right.now) }

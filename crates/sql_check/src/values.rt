@@ -6,7 +6,7 @@ ghost use Rattle.sql_model.specs.Refusals.{takes_value, row_fits, columns_named,
 ghost use Rattle.sql_model.specs.Scope.{is_column};
 
 use crate::clash::takes;
-use crate::double::doubles_name;
+use crate::duplicate::has_duplicate_name;
 use crate::kinds::row_kind;
 use crate::part::names_of;
 use crate::scope::column_at;
@@ -39,7 +39,7 @@ impl<'a> Target<'a> {
 }
 
 /// Whether an INSERT names a column twice, or has a row of more or fewer values than columns, or a value
-/// of another kind than its column. `AllocError` means want of memory alone.
+/// of another kind than its column.
 pub(crate) fn insert_clashes(
     alloc: Global,
     insert: &Insert,
@@ -47,7 +47,7 @@ pub(crate) fn insert_clashes(
 ) -> Result<bool, AllocError>
     ensures { IfOk result (λ clash. clash ≡ insert_clashes insert.now columns.now) }
 {
-    if doubles_name(names_of(&insert.columns)) {
+    if has_duplicate_name(alloc, names_of(&insert.columns))? {
         return Ok(true);
     }
     let targets = target_columns(alloc, &insert.columns, columns)?;
@@ -97,7 +97,8 @@ fn push_named<'a>(
     columns: &'a [Column],
     name: &Utf8,
 ) -> Result<(), AllocError>
-    ensures { OnOk result (targets.new.items ≡ targets.old.items ++ option_to_list (find (is_column name.now) columns.now)) }
+    ensures { OnOk result (targets.new.items ≡ targets.old.items
+        ++ option_to_list (find (is_column name.now) columns.now)) }
 {
     match column_at(columns, name) {
         None => Ok(()),
@@ -114,7 +115,7 @@ fn rows_fit(targets: &[Target], rows: &[Exprs]) -> bool
     rows.iter().all(|row| row_fits(targets, row.items()))
 }
 
-// Whether there are as many values as columns, each of the column's kind.
+// Whether there is one value for each column, of the column's kind.
 fn row_fits(targets: &[Target], exprs: &[Expr]) -> bool
     ensures { result ≡ row_fits targets.now exprs.now }
 {

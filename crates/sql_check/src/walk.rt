@@ -10,7 +10,7 @@ use crate::scope::{Entry, place_of, resolves};
 use sql_model::Expr;
 use std::alloc::AllocError;
 
-/// Whether each column name of an expression means one column alone.
+/// Whether each column name of an expression means exactly one column.
 #[tactic(auto, using(crate::proofs::Walks::all_forms))]
 pub(crate) fn all_resolve(scope: &[Entry], expr: &Expr) -> bool
     ensures { result ≡ list_all (resolves scope.now) (names_in expr.now) }
@@ -29,7 +29,7 @@ pub(crate) fn all_resolve(scope: &[Entry], expr: &Expr) -> bool
     }
 }
 
-/// Whether each column name of an expression that stands outside its aggregates means a column at one of
+/// Whether each column name of an expression outside its aggregates means a column at one of
 /// some places.
 #[tactic(auto, using(crate::proofs::Walks::among_forms))]
 pub(crate) fn all_among(scope: &[Entry], places: &[usize], expr: &Expr) -> bool
@@ -83,8 +83,8 @@ pub(crate) fn push_places(
     }
 }
 
-/// A place as the number that a list of places holds. A row of 2^32 columns and more doesn't fit into
-/// memory, and is answered as want of it.
+/// A place as the number that a list of places holds. A place of 2^32 and
+/// more isn't a `u32`, and counts as out of memory.
 pub(crate) fn number(place: u64) -> Result<u32, AllocError>
     ensures { IfOk result (λ n. n ≡ place) }
 {

@@ -1,41 +1,16 @@
 -- Over a database without tables that aren't asked, each table that is asked is found as it was, and so
 -- is all that its schema tells.
 use Rattle.std.proofs.Common.{◌≡◌, ℕ, List, [], ◌∷◌, ◌++◌, refl, sym, ap, ◌∙◌, Bool, true, false, inl, inr}
-use Rattle.std.specs.Prelude.{Option, Some, None, option_map, option_and_then, is_none, map, filter, find, zip, not, ◌||◌, if◌then◌else◌}
+use Rattle.std.specs.Prelude.{Option, Some, None, option_map, option_and_then, is_none, map, filter, not, ◌||◌, if◌then◌else◌}
 use Rattle.std.specs.List.{flat_map, list_any, list_all}
-use Rattle.std.proofs.lemmas.Bool.{cases_Bool}
-use Rattle.sql_model.specs.declared.kind.Kind.{Kind}
-use Rattle.sql_model.specs.declared.reply.SqlRefusal.{SqlRefusal}
-use Rattle.sql_model.specs.declared.reply.SqlRefusal.TheVariants.{NoTable, NoColumn, TypeClash}
-use Rattle.sql_model.specs.declared.statement.Core.{Core}
-use Rattle.sql_model.specs.declared.statement.FromItem.{FromItem}
-use Rattle.sql_model.specs.declared.statement.Order.{Order}
-use Rattle.sql_model.specs.declared.statement.Statement.{Statement}
-use Rattle.sql_model.specs.declared.statement.Statement.TheVariants.{Query as TheQuery, Insert as TheInsert, Update as TheUpdate, Delete as TheDelete}
-use Rattle.sql_model.specs.declared.table.Column.{Column}
-use Rattle.sql_model.specs.declared.table.Schema.{Schema}
-use Rattle.sql_model.specs.declared.table.Table.{Table}
+use Rattle.ldv_value.proofs.Booleans.{or-right}
+use Rattle.ldv_value.proofs.Cases.{cases-bool}
+use Rattle.sql_laws.specs.Types.{Kind, SqlRefusal, NoTable, NoColumn, TypeClash, Core, FromItem, Order, Statement, TheQuery, TheInsert, TheUpdate, TheDelete, Column, Table}
+use Rattle.sql_model.proofs.Equations.{table_schema, schema_found}
 use Rattle.sql_model.specs.Needs.{table_name, asked_tables}
 use Rattle.sql_model.specs.Refusals.{tables_of_core, tables_of, is_missing, doubles_source, lacks_in_scope, item_titles, answer_titles, is_order_key, kinds_in_scope, core_kinds, union_kinds, kinds_after, query_kinds, is_limit, check_refusal, insert_lacks_column, update_lacks_column, unresolved, delete_names, insert_clashes, update_clashes, pick_fits}
-use Rattle.sql_model.specs.Scope.{InScope, is_table, table_at, catalog_of, is_schema, schema_in, schema_at, columns_of, scope_of, own_scope}
+use Rattle.sql_model.specs.Scope.{InScope, is_table, table_at, catalog_of, schema_at, columns_of, scope_of, own_scope}
 use Rattle.sql_laws.specs.StatementLaw.{KeepTables, table_stays, KeepsAsked}
-use Rattle.sql_laws.proofs.EitherTest.{or_second}
-
-abbrev table_schema : Table → Schema
-table_schema table = table.schema
-
--- the schema of a name is that of the table of the name
-module _ (t : Table) (o : Option (List ℕ × Schema)) (p : Option Table) where
-  one_more : (b : Bool) → option_map schema_in o ≡ option_map table_schema p
-      → option_map schema_in (if b then Some (t.name, t.schema) else o)
-      ≡ option_map table_schema (if b then Some t else p)
-  one_more true same = refl
-  one_more false same = same
-
-schema_found : (name : List ℕ) (db : List Table)
-    → schema_at name (catalog_of db) ≡ option_map table_schema (table_at name db)
-schema_found name [] = refl
-schema_found name (t ∷ ts) = one_more t (find (is_schema name) (zip (map (λ table. table.name) ts) (map (λ table. table.schema) ts))) (table_at name ts) (is_table name t) (schema_found name ts)
 
 module _ (tables : KeepTables) where
   abbrev pub fewer : List Table → List Table
@@ -48,14 +23,14 @@ module _ (tables : KeepTables) where
       → (db : List Table) → KeepsAsked tables (map table_name (filter asks db))
       → table_at name (fewer db) ≡ table_at name db
   found_same name asks named [] k = refl
-  found_same name asks named (t ∷ ts) k = elim (cases_Bool (is_table name t)) [
+  found_same name asks named (t ∷ ts) k = elim (cases-bool (is_table name t)) [
     | inl hit ↦
         let asked : asks t ≡ true = named t hit in
         let kk : KeepsAsked tables (t.name ∷ map table_name (filter asks ts)) = rw asked at k in
         rw (kk.0, hit) refl
-    | inr miss ↦ elim (cases_Bool (asks t)) [
+    | inr miss ↦ elim (cases-bool (asks t)) [
       | inl asked ↦ let kk : KeepsAsked tables (t.name ∷ map table_name (filter asks ts)) = rw asked at k in rw (kk.0, miss) (found_same name asks named ts kk.1)
-      | inr unasked ↦ let kk : KeepsAsked tables (map table_name (filter asks ts)) = rw unasked at k in elim (cases_Bool (tables t.name)) [
+      | inr unasked ↦ let kk : KeepsAsked tables (map table_name (filter asks ts)) = rw unasked at k in elim (cases-bool (tables t.name)) [
         | inl stays ↦ rw (stays, miss) (found_same name asks named ts kk)
         | inr goes ↦ rw (goes, miss) (found_same name asks named ts kk)
       ]
@@ -77,7 +52,7 @@ module _ (tables : KeepTables) where
   agree_part all db k [] among = tt
   agree_part all db k (name ∷ names) among = (
     found_same name (names_it all) (λ t hit. among t (rw hit refl)) db k,
-    agree_part all db k names (λ t more. among t (or_second (is_table name t) (names_it names t) more)),
+    agree_part all db k names (λ t more. among t (or-right (is_table name t) (names_it names t) more)),
   )
 
   pub agree_all : (statement : Statement) (db : List Table)
@@ -95,11 +70,11 @@ module _ (tables : KeepTables) where
       → KeepsAsked tables (map table_name (filter asks db))
       → map table_name (filter asks (fewer db)) ≡ map table_name (filter asks db)
   asked_same asks [] k = refl
-  asked_same asks (t ∷ ts) k = elim (cases_Bool (asks t)) [
+  asked_same asks (t ∷ ts) k = elim (cases-bool (asks t)) [
     | inl asked ↦
         let kk : KeepsAsked tables (t.name ∷ map table_name (filter asks ts)) = rw asked at k in
         rw (kk.0, asked) (ap (λ (l : List (List ℕ)). t.name ∷ l) (asked_same asks ts kk.1))
-    | inr unasked ↦ let kk : KeepsAsked tables (map table_name (filter asks ts)) = rw unasked at k in elim (cases_Bool (tables t.name)) [
+    | inr unasked ↦ let kk : KeepsAsked tables (map table_name (filter asks ts)) = rw unasked at k in elim (cases-bool (tables t.name)) [
       | inl stays ↦ rw (stays, unasked) (asked_same asks ts kk)
       | inr goes ↦ rw (goes, unasked) (asked_same asks ts kk)
     ]

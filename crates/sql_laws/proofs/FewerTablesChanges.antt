@@ -3,13 +3,8 @@
 use Rattle.std.proofs.Common.{◌≡◌, ℕ, List, [], ◌∷◌, ◌++◌, refl, sym, ap, ◌∙◌, true, false, inl, inr}
 use Rattle.std.specs.Prelude.{Option, Some, None, map, filter, length, if◌then◌else◌}
 use Rattle.std.specs.List.{list_any}
-use Rattle.std.proofs.lemmas.Bool.{cases_Bool}
-use Rattle.sql_model.specs.declared.catalog.Catalog.{Catalog}
-use Rattle.sql_model.specs.declared.reply.SqlRefusal.{SqlRefusal}
-use Rattle.sql_model.specs.declared.reply.SqlRefusal.TheVariants.{Syntax, NoTable, NoColumn, TypeClash, NotNull, KeyTaken, Full}
-use Rattle.sql_model.specs.declared.statement.Statement.{Statement}
-use Rattle.sql_model.specs.declared.statement.Statement.TheVariants.{Query as TheQuery, Insert as TheInsert, Update as TheUpdate, Delete as TheDelete}
-use Rattle.sql_model.specs.declared.table.Table.{Table}
+use Rattle.ldv_value.proofs.Cases.{cases-bool}
+use Rattle.sql_laws.specs.Types.{Catalog, SqlRefusal, Syntax, NoTable, NoColumn, TypeClash, NotNull, KeyTaken, Full, Statement, TheQuery, TheInsert, TheUpdate, TheDelete, Table}
 use Rattle.sql_model.specs.Changes.{matched, matched_in, changed, changed_in, target_of, new_rows, updated_row, after_update, after_delete, has_null, key_clash, key_refusal, is_full, or_else, refusal_if}
 use Rattle.sql_model.specs.Needs.{matched_row, matched_rows, stood, clash_rows, key_row, key_rows}
 use Rattle.sql_model.specs.Refusals.{tables_of, check_refusal}
@@ -135,7 +130,7 @@ module _ (tables : KeepTables) (statement : Statement) (db : List Table) (k : Ag
   change_one name catalog table = if is_table name table then changed statement catalog table else table
 
   one_name : (name : List ℕ) (table : Table) → (change_one name c2 table).name ≡ table.name
-  one_name name table = elim (cases_Bool (is_table name table)) [
+  one_name name table = elim (cases-bool (is_table name table)) [
     | inl hit ↦ rw hit (sym (ap (λ (t : Table). t.name) (same.changes table)) ∙ changed_name table)
     | inr miss ↦ rw miss refl
   ]
@@ -143,7 +138,7 @@ module _ (tables : KeepTables) (statement : Statement) (db : List Table) (k : Ag
   changed_fewer : (name : List ℕ) (ts : List Table)
       → map (change_one name c1) (fewer tables ts) ≡ fewer tables (map (change_one name c2) ts)
   changed_fewer name [] = refl
-  changed_fewer name (t ∷ ts) = elim (cases_Bool (tables t.name)) [
+  changed_fewer name (t ∷ ts) = elim (cases-bool (tables t.name)) [
     | inl stays ↦
         let too : tables (change_one name c2 t).name ≡ true = ap tables (one_name name t) ∙ stays in
         let one : change_one name c1 t ≡ change_one name c2 t = λ j. if is_table name t then same.changes t j else t in

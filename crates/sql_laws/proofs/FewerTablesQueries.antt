@@ -2,16 +2,8 @@
 use Rattle.std.proofs.Common.{◌≡◌, List, [], ◌∷◌, ◌++◌, refl, ◌∙◌}
 use Rattle.std.specs.Prelude.{Option, Some, None, map, filter, if◌then◌else◌}
 use Rattle.std.specs.List.{flat_map}
-use Rattle.sql_model.specs.declared.need.Rule.TheVariants.{L, H}
-use Rattle.sql_model.specs.declared.reply.Reply.TheVariants.{Rows}
-use Rattle.sql_model.specs.declared.reply.SqlRefusal.{SqlRefusal}
-use Rattle.sql_model.specs.declared.reply.SqlRefusal.TheVariants.{Syntax, NoTable, NoColumn, TypeClash, NotNull, KeyTaken, Full}
-use Rattle.sql_model.specs.declared.statement.Core.{Core}
-use Rattle.sql_model.specs.declared.statement.FromItem.{FromItem}
-use Rattle.sql_model.specs.declared.statement.Query.{Query}
-use Rattle.sql_model.specs.declared.statement.Statement.TheVariants.{Query as TheQuery}
-use Rattle.sql_model.specs.declared.table.Table.{Table}
-use Rattle.sql_model.specs.Answers.{AnswerRow, answer_values, lineage_of, combinations, meets_all, row_environment, picked, rows_in_scope, once, core_rows, rejected_in_scope, rejected, united, rows_after, union_rows, sort_key, sort_rows, sorted_rows, limit_of, first_rows, other_rows}
+use Rattle.sql_laws.specs.Types.{L, H, Rows, SqlRefusal, Syntax, NoTable, NoColumn, TypeClash, NotNull, KeyTaken, Full, Core, FromItem, Query, TheQuery, Table}
+use Rattle.sql_model.specs.QueryAnswer.{AnswerRow, answer_values, lineage_of, combinations, meets_all, row_environment, picked, rows_in_scope, once, core_rows, rejected_in_scope, rejected, united, rows_after, union_rows, sort_key, sort_rows, sorted_rows, limit_of, first_rows, other_rows}
 use Rattle.sql_model.specs.Changes.{or_else}
 use Rattle.sql_model.specs.Needs.{needed_by, sums_up}
 use Rattle.sql_model.specs.Refusals.{tables_of_core}

@@ -2,19 +2,20 @@
 use Rattle.std.proofs.Common.{◌≡◌, ℕ, List, [], ◌∷◌, ◌++◌, refl, sym, ap, ◌∙◌, Bool, true, append-nil, inl, inr}
 use Rattle.std.specs.Prelude.{Option, Some, None, filter, find, ◌&&◌}
 use Rattle.std.specs.List.{list_all}
-use Rattle.std.proofs.lemmas.Bool.{cases_Bool, and_parts}
 use Rattle.std.proofs.lemmas.List.Elements.{filter-append}
-use Rattle.sql_model.specs.declared.table.TableRow.{TableRow}
+use Rattle.ldv_value.proofs.Booleans.{and-parts}
+use Rattle.ldv_value.proofs.Cases.{cases-bool}
+use Rattle.ldv_value.proofs.Lists.{list_all-append}
+use Rattle.sql_laws.specs.Types.{TableRow}
 use Rattle.sql_model.specs.Changes.{KeyClash, shares_key, clash_or, clash_after, clash_by}
 use Rattle.sql_model.specs.Needs.{clash_rows}
-use Rattle.sql_laws.proofs.QueryKeeps.{all_append}
 
 module _ {X : Type 0} (p : X → Bool) (q : X → Bool) where
   found_none : (xs : List X) → find q xs ≡ None → find q (filter p xs) ≡ None
   found_none [] is = refl
-  found_none (x ∷ xs) is = elim (cases_Bool (q x)) [
+  found_none (x ∷ xs) is = elim (cases-bool (q x)) [
     | inl hit ↦ let e : Some x ≡ None = rw hit at is in cc
-    | inr miss ↦ let more : find q xs ≡ None = rw miss at is in elim (cases_Bool (p x)) [
+    | inr miss ↦ let more : find q xs ≡ None = rw miss at is in elim (cases-bool (p x)) [
       | inl stays ↦ rw (stays, miss) (found_none xs more)
       | inr goes ↦ rw goes (found_none xs more)
     ]
@@ -23,13 +24,13 @@ module _ {X : Type 0} (p : X → Bool) (q : X → Bool) where
   -- what is found first is found first where it stays
   found_kept : (xs : List X) (x : X) → find q xs ≡ Some x → p x ≡ true → find q (filter p xs) ≡ Some x
   found_kept [] x is k = cc
-  found_kept (y ∷ ys) x is k = elim (cases_Bool (q y)) [
+  found_kept (y ∷ ys) x is k = elim (cases-bool (q y)) [
     | inl hit ↦
         let e : Some y ≡ Some x = rw hit at is in
         let same : y ≡ x = cc in
         let stays : p y ≡ true = ap p same ∙ k in
         rw (stays, hit) e
-    | inr miss ↦ let more : find q ys ≡ Some x = rw miss at is in elim (cases_Bool (p y)) [
+    | inr miss ↦ let more : find q ys ≡ Some x = rw miss at is in elim (cases-bool (p y)) [
       | inl stays ↦ rw (stays, miss) (found_kept ys x more k)
       | inr goes ↦ rw goes (found_kept ys x more k)
     ]
@@ -39,8 +40,8 @@ module _ {X : Type 0} (p : X → Bool) (q : X → Bool) where
   found_all : (xs : List X) (x : X) → find q xs ≡ Some x → list_all p xs ≡ true → p x ≡ true
   found_all [] x is all = cc
   found_all (y ∷ ys) x is all =
-      let both = and_parts (p y) (list_all p ys) all in
-      elim (cases_Bool (q y)) [
+      let both = and-parts (p y) (list_all p ys) all in
+      elim (cases-bool (q y)) [
         | inl hit ↦
             let e : Some y ≡ Some x = rw hit at is in
             let same : y ≡ x = cc in
@@ -63,7 +64,7 @@ module _ (p : TableRow → Bool) (key : List ℕ) where
 
     more_kept : clash_after key (filter p (before ++ row ∷ [])) (filter p rows) ≡ next
         → find (shares_key key row) before ≡ None → clash_after key left (filter p (row ∷ rows)) ≡ next
-    more_kept rest none = elim (cases_Bool (p row)) [
+    more_kept rest none = elim (cases-bool (p row)) [
       | inl stays ↦
           let parts : filter p (before ++ row ∷ []) ≡ left ++ row ∷ [] = filter-append p before (row ∷ []) ∙ rw stays refl in
           rw stays (
@@ -80,8 +81,8 @@ module _ (p : TableRow → Bool) (key : List ℕ) where
         → Kept (Some (record { earlier = earlier; later = row }))
         → clash_after key left (filter p (row ∷ rows)) ≡ Some (record { earlier = earlier; later = row })
     here_kept earlier found k =
-        let both = and_parts (p earlier) (p row && true) k in
-        let stays : p row ≡ true = (and_parts (p row) true both.1).0 in
+        let both = and-parts (p earlier) (p row && true) k in
+        let stays : p row ≡ true = (and-parts (p row) true both.1).0 in
         rw stays (ap (λ (o : Option TableRow). clash_or o row (clash_after key (left ++ row ∷ []) (filter p rows))) (found_kept p (shares_key key row) before earlier found both.0))
 
   clash_kept : (before rows : List TableRow) → Kept (clash_after key before rows)
@@ -103,8 +104,8 @@ module _ (p : TableRow → Bool) (key : List ℕ) where
       → Kept (clash_after key before rows)
   clash_among before [] all more = refl
   clash_among before (row ∷ rows) all more =
-      let both = and_parts (p row) (list_all p rows) more in
-      by both.0 (clash_among (before ++ row ∷ []) rows (all_append p before (row ∷ []) ∙ (λ j. all j && (both.0 j && true))) both.1) (find (shares_key key row) before) refl
+      let both = and-parts (p row) (list_all p rows) more in
+      by both.0 (clash_among (before ++ row ∷ []) rows (list_all-append p before (row ∷ []) ∙ (λ j. all j && (both.0 j && true))) both.1) (find (shares_key key row) before) refl
     where
       by : p row ≡ true → Kept (next before row rows) → (o : Option TableRow)
           → find (shares_key key row) before ≡ o → Kept (clash_or o row (next before row rows))

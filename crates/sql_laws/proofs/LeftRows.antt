@@ -2,55 +2,23 @@
 use Rattle.std.proofs.Common.{◌≡◌, ℕ, ◌+◌, ◌≤◌, List, [], ◌∷◌, ◌++◌, refl, sym, ap, ◌∙◌, Bool, true, false, inl, inr, arith}
 use Rattle.std.specs.Prelude.{map, filter, length, not, ◌&&◌, ◌||◌, ◌==◌, if◌then◌else◌}
 use Rattle.std.specs.List.{list_any, list_all}
-use Rattle.std.proofs.lemmas.Bool.{cases_Bool, and_parts}
 use Rattle.std.proofs.lemmas.Bool.Decides.{Decides-eqb}
 use Rattle.std.proofs.lemmas.List.Elements.{filter-append}
-use Rattle.ldv_value.specs.declared.value.Value.{Value}
-use Rattle.sql_model.specs.declared.catalog.Catalog.{Catalog}
-use Rattle.sql_model.specs.declared.statement.Insert.{Insert}
-use Rattle.sql_model.specs.declared.statement.Statement.{Statement}
-use Rattle.sql_model.specs.declared.statement.Statement.TheVariants.{Query as TheQuery, Insert as TheInsert, Update as TheUpdate, Delete as TheDelete}
-use Rattle.sql_model.specs.declared.statement.Update.{Update}
-use Rattle.sql_model.specs.declared.table.Table.{Table}
-use Rattle.sql_model.specs.declared.table.TableRow.{TableRow}
+use Rattle.ldv_value.proofs.Booleans.{and-parts, or-left, or-right}
+use Rattle.ldv_value.proofs.Cases.{cases-bool}
+use Rattle.ldv_value.proofs.Lists.{filter-filter, list_all-append, list_all-filter, list_all-map, list_all-weaker}
+use Rattle.sql_laws.specs.Types.{Value, Catalog, Insert, Statement, TheQuery, TheInsert, TheUpdate, TheDelete, Update, Table, TableRow}
 use Rattle.sql_model.specs.Changes.{is_matched, new_values, numbered, inserted, updated_row, with_rows, changed, matched, new_rows, has_null, lacks_value, is_full}
 use Rattle.sql_model.specs.Needs.{matched_row, stood}
 use Rattle.sql_laws.specs.QueryLaw.{Keep, stays, cut_table, KeepsNeeded}
 use Rattle.sql_model.specs.Scope.{InScope, own_scope}
-use Rattle.sql_laws.proofs.EitherTest.{or_first, or_second}
-use Rattle.sql_laws.proofs.QueryKeeps.{all_append, all_map, all_more}
 use Rattle.sql_laws.proofs.QuerySorting.{filter_all}
-
--- two tests are made in either order
-filter_either : {X : Type 0} (p q : X → Bool) (xs : List X)
-    → filter p (filter q xs) ≡ filter q (filter p xs)
-filter_either p q [] = refl
-filter_either p q (x ∷ xs) = elim (cases_Bool (p x)) [
-  | inl here ↦ elim (cases_Bool (q x)) [
-    | inl there ↦ rw (here, there, here) (λ j. x ∷ filter_either p q xs j)
-    | inr gone ↦ rw (here, gone) (filter_either p q xs)
-  ]
-  | inr gone ↦ elim (cases_Bool (q x)) [
-    | inl there ↦ rw (there, gone) (filter_either p q xs)
-    | inr other ↦ rw (other, gone) (filter_either p q xs)
-  ]
-]
-
-all_filtered : {X : Type 0} (p q : X → Bool) (xs : List X) → list_all p xs ≡ true
-    → list_all p (filter q xs) ≡ true
-all_filtered p q [] all = refl
-all_filtered p q (x ∷ xs) all =
-    let both = and_parts (p x) (list_all p xs) all in
-    elim (cases_Bool (q x)) [
-      | inl hit ↦ rw hit (λ j. both.0 j && all_filtered p q xs both.1 j)
-      | inr miss ↦ rw miss (all_filtered p q xs both.1)
-    ]
 
 -- a test that a map doesn't change is made before it or after it
 filter_mapped : {X : Type 0} (p : X → Bool) (f : X → X) → ((x : X) → p (f x) ≡ p x) → (xs : List X)
     → map f (filter p xs) ≡ filter p (map f xs)
 filter_mapped p f same [] = refl
-filter_mapped p f same (x ∷ xs) = elim (cases_Bool (p x)) [
+filter_mapped p f same (x ∷ xs) = elim (cases-bool (p x)) [
   | inl hit ↦ let too : p (f x) ≡ true = same x ∙ hit in rw (hit, too) (λ j. f x ∷ filter_mapped p f same xs j)
   | inr miss ↦ let too : p (f x) ≡ false = same x ∙ miss in rw (miss, too) (filter_mapped p f same xs)
 ]
@@ -63,8 +31,8 @@ has_number rows number = list_any (λ old. old.number == number) rows
 stood_all : (rows : List TableRow) → list_all (λ row. has_number rows row.number) rows ≡ true
 stood_all [] = refl
 stood_all (row ∷ rows) =
-    let here : has_number (row ∷ rows) row.number ≡ true = or_first (row.number == row.number) (has_number rows row.number) ((Decides-eqb row.number row.number).1 refl) in
-    let more : list_all (λ other. has_number (row ∷ rows) other.number) rows ≡ true = all_more (λ (other : TableRow). has_number rows other.number) (λ (other : TableRow). has_number (row ∷ rows) other.number) (λ other in_rows. or_second (row.number == other.number) (has_number rows other.number) in_rows) rows (stood_all rows) in
+    let here : has_number (row ∷ rows) row.number ≡ true = or-left (row.number == row.number) (has_number rows row.number) ((Decides-eqb row.number row.number).1 refl) in
+    let more : list_all (λ other. has_number (row ∷ rows) other.number) rows ≡ true = list_all-weaker (λ (other : TableRow). has_number rows other.number) (λ (other : TableRow). has_number (row ∷ rows) other.number) (λ other in_rows. or-right (row.number == other.number) (has_number rows other.number) in_rows) rows (stood_all rows) in
     (λ j. here j && more j)
 
 -- all numbers from one on pass
@@ -90,13 +58,13 @@ module _ (keep : Keep) (t : Table) where
   safe row = stood t row || keep t.name row.number
 
   stood_safe : list_all safe t.rows ≡ true
-  stood_safe = all_more (stood t) safe (λ row is. or_first (stood t row) (keep t.name row.number) is) t.rows (stood_all t.rows)
+  stood_safe = list_all-weaker (stood t) safe (λ row is. or-left (stood t row) (keep t.name row.number) is) t.rows (stood_all t.rows)
 
   inserted_stay : (insert : Insert) → KeepsNew → list_all (stays keep t) (inserted insert t) ≡ true
   inserted_stay insert new = numbered_pass (keep t.name) t.next new (map (new_values insert.columns t.schema.columns) insert.rows)
 
   inserted_safe : (insert : Insert) → KeepsNew → list_all safe (inserted insert t) ≡ true
-  inserted_safe insert new = all_more (stays keep t) safe (λ row is. or_second (stood t row) (keep t.name row.number) is) (inserted insert t) (inserted_stay insert new)
+  inserted_safe insert new = list_all-weaker (stays keep t) safe (λ row is. or-right (stood t row) (keep t.name row.number) is) (inserted insert t) (inserted_stay insert new)
 
   -- an UPDATE's rows
   abbrev updated : List InScope → Update → TableRow → TableRow
@@ -104,7 +72,7 @@ module _ (keep : Keep) (t : Table) where
 
   number_same : (scope : List InScope) (update : Update) (row : TableRow)
       → (updated scope update row).number ≡ row.number
-  number_same scope update row = elim (cases_Bool (is_matched scope update.pick row)) [
+  number_same scope update row = elim (cases-bool (is_matched scope update.pick row)) [
     | inl hit ↦ rw hit refl
     | inr miss ↦ rw miss refl
   ]
@@ -115,8 +83,8 @@ module _ (keep : Keep) (t : Table) where
   updated_safe : (scope : List InScope) (update : Update)
       → list_all safe (map (updated scope update) t.rows) ≡ true
   updated_safe scope update =
-      all_map safe (updated scope update) t.rows
-      ∙ all_more safe (λ row. safe (updated scope update row)) (λ row is. ap safe_number (number_same scope update row) ∙ is) t.rows stood_safe
+      list_all-map safe (updated scope update) t.rows
+      ∙ list_all-weaker safe (λ row. safe (updated scope update row)) (λ row is. ap safe_number (number_same scope update row) ∙ is) t.rows stood_safe
 
   -- ---- the table after, over any catalog
 
@@ -129,9 +97,9 @@ module _ (keep : Keep) (t : Table) where
 
     pub changed_safe : (s : Statement) → KeepsNew → list_all safe (changed s catalog t).rows ≡ true
     changed_safe (TheQuery query) new = stood_safe
-    changed_safe (TheInsert insert) new = all_append safe t.rows (inserted insert t) ∙ (λ j. stood_safe j && inserted_safe insert new j)
+    changed_safe (TheInsert insert) new = list_all-append safe t.rows (inserted insert t) ∙ (λ j. stood_safe j && inserted_safe insert new j)
     changed_safe (TheUpdate update) new = updated_safe (own_scope update.table catalog) update
-    changed_safe (TheDelete delete) new = all_filtered safe (λ row. not (is_matched (own_scope delete.table catalog) delete.pick row)) t.rows stood_safe
+    changed_safe (TheDelete delete) new = list_all-filter safe (λ row. not (is_matched (own_scope delete.table catalog) delete.pick row)) t.rows stood_safe
 
     -- the table after is that after over the whole table, without the same rows
     pub changed_cut : (s : Statement) → KeepsNew
@@ -147,7 +115,7 @@ module _ (keep : Keep) (t : Table) where
         filter_mapped (stays keep t) (updated (own_scope update.table catalog) update) (λ row. ap (keep t.name) (number_same (own_scope update.table catalog) update row)) t.rows in
         (λ j. with_rows t (rows j) t.next)
     changed_cut (TheDelete delete) new =
-        let rows = filter_either (λ row. not (is_matched (own_scope delete.table catalog) delete.pick row)) (stays keep t) t.rows in
+        let rows = filter-filter (λ row. not (is_matched (own_scope delete.table catalog) delete.pick row)) (stays keep t) t.rows in
         (λ j. with_rows t (rows j) t.next)
 
     -- ---- the rows that are matched
@@ -159,7 +127,7 @@ module _ (keep : Keep) (t : Table) where
 
     filtered_same : (p : TableRow → Bool) → KeepsNeeded keep (map (matched_row t) (filter p t.rows))
         → filter p (filter (stays keep t) t.rows) ≡ filter p t.rows
-    filtered_same p k = filter_either p (stays keep t) t.rows ∙ filter_all (stays keep t) (filter p t.rows) (matched_stay (filter p t.rows) k)
+    filtered_same p k = filter-filter p (stays keep t) t.rows ∙ filter_all (stays keep t) (filter p t.rows) (matched_stay (filter p t.rows) k)
 
     pub matched_same : (s : Statement) → KeepsNeeded keep (map (matched_row t) (matched s catalog t))
         → matched s catalog small ≡ matched s catalog t
@@ -198,9 +166,9 @@ module _ (keep : Keep) (t : Table) where
   number_stays : (n : ℕ) → keep t.name n ≡ true → (rows : List TableRow)
       → has_number (filter (stays keep t) rows) n ≡ has_number rows n
   number_stays n k [] = refl
-  number_stays n k (row ∷ rows) = elim (cases_Bool (keep t.name row.number)) [
+  number_stays n k (row ∷ rows) = elim (cases-bool (keep t.name row.number)) [
     | inl here ↦ rw here (λ j. (row.number == n) || number_stays n k rows j)
-    | inr goes ↦ elim (cases_Bool (row.number == n)) [
+    | inr goes ↦ elim (cases-bool (row.number == n)) [
       | inl same ↦ let none : true ≡ false = sym k ∙ sym (ap (keep t.name) ((Decides-eqb row.number n).0 same)) ∙ goes in cc
       | inr differs ↦ rw (goes, differs) (number_stays n k rows)
     ]
@@ -210,5 +178,5 @@ module _ (keep : Keep) (t : Table) where
       → filter (stood small) rows ≡ filter (stood t) rows
   stood_same [] all = refl
   stood_same (row ∷ rows) all =
-      let both = and_parts (keep t.name row.number) (list_all (stays keep t) rows) all in
+      let both = and-parts (keep t.name row.number) (list_all (stays keep t) rows) all in
       (λ j. if number_stays row.number both.0 t.rows j then row ∷ stood_same rows both.1 j else stood_same rows both.1 j)

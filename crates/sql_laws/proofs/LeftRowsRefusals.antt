@@ -2,13 +2,9 @@
 use Rattle.std.proofs.Common.{◌≡◌, List, [], ◌∷◌, ◌++◌, refl, sym, ap, ◌∙◌, Bool, true, false, inl, inr}
 use Rattle.std.specs.Prelude.{Option, Some, None, map, filter, length, ◌&&◌, ◌||◌}
 use Rattle.std.specs.List.{list_all}
-use Rattle.std.proofs.lemmas.Bool.{cases_Bool, and_parts}
-use Rattle.sql_model.specs.declared.catalog.Catalog.{Catalog}
-use Rattle.sql_model.specs.declared.reply.SqlRefusal.{SqlRefusal}
-use Rattle.sql_model.specs.declared.reply.SqlRefusal.TheVariants.{NotNull, Full}
-use Rattle.sql_model.specs.declared.statement.Statement.{Statement}
-use Rattle.sql_model.specs.declared.table.Table.{Table}
-use Rattle.sql_model.specs.declared.table.TableRow.{TableRow}
+use Rattle.ldv_value.proofs.Booleans.{and-parts}
+use Rattle.ldv_value.proofs.Cases.{cases-bool}
+use Rattle.sql_laws.specs.Types.{Catalog, SqlRefusal, NotNull, Full, Statement, Table, TableRow}
 use Rattle.sql_model.specs.Changes.{changed, matched, lacks_value, KeyClash, key_clash, key_refusal, is_full, or_else, refusal_if, change_refusal}
 use Rattle.sql_model.specs.Needs.{matched_row, matched_rows, stood, clash_rows, key_row, key_rows}
 use Rattle.sql_laws.specs.QueryLaw.{Keep, stays, KeepsNeeded}
@@ -72,8 +68,8 @@ module _ (keep : Keep) (t : Table) (catalog : Catalog) (s : Statement) (new : Ke
       → KeepsNeeded keep (map (key_row t) (filter (stood t) rows)) → list_all (stays keep t) rows ≡ true
   safe_kept [] all k = refl
   safe_kept (row ∷ rows) all k =
-      let both = and_parts (safe keep t row) (list_all (safe keep t) rows) all in
-      elim (cases_Bool (stood t row)) [
+      let both = and-parts (safe keep t row) (list_all (safe keep t) rows) all in
+      elim (cases-bool (stood t row)) [
         | inl in_table ↦
             let kk : KeepsNeeded keep (key_row t row ∷ map (key_row t) (filter (stood t) rows)) = rw in_table at k in
             (λ j. kk.0 j && safe_kept rows both.1 kk.1 j)

@@ -2,13 +2,8 @@
 -- that it doesn't need.
 use Rattle.std.proofs.Common.{◌≡◌, ℕ, List, [], ◌∷◌, refl, sym, ap, ◌∙◌, subst, Bool, true, false, inl, inr}
 use Rattle.std.specs.Prelude.{Option, Some, None, option_map, map, filter, if◌then◌else◌}
-use Rattle.std.proofs.lemmas.Bool.{cases_Bool}
-use Rattle.sql_model.specs.declared.catalog.Catalog.{Catalog}
-use Rattle.sql_model.specs.declared.reply.SqlRefusal.{SqlRefusal}
-use Rattle.sql_model.specs.declared.reply.SqlRefusal.TheVariants.{NoTable, NoColumn, TypeClash}
-use Rattle.sql_model.specs.declared.statement.Statement.{Statement}
-use Rattle.sql_model.specs.declared.statement.Statement.TheVariants.{Query as TheQuery, Insert as TheInsert, Update as TheUpdate, Delete as TheDelete}
-use Rattle.sql_model.specs.declared.table.Table.{Table}
+use Rattle.ldv_value.proofs.Cases.{cases-bool}
+use Rattle.sql_laws.specs.Types.{Catalog, SqlRefusal, NoTable, NoColumn, TypeClash, Statement, TheQuery, TheInsert, TheUpdate, TheDelete, Table}
 use Rattle.sql_model.specs.Changes.{changed, changed_in, target_of, or_else, change_refusal}
 use Rattle.sql_model.specs.Needs.{is_named, table_name, need_of}
 use Rattle.sql_laws.specs.QueryLaw.{Keep, cut_table, cut_tables, KeepsNeeded}
@@ -32,7 +27,7 @@ module _ (keep : Keep) where
   table_cut : (name : List ℕ) (db : List Table)
       → table_at name (cut_tables keep db) ≡ option_map (cut_table keep) (table_at name db)
   table_cut name [] = refl
-  table_cut name (t ∷ ts) = elim (cases_Bool (is_table name t)) [
+  table_cut name (t ∷ ts) = elim (cases-bool (is_table name t)) [
     | inl hit ↦ rw hit refl
     | inr miss ↦ rw miss (table_cut name ts)
   ]
@@ -40,7 +35,7 @@ module _ (keep : Keep) where
   table_new : (name : List ℕ) (db : List Table) → KeepsAllNew db → (t : Table) → table_at name db ≡ Some t
       → KeepsNew keep t
   table_new name [] new t is = cc
-  table_new name (u ∷ us) new t is = elim (cases_Bool (is_table name u)) [
+  table_new name (u ∷ us) new t is = elim (cases-bool (is_table name u)) [
     | inl hit ↦ let e : Some u ≡ Some t = rw hit at is in let same : u ≡ t = cc in subst (KeepsNew keep) same new.0
     | inr miss ↦ table_new name us new.1 t (rw miss at is)
   ]
@@ -158,7 +153,7 @@ module _ (keep : Keep) where
     tables_cut : (name : List ℕ) (ts : List Table) → KeepsAllNew ts
         → map (change_one name) (cut_tables keep ts) ≡ cut_tables keep (map (change_one name) ts)
     tables_cut name [] new = refl
-    tables_cut name (t ∷ ts) new = elim (cases_Bool (is_table name t)) [
+    tables_cut name (t ∷ ts) new = elim (cases-bool (is_table name t)) [
       | inl hit ↦ rw hit (λ j. changed_cut keep t catalog s new.0 j ∷ tables_cut name ts new.1 j)
       | inr miss ↦ rw miss (λ j. cut_table keep t ∷ tables_cut name ts new.1 j)
     ]
@@ -189,7 +184,7 @@ module _ (keep : Keep) where
       → map table_name (filter (is_named s) (cut_tables keep db))
       ≡ map table_name (filter (is_named s) db)
   asked_cut s [] = refl
-  asked_cut s (t ∷ ts) = elim (cases_Bool (is_named s t)) [
+  asked_cut s (t ∷ ts) = elim (cases-bool (is_named s t)) [
     | inl named ↦ rw named (λ j. t.name ∷ asked_cut s ts j)
     | inr other ↦ rw other (asked_cut s ts)
   ]

@@ -1,45 +1,19 @@
 -- Over tables from which rows were left out stand the combinations all rows of which stay.
-use Rattle.std.proofs.Common.{◌≡◌, ℕ, List, [], ◌∷◌, ◌++◌, refl, sym, ap, ◌∙◌, subst, Bool, true, false, inl, inr}
-use Rattle.std.specs.Prelude.{Option, Some, None, option_map, map, filter, find}
+use Rattle.std.proofs.Common.{◌≡◌, ℕ, List, [], ◌∷◌, ◌++◌, refl, sym, ap, ◌∙◌, Bool, true, false, inl, inr}
+use Rattle.std.specs.Prelude.{Option, Some, None, option_map, map, filter}
 use Rattle.std.specs.List.{flat_map}
-use Rattle.std.proofs.lemmas.Bool.{cases_Bool}
 use Rattle.std.proofs.lemmas.List.Elements.{filter-append}
-use Rattle.sql_model.specs.declared.catalog.Catalog.{Catalog}
-use Rattle.sql_model.specs.declared.statement.Core.{Core}
-use Rattle.sql_model.specs.declared.statement.FromItem.{FromItem}
-use Rattle.sql_model.specs.declared.statement.Query.{Query}
-use Rattle.sql_model.specs.declared.statement.Statement.TheVariants.{Query as TheQuery}
-use Rattle.sql_model.specs.declared.table.Table.{Table}
-use Rattle.sql_model.specs.declared.table.TableRow.{TableRow}
-use Rattle.sql_model.specs.Answers.{Combination, combinations, combination_rows, meets_all, row_environment, picked}
+use Rattle.ldv_value.proofs.Cases.{cases-bool}
+use Rattle.ldv_value.proofs.Lists.{filter-filter, found-passes}
+use Rattle.ldv_value.proofs.SameBytes.{bytes_eq-true}
+use Rattle.sql_laws.specs.Types.{Catalog, Core, FromItem, Query, TheQuery, Table, TableRow}
+use Rattle.sql_model.specs.QueryAnswer.{Combination, combinations, combination_rows, meets_all, row_environment, picked}
 use Rattle.sql_model.specs.Changes.{or_else}
 use Rattle.sql_laws.specs.QueryLaw.{Keep, stays, cut_table, cut_tables}
 use Rattle.sql_model.specs.Refusals.{check_refusal}
 use Rattle.sql_model.specs.Scope.{InScope, is_table, table_at, rows_of, catalog_of, scope_of}
 use Rattle.sql_model.specs.Statements.{refusal_of}
-use Rattle.sql_laws.proofs.QueryKeeps.{same_text_is, all_kept}
-
--- what is found passes the test
-found_passes : {X : Type 0} (p : X → Bool) (xs : List X) (x : X) → find p xs ≡ Some x → p x ≡ true
-found_passes p [] x is = cc
-found_passes p (y ∷ ys) x is = elim (cases_Bool (p y)) [
-  | inl hit ↦ let e : Some y ≡ Some x = rw hit at is in let same : y ≡ x = cc in subst (λ z. p z ≡ true) same hit
-  | inr miss ↦ found_passes p ys x (rw miss at is)
-]
-
--- two tests are made in either order
-filter_either : {X : Type 0} (p q : X → Bool) (xs : List X) → filter p (filter q xs) ≡ filter q (filter p xs)
-filter_either p q [] = refl
-filter_either p q (x ∷ xs) = elim (cases_Bool (p x)) [
-  | inl here ↦ elim (cases_Bool (q x)) [
-    | inl there ↦ rw (here, there, here) (λ j. x ∷ filter_either p q xs j)
-    | inr gone ↦ rw (here, gone) (filter_either p q xs)
-  ]
-  | inr gone ↦ elim (cases_Bool (q x)) [
-    | inl there ↦ rw (there, gone) (filter_either p q xs)
-    | inr other ↦ rw (other, gone) (filter_either p q xs)
-  ]
-]
+use Rattle.sql_laws.proofs.QueryKeeps.{all_kept}
 
 module _ (keep : Keep) where
   -- ---- schemas, and what they refuse
@@ -72,7 +46,7 @@ module _ (keep : Keep) where
   table_cut : (name : List ℕ) (db : List Table)
       → table_at name (cut_tables keep db) ≡ option_map (cut_table keep) (table_at name db)
   table_cut name [] = refl
-  table_cut name (t ∷ ts) = elim (cases_Bool (is_table name t)) [
+  table_cut name (t ∷ ts) = elim (cases-bool (is_table name t)) [
     | inl hit ↦ rw hit refl
     | inr miss ↦ rw miss (table_cut name ts)
   ]
@@ -85,7 +59,7 @@ module _ (keep : Keep) where
           → rows_of (option_map (cut_table keep) o) ≡ filter (λ row. keep name row.number) (rows_of o)
       by None found = refl
       by (Some t) found =
-          let named : t.name ≡ name = same_text_is t.name name (found_passes (is_table name) db t found) in
+          let named : t.name ≡ name = bytes_eq-true t.name name (found-passes (is_table name) db t found) in
           ap (λ (n : List ℕ). filter (λ row. keep n row.number) t.rows) named
 
   abbrev with_row : TableRow → List Combination → List Combination
@@ -95,7 +69,7 @@ module _ (keep : Keep) where
       → (others : List Combination)
       → with_row row (filter (kept_combination from) others) ≡ filter (kept_combination (item ∷ from)) (with_row row others)
   with_kept item from row stays [] = refl
-  with_kept item from row stays (rows ∷ others) = elim (cases_Bool (kept_combination from rows)) [
+  with_kept item from row stays (rows ∷ others) = elim (cases-bool (kept_combination from rows)) [
     | inl hit ↦ rw (stays, hit) (ap (λ (l : List Combination). (row ∷ rows) ∷ l) (with_kept item from row stays others))
     | inr miss ↦ rw (stays, miss) (with_kept item from row stays others)
   ]
@@ -114,7 +88,7 @@ module _ (keep : Keep) where
       let kept : List Combination → List Combination = filter (kept_combination (item ∷ from)) in
       let more : List Combination = flat_map (λ r. with_row r others) rows in
       let parts : kept (with_row row others ++ more) ≡ kept (with_row row others) ++ kept more = filter-append (kept_combination (item ∷ from)) (with_row row others) more in
-      elim (cases_Bool (keep item.table row.number)) [
+      elim (cases-bool (keep item.table row.number)) [
         | inl stays ↦ rw stays ((λ j. with_kept item from row stays others j ++ product_cut item from others rows j) ∙ sym parts)
         | inr goes ↦ rw goes (product_cut item from others rows ∙ sym (ap (λ (l : List Combination). l ++ kept more) (with_cut item from row goes others)) ∙ sym parts)
       ]
@@ -133,4 +107,4 @@ module _ (keep : Keep) where
       → picked core (cut_tables keep db) ≡ filter (kept_combination core.from) (picked core db)
   picked_cut core db =
       (λ j. filter (picks core (scope_same core.from db j)) (combinations_cut core.from db j))
-      ∙ filter_either (picks core (scope_of core.from (catalog_of db))) (kept_combination core.from) (combinations core.from db)
+      ∙ filter-filter (picks core (scope_of core.from (catalog_of db))) (kept_combination core.from) (combinations core.from db)

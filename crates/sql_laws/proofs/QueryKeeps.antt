@@ -1,48 +1,24 @@
 -- Which rows stay, as a test of lists of rows, and what follows where all needed rows stay.
-use Rattle.std.proofs.Common.{◌≡◌, ℕ, List, [], ◌∷◌, ◌++◌, refl, sym, ap, ◌∙◌, Bool, true, false, inl, inr}
+use Rattle.std.proofs.Common.{◌≡◌, List, [], ◌∷◌, ◌++◌, refl, sym, ap, ◌∙◌, Bool, true, inl, inr}
 use Rattle.std.specs.Prelude.{map, ◌&&◌, ◌==◌, if◌then◌else◌}
 use Rattle.std.specs.List.{flat_map, list_all}
-use Rattle.std.proofs.lemmas.Bool.{cases_Bool, and_parts}
-use Rattle.std.proofs.lemmas.Bool.Decides.{Decides-eqb}
-use Rattle.std.proofs.lemmas.Slice.Eq.{bytes_eq-Decides}
-use Rattle.sql_model.specs.declared.need.Rule.{Rule}
-use Rattle.sql_model.specs.Answers.{Origin, AnswerRow, lineage_of}
-use Rattle.sql_model.specs.Needs.{NeededRow, needed_by, is_same_row, is_earlier_row, put_row, rising_rows}
+use Rattle.ldv_value.proofs.Booleans.{and-parts}
+use Rattle.ldv_value.proofs.Cases.{cases-bool}
+use Rattle.ldv_value.proofs.Lists.{list_all-append}
+use Rattle.ldv_value.proofs.SameBytes.{bytes_eq-true, nat_eq-true}
+use Rattle.sql_laws.specs.Types.{Rule}
+use Rattle.sql_model.specs.QueryAnswer.{Origin, AnswerRow, lineage_of}
+use Rattle.sql_model.specs.Needs.{NeededRow, needed_by, is_same_row, is_earlier_row, put_row, sorted_needs}
 use Rattle.sql_laws.specs.QueryLaw.{Keep, KeepsNeeded}
 use Rattle.sql_model.specs.Scope.{same_text}
 
-pub same_text_is : (a b : List ℕ) → same_text a b ≡ true → a ≡ b
-same_text_is a b same = (bytes_eq-Decides a b).0 same
-
-number_is : (a b : ℕ) → (a == b) ≡ true → a ≡ b
-number_is a b same = (Decides-eqb a b).0 same
-
 -- ---- a test of all items
 
-pub and_assoc : (a b c : Bool) → ((a && b) && c) ≡ (a && (b && c))
-and_assoc true b c = refl
-and_assoc false b c = refl
-
 module _ {X : Type 0} (p : X → Bool) where
-  pub all_append : (xs ys : List X) → list_all p (xs ++ ys) ≡ (list_all p xs && list_all p ys)
-  all_append [] ys = refl
-  all_append (x ∷ xs) ys = ap (λ (b : Bool). p x && b) (all_append xs ys) ∙ sym (and_assoc (p x) (list_all p xs) (list_all p ys))
-
   pub all_flat : {Y : Type 0} (f : Y → List X) (ys : List Y)
       → list_all p (flat_map f ys) ≡ list_all (λ y. list_all p (f y)) ys
   all_flat f [] = refl
-  all_flat f (y ∷ ys) = all_append (f y) (flat_map f ys) ∙ ap (λ (b : Bool). list_all p (f y) && b) (all_flat f ys)
-
-  pub all_map : {Y : Type 0} (f : Y → X) (ys : List Y) → list_all p (map f ys) ≡ list_all (λ y. p (f y)) ys
-  all_map f [] = refl
-  all_map f (y ∷ ys) = ap (λ (b : Bool). p (f y) && b) (all_map f ys)
-
-  pub all_more : (q : X → Bool) → ((x : X) → p x ≡ true → q x ≡ true) → (xs : List X) → list_all p xs ≡ true
-      → list_all q xs ≡ true
-  all_more q more [] all = refl
-  all_more q more (x ∷ xs) all =
-      let both = and_parts (p x) (list_all p xs) all in
-      (λ j. more x both.0 j && all_more q more xs both.1 j)
+  all_flat f (y ∷ ys) = list_all-append p (f y) (flat_map f ys) ∙ ap (λ (b : Bool). list_all p (f y) && b) (all_flat f ys)
 
 module _ (keep : Keep) where
   -- ---- rows of tables
@@ -73,23 +49,23 @@ module _ (keep : Keep) where
 
   kept_same : (n m : NeededRow) → is_same_row n m ≡ true → keep n.table n.row ≡ true → keep m.table m.row ≡ true
   kept_same n m same stays =
-      let both = and_parts (same_text n.table m.table) (n.row == m.row) same in
-      let tables : n.table ≡ m.table = same_text_is n.table m.table both.0 in
-      let rows : n.row ≡ m.row = number_is n.row m.row both.1 in
+      let both = and-parts (same_text n.table m.table) (n.row == m.row) same in
+      let tables : n.table ≡ m.table = bytes_eq-true n.table m.table both.0 in
+      let rows : n.row ≡ m.row = nat_eq-true n.row m.row both.1 in
       sym (λ j. keep (tables j) (rows j)) ∙ stays
 
   kept_put : (n : NeededRow) (ms : List NeededRow) → KeepsNeeded keep (put_row n ms)
       → (keep n.table n.row ≡ true) × KeepsNeeded keep ms
   kept_put n [] k = (k.0, tt)
-  kept_put n (m ∷ ms) k = elim (cases_Bool (is_same_row n m)) [
+  kept_put n (m ∷ ms) k = elim (cases-bool (is_same_row n m)) [
     | inl same ↦ let kk : KeepsNeeded keep (n ∷ ms) = rw same at k in (kk.0, (kept_same n m same kk.0, kk.1))
-    | inr differs ↦ let k2 : KeepsNeeded keep (if is_earlier_row n m then n ∷ m ∷ ms else m ∷ put_row n ms) = rw differs at k in elim (cases_Bool (is_earlier_row n m)) [
+    | inr differs ↦ let k2 : KeepsNeeded keep (if is_earlier_row n m then n ∷ m ∷ ms else m ∷ put_row n ms) = rw differs at k in elim (cases-bool (is_earlier_row n m)) [
       | inl earlier ↦ let kk : KeepsNeeded keep (n ∷ m ∷ ms) = rw earlier at k2 in (kk.0, kk.1)
       | inr later ↦ let kk : KeepsNeeded keep (m ∷ put_row n ms) = rw later at k2 in let more = kept_put n ms kk.1 in (more.0, (kk.0, more.1))
     ]
   ]
 
   -- a rising list has each row of the list
-  pub rising_kept : (ns : List NeededRow) → KeepsNeeded keep (rising_rows ns) → KeepsNeeded keep ns
+  pub rising_kept : (ns : List NeededRow) → KeepsNeeded keep (sorted_needs ns) → KeepsNeeded keep ns
   rising_kept [] k = tt
-  rising_kept (n ∷ ns) k = let both = kept_put n (rising_rows ns) k in (both.0, rising_kept ns both.1)
+  rising_kept (n ∷ ns) k = let both = kept_put n (sorted_needs ns) k in (both.0, rising_kept ns both.1)

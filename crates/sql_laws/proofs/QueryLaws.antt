@@ -3,38 +3,19 @@
 use Rattle.std.proofs.Common.{◌≡◌, ℕ, List, [], ◌∷◌, ◌++◌, refl, sym, ap, ◌∙◌, subst, Bool, true, false, inl, inr}
 use Rattle.std.specs.Prelude.{Option, Some, None, map, filter, not, ◌||◌, if◌then◌else◌}
 use Rattle.std.specs.List.{flat_map, list_all, list_any}
-use Rattle.std.proofs.lemmas.Bool.{cases_Bool}
-use Rattle.sql_model.specs.declared.need.Rule.TheVariants.{L, H}
-use Rattle.sql_model.specs.declared.reply.Reply.TheVariants.{Rows}
-use Rattle.sql_model.specs.declared.reply.SqlRefusal.{SqlRefusal}
-use Rattle.sql_model.specs.declared.reply.SqlRefusal.TheVariants.{Syntax, NoTable, NoColumn, TypeClash, NotNull, KeyTaken, Full}
-use Rattle.sql_model.specs.declared.statement.Core.{Core}
-use Rattle.sql_model.specs.declared.statement.Query.{Query}
-use Rattle.sql_model.specs.declared.statement.Statement.{Statement}
-use Rattle.sql_model.specs.declared.statement.Statement.TheVariants.{Query as TheQuery}
-use Rattle.sql_model.specs.declared.table.Table.{Table}
-use Rattle.sql_model.specs.Answers.{Origin, AnswerRow, answer_values, lineage_of, rejected, union_rows, SortKey, sort_key, order_by, sort_rows, sorted_rows, limit_of, first_rows, other_rows, answer, cut}
-use Rattle.sql_model.specs.Needs.{NeededRow, needed_by, rising_rows, lineage_rows, has_merging, sums_up, cut_rows, hidden_rows, accepted_needs, needs_by, need_of}
+use Rattle.ldv_value.proofs.Cases.{cases-bool}
+use Rattle.sql_laws.specs.Types.{L, H, Rows, SqlRefusal, Syntax, NoTable, NoColumn, TypeClash, NotNull, KeyTaken, Full, Core, Query, TheQuery, Table}
+use Rattle.sql_model.specs.QueryAnswer.{Origin, AnswerRow, answer_values, lineage_of, rejected, union_rows, SortKey, sort_key, order_by, sort_rows, sorted_rows, limit_of, first_rows, other_rows, answer, cut}
+use Rattle.sql_model.specs.Needs.{NeededRow, needed_by, sorted_needs, lineage_rows, has_merging, sums_up, cut_rows, hidden_rows, accepted_needs, needs_by, need_of}
 use Rattle.sql_laws.specs.QueryLaw.{Keep, cut_tables, KeepsNeeded, SameQuery, QueryLaw}
 use Rattle.sql_model.specs.Refusals.{groups, answer_titles}
 use Rattle.sql_model.specs.Scope.{catalog_of}
-use Rattle.sql_model.specs.Statements.{refusal_of, reply_or, reply_of}
+use Rattle.sql_model.specs.Statements.{refusal_of, reply_or}
+use Rattle.sql_model.proofs.Equations.{reply_is, need_is}
 use Rattle.sql_laws.proofs.QueryCombinations.{catalog_same, refusal_same}
 use Rattle.sql_laws.proofs.QueryKeeps.{all_kept, kept_row, lineage_kept, needed_kept, needed_split, rising_kept}
 use Rattle.sql_laws.proofs.QueryRows.{or_parts, rejects_none, union_whole, union_part}
 use Rattle.sql_laws.proofs.QuerySorting.{sorted_all, sorted_part, rows_total, first_part, limit_all}
-
--- ---- what the definitions are
-
-reply_is : (statement : Statement) (db : List Table)
-    → reply_of (Some statement) db ≡ reply_or (refusal_of (Some statement) db) (Some statement) db
-unfolding reply_of
-reply_is statement db = refl
-
-need_is : (statement : Statement) (db : List Table)
-    → need_of (Some statement) db ≡ rising_rows (needs_by (refusal_of (Some statement) db) statement db)
-unfolding need_of
-need_is statement db = refl
 
 -- a query that is refused needs no row
 refused_needs : (query : Query) (db : List Table) (refusal : SqlRefusal)
@@ -146,13 +127,13 @@ module _ (query : Query) (db : List Table) (keep : Keep) where
       let first = needed_split keep (lineage_rows query db) (hidden_rows query db) k in
       let second = needed_split keep (map (needed_by H) (all_rejected db)) (cut_rows query db) first.1 in
       let answered : Stay (answer query db) = sym (lineage_kept keep (answer query db)) ∙ needed_kept keep L (lineage_of (answer query db)) first.0 in
-      elim (cases_Bool (sums_up query.cores)) [
+      elim (cases-bool (sums_up query.cores)) [
         | inl sums ↦ accepted_whole sums answered second.1 (needed_kept keep H (all_rejected db) second.0)
         | inr each ↦ accepted_part each answered
       ]
 
   -- with the refusal, or the want of one, that both databases give
-  settled_same : (refusal : Option SqlRefusal) → KeepsNeeded keep (rising_rows (needs_by refusal (TheQuery query) db))
+  settled_same : (refusal : Option SqlRefusal) → KeepsNeeded keep (sorted_needs (needs_by refusal (TheQuery query) db))
       → (reply_or refusal (Some (TheQuery query)) small ≡ reply_or refusal (Some (TheQuery query)) db) × (needs_by refusal (TheQuery query) small ≡ needs_by refusal (TheQuery query) db)
   settled_same (Some refusal) k = (refl, refused_needs query small refusal ∙ sym (refused_needs query db refusal))
   settled_same None k =
@@ -164,19 +145,19 @@ module _ (query : Query) (db : List Table) (keep : Keep) where
   same_query : KeepsNeeded keep (need_of (Some (TheQuery query)) db) → SameQuery query small db
   same_query k =
       let refused : refusal_of (Some (TheQuery query)) small ≡ refusal_of (Some (TheQuery query)) db = refusal_same keep query db in
-      let same = settled_same (refusal_of (Some (TheQuery query)) db) (subst (KeepsNeeded keep) (need_is (TheQuery query) db) k) in
+      let same = settled_same (refusal_of (Some (TheQuery query)) db) (subst (KeepsNeeded keep) (need_is (Some (TheQuery query)) db) k) in
       record {
         refusal = refused;
         reply =
-            reply_is (TheQuery query) small
+            reply_is (Some (TheQuery query)) small
             ∙ ap (λ (r : Option SqlRefusal). reply_or r (Some (TheQuery query)) small) refused
             ∙ same.0
-            ∙ sym (reply_is (TheQuery query) db);
+            ∙ sym (reply_is (Some (TheQuery query)) db);
         needs =
-            need_is (TheQuery query) small
-            ∙ ap (λ (r : Option SqlRefusal). rising_rows (needs_by r (TheQuery query) small)) refused
-            ∙ ap rising_rows same.1
-            ∙ sym (need_is (TheQuery query) db);
+            need_is (Some (TheQuery query)) small
+            ∙ ap (λ (r : Option SqlRefusal). sorted_needs (needs_by r (TheQuery query) small)) refused
+            ∙ ap sorted_needs same.1
+            ∙ sym (need_is (Some (TheQuery query)) db);
       }
 
 pub query_law : QueryLaw

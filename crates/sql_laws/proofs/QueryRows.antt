@@ -3,19 +3,17 @@
 use Rattle.std.proofs.Common.{◌≡◌, List, [], ◌∷◌, ◌++◌, refl, sym, ap, ◌∙◌, Bool, true, false, append-nil, inl, inr}
 use Rattle.std.specs.Prelude.{map, filter, not, ◌&&◌, ◌||◌, if◌then◌else◌}
 use Rattle.std.specs.List.{flat_map, list_all, list_any}
-use Rattle.std.proofs.lemmas.Bool.{cases_Bool, and_parts}
 use Rattle.std.proofs.lemmas.List.Elements.{filter-append}
-use Rattle.ldv_value.specs.declared.value.Value.{Value}
-use Rattle.sql_model.specs.declared.expr.ColumnName.{ColumnName}
-use Rattle.sql_model.specs.declared.statement.Core.{Core}
-use Rattle.sql_model.specs.declared.statement.FromItem.{FromItem}
-use Rattle.sql_model.specs.declared.table.Table.{Table}
-use Rattle.sql_model.specs.Answers.{Origin, AnswerRow, Combination, combination_rows, picked, distinct, group_key, has_key, groups_of, is_kept, group_row, single, rows_in_scope, once, core_rows, rejected_in_scope, rejected, united, rows_after, union_rows}
+use Rattle.ldv_value.proofs.Booleans.{and-parts}
+use Rattle.ldv_value.proofs.Cases.{cases-bool}
+use Rattle.ldv_value.proofs.Lists.{list_all-append, list_all-map}
+use Rattle.sql_laws.specs.Types.{Value, ColumnName, Core, FromItem, Table}
+use Rattle.sql_model.specs.QueryAnswer.{Origin, AnswerRow, Combination, combination_rows, picked, distinct, group_key, has_key, groups_of, is_kept, group_row, single, rows_in_scope, once, core_rows, rejected_in_scope, rejected, united, rows_after, union_rows}
 use Rattle.sql_laws.specs.QueryLaw.{Keep, cut_tables}
 use Rattle.sql_model.specs.Refusals.{groups}
 use Rattle.sql_model.specs.Scope.{InScope, catalog_of, scope_of}
 use Rattle.sql_laws.proofs.QueryCombinations.{scope_same, kept_combination, picked_cut}
-use Rattle.sql_laws.proofs.QueryKeeps.{all_append, all_flat, all_map, kept_origin, all_kept, kept_row}
+use Rattle.sql_laws.proofs.QueryKeeps.{all_flat, kept_origin, all_kept, kept_row}
 use Rattle.sql_laws.proofs.QueryMerging.{parts_pass, merged_kept}
 use Rattle.sql_laws.proofs.QuerySorting.{filter_all}
 
@@ -27,15 +25,15 @@ or_parts false b none = (refl, none)
 either_kept : {X : Type 0} (p q : X → Bool) (xs : List X) → list_all p (filter q xs) ≡ true
     → list_all p (filter (λ x. not (q x)) xs) ≡ true → list_all p xs ≡ true
 either_kept p q [] these those = refl
-either_kept p q (x ∷ xs) these those = elim (cases_Bool (q x)) [
+either_kept p q (x ∷ xs) these those = elim (cases-bool (q x)) [
   | inl hit ↦
       let kk : (p x && list_all p (filter q xs)) ≡ true = rw hit at these in
-      let both = and_parts (p x) (list_all p (filter q xs)) kk in
+      let both = and-parts (p x) (list_all p (filter q xs)) kk in
       let more : list_all p (filter (λ y. not (q y)) xs) ≡ true = rw hit at those in
       (λ j. both.0 j && either_kept p q xs both.1 more j)
   | inr miss ↦
       let kk : (p x && list_all p (filter (λ y. not (q y)) xs)) ≡ true = rw miss at those in
-      let both = and_parts (p x) (list_all p (filter (λ y. not (q y)) xs)) kk in
+      let both = and-parts (p x) (list_all p (filter (λ y. not (q y)) xs)) kk in
       let more : list_all p (filter q xs) ≡ true = rw miss at these in
       (λ j. both.0 j && either_kept p q xs more both.1 j)
 ]
@@ -72,13 +70,13 @@ module _ (keep : Keep) where
   plain_kept : (scope : List InScope) (core : Core) (all : List Combination)
       → list_all (kept_row keep) (plain_rows scope core all) ≡ list_all (kept_combination keep core.from) all
   plain_kept scope core all =
-      all_map (kept_row keep) (λ rows. group_row scope core (single rows)) all
+      list_all-map (kept_row keep) (λ rows. group_row scope core (single rows)) all
       ∙ (λ j. list_all (λ rows. row_kept scope core rows j) all)
 
   plain_part : (scope : List InScope) (core : Core) (all : List Combination)
       → plain_rows scope core (filter (kept_combination keep core.from) all) ≡ filter (kept_row keep) (plain_rows scope core all)
   plain_part scope core [] = refl
-  plain_part scope core (rows ∷ all) = elim (cases_Bool (kept_combination keep core.from rows)) [
+  plain_part scope core (rows ∷ all) = elim (cases-bool (kept_combination keep core.from rows)) [
     | inl hit ↦
         let too : kept_row keep (group_row scope core (single rows)) ≡ true = row_kept scope core rows ∙ hit in
         rw (hit, too) (λ j. group_row scope core (single rows) ∷ plain_part scope core all j)
@@ -98,7 +96,7 @@ module _ (keep : Keep) where
   rows_grouped scope core all grouped =
       let kept : List (List Combination) = filter (is_kept scope core.having) (groups_of scope core.group all) in
       ap (λ (b : Bool). list_all (kept_row keep) (if b then map (group_row scope core) kept else plain_rows scope core all)) grouped
-      ∙ all_map (kept_row keep) (group_row scope core) kept
+      ∙ list_all-map (kept_row keep) (group_row scope core) kept
       ∙ (λ j. list_all (λ group. all_flat (kept_origin keep) (combination_rows core.from) group j) kept)
 
   rejected_grouped : (scope : List InScope) (core : Core) (all : List Combination) → groups core ≡ true
@@ -113,11 +111,11 @@ module _ (keep : Keep) where
   groups_kept : (scope : List InScope) (from : List FromItem) (group : List ColumnName) (all : List Combination)
       → list_all (kept_group from) (groups_of scope group all) ≡ true
       → list_all (kept_combination keep from) all ≡ true
-  groups_kept scope from [] all kept = (and_parts (kept_group from all) true kept).0
+  groups_kept scope from [] all kept = (and-parts (kept_group from all) true kept).0
   groups_kept scope from (c ∷ cs) all kept =
       let keys : List (List Value) = distinct (map (group_key scope (c ∷ cs)) all) in
       parts_pass (group_key scope (c ∷ cs)) (kept_combination keep from) all
-      (sym (all_map (kept_group from) (λ key. filter (has_key scope (c ∷ cs) key) all) keys) ∙ kept)
+      (sym (list_all-map (kept_group from) (λ key. filter (has_key scope (c ∷ cs) key) all) keys) ∙ kept)
 
   grouped_kept : (scope : List InScope) (core : Core) (all : List Combination) → groups core ≡ true
       → list_all (kept_row keep) (rows_in_scope scope core all) ≡ true
@@ -151,7 +149,7 @@ module _ (keep : Keep) where
         → list_all (kept_row keep) (rows_in_scope (scope core) core (picked core db)) ≡ true
         → all_kept keep (rejected db core) ≡ true
         → list_all (kept_combination keep core.from) (picked core db) ≡ true
-    picked_kept core rows gone = elim (cases_Bool (groups core)) [
+    picked_kept core rows gone = elim (cases-bool (groups core)) [
       | inl grouped ↦ grouped_kept (scope core) core (picked core db) grouped rows gone
       | inr plain ↦ plain_combinations core plain rows
     ]
@@ -178,7 +176,7 @@ module _ (keep : Keep) where
     BothKept rows more = (list_all (kept_row keep) rows ≡ true) × (list_all (kept_row keep) more ≡ true)
 
     appended_kept : (rows more : List AnswerRow) → list_all (kept_row keep) (rows ++ more) ≡ true → BothKept rows more
-    appended_kept rows more all = and_parts (list_all (kept_row keep) rows) (list_all (kept_row keep) more) (sym (all_append (kept_row keep) rows more) ∙ all)
+    appended_kept rows more all = and-parts (list_all (kept_row keep) rows) (list_all (kept_row keep) more) (sym (list_all-append (kept_row keep) rows more) ∙ all)
 
     united_kept : (b : Bool) (rows more : List AnswerRow) → list_all (kept_row keep) (united b rows more) ≡ true
         → BothKept rows more
@@ -192,7 +190,7 @@ module _ (keep : Keep) where
         → (all_kept keep (rejected db core) ≡ true) × (all_kept keep (flat_map (rejected db) cores) ≡ true)
     rejected_parts core cores gone =
         let others : List Origin = flat_map (rejected db) cores in
-        and_parts (all_kept keep (rejected db core)) (all_kept keep others) (sym (all_append (kept_origin keep) (rejected db core) others) ∙ gone)
+        and-parts (all_kept keep (rejected db core)) (all_kept keep others) (sym (list_all-append (kept_origin keep) (rejected db core) others) ∙ gone)
 
     after_whole : (rows : List AnswerRow) (cores : List Core)
         → all_kept keep (flat_map (rejected db) cores) ≡ true
@@ -242,7 +240,7 @@ module _ (keep : Keep) where
     after_part rows (core ∷ cores) plain joined =
         let parts = or_parts (sums_rows core) (list_any sums_rows cores) plain in
         let own = or_parts (groups core) core.distinct parts.0 in
-        let joins = and_parts core.joined_all (list_all (λ other. other.joined_all) cores) joined in
+        let joins = and-parts core.joined_all (list_all (λ other. other.joined_all) cores) joined in
         let more : List AnswerRow = core_rows db core in
         let here : core_rows (cut_tables keep db) core ≡ filter (kept_row keep) more = core_part core own.0 own.1 in
         let whole : united core.joined_all rows more ≡ rows ++ more = ap (λ (b : Bool). united b rows more) joins.0 in

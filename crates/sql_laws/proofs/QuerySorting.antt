@@ -6,16 +6,17 @@ use Rattle.std.specs.Cmp.{IsTotalOrder}
 use Rattle.std.specs.declared.cmp.Ordering.{Ordering}
 use Rattle.std.specs.declared.cmp.Ordering.TheVariants.{Less, Equal, Greater}
 use Rattle.std.specs.Ordering.{is_gt, ordering_reverse}
-use Rattle.std.proofs.lemmas.Bool.{cases_Bool, and_parts}
 use Rattle.std.proofs.lemmas.Cmp.{upto, on_total, then_total, back_total}
 use Rattle.std.proofs.lemmas.List.{take-append-drop}
-use Rattle.ldv_value.specs.declared.value.Value.{Value}
+use Rattle.ldv_value.proofs.Booleans.{and-parts}
+use Rattle.ldv_value.proofs.Cases.{cases-bool}
+use Rattle.ldv_value.proofs.Lists.{list_all-append}
+use Rattle.sql_laws.specs.Types.{Value}
 use Rattle.ldv_value.specs.Order.{order}
-use Rattle.sql_model.specs.Answers.{AnswerRow, SortKey, directed, order_by, first_rows, other_rows}
+use Rattle.sql_model.specs.QueryAnswer.{AnswerRow, SortKey, directed, order_by, first_rows, other_rows}
 use Rattle.sql_model.specs.KeyOrder.{order_total}
 use Rattle.sql_model.specs.Scope.{value_at}
 use Rattle.sql_model.specs.Sorting.{put_sorted, sorted_by}
-use Rattle.sql_laws.proofs.QueryKeeps.{all_append}
 
 -- ---- a sorted list
 
@@ -38,16 +39,16 @@ module _ {A : Type 0} (cmp : A → A → Ordering) where
 
   put_all : (p : A → Bool) (x : A) (ys : List A) → list_all p (put_sorted cmp x ys) ≡ true
       → (p x ≡ true) × (list_all p ys ≡ true)
-  put_all p x [] all = ((and_parts (p x) true all).0, refl)
-  put_all p x (y ∷ ys) all = elim (cases_Bool (is_gt (cmp x y))) [
+  put_all p x [] all = ((and-parts (p x) true all).0, refl)
+  put_all p x (y ∷ ys) all = elim (cases-bool (is_gt (cmp x y))) [
     | inl after ↦
         let kk : (p y && list_all p (put_sorted cmp x ys)) ≡ true = rw after at all in
-        let both = and_parts (p y) (list_all p (put_sorted cmp x ys)) kk in
+        let both = and-parts (p y) (list_all p (put_sorted cmp x ys)) kk in
         let more = put_all p x ys both.1 in
         (more.0, λ j. both.0 j && more.1 j)
     | inr before ↦
         let kk : (p x && list_all p (y ∷ ys)) ≡ true = rw before at all in
-        and_parts (p x) (list_all p (y ∷ ys)) kk
+        and-parts (p x) (list_all p (y ∷ ys)) kk
   ]
 
   -- a test that all of the sorted list pass all of the list pass
@@ -58,7 +59,7 @@ module _ {A : Type 0} (cmp : A → A → Ordering) where
   -- an item that goes leaves the others where they are
   put_gone : (p : A → Bool) (x : A) (ys : List A) → p x ≡ false → filter p (put_sorted cmp x ys) ≡ filter p ys
   put_gone p x [] gone = rw gone refl
-  put_gone p x (y ∷ ys) gone = elim (cases_Bool (is_gt (cmp x y))) [
+  put_gone p x (y ∷ ys) gone = elim (cases-bool (is_gt (cmp x y))) [
     | inl after ↦ rw after (λ j. if p y then y ∷ put_gone p x ys gone j else put_gone p x ys gone j)
     | inr before ↦ rw (before, gone) refl
   ]
@@ -69,7 +70,7 @@ module _ {A : Type 0} (cmp : A → A → Ordering) where
 
   filter_upto : (p : A → Bool) (x : A) (ys : List A) → UpToAll x ys → UpToAll x (filter p ys)
   filter_upto p x [] first = tt
-  filter_upto p x (y ∷ ys) first = elim (cases_Bool (p y)) [
+  filter_upto p x (y ∷ ys) first = elim (cases-bool (p y)) [
     | inl here ↦ rw here (first.0, filter_upto p x ys first.1)
     | inr gone ↦ rw gone (filter_upto p x ys first.1)
   ]
@@ -84,14 +85,14 @@ module _ {A : Type 0} (cmp : A → A → Ordering) where
 
     upto_put : (y x : A) (ys : List A) → UpTo y x → UpToAll y ys → UpToAll y (put_sorted cmp x ys)
     upto_put y x [] first more = (first, tt)
-    upto_put y x (z ∷ zs) first more = elim (cases_Bool (is_gt (cmp x z))) [
+    upto_put y x (z ∷ zs) first more = elim (cases-bool (is_gt (cmp x z))) [
       | inl after ↦ rw after (more.0, upto_put y x zs first more.1)
       | inr before ↦ rw before (first, more)
     ]
 
     put_rises : (x : A) (ys : List A) → Rises ys → Rises (put_sorted cmp x ys)
     put_rises x [] rises = (tt, tt)
-    put_rises x (y ∷ ys) rises = elim (cases_Bool (is_gt (cmp x y))) [
+    put_rises x (y ∷ ys) rises = elim (cases-bool (is_gt (cmp x y))) [
       | inl after ↦ rw after (upto_put y x ys (turned x y after) rises.0, put_rises x ys rises.1)
       | inr before ↦ rw before ((before, upto_more x y ys before rises.0), rises)
     ]
@@ -103,8 +104,8 @@ module _ {A : Type 0} (cmp : A → A → Ordering) where
     put_part : (p : A → Bool) (x : A) (ys : List A) → p x ≡ true → Rises ys
         → put_sorted cmp x (filter p ys) ≡ filter p (put_sorted cmp x ys)
     put_part p x [] here rises = rw here refl
-    put_part p x (y ∷ ys) here rises = elim (cases_Bool (is_gt (cmp x y))) [
-      | inl after ↦ elim (cases_Bool (p y)) [
+    put_part p x (y ∷ ys) here rises = elim (cases-bool (is_gt (cmp x y))) [
+      | inl after ↦ elim (cases-bool (p y)) [
         | inl there ↦ rw (after, there, after) (λ j. y ∷ put_part p x ys here rises.1 j)
         | inr gone ↦ rw (after, gone) (put_part p x ys here rises.1)
       ]
@@ -118,7 +119,7 @@ module _ {A : Type 0} (cmp : A → A → Ordering) where
     -- the sort of those that pass a test
     pub sorted_part : (p : A → Bool) (xs : List A) → sorted_by cmp (filter p xs) ≡ filter p (sorted_by cmp xs)
     sorted_part p [] = refl
-    sorted_part p (x ∷ xs) = elim (cases_Bool (p x)) [
+    sorted_part p (x ∷ xs) = elim (cases-bool (p x)) [
       | inl here ↦ rw here (ap (put_sorted cmp x) (sorted_part p xs) ∙ put_part p x (sorted_by cmp xs) here (sorted_rises xs))
       | inr gone ↦ rw gone (sorted_part p xs ∙ sym (put_gone p x (sorted_by cmp xs) gone))
     ]
@@ -145,12 +146,12 @@ rows_total keys = on_total (λ (row : AnswerRow). row.values) (order_by_total ke
 module _ {X : Type 0} (p : X → Bool) where
   pub filter_all : (xs : List X) → list_all p xs ≡ true → filter p xs ≡ xs
   filter_all [] all = refl
-  filter_all (x ∷ xs) all = let both = and_parts (p x) (list_all p xs) all in rw both.0 (λ j. x ∷ filter_all xs both.1 j)
+  filter_all (x ∷ xs) all = let both = and-parts (p x) (list_all p xs) all in rw both.0 (λ j. x ∷ filter_all xs both.1 j)
 
   take_part : (n : ℕ) (xs : List X) → list_all p (take n xs) ≡ true → take n (filter p xs) ≡ take n xs
   take_part zero xs all = refl
   take_part (suc n) [] all = refl
-  take_part (suc n) (x ∷ xs) all = let both = and_parts (p x) (list_all p (take n xs)) all in rw both.0 (λ j. x ∷ take_part n xs both.1 j)
+  take_part (suc n) (x ∷ xs) all = let both = and-parts (p x) (list_all p (take n xs)) all in rw both.0 (λ j. x ∷ take_part n xs both.1 j)
 
 -- those that LIMIT keeps are the same where all of them stay
 pub first_part : (p : AnswerRow → Bool) (limit : Option ℕ) (rows : List AnswerRow)
@@ -165,5 +166,5 @@ pub limit_all : (p : AnswerRow → Bool) (limit : Option ℕ) (rows : List Answe
 limit_all p None rows first other = first
 limit_all p (Some n) rows first other =
     sym (ap (list_all p) (take-append-drop n rows))
-    ∙ all_append p (take n rows) (drop n rows)
+    ∙ list_all-append p (take n rows) (drop n rows)
     ∙ (λ j. first j && other j)

@@ -2,9 +2,7 @@
 -- it doesn't need, and tables that it doesn't ask, and the tables after it are those without the same.
 use Rattle.std.proofs.Common.{◌≡◌, List, refl, sym, ap, ◌∙◌, subst, true}
 use Rattle.std.specs.Prelude.{Some, None}
-use Rattle.sql_model.specs.declared.statement.Statement.{Statement}
-use Rattle.sql_model.specs.declared.statement.Statement.TheVariants.{Query as TheQuery, Insert as TheInsert, Update as TheUpdate, Delete as TheDelete}
-use Rattle.sql_model.specs.declared.table.Table.{Table}
+use Rattle.sql_laws.specs.Types.{Statement, TheQuery, TheInsert, TheUpdate, TheDelete, Table}
 use Rattle.sql_model.specs.Needs.{need_of, is_named, asked_tables}
 use Rattle.sql_laws.specs.QueryLaw.{Keep, cut_tables, KeepsNeeded}
 use Rattle.sql_model.specs.Refusals.{tables_of}
@@ -102,5 +100,5 @@ same_some s db tables keep valid needed asked =
     }
 
 pub statement_law : StatementLaw
-statement_law None db tables keep valid needed asked = same_none db tables keep (database_same keep db)
-statement_law (Some s) db tables keep valid needed asked = same_some s db tables keep valid needed asked
+statement_law None db tables keep valid left needed asked = same_none db tables keep (database_same keep db)
+statement_law (Some s) db tables keep valid left needed asked = same_some s db tables keep valid needed asked

@@ -2,51 +2,26 @@
 -- and at its own table alone.
 use Rattle.std.proofs.Common.{◌≡◌, ℕ, List, [], ◌++◌, refl, sym, ap, ◌∙◌}
 use Rattle.std.specs.Prelude.{Option, Some, None, length}
-use Rattle.sql_model.specs.declared.catalog.Catalog.{Catalog}
-use Rattle.sql_model.specs.declared.reply.Reply.{Reply}
-use Rattle.sql_model.specs.declared.reply.Reply.TheVariants.{Changed}
-use Rattle.sql_model.specs.declared.reply.SqlRefusal.{SqlRefusal}
-use Rattle.sql_model.specs.declared.reply.SqlRefusal.TheVariants.{Syntax, NoTable, NoColumn, TypeClash, NotNull, KeyTaken, Full}
-use Rattle.sql_model.specs.declared.statement.Delete.{Delete}
-use Rattle.sql_model.specs.declared.statement.Insert.{Insert}
-use Rattle.sql_model.specs.declared.statement.Statement.{Statement}
-use Rattle.sql_model.specs.declared.statement.Statement.TheVariants.{Insert as TheInsert, Update as TheUpdate, Delete as TheDelete}
-use Rattle.sql_model.specs.declared.statement.Update.{Update}
-use Rattle.sql_model.specs.declared.table.Table.{Table}
+use Rattle.sql_laws.specs.Types.{Catalog, Reply, Changed, SqlRefusal, Syntax, NoTable, NoColumn, TypeClash, NotNull, KeyTaken, Full, Delete, Insert, Statement, TheInsert, TheUpdate, TheDelete, Update, Table}
+pub use Rattle.sql_model.proofs.Equations.{after_is}
+use Rattle.sql_model.proofs.Equations.{reply_is, need_is}
 use Rattle.sql_model.specs.Changes.{or_else, change_refusal}
-use Rattle.sql_model.specs.Needs.{NeededRow, rising_rows, matched_rows, key_rows, needs_by, need_of}
+use Rattle.sql_model.specs.Needs.{NeededRow, sorted_needs, matched_rows, key_rows, needs_by, need_of}
 use Rattle.sql_model.specs.Refusals.{check_refusal}
 use Rattle.sql_model.specs.Scope.{catalog_of}
-use Rattle.sql_model.specs.Statements.{target, refusal_of, matched_count, accepted_reply, reply_or, reply_of, after_unless, after}
+use Rattle.sql_model.specs.Statements.{target, refusal_of, matched_count, accepted_reply, reply_or, reply_of}
 
 -- ---- what the definitions are
 
-reply_is : (statement : Statement) (db : List Table)
-    → reply_of (Some statement) db ≡ reply_or (refusal_of (Some statement) db) (Some statement) db
-unfolding reply_of
-reply_is statement db = refl
-
-need_is : (statement : Statement) (db : List Table)
-    → need_of (Some statement) db ≡ rising_rows (needs_by (refusal_of (Some statement) db) statement db)
-unfolding need_of
-need_is statement db = refl
-
 pub need_parts : (statement : Statement) (db : List Table)
-    → need_of (Some statement) db ≡ rising_rows (needs_by (refusal_of (Some statement) db) statement db)
-need_parts statement db = need_is statement db
-
-pub after_is : (statement : Option Statement) (db : List Table)
-    → after statement db ≡ after_unless (refusal_of statement db) statement db
-unfolding after
-after_is statement db = refl
+    → need_of (Some statement) db ≡ sorted_needs (needs_by (refusal_of (Some statement) db) statement db)
+need_parts statement db = need_is (Some statement) db
 
 pub reply_none : (small whole : List Table) → reply_of None small ≡ reply_of None whole
-unfolding reply_of
-reply_none small whole = refl
+reply_none small whole = reply_is None small ∙ sym (reply_is None whole)
 
 pub need_none : (small whole : List Table) → need_of None small ≡ need_of None whole
-unfolding need_of
-need_none small whole = refl
+need_none small whole = need_is None small ∙ sym (need_is None whole)
 
 -- ---- over two databases
 
@@ -67,15 +42,15 @@ module _ (statement : Statement) (small whole : List Table) where
   same_by refused settled = record {
     refusal = refused;
     reply =
-        reply_is statement small
+        reply_is (Some statement) small
         ∙ ap (λ (r : Option SqlRefusal). reply_or r (Some statement) small) refused
         ∙ settled.reply
-        ∙ sym (reply_is statement whole);
+        ∙ sym (reply_is (Some statement) whole);
     needs =
-        need_is statement small
-        ∙ ap (λ (r : Option SqlRefusal). rising_rows (needs_by r statement small)) refused
-        ∙ ap rising_rows settled.needs
-        ∙ sym (need_is statement whole);
+        need_is (Some statement) small
+        ∙ ap (λ (r : Option SqlRefusal). sorted_needs (needs_by r statement small)) refused
+        ∙ ap sorted_needs settled.needs
+        ∙ sym (need_is (Some statement) whole);
   }
 
 -- ---- changes

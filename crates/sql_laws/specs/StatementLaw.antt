@@ -1,15 +1,14 @@
 -- The law of a statement's needed rows: over a database from which rows were left out that a statement
--- doesn't need, and tables that it doesn't ask, it is refused, answers, needs and asks the same, and the
--- tables after it are those after it over the whole database without the same rows and tables.
+-- doesn't need, and tables that it doesn't ask, its refusal, reply, needs and asked tables are the same, and
+-- the tables after it are those after it over the whole database without the same rows and tables.
 use Rattle.std.specs.Prelude.{◌≡◌, ℕ, ◌==◌, List, [], ◌∷◌, filter, Bool, true, not, ◌&&◌, ◌||◌, Option}
 use Rattle.std.specs.List.{list_any}
-use Rattle.sql_model.specs.declared.statement.Statement.{Statement}
-use Rattle.sql_model.specs.declared.table.Table.{Table}
+use Rattle.sql_laws.specs.Types.{Statement, Table}
 use Rattle.sql_model.specs.Needs.{need_of, asked_tables}
 use Rattle.sql_laws.specs.QueryLaw.{Keep, cut_tables, KeepsNeeded}
 use Rattle.sql_model.specs.Scope.{is_table}
 use Rattle.sql_model.specs.Statements.{refusal_of, reply_of, after}
-use Rattle.sql_model.specs.Tables.{is_database}
+use Rattle.sql_model.specs.Tables.{is_database, tables_test}
 
 -- which tables stay, by their names
 abbrev pub KeepTables : Type 0
@@ -36,7 +35,7 @@ has_row name number table = is_table name table && list_any (λ row. row.number 
 abbrev pub keep_others : Keep → List Table → Keep
 keep_others keep db = λ name number. keep name number || not (list_any (has_row name number) db)
 
--- a statement is refused, answers, needs and asks the same, and changes what is left alike
+-- refusal, reply, needs and asked tables are the same, and what is left is changed as in the whole
 pub record SameStatement (statement : Option Statement) (tables : KeepTables) (keep : Keep) (db : List Table)
     : Type 0 where
   pub refusal : refusal_of statement (cut_database tables keep db) ≡ refusal_of statement db
@@ -47,14 +46,25 @@ pub record SameStatement (statement : Option Statement) (tables : KeepTables) (k
       after statement (cut_database tables keep db)
       ≡ cut_database tables (keep_others keep db) (after statement db)
 
--- of each statement, and of the want of one, and of all databases, whichever rows and tables are left out
--- that aren't needed or asked
+-- of each statement, and of a text that is none, over all databases, whichever rows and tables are left out
+-- that aren't needed or asked, so that a database is left
 --
--- `keep` is asked of rows of the database alone, so any choice among them can be given by one. That the
--- tables that are left are a database too needn't be asked.
+-- `keep` is asked only of rows of the database, so any choice among them can be given by one.
 abbrev pub StatementLaw : Type 0
 StatementLaw = (statement : Option Statement) (db : List Table) (tables : KeepTables) (keep : Keep)
     → is_database db ≡ true
+    → is_database (cut_database tables keep db) ≡ true
     → KeepsNeeded keep (need_of statement db)
     → KeepsAsked tables (asked_tables statement db)
     → SameStatement statement tables keep db
+
+-- a database without some rows and tables is a database, and so with the tables of a world
+abbrev pub CutLaw : Type 0
+CutLaw = (tables : KeepTables) (keep : Keep) (db : List Table)
+    → is_database db ≡ true
+    → is_database (cut_database tables keep db) ≡ true
+
+abbrev pub CutTablesLaw : Type 0
+CutTablesLaw = (tables : KeepTables) (keep : Keep) (db : List Table)
+    → tables_test db ≡ true
+    → tables_test (cut_database tables keep db) ≡ true

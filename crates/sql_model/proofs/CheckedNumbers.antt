@@ -3,9 +3,9 @@ use Rattle.std.proofs.Common.{◌≡◌, ◌^◌, refl, sym, ap, ◌∙◌, arit
 use Rattle.std.specs.Prelude.{ℤ, pos, negsuc, Option, Some, None, SomeIff, FitsSigned, nat_lt}
 use Rattle.std.proofs.lemmas.Bool.Decides.{nat_tests}
 use Rattle.std.proofs.lemmas.Int.{to_z-of_z}
-use Rattle.ldv_value.specs.declared.value.Value.TheVariants.{Null, Int}
+use Rattle.sql_model.specs.Types.{Null, Int}
 use Rattle.sql_model.specs.Evaluation.{number_or_null}
-use Rattle.sql_model.specs.Sense.{number_value}
+use Rattle.sql_model.specs.Meaning.{number_value}
 
 fits : (z : ℤ) → FitsSigned w64 z → number_value z ≡ Int z
 fits (pos n) h = let t : nat_lt n (2 ^ 63) ≡ true = grind (arith, nat_tests) in rw t refl

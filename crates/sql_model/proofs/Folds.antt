@@ -1,15 +1,10 @@
 -- The equations of a fold over expressions, form by form.
 use Rattle.std.proofs.Common.{◌≡◌, sym, ap, ◌∙◌}
 use Rattle.std.specs.Prelude.{Bool, Some, None}
-use Rattle.ldv_value.specs.declared.value.Value.{Value}
-use Rattle.sql_model.specs.declared.expr.ColumnName.{ColumnName}
-use Rattle.sql_model.specs.declared.expr.Expr.{Expr}
+use Rattle.sql_model.specs.Types.{Value, ColumnName, Expr, Expr-F, Fold, Operator}
 use Rattle.sql_model.specs.declared.expr.Expr.TheVariants.{Constant, Column, Negate, Not, Both, IsNull, Aggregate, rolls-Constant, rolls-Column, rolls-Negate, rolls-Not, rolls-Both, rolls-IsNull, rolls-Aggregate}
 use Rattle.sql_model.specs.declared.expr.Expr.TheOpen as open_expr
-use Rattle.sql_model.specs.declared.expr.Expr.TheOpen.{Expr-F}
 use Rattle.sql_model.specs.declared.expr.Expr.TheFolds.{fold-Expr, fold-roll-Expr}
-use Rattle.sql_model.specs.declared.expr.Fold.{Fold}
-use Rattle.sql_model.specs.declared.expr.Operator.{Operator}
 
 module _ {A : Type 0} (step : Expr-F A → A) where
   pub fold-Constant : (v : Value) → fold-Expr A step (Constant v) ≡ step (open_expr.Constant v)

@@ -1,7 +1,12 @@
 pub mod CheckedNumbers
+pub mod Equations
 pub mod Evaluations
 pub mod Folds
+pub mod Neighbours
+pub mod OriginSets
+pub mod RepeatedNames
 pub mod Seen
+pub mod ValidTables
 pub mod WorkedDatabases
 pub mod WorkedRefusals
 pub mod WorkedTables

@@ -41,11 +41,7 @@ IsRest same all seen rest = all ≡ (list_any seen rest || repeats same rest)
 pub none_seen : {X : Type 0} (same : X → X → Bool) (xs : List X) → IsRest same (repeats same xs) (λ x. false) xs
 none_seen same xs = ap (λ b. b || repeats same xs) (sym (any_none xs))
 
--- the next one was seen
-pub one_again : {X : Type 0} (same : X → X → Bool) (all : Bool) (seen : X → Bool) (x : X) (rest : List X) → IsRest same all seen (x ∷ rest) → seen x ≡ true → all ≡ true
-one_again same all seen x rest is hit = is ∙ ap (λ b. (b || list_any seen rest) || (list_any (same x) rest || repeats same rest)) hit
-
--- it wasn't, and is now
+-- the next one wasn't seen, and is now
 pub one_more : {X : Type 0} (same : X → X → Bool) (all : Bool) (seen now : X → Bool) (x : X) (rest : List X) → IsRest same all seen (x ∷ rest) → seen x ≡ false
     → ((q : X) → now q ≡ cond (same x q) true (seen q)) → IsRest same all now rest
 one_more same all seen now x rest is fresh after =

@@ -1,10 +1,8 @@
 -- Databases, and tables that are none.
 use Rattle.std.specs.Prelude.{◌≡◌, refl, ℕ, List, [], ◌∷◌, true, false, pos, codes}
-use Rattle.ldv_value.specs.declared.value.Value.TheVariants.{Null, Int, Text}
-use Rattle.sql_model.specs.declared.table.Table.{Table}
-use Rattle.sql_model.specs.declared.table.TableRow.{TableRow}
-use Rattle.sql_model.specs.Tables.{is_valid_table, is_database}
-use Rattle.sql_model.proofs.WorkedTables.{table_row, columns_of_t, table_t}
+use Rattle.sql_model.specs.Types.{Null, Int, Text, Column, Schema, Table, TableRow}
+use Rattle.sql_model.specs.Tables.{key_places_test, places_named, schema_test, is_valid_table, is_database, tables_test}
+use Rattle.sql_model.proofs.WorkedTables.{table_column, table_row, columns_of_t, table_t}
 
 -- the table t with other rows
 abbrev table_of : List TableRow → Table
@@ -30,3 +28,40 @@ text_for_number = refl
 
 name_twice : is_database (table_t 5 ∷ table_t 5 ∷ []) ≡ false
 name_twice = refl
+
+-- ---- schemas
+
+abbrev schema_of : List Column → List ℕ → Schema
+schema_of columns key = record { columns = columns; key = key }
+
+t_is_described : tables_test (table_t 5 ∷ []) ≡ true
+t_is_described = refl
+
+no_column : schema_test (schema_of [] []) ≡ false
+no_column = refl
+
+-- two columns of one name, though of different kinds
+column_twice : schema_test (schema_of (table_column (codes "a") false false ∷ table_column (codes "a") true false ∷ []) []) ≡ false
+column_twice = refl
+
+reserved_name : schema_test (schema_of (table_column (codes "key") false false ∷ table_column (codes "order") false false ∷ []) []) ≡ false
+reserved_name = refl
+
+key_of_a_column : schema_test (schema_of columns_of_t (0 ∷ [])) ≡ true
+key_of_a_column = refl
+
+key_place_outside : schema_test (schema_of columns_of_t (3 ∷ [])) ≡ false
+key_place_outside = refl
+
+key_place_twice : schema_test (schema_of columns_of_t (0 ∷ 0 ∷ [])) ≡ false
+key_place_twice = refl
+
+key_may_be_null : schema_test (schema_of columns_of_t (1 ∷ [])) ≡ false
+key_may_be_null = refl
+
+-- keys by names
+key_names : places_named columns_of_t (codes "v" ∷ codes "k" ∷ []) ≡ 2 ∷ 0 ∷ []
+key_names = refl
+
+unknown_key_name : key_places_test columns_of_t (places_named columns_of_t (codes "z" ∷ [])) ≡ false
+unknown_key_name = refl

@@ -1,7 +1,6 @@
 -- Refusals by the statement and the schemas alone, tried at the table t.
 use Rattle.std.specs.Prelude.{◌≡◌, refl, [], ◌∷◌, Some, None, codes}
-use Rattle.sql_model.specs.declared.catalog.Catalog.{Catalog}
-use Rattle.sql_model.specs.declared.reply.SqlRefusal.TheVariants.{NoTable, NoColumn}
+use Rattle.sql_model.specs.Types.{Catalog, NoTable, NoColumn}
 use Rattle.sql_model.specs.Refusals.{check_refusal}
 use Rattle.sql_model.specs.Scope.{catalog_of}
 use Rattle.sql_model.proofs.Folds.{fold-Column}

@@ -1,20 +1,7 @@
 -- Tables and statements of which the definitions are tried.
 use Rattle.std.specs.Prelude.{ℕ, List, [], ◌∷◌, Bool, true, false, Option, Some, None, pos, codes}
-use Rattle.ldv_value.specs.declared.value.Cmp.{Cmp}
-use Rattle.ldv_value.specs.declared.value.Value.{Value}
-use Rattle.ldv_value.specs.declared.value.Value.TheVariants.{Null, Int, Text}
-use Rattle.sql_model.specs.declared.expr.ColumnName.{ColumnName}
-use Rattle.sql_model.specs.declared.expr.Expr.{Expr}
+use Rattle.sql_model.specs.Types.{Cmp, Value, Null, Int, Text, ColumnName, Expr, Compare, Core, FromItem, Item, Statement, TheQuery, Column as TableColumn, Table, TableRow}
 use Rattle.sql_model.specs.declared.expr.Expr.TheVariants.{Constant, Column, Both}
-use Rattle.sql_model.specs.declared.expr.Operator.TheVariants.{Compare}
-use Rattle.sql_model.specs.declared.statement.Core.{Core}
-use Rattle.sql_model.specs.declared.statement.FromItem.{FromItem}
-use Rattle.sql_model.specs.declared.statement.Item.{Item}
-use Rattle.sql_model.specs.declared.statement.Statement.{Statement}
-use Rattle.sql_model.specs.declared.statement.Statement.TheVariants.{Query as TheQuery}
-use Rattle.sql_model.specs.declared.table.Column.{Column as TableColumn}
-use Rattle.sql_model.specs.declared.table.Table.{Table}
-use Rattle.sql_model.specs.declared.table.TableRow.{TableRow}
 
 -- ---- the table t: k INT NOT NULL, g TEXT, v INT, key k
 

@@ -1,10 +1,7 @@
 -- The statements that can be run so far: `SELECT * FROM t` with any WHERE, and a text that is no statement,
 -- which is refused. This file goes when all statements are run.
 use Rattle.std.specs.Prelude.{List, [], ◌∷◌, Bool, true, false, not, ◌&&◌, Option, Some, None, is_none}
-use Rattle.sql_model.specs.declared.statement.Core.{Core}
-use Rattle.sql_model.specs.declared.statement.Query.{Query}
-use Rattle.sql_model.specs.declared.statement.Statement.{Statement}
-use Rattle.sql_model.specs.declared.statement.Statement.TheVariants.{Query as TheQuery, Insert as TheInsert, Update as TheUpdate, Delete as TheDelete}
+use Rattle.sql_model.specs.Types.{Core, Query, Statement, TheQuery, TheInsert, TheUpdate, TheDelete}
 
 abbrev pub has_none : {A : Type 0} → List A → Bool
 has_none [] = true
@@ -20,7 +17,9 @@ has_at_most_one (x ∷ xs) = has_none xs
 
 -- `*` of one source, with no DISTINCT, GROUP BY or HAVING. Its one condition is that of WHERE
 abbrev pub is_built_core : Core → Bool
-is_built_core core = not core.distinct && is_none core.items && has_one core.from && has_none core.group && is_none core.having && has_at_most_one core.picks
+is_built_core core =
+    not core.distinct && is_none core.items && has_one core.from && has_none core.group && is_none core.having
+    && has_at_most_one core.picks
 
 abbrev pub is_built_union : List Core → Bool
 is_built_union [] = false

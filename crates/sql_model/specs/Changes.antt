@@ -1,24 +1,15 @@
 -- What INSERT, UPDATE and DELETE make of their table, and what the rows refuse.
-use Rattle.std.specs.Prelude.{ℕ, ◌+◌, List, [], ◌∷◌, ◌++◌, map, find, filter, zip, length, Bool, false, not, ◌&&◌, nat_lt, if◌then◌else◌, Option, Some, None, option_map, option_to_list}
+use Rattle.std.specs.Prelude.{ℕ, ◌+◌, List, [], ◌∷◌, ◌++◌, map, find, filter, zip, length, Bool, false, not}
+use Rattle.std.specs.Prelude.{◌&&◌, nat_lt, if◌then◌else◌, Option, Some, None, option_map, option_to_list}
 use Rattle.std.specs.List.{list_any}
-use Rattle.ldv_value.specs.declared.value.Value.{Value}
-use Rattle.sql_model.specs.declared.catalog.Catalog.{Catalog}
-use Rattle.sql_model.specs.declared.expr.Expr.{Expr}
-use Rattle.sql_model.specs.declared.reply.SqlRefusal.{SqlRefusal}
-use Rattle.sql_model.specs.declared.reply.SqlRefusal.TheVariants.{NotNull, KeyTaken, Full}
-use Rattle.sql_model.specs.declared.statement.Delete.{Delete}
-use Rattle.sql_model.specs.declared.statement.Insert.{Insert}
-use Rattle.sql_model.specs.declared.statement.Set.{Set}
-use Rattle.sql_model.specs.declared.statement.Statement.{Statement}
-use Rattle.sql_model.specs.declared.statement.Statement.TheVariants.{Query as TheQuery, Insert as TheInsert, Update as TheUpdate, Delete as TheDelete}
-use Rattle.sql_model.specs.declared.statement.Update.{Update}
-use Rattle.sql_model.specs.declared.table.Column.{Column}
-use Rattle.sql_model.specs.declared.table.Table.{Table}
-use Rattle.sql_model.specs.declared.table.TableRow.{TableRow}
-use Rattle.sql_model.specs.Answers.{meets_all}
+use Rattle.ldv_value.specs.Limits.{max_next}
+use Rattle.sql_model.specs.Types.{Value, Catalog, Expr, SqlRefusal, NotNull, KeyTaken, Full, Delete, Insert}
+use Rattle.sql_model.specs.Types.{Set, Statement, TheQuery, TheInsert, TheUpdate, TheDelete, Update, Column}
+use Rattle.sql_model.specs.Types.{Table, TableRow}
+use Rattle.sql_model.specs.QueryAnswer.{meets_all}
 use Rattle.sql_model.specs.Keys.{same_values, values_at}
 use Rattle.sql_model.specs.Scope.{InScope, same_text, is_table, table_at, own_scope, environment}
-use Rattle.sql_model.specs.Sense.{Environment, sense, is_null, or_null}
+use Rattle.sql_model.specs.Meaning.{Environment, eval, is_null, or_null}
 
 -- ---- rows that match
 
@@ -33,7 +24,7 @@ matched_in scope pick rows = filter (is_matched scope pick) rows
 
 -- of an expression that names no column
 abbrev pub plain_value : Expr → Value
-plain_value expr = (sense expr (environment [] [] ∷ [])).value
+plain_value expr = (eval expr (environment [] [] ∷ [])).value
 
 abbrev pub is_given : List ℕ → List ℕ × Expr → Bool
 is_given name given = same_text given.0 name
@@ -64,17 +55,24 @@ sets_column column set = same_text set.column column.name
 
 abbrev pub value_set : Option Set → Environment → Value → Value
 value_set None env old = old
-value_set (Some set) env old = (sense set.expr (env ∷ [])).value
+value_set (Some set) env old = (eval set.expr (env ∷ [])).value
 
 -- all new values are computed from the old row
 abbrev pub updated_value : List Set → Environment → Column × Value → Value
 updated_value sets env old = value_set (find (sets_column old.0) sets) env old.1
 
 abbrev pub updated_values : List InScope → List Set → List Column → List Value → List Value
-updated_values scope sets columns values = map (updated_value sets (environment scope values)) (zip columns values)
+updated_values scope sets columns values =
+    map (updated_value sets (environment scope values)) (zip columns values)
 
 abbrev pub updated_row : List InScope → Update → List Column → TableRow → TableRow
-updated_row scope update columns row = record { number = row.number; values = updated_values scope update.sets columns row.values }
+updated_row scope update columns row =
+    record { number = row.number; values = updated_values scope update.sets columns row.values }
+
+-- a row that doesn't match stays as it is
+abbrev pub update_one : List InScope → Update → List Column → TableRow → TableRow
+update_one scope update columns row =
+    if is_matched scope update.pick row then updated_row scope update columns row else row
 
 -- ---- the table after
 
@@ -82,13 +80,16 @@ abbrev pub with_rows : Table → List TableRow → ℕ → Table
 with_rows table rows next = record { name = table.name; schema = table.schema; rows = rows; next = next }
 
 abbrev pub after_insert : Insert → Table → Table
-after_insert insert table = with_rows table (table.rows ++ inserted insert table) (table.next + length insert.rows)
+after_insert insert table =
+    with_rows table (table.rows ++ inserted insert table) (table.next + length insert.rows)
 
 abbrev pub after_update : List InScope → Update → Table → Table
-after_update scope update table = with_rows table (map (λ row. if is_matched scope update.pick row then updated_row scope update table.schema.columns row else row) table.rows) table.next
+after_update scope update table =
+    with_rows table (map (update_one scope update table.schema.columns) table.rows) table.next
 
 abbrev pub after_delete : List InScope → Delete → Table → Table
-after_delete scope delete table = with_rows table (filter (λ row. not (is_matched scope delete.pick row)) table.rows) table.next
+after_delete scope delete table =
+    with_rows table (filter (λ row. not (is_matched scope delete.pick row)) table.rows) table.next
 
 abbrev pub changed : Statement → Catalog → Table → Table
 changed (TheQuery query) catalog table = table
@@ -109,7 +110,8 @@ table_of (Some name) db = table_at name db
 
 abbrev pub changed_in : Option (List ℕ) → Statement → Catalog → List Table → List Table
 changed_in None statement catalog db = db
-changed_in (Some name) statement catalog db = map (λ table. if is_table name table then changed statement catalog table else table) db
+changed_in (Some name) statement catalog db =
+    map (λ table. if is_table name table then changed statement catalog table else table) db
 
 -- ---- the rows that a statement changes
 
@@ -124,7 +126,9 @@ matched (TheDelete delete) catalog table = matched_in (own_scope delete.table ca
 abbrev pub new_rows : Statement → Catalog → Table → List TableRow
 new_rows (TheQuery query) catalog table = []
 new_rows (TheInsert insert) catalog table = inserted insert table
-new_rows (TheUpdate update) catalog table = map (updated_row (own_scope update.table catalog) update table.schema.columns) (matched (TheUpdate update) catalog table)
+new_rows (TheUpdate update) catalog table =
+    map (updated_row (own_scope update.table catalog) update table.schema.columns)
+    (matched (TheUpdate update) catalog table)
 new_rows (TheDelete delete) catalog table = []
 
 -- ---- code 5
@@ -136,7 +140,8 @@ abbrev pub has_null : List Column → TableRow → Bool
 has_null columns row = list_any refuses_null (zip columns row.values)
 
 abbrev pub lacks_value : Statement → Catalog → Table → Bool
-lacks_value statement catalog table = list_any (has_null table.schema.columns) (new_rows statement catalog table)
+lacks_value statement catalog table =
+    list_any (has_null table.schema.columns) (new_rows statement catalog table)
 
 -- ---- code 6
 
@@ -154,7 +159,8 @@ clash_or (Some earlier) row next = Some (record { earlier = earlier; later = row
 
 abbrev pub clash_after : List ℕ → List TableRow → List TableRow → Option KeyClash
 clash_after key before [] = None
-clash_after key before (row ∷ rows) = clash_or (find (shares_key key row) before) row (clash_after key (before ++ row ∷ []) rows)
+clash_after key before (row ∷ rows) =
+    clash_or (find (shares_key key row) before) row (clash_after key (before ++ row ∷ []) rows)
 
 abbrev pub clash_by : List ℕ → List TableRow → Option KeyClash
 clash_by [] rows = None
@@ -172,7 +178,7 @@ key_refusal table (Some clash) = Some (KeyTaken table.name (values_at table.sche
 
 abbrev pub is_full : Statement → Table → Bool
 is_full (TheQuery query) table = false
-is_full (TheInsert insert) table = nat_lt 4294967295 (table.next + length insert.rows)
+is_full (TheInsert insert) table = nat_lt max_next (table.next + length insert.rows)
 is_full (TheUpdate update) table = false
 is_full (TheDelete delete) table = false
 
@@ -188,4 +194,7 @@ refusal_if b refusal = if b then Some refusal else None
 -- what a statement's change of its table refuses
 abbrev pub change_refusal : Statement → Catalog → Option Table → Option SqlRefusal
 change_refusal statement catalog None = None
-change_refusal statement catalog (Some table) = or_else (refusal_if (lacks_value statement catalog table) NotNull) (or_else (key_refusal table (key_clash (changed statement catalog table))) (refusal_if (is_full statement table) Full))
+change_refusal statement catalog (Some table) =
+    or_else (refusal_if (lacks_value statement catalog table) NotNull)
+    (or_else (key_refusal table (key_clash (changed statement catalog table)))
+    (refusal_if (is_full statement table) Full))

@@ -1,7 +1,6 @@
 -- The code of each refusal.
 use Rattle.std.specs.Prelude.{ℕ}
-use Rattle.sql_model.specs.declared.reply.SqlRefusal.{SqlRefusal}
-use Rattle.sql_model.specs.declared.reply.SqlRefusal.TheVariants.{Syntax, NoTable, NoColumn, TypeClash, NotNull, KeyTaken, Full}
+use Rattle.sql_model.specs.Types.{SqlRefusal, Syntax, NoTable, NoColumn, TypeClash, NotNull, KeyTaken, Full}
 
 abbrev pub code_of : SqlRefusal → ℕ
 code_of Syntax = 1

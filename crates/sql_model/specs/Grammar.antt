@@ -15,7 +15,7 @@ use Rattle.sql_model.specs.declared.expr.Operator.TheVariants.{Add, Subtract, Mu
 use Rattle.sql_model.specs.SqlNames.{sql_name_test}
 use Rattle.sql_model.specs.declared.token.Token.{Token}
 use Rattle.sql_model.specs.declared.token.Token.TheVariants.{Word, Number, Quoted, Given}
-use Rattle.sql_model.specs.Operators.{operator_level, operator_left, right_of}
+use Rattle.sql_model.specs.Levels.{operator_level, operator_left, right_of}
 
 abbrev pub word : String → Token
 word s = Word (codes s)

@@ -4,7 +4,7 @@ use Rattle.std.specs.Prelude.{◌≡◌, ◌≢◌, ◌⊎◌, ℕ, ◌+◌, ◌
 use Rattle.std.specs.List.{AllByRecursion}
 use Rattle.sql_model.specs.declared.token.Token.{Token}
 use Rattle.sql_model.specs.declared.token.Token.TheVariants.{Word, Number, Quoted, Given}
-use Rattle.sql_model.specs.Tokens.{is_blank, is_digit, is_letter, folded}
+use Rattle.sql_model.specs.TextBytes.{is_blank, is_digit, is_letter, folded}
 
 abbrev pub AreBlanks : List ℕ → Type 0
 AreBlanks = AllByRecursion (λ b. IsTrue (is_blank b))

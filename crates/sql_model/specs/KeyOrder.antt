@@ -6,9 +6,7 @@ use Rattle.std.specs.Cmp.{IsTotalOrder, int_cmp_total, on_total}
 use Rattle.std.specs.Cmp.Lexicographic.{slice_cmp, lists_total, nat_list_cmp_total}
 use Rattle.std.specs.Ordering.{ordering_reverse}
 use Rattle.ldv_value.specs.Order.{order}
-use Rattle.ldv_value.specs.declared.value.Value.{Value}
-use Rattle.ldv_value.specs.declared.value.Value.TheVariants.{Null, Int, Text}
-use Rattle.sql_model.specs.declared.key.RowKey.{RowKey}
+use Rattle.sql_model.specs.Types.{Value, Null, Int, Text, RowKey}
 
 order_antisymm : (x y : Value) → order x y ≡ ordering_reverse (order y x)
 order_antisymm Null Null = refl

@@ -1,19 +1,12 @@
 -- The kind of an expression, or none where kinds clash inside it, and the columns that it names.
-use Rattle.std.specs.Prelude.{ℕ, List, [], ◌∷◌, ◌++◌, find, Bool, true, false, ◌&&◌, ◌||◌, not, if◌then◌else◌, Option, Some, None, option_and_then, option_map}
-use Rattle.ldv_value.specs.declared.value.Value.{Value}
-use Rattle.ldv_value.specs.declared.value.Value.TheVariants.{Null, Int, Text}
-use Rattle.sql_model.specs.declared.expr.ColumnName.{ColumnName}
-use Rattle.sql_model.specs.declared.expr.Operator.{Operator}
-use Rattle.sql_model.specs.declared.expr.Operator.TheVariants.{Add, Subtract, Multiply, Compare, And, Or}
-use Rattle.sql_model.specs.declared.expr.Fold.{Fold}
+use Rattle.std.specs.Prelude.{ℕ, List, [], ◌∷◌, ◌++◌, find, Bool, true, false, ◌&&◌, ◌||◌, not, if◌then◌else◌}
+use Rattle.std.specs.Prelude.{Option, Some, None, option_and_then, option_map}
+use Rattle.sql_model.specs.Types.{Value, Null, Int, Text, ColumnName, Operator, Add, Subtract, Multiply}
+use Rattle.sql_model.specs.Types.{Compare, And, Or, Fold, Expr, Expr-F, Kind, IntKind, TextKind, AnyKind}
+use Rattle.sql_model.specs.Types.{TruthKind, Column}
 use Rattle.sql_model.specs.declared.expr.Fold.TheVariants.{Count, Sum, Min, Max}
-use Rattle.sql_model.specs.declared.expr.Expr.{Expr}
-use Rattle.sql_model.specs.declared.expr.Expr.TheOpen.{Expr-F}
 use Rattle.sql_model.specs.declared.expr.Expr.TheOpen as open_expr
 use Rattle.sql_model.specs.declared.expr.Expr.TheFolds.{fold-Expr}
-use Rattle.sql_model.specs.declared.kind.Kind.{Kind}
-use Rattle.sql_model.specs.declared.kind.Kind.TheVariants.{Int as IntKind, Text as TextKind, Any as AnyKind, Truth as TruthKind}
-use Rattle.sql_model.specs.declared.table.Column.{Column}
 use Rattle.sql_model.specs.Scope.{InScope, is_meant}
 
 abbrev pub kind_of_value : Value → Kind
@@ -63,30 +56,36 @@ kind_both (Compare c) a b = kind_if (comparable a b) TruthKind
 kind_both And a b = kind_if (is_logical a && is_logical b) TruthKind
 kind_both Or a b = kind_if (is_logical a && is_logical b) TruthKind
 
--- of an aggregate by the kind of its argument
+-- of an aggregate, by the kind of its argument
 abbrev pub folded_kind : Fold → Kind → Option Kind
 folded_kind Count k = kind_if (not (is_logical k)) IntKind
 folded_kind Sum k = kind_if (is_number k) IntKind
 folded_kind Min k = kind_if (not (is_logical k)) k
 folded_kind Max k = kind_if (not (is_logical k)) k
 
--- COUNT alone goes without an argument
+-- only COUNT may have no argument
 abbrev pub counted_kind : Fold → Option Kind
 counted_kind Count = Some IntKind
 counted_kind Sum = None
 counted_kind Min = None
 counted_kind Max = None
 
--- over groups an aggregate may stand, and its argument stands over rows
+-- over groups an aggregate is allowed, and its argument is over rows
 abbrev pub kind_step : List InScope → Expr-F (Bool → Option Kind) → Bool → Option Kind
 kind_step scope (open_expr.Constant v) over_groups = Some (kind_of_value v)
-kind_step scope (open_expr.Column c) over_groups = option_map (λ entry. kind_of_column entry.column) (find (is_meant c) scope)
-kind_step scope (open_expr.Negate e) over_groups = option_and_then (λ k. kind_if (is_number k) IntKind) (e over_groups)
-kind_step scope (open_expr.Not e) over_groups = option_and_then (λ k. kind_if (is_logical k) TruthKind) (e over_groups)
-kind_step scope (open_expr.Both op a b) over_groups = option_and_then (λ k. option_and_then (kind_both op k) (b over_groups)) (a over_groups)
-kind_step scope (open_expr.IsNull e negative) over_groups = option_and_then (λ k. kind_if (not (is_logical k)) TruthKind) (e over_groups)
+kind_step scope (open_expr.Column c) over_groups =
+    option_map (λ entry. kind_of_column entry.column) (find (is_meant c) scope)
+kind_step scope (open_expr.Negate e) over_groups =
+    option_and_then (λ k. kind_if (is_number k) IntKind) (e over_groups)
+kind_step scope (open_expr.Not e) over_groups =
+    option_and_then (λ k. kind_if (is_logical k) TruthKind) (e over_groups)
+kind_step scope (open_expr.Both op a b) over_groups =
+    option_and_then (λ k. option_and_then (kind_both op k) (b over_groups)) (a over_groups)
+kind_step scope (open_expr.IsNull e negative) over_groups =
+    option_and_then (λ k. kind_if (not (is_logical k)) TruthKind) (e over_groups)
 kind_step scope (open_expr.Aggregate f None) over_groups = if over_groups then counted_kind f else None
-kind_step scope (open_expr.Aggregate f (Some e)) over_groups = if over_groups then option_and_then (folded_kind f) (e false) else None
+kind_step scope (open_expr.Aggregate f (Some e)) over_groups =
+    if over_groups then option_and_then (folded_kind f) (e false) else None
 
 abbrev pub kind : List InScope → Expr → Bool → Option Kind
 kind scope = fold-Expr (Bool → Option Kind) (kind_step scope)
@@ -102,6 +101,21 @@ group_kind scope e = kind scope e true
 abbrev pub is_condition : Option Kind → Bool
 is_condition None = false
 is_condition (Some k) = is_logical k
+
+-- ---- values of a kind
+
+-- a number, a text, or NULL, which every kind has; of a truth the value isn't looked at
+abbrev pub is_of_kind : Kind → Value → Bool
+is_of_kind IntKind Null = true
+is_of_kind IntKind (Int n) = true
+is_of_kind IntKind (Text t) = false
+is_of_kind TextKind Null = true
+is_of_kind TextKind (Int n) = false
+is_of_kind TextKind (Text t) = true
+is_of_kind AnyKind Null = true
+is_of_kind AnyKind (Int n) = false
+is_of_kind AnyKind (Text t) = false
+is_of_kind TruthKind v = true
 
 -- ---- names
 
@@ -167,10 +181,12 @@ counting_step (open_expr.Constant v) = counting false false
 counting_step (open_expr.Column c) = counting true false
 counting_step (open_expr.Negate e) = e
 counting_step (open_expr.Not e) = e
-counting_step (open_expr.Both op a b) = counting (a.names_column || b.names_column) (a.counts_rows || b.counts_rows)
+counting_step (open_expr.Both op a b) =
+    counting (a.names_column || b.names_column) (a.counts_rows || b.counts_rows)
 counting_step (open_expr.IsNull e negative) = e
 counting_step (open_expr.Aggregate f None) = counting false true
-counting_step (open_expr.Aggregate f (Some e)) = counting e.names_column (e.counts_rows || fold_counts f e.names_column)
+counting_step (open_expr.Aggregate f (Some e)) =
+    counting e.names_column (e.counts_rows || fold_counts f e.names_column)
 
 abbrev pub counting_of : Expr → Counting
 counting_of = fold-Expr Counting counting_step

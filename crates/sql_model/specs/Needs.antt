@@ -2,23 +2,15 @@
 -- What it makes of them: versions of rows.
 --
 -- A row that is needed by several rules has the first of them.
-use Rattle.std.specs.Prelude.{ℕ, ◌+◌, List, [], ◌∷◌, ◌++◌, map, filter, Bool, false, not, ◌&&◌, ◌||◌, ◌==◌, if◌then◌else◌, Option, Some, None}
+use Rattle.std.specs.Prelude.{ℕ, ◌+◌, List, [], ◌∷◌, ◌++◌, map, filter, Bool, false, not, ◌&&◌, ◌||◌, ◌==◌}
+use Rattle.std.specs.Prelude.{if◌then◌else◌, Option, Some, None}
 use Rattle.std.specs.List.{flat_map, list_any, list_all}
 use Rattle.std.specs.Ordering.{nat_cmp, is_lt}
 use Rattle.std.specs.Cmp.Lexicographic.{slice_cmp}
-use Rattle.sql_model.specs.declared.catalog.Catalog.{Catalog}
-use Rattle.sql_model.specs.declared.need.Member.{Member}
-use Rattle.sql_model.specs.declared.need.Rule.{Rule}
-use Rattle.sql_model.specs.declared.need.Rule.TheVariants.{L, H, K}
-use Rattle.sql_model.specs.declared.reply.SqlRefusal.{SqlRefusal}
-use Rattle.sql_model.specs.declared.reply.SqlRefusal.TheVariants.{Syntax, NoTable, NoColumn, TypeClash, NotNull, KeyTaken, Full}
-use Rattle.sql_model.specs.declared.statement.Core.{Core}
-use Rattle.sql_model.specs.declared.statement.Query.{Query}
-use Rattle.sql_model.specs.declared.statement.Statement.{Statement}
-use Rattle.sql_model.specs.declared.statement.Statement.TheVariants.{Query as TheQuery, Insert as TheInsert, Update as TheUpdate, Delete as TheDelete}
-use Rattle.sql_model.specs.declared.table.Table.{Table}
-use Rattle.sql_model.specs.declared.table.TableRow.{TableRow}
-use Rattle.sql_model.specs.Answers.{Origin, lineage_of, rejected, answer, cut}
+use Rattle.sql_model.specs.Types.{Catalog, Member, Rule, L, H, K, SqlRefusal, Syntax, NoTable, NoColumn}
+use Rattle.sql_model.specs.Types.{TypeClash, NotNull, KeyTaken, Full, Core, Query, Statement, TheQuery}
+use Rattle.sql_model.specs.Types.{TheInsert, TheUpdate, TheDelete, Table, TableRow}
+use Rattle.sql_model.specs.QueryAnswer.{Origin, lineage_of, rejected, answer, cut}
 use Rattle.sql_model.specs.Changes.{KeyClash, key_clash, changed, matched, inserted}
 use Rattle.sql_model.specs.Refusals.{tables_of, groups}
 use Rattle.sql_model.specs.Scope.{same_text, is_table, catalog_of}
@@ -36,24 +28,30 @@ needed_row rule table row = record { table = table; row = row; rule = rule }
 abbrev pub needed_by : Rule → Origin → NeededRow
 needed_by rule origin = needed_row rule origin.table origin.row
 
--- ---- rising lists of needed rows
+-- ---- sorted lists of needed rows
 
 abbrev pub is_same_row : NeededRow → NeededRow → Bool
 is_same_row a b = same_text a.table b.table && a.row == b.row
 
 -- by table, then by number
 abbrev pub is_earlier_row : NeededRow → NeededRow → Bool
-is_earlier_row a b = if same_text a.table b.table then is_lt (nat_cmp a.row b.row) else is_lt (slice_cmp nat_cmp a.table b.table)
+is_earlier_row a b =
+    if same_text a.table b.table
+    then is_lt (nat_cmp a.row b.row)
+    else is_lt (slice_cmp nat_cmp a.table b.table)
 
 -- in its place, and in place of the same row
 abbrev pub put_row : NeededRow → List NeededRow → List NeededRow
 put_row n [] = n ∷ []
-put_row n (m ∷ ms) = if is_same_row n m then n ∷ ms else (if is_earlier_row n m then n ∷ m ∷ ms else m ∷ put_row n ms)
+put_row n (m ∷ ms) =
+    if is_same_row n m then n ∷ ms
+    else if is_earlier_row n m then n ∷ m ∷ ms
+    else m ∷ put_row n ms
 
--- rising, each row once, with the rule that it has first
-abbrev pub rising_rows : List NeededRow → List NeededRow
-rising_rows [] = []
-rising_rows (n ∷ ns) = put_row n (rising_rows ns)
+-- sorted, each row once, with the first rule that it has
+abbrev pub sorted_needs : List NeededRow → List NeededRow
+sorted_needs [] = []
+sorted_needs (n ∷ ns) = put_row n (sorted_needs ns)
 
 -- ---- rule L: the row is in the lineage of an answer row, or is matched
 
@@ -98,15 +96,18 @@ key_row table row = needed_row K table.name row.number
 
 abbrev pub key_rows : Statement → Catalog → Option Table → List NeededRow
 key_rows statement catalog None = []
-key_rows statement catalog (Some table) = map (key_row table) (filter (stood table) (clash_rows (key_clash (changed statement catalog table))))
+key_rows statement catalog (Some table) =
+    map (key_row table) (filter (stood table) (clash_rows (key_clash (changed statement catalog table))))
 
 -- ---- needs
 
 abbrev pub accepted_needs : Statement → List Table → List NeededRow
 accepted_needs (TheQuery query) db = lineage_rows query db ++ hidden_rows query db
 accepted_needs (TheInsert insert) db = []
-accepted_needs (TheUpdate update) db = matched_rows (TheUpdate update) (catalog_of db) (target (TheUpdate update) db)
-accepted_needs (TheDelete delete) db = matched_rows (TheDelete delete) (catalog_of db) (target (TheDelete delete) db)
+accepted_needs (TheUpdate update) db =
+    matched_rows (TheUpdate update) (catalog_of db) (target (TheUpdate update) db)
+accepted_needs (TheDelete delete) db =
+    matched_rows (TheDelete delete) (catalog_of db) (target (TheDelete delete) db)
 
 -- what the text, the schemas or the row limit refuse needs no row
 abbrev pub needs_by : Option SqlRefusal → Statement → List Table → List NeededRow
@@ -116,14 +117,16 @@ needs_by (Some NoTable) statement db = []
 needs_by (Some NoColumn) statement db = []
 needs_by (Some TypeClash) statement db = []
 needs_by (Some NotNull) statement db = matched_rows statement (catalog_of db) (target statement db)
-needs_by (Some (KeyTaken table key)) statement db = matched_rows statement (catalog_of db) (target statement db) ++ key_rows statement (catalog_of db) (target statement db)
+needs_by (Some (KeyTaken table key)) statement db =
+    matched_rows statement (catalog_of db) (target statement db)
+    ++ key_rows statement (catalog_of db) (target statement db)
 needs_by (Some Full) statement db = []
 
 abbrev pub needs_of_reading : Option Statement → List Table → List NeededRow
 needs_of_reading None db = []
-needs_of_reading (Some statement) db = rising_rows (needs_by (refusal_of (Some statement) db) statement db)
+needs_of_reading (Some statement) db = sorted_needs (needs_by (refusal_of (Some statement) db) statement db)
 
--- the rows that a reading needs, rising, each once
+-- the rows that a reading needs, sorted, each once
 unfoldable pub need_of : Option Statement → List Table → List NeededRow
 need_of statement db = needs_of_reading statement db
 
@@ -135,7 +138,7 @@ is_named statement table = list_any (λ name. is_table name table) (tables_of st
 abbrev pub table_name : Table → List ℕ
 table_name table = table.name
 
--- the names of the tables that are there and that a statement with a reading names, rising as the tables do
+-- the names of the tables that are there and that a statement with a reading names, sorted as the tables are
 abbrev pub asked_tables : Option Statement → List Table → List (List ℕ)
 asked_tables None db = []
 asked_tables (Some statement) db = map table_name (filter (is_named statement) db)
@@ -150,20 +153,24 @@ abbrev pub new_member : Table → TableRow → Member
 new_member table row = record { table = table.name; row = row.number; version = 0 }
 
 abbrev pub next_member : Versions → Table → TableRow → Member
-next_member versions table row = record { table = table.name; row = row.number; version = versions table.name row.number + 1 }
+next_member versions table row =
+    record { table = table.name; row = row.number; version = versions table.name row.number + 1 }
 
 -- INSERT makes version 0, and UPDATE and DELETE one more than the row's version
 abbrev pub members_made : Versions → Statement → Catalog → Option Table → List Member
 members_made versions statement catalog None = []
 members_made versions (TheQuery query) catalog (Some table) = []
 members_made versions (TheInsert insert) catalog (Some table) = map (new_member table) (inserted insert table)
-members_made versions (TheUpdate update) catalog (Some table) = map (next_member versions table) (matched (TheUpdate update) catalog table)
-members_made versions (TheDelete delete) catalog (Some table) = map (next_member versions table) (matched (TheDelete delete) catalog table)
+members_made versions (TheUpdate update) catalog (Some table) =
+    map (next_member versions table) (matched (TheUpdate update) catalog table)
+members_made versions (TheDelete delete) catalog (Some table) =
+    map (next_member versions table) (matched (TheDelete delete) catalog table)
 
 abbrev pub made_unless : Option SqlRefusal → Versions → Option Statement → List Table → List Member
 made_unless (Some refusal) versions statement db = []
 made_unless None versions None db = []
-made_unless None versions (Some statement) db = members_made versions statement (catalog_of db) (target statement db)
+made_unless None versions (Some statement) db =
+    members_made versions statement (catalog_of db) (target statement db)
 
 -- the versions that a statement makes, from those that the rows have; a refused one makes none
 unfoldable pub made_by : Versions → Option Statement → List Table → List Member
@@ -176,7 +183,8 @@ abbrev pub updated_in : Statement → Catalog → Option Table → List Origin
 updated_in statement catalog None = []
 updated_in (TheQuery query) catalog (Some table) = []
 updated_in (TheInsert insert) catalog (Some table) = []
-updated_in (TheUpdate update) catalog (Some table) = map (updated_origin table) (matched (TheUpdate update) catalog table)
+updated_in (TheUpdate update) catalog (Some table) =
+    map (updated_origin table) (matched (TheUpdate update) catalog table)
 updated_in (TheDelete delete) catalog (Some table) = []
 
 abbrev pub updated_unless : Option SqlRefusal → Option Statement → List Table → List Origin

@@ -1,17 +1,10 @@
 -- The places of a statement's columns, and what a check gives. All places count from 0.
 use Rattle.std.specs.Prelude.{ℕ, ◌-◌, List, [], ◌∷◌, ◌++◌, map, Option, Some, None, Result, Ok, Err}
 use Rattle.std.specs.List.{position_or_len}
-use Rattle.sql_model.specs.declared.catalog.Catalog.{Catalog}
-use Rattle.sql_model.specs.declared.catalog.Checked.{Checked}
-use Rattle.sql_model.specs.declared.reply.SqlRefusal.{SqlRefusal}
-use Rattle.sql_model.specs.declared.statement.Core.{Core}
-use Rattle.sql_model.specs.declared.statement.Order.{Order}
-use Rattle.sql_model.specs.declared.statement.OrderKey.{OrderKey}
-use Rattle.sql_model.specs.declared.statement.OrderKey.TheVariants.{Name, Place}
-use Rattle.sql_model.specs.declared.statement.Query.{Query}
-use Rattle.sql_model.specs.declared.statement.Statement.{Statement}
-use Rattle.sql_model.specs.declared.statement.Statement.TheVariants.{Query as TheQuery, Insert as TheInsert, Update as TheUpdate, Delete as TheDelete}
-use Rattle.sql_model.specs.Refusals.{core_names, update_names, delete_names, answer_titles, is_titled, check_refusal}
+use Rattle.sql_model.specs.Types.{Catalog, Checked, SqlRefusal, Core, Order, OrderKey, Name, Place, Query}
+use Rattle.sql_model.specs.Types.{Statement, TheQuery, TheInsert, TheUpdate, TheDelete}
+use Rattle.sql_model.specs.Refusals.{core_names, update_names, delete_names, answer_titles, is_titled}
+use Rattle.sql_model.specs.Refusals.{check_refusal}
 use Rattle.sql_model.specs.Scope.{scope_of, own_scope, places_in}
 
 -- the places of a core's column names in the joined row
@@ -28,7 +21,8 @@ order_places titles order = map (λ part. key_place titles part.key) order
 
 -- a list for each core, and one for ORDER BY
 abbrev pub query_places : Query → Catalog → List (List ℕ)
-query_places query catalog = map (core_places catalog) query.cores ++ order_places (answer_titles catalog query.cores) query.order ∷ []
+query_places query catalog =
+    map (core_places catalog) query.cores ++ order_places (answer_titles catalog query.cores) query.order ∷ []
 
 -- any other statement has one list, of places in the table's row; an INSERT that is accepted names no
 -- column in its values
@@ -39,13 +33,13 @@ places_of (TheUpdate update) catalog = places_in (own_scope update.table catalog
 places_of (TheDelete delete) catalog = places_in (own_scope delete.table catalog) (delete_names delete) ∷ []
 
 -- the statement with its places
-abbrev pub placed : Statement → Catalog → Checked
-placed statement catalog = record { statement = statement; places = places_of statement catalog }
+abbrev pub checked_statement : Statement → Catalog → Checked
+checked_statement statement catalog = record { statement = statement; places = places_of statement catalog }
 
-abbrev pub placed_unless : Option SqlRefusal → Statement → Catalog → Result Checked SqlRefusal
-placed_unless None statement catalog = Ok (placed statement catalog)
-placed_unless (Some refusal) statement catalog = Err refusal
+abbrev pub checked_unless : Option SqlRefusal → Statement → Catalog → Result Checked SqlRefusal
+checked_unless None statement catalog = Ok (checked_statement statement catalog)
+checked_unless (Some refusal) statement catalog = Err refusal
 
 -- what a check gives
 abbrev pub checked_of : Statement → Catalog → Result Checked SqlRefusal
-checked_of statement catalog = placed_unless (check_refusal statement catalog) statement catalog
+checked_of statement catalog = checked_unless (check_refusal statement catalog) statement catalog

@@ -1,31 +1,20 @@
--- What the statement and the schemas alone refuse: a table, a column or a kind that isn't as it must be.
+-- The refusals that only the statement and the schemas decide: a table, a column or a kind that isn't as it
+-- must be.
 --
 -- The three are tried in this order, each over the whole statement.
-use Rattle.std.specs.Prelude.{ℕ, List, [], ◌∷◌, ◌++◌, map, find, filter, zip, length, Bool, true, false, not, ◌&&◌, ◌||◌, ◌==◌, nat_le, if◌then◌else◌, Option, Some, None, is_none, is_some, option_map, option_and_then, option_to_list, unwrap_or, pos, negsuc}
+use Rattle.std.specs.Prelude.{ℕ, List, [], ◌∷◌, ◌++◌, map, find, filter, zip, length, Bool, true, false, not}
+use Rattle.std.specs.Prelude.{◌&&◌, ◌||◌, ◌==◌, nat_le, if◌then◌else◌, Option, Some, None, is_none, is_some}
+use Rattle.std.specs.Prelude.{option_map, option_and_then, option_to_list, unwrap_or, pos, negsuc}
 use Rattle.std.specs.List.{flat_map, list_any, list_all, range_with_len}
-use Rattle.ldv_value.specs.declared.value.Value.{Value}
-use Rattle.ldv_value.specs.declared.value.Value.TheVariants.{Null, Int, Text}
-use Rattle.sql_model.specs.declared.catalog.Catalog.{Catalog}
-use Rattle.sql_model.specs.declared.expr.ColumnName.{ColumnName}
-use Rattle.sql_model.specs.declared.expr.Expr.{Expr}
-use Rattle.sql_model.specs.declared.kind.Kind.{Kind}
-use Rattle.sql_model.specs.declared.kind.Kind.TheVariants.{Int as IntKind, Text as TextKind, Any as AnyKind, Truth as TruthKind}
-use Rattle.sql_model.specs.declared.reply.SqlRefusal.{SqlRefusal}
-use Rattle.sql_model.specs.declared.reply.SqlRefusal.TheVariants.{NoTable, NoColumn, TypeClash}
-use Rattle.sql_model.specs.declared.statement.Core.{Core}
-use Rattle.sql_model.specs.declared.statement.Delete.{Delete}
-use Rattle.sql_model.specs.declared.statement.Insert.{Insert}
-use Rattle.sql_model.specs.declared.statement.Item.{Item}
-use Rattle.sql_model.specs.declared.statement.OrderKey.{OrderKey}
-use Rattle.sql_model.specs.declared.statement.OrderKey.TheVariants.{Name, Place}
-use Rattle.sql_model.specs.declared.statement.Query.{Query}
-use Rattle.sql_model.specs.declared.statement.Set.{Set}
-use Rattle.sql_model.specs.declared.statement.Update.{Update}
-use Rattle.sql_model.specs.declared.statement.Statement.{Statement}
-use Rattle.sql_model.specs.declared.statement.Statement.TheVariants.{Query as TheQuery, Insert as TheInsert, Update as TheUpdate, Delete as TheDelete}
-use Rattle.sql_model.specs.declared.table.Column.{Column}
-use Rattle.sql_model.specs.Kinds.{kind_of_column, is_logical, comparable, row_kind, group_kind, is_condition, names_in, outer_names, has_aggregate, counting_of, own_name}
-use Rattle.sql_model.specs.Scope.{InScope, same_text, schema_at, columns_of, is_column, has_column, scope_of, own_scope, resolves, places_in}
+use Rattle.sql_model.specs.Types.{Value, Null, Int, Text, Catalog, ColumnName, Expr, Kind, IntKind, TextKind}
+use Rattle.sql_model.specs.Types.{AnyKind, TruthKind, SqlRefusal, NoTable, NoColumn, TypeClash, Core, Delete}
+use Rattle.sql_model.specs.Types.{Insert, Item, OrderKey, Name, Place, Query, Set, Update, Statement}
+use Rattle.sql_model.specs.Types.{TheQuery, TheInsert, TheUpdate, TheDelete, Column}
+use Rattle.sql_model.specs.Kinds.{kind_of_column, is_logical, comparable, row_kind, group_kind, is_condition}
+use Rattle.sql_model.specs.Kinds.{names_in, outer_names, has_aggregate, counting_of, own_name}
+use Rattle.sql_model.specs.Keys.{repeats}
+use Rattle.sql_model.specs.Scope.{InScope, same_text, schema_at, columns_of, is_column, has_column, scope_of}
+use Rattle.sql_model.specs.Scope.{own_scope, resolves, places_in}
 
 -- ---- parts of statements
 
@@ -51,29 +40,29 @@ items_of core = unwrap_or core.items []
 
 -- it has GROUP BY, HAVING, or an aggregate in an item
 abbrev pub groups : Core → Bool
-groups core = not (length core.group == 0) || (is_some core.having || list_any (λ item. has_aggregate item.expr) (items_of core))
+groups core =
+    not (length core.group == 0)
+    || (is_some core.having || list_any (λ item. has_aggregate item.expr) (items_of core))
 
 abbrev pub names_of_items : List Item → List ColumnName
 names_of_items items = flat_map (λ item. names_in item.expr) items
 
 -- the column names of a core: those of the items, of ON and WHERE, of GROUP BY and of HAVING
 abbrev pub core_names : Core → List ColumnName
-core_names core = names_of_items (items_of core) ++ (flat_map names_in core.picks ++ (core.group ++ flat_map names_in (option_to_list core.having)))
+core_names core =
+    names_of_items (items_of core)
+    ++ (flat_map names_in core.picks ++ (core.group ++ flat_map names_in (option_to_list core.having)))
 
 -- those of an UPDATE or DELETE
 abbrev pub update_names : Update → List ColumnName
-update_names update = flat_map (λ set. names_in set.expr) update.sets ++ flat_map names_in (option_to_list update.pick)
+update_names update =
+    flat_map (λ set. names_in set.expr) update.sets ++ flat_map names_in (option_to_list update.pick)
 
 abbrev pub delete_names : Delete → List ColumnName
 delete_names delete = flat_map names_in (option_to_list delete.pick)
 
 abbrev pub insert_names : Insert → List ColumnName
 insert_names insert = flat_map (flat_map names_in) insert.rows
-
--- a text that occurs twice
-abbrev pub doubled : List (List ℕ) → Bool
-doubled [] = false
-doubled (name ∷ names) = list_any (same_text name) names || doubled names
 
 -- ---- code 2
 
@@ -82,10 +71,11 @@ is_missing catalog name = is_none (schema_at name catalog)
 
 -- two sources of one core have the same name
 abbrev pub doubles_source : Core → Bool
-doubles_source core = doubled (map (λ item. item.name) core.from)
+doubles_source core = repeats same_text (map (λ item. item.name) core.from)
 
 abbrev pub lacks_table : Statement → Catalog → Bool
-lacks_table statement catalog = list_any (is_missing catalog) (tables_of statement) || list_any doubles_source (cores_of statement)
+lacks_table statement catalog =
+    list_any (is_missing catalog) (tables_of statement) || list_any doubles_source (cores_of statement)
 
 -- ---- code 3
 
@@ -107,7 +97,10 @@ is_grouped scope core place = list_any (λ p. p == place) (places_in scope core.
 
 -- in a core that groups, a column outside aggregates isn't in GROUP BY
 abbrev pub ungrouped : List InScope → Core → Bool
-ungrouped scope core = groups core && not (list_all (is_grouped scope core) (item_places scope core.items ++ having_places scope core.having))
+ungrouped scope core =
+    groups core
+    && not (list_all (is_grouped scope core)
+    (item_places scope core.items ++ having_places scope core.having))
 
 abbrev pub lacks_in_scope : List InScope → Core → Bool
 lacks_in_scope scope core = unresolved scope (core_names core) || ungrouped scope core
@@ -133,25 +126,32 @@ abbrev pub is_titled : List ℕ → Option (List ℕ) → Bool
 is_titled name None = false
 is_titled name (Some title) = same_text title name
 
--- the name of one answer column alone, or the number of one
+-- the name of exactly one answer column, or the number of one
 abbrev pub is_order_key : List (Option (List ℕ)) → OrderKey → Bool
 is_order_key titles (Name name) = length (filter (is_titled name) titles) == 1
 is_order_key titles (Place place) = nat_le 1 place && nat_le place (length titles)
 
 abbrev pub query_lacks_column : Query → Catalog → Bool
-query_lacks_column query catalog = list_any (core_lacks_column catalog) query.cores || not (list_all (λ order. is_order_key (answer_titles catalog query.cores) order.key) query.order)
+query_lacks_column query catalog =
+    list_any (core_lacks_column catalog) query.cores
+    || not (list_all (λ order. is_order_key (answer_titles catalog query.cores) order.key) query.order)
 
 -- VALUES has no scope
 abbrev pub insert_lacks_column : Insert → List Column → Bool
-insert_lacks_column insert columns = not (list_all (has_column columns) (unwrap_or insert.columns [])) || unresolved [] (insert_names insert)
+insert_lacks_column insert columns =
+    not (list_all (has_column columns) (unwrap_or insert.columns [])) || unresolved [] (insert_names insert)
 
 abbrev pub update_lacks_column : Update → List Column → List InScope → Bool
-update_lacks_column update columns scope = not (list_all (λ set. has_column columns set.column) update.sets) || unresolved scope (update_names update)
+update_lacks_column update columns scope =
+    not (list_all (λ set. has_column columns set.column) update.sets)
+    || unresolved scope (update_names update)
 
 abbrev pub lacks_column : Statement → Catalog → Bool
 lacks_column (TheQuery query) catalog = query_lacks_column query catalog
-lacks_column (TheInsert insert) catalog = insert_lacks_column insert (columns_of (schema_at insert.table catalog))
-lacks_column (TheUpdate update) catalog = update_lacks_column update (columns_of (schema_at update.table catalog)) (own_scope update.table catalog)
+lacks_column (TheInsert insert) catalog =
+    insert_lacks_column insert (columns_of (schema_at insert.table catalog))
+lacks_column (TheUpdate update) catalog =
+    update_lacks_column update (columns_of (schema_at update.table catalog)) (own_scope update.table catalog)
 lacks_column (TheDelete delete) catalog = unresolved (own_scope delete.table catalog) (delete_names delete)
 
 -- ---- code 4
@@ -166,14 +166,19 @@ is_having scope expr = is_condition (group_kind scope expr)
 abbrev pub counts : Expr → Bool
 counts expr = (counting_of expr).counts_rows
 
--- where there is more than one source, neither stands
+-- where there is more than one source, neither is allowed
 abbrev pub counts_joined : Core → Bool
-counts_joined core = nat_le 2 (length core.from) && (list_any (λ item. counts item.expr) (items_of core) || list_any counts (option_to_list core.having))
+counts_joined core =
+    nat_le 2 (length core.from)
+    && (list_any (λ item. counts item.expr) (items_of core)
+    || list_any counts (option_to_list core.having))
 
 abbrev pub conditions_fit : List InScope → Core → Bool
-conditions_fit scope core = list_all (is_pick scope) core.picks && (list_all (is_having scope) (option_to_list core.having) && not (counts_joined core))
+conditions_fit scope core =
+    list_all (is_pick scope) core.picks
+    && (list_all (is_having scope) (option_to_list core.having) && not (counts_joined core))
 
--- of a value that is answered, stored or inserted
+-- of a value that is in an answer, stored or inserted
 abbrev pub kind_of_item : Option Kind → Option Kind
 kind_of_item None = None
 kind_of_item (Some k) = if is_logical k then None else Some k
@@ -181,7 +186,9 @@ kind_of_item (Some k) = if is_logical k then None else Some k
 -- the kinds of all items, or none where one clashes
 abbrev pub kinds_of_items : List InScope → List Item → Option (List Kind)
 kinds_of_items scope [] = Some []
-kinds_of_items scope (item ∷ items) = option_and_then (λ k. option_map (λ ks. k ∷ ks) (kinds_of_items scope items)) (kind_of_item (group_kind scope item.expr))
+kinds_of_items scope (item ∷ items) =
+    option_and_then (λ k. option_map (λ ks. k ∷ ks) (kinds_of_items scope items))
+    (kind_of_item (group_kind scope item.expr))
 
 abbrev pub item_kinds : List InScope → Option (List Item) → Option (List Kind)
 item_kinds scope None = Some (map (λ entry. kind_of_column entry.column) scope)
@@ -207,16 +214,19 @@ union_kind TextKind TextKind = Some TextKind
 union_kind TextKind TruthKind = None
 union_kind TruthKind b = None
 
--- column by column, of as many
+-- column by column; None where the numbers of columns differ
 abbrev pub union_kinds : List Kind → List Kind → Option (List Kind)
 union_kinds [] [] = Some []
 union_kinds [] (b ∷ bs) = None
 union_kinds (a ∷ as_) [] = None
-union_kinds (a ∷ as_) (b ∷ bs) = option_and_then (λ k. option_map (λ ks. k ∷ ks) (union_kinds as_ bs)) (union_kind a b)
+union_kinds (a ∷ as_) (b ∷ bs) =
+    option_and_then (λ k. option_map (λ ks. k ∷ ks) (union_kinds as_ bs)) (union_kind a b)
 
 abbrev pub kinds_after : Catalog → Option (List Kind) → List Core → Option (List Kind)
 kinds_after catalog kinds [] = kinds
-kinds_after catalog kinds (core ∷ cores) = kinds_after catalog (option_and_then (λ ks. option_and_then (union_kinds ks) (core_kinds catalog core)) kinds) cores
+kinds_after catalog kinds (core ∷ cores) =
+    kinds_after catalog
+    (option_and_then (λ ks. option_and_then (union_kinds ks) (core_kinds catalog core)) kinds) cores
 
 -- the kinds of a query's columns, its cores taken from the left, or none where it clashes
 abbrev pub query_kinds : Catalog → List Core → Option (List Kind)
@@ -241,7 +251,7 @@ takes column (Some k) = comparable (kind_of_column column) k
 abbrev pub takes_value : Column × Expr → Bool
 takes_value pair = takes pair.0 (row_kind [] pair.1)
 
--- as many values as columns, each of the column's kind
+-- a value for each column, of the column's kind
 abbrev pub row_fits : List Column → List Expr → Bool
 row_fits columns exprs = length exprs == length columns && list_all takes_value (zip columns exprs)
 
@@ -255,7 +265,9 @@ target_columns None columns = columns
 target_columns (Some names) columns = columns_named columns names
 
 abbrev pub insert_clashes : Insert → List Column → Bool
-insert_clashes insert columns = doubled (unwrap_or insert.columns []) || not (list_all (row_fits (target_columns insert.columns columns)) insert.rows)
+insert_clashes insert columns =
+    repeats same_text (unwrap_or insert.columns [])
+    || not (list_all (row_fits (target_columns insert.columns columns)) insert.rows)
 
 abbrev pub takes_set : Option Column → Option Kind → Bool
 takes_set None k = false
@@ -268,15 +280,22 @@ abbrev pub pick_fits : List InScope → Option Expr → Bool
 pick_fits scope pick = list_all (is_pick scope) (option_to_list pick)
 
 abbrev pub update_clashes : Update → List Column → List InScope → Bool
-update_clashes update columns scope = doubled (map (λ set. set.column) update.sets) || not (list_all (set_fits columns scope) update.sets && pick_fits scope update.pick)
+update_clashes update columns scope =
+    repeats same_text (map (λ set. set.column) update.sets)
+    || not (list_all (set_fits columns scope) update.sets && pick_fits scope update.pick)
 
 abbrev pub clashes : Statement → Catalog → Bool
 clashes (TheQuery query) catalog = query_clashes query catalog
 clashes (TheInsert insert) catalog = insert_clashes insert (columns_of (schema_at insert.table catalog))
-clashes (TheUpdate update) catalog = update_clashes update (columns_of (schema_at update.table catalog)) (own_scope update.table catalog)
+clashes (TheUpdate update) catalog =
+    update_clashes update (columns_of (schema_at update.table catalog)) (own_scope update.table catalog)
 clashes (TheDelete delete) catalog = not (pick_fits (own_scope delete.table catalog) delete.pick)
 
 -- ---- the first of the three
 
 abbrev pub check_refusal : Statement → Catalog → Option SqlRefusal
-check_refusal statement catalog = if lacks_table statement catalog then Some NoTable else (if lacks_column statement catalog then Some NoColumn else (if clashes statement catalog then Some TypeClash else None))
+check_refusal statement catalog =
+    if lacks_table statement catalog then Some NoTable
+    else if lacks_column statement catalog then Some NoColumn
+    else if clashes statement catalog then Some TypeClash
+    else None

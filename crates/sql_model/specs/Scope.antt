@@ -1,17 +1,10 @@
 -- Tables and schemas by name, and which column a name means.
-use Rattle.std.specs.Prelude.{ℕ, List, [], ◌∷◌, map, find, filter, zip, length, Bool, true, ◌&&◌, ◌==◌, Option, Some, None, option_map, unwrap_or, nat_eq, slice_get}
+use Rattle.std.specs.Prelude.{ℕ, List, [], ◌∷◌, map, find, filter, zip, length, Bool, true, ◌&&◌, ◌==◌}
+use Rattle.std.specs.Prelude.{Option, Some, None, option_map, unwrap_or, nat_eq, slice_get}
 use Rattle.std.specs.List.{flat_map, list_any, position_or_len}
 use Rattle.std.specs.Cmp.Lexicographic.{pointwise}
-use Rattle.ldv_value.specs.declared.value.Value.{Value}
-use Rattle.ldv_value.specs.declared.value.Value.TheVariants.{Null}
-use Rattle.sql_model.specs.declared.catalog.Catalog.{Catalog}
-use Rattle.sql_model.specs.declared.expr.ColumnName.{ColumnName}
-use Rattle.sql_model.specs.declared.statement.FromItem.{FromItem}
-use Rattle.sql_model.specs.declared.table.Column.{Column}
-use Rattle.sql_model.specs.declared.table.Schema.{Schema}
-use Rattle.sql_model.specs.declared.table.Table.{Table}
-use Rattle.sql_model.specs.declared.table.TableRow.{TableRow}
-use Rattle.sql_model.specs.Sense.{Environment}
+use Rattle.sql_model.specs.Types.{Value, Null, Catalog, ColumnName, FromItem, Column, Schema, Table, TableRow}
+use Rattle.sql_model.specs.Meaning.{Environment}
 
 abbrev pub same_text : List ℕ → List ℕ → Bool
 same_text a b = pointwise nat_eq a b
@@ -64,7 +57,8 @@ pub record InScope : Type 0 where
   pub column : Column
 
 abbrev pub in_source : Catalog → FromItem → List InScope
-in_source catalog item = map (λ column. record { source = item.name; column = column }) (columns_of (schema_at item.table catalog))
+in_source catalog item =
+    map (λ column. record { source = item.name; column = column }) (columns_of (schema_at item.table catalog))
 
 -- the columns of the joined row, in FROM order
 abbrev pub scope_of : List FromItem → Catalog → List InScope
@@ -86,7 +80,7 @@ names_source (Some name) source = same_text source name
 abbrev pub is_meant : ColumnName → InScope → Bool
 is_meant c entry = same_text entry.column.name c.name && names_source c.table entry.source
 
--- one column alone is meant
+-- exactly one column is meant
 abbrev pub resolves : List InScope → ColumnName → Bool
 resolves scope c = length (filter (is_meant c) scope) == 1
 

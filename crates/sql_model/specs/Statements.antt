@@ -1,14 +1,8 @@
--- What a statement answers: its refusal, its reply and the database after it.
+-- What a statement gives: its refusal, its reply and the database after it.
 use Rattle.std.specs.Prelude.{ℕ, List, length, Option, Some, None}
-use Rattle.sql_model.specs.declared.catalog.Catalog.{Catalog}
-use Rattle.sql_model.specs.declared.reply.Reply.{Reply}
-use Rattle.sql_model.specs.declared.reply.Reply.TheVariants.{Rows, Changed, Refused}
-use Rattle.sql_model.specs.declared.reply.SqlRefusal.{SqlRefusal}
-use Rattle.sql_model.specs.declared.reply.SqlRefusal.TheVariants.{Syntax}
-use Rattle.sql_model.specs.declared.statement.Statement.{Statement}
-use Rattle.sql_model.specs.declared.statement.Statement.TheVariants.{Query as TheQuery, Insert as TheInsert, Update as TheUpdate, Delete as TheDelete}
-use Rattle.sql_model.specs.declared.table.Table.{Table}
-use Rattle.sql_model.specs.Answers.{answer_rows}
+use Rattle.sql_model.specs.Types.{Catalog, Reply, Rows, Changed, Refused, SqlRefusal, Syntax, Statement}
+use Rattle.sql_model.specs.Types.{TheQuery, TheInsert, TheUpdate, TheDelete, Table}
+use Rattle.sql_model.specs.QueryAnswer.{answer_rows}
 use Rattle.sql_model.specs.Changes.{target_of, table_of, changed_in, matched, or_else, change_refusal}
 use Rattle.sql_model.specs.Refusals.{check_refusal}
 use Rattle.sql_model.specs.Scope.{catalog_of}
@@ -22,7 +16,9 @@ target statement db = table_of (target_of statement) db
 -- the first cause that holds, in the order of the codes, over the whole statement
 abbrev pub refusal_of : Option Statement → List Table → Option SqlRefusal
 refusal_of None db = Some Syntax
-refusal_of (Some statement) db = or_else (check_refusal statement (catalog_of db)) (change_refusal statement (catalog_of db) (target statement db))
+refusal_of (Some statement) db =
+    or_else (check_refusal statement (catalog_of db))
+    (change_refusal statement (catalog_of db) (target statement db))
 
 -- ---- replies
 
@@ -34,15 +30,17 @@ matched_count statement catalog (Some table) = length (matched statement catalog
 abbrev pub accepted_reply : Statement → List Table → Reply
 accepted_reply (TheQuery query) db = Rows (answer_rows query db)
 accepted_reply (TheInsert insert) db = Changed (length insert.rows)
-accepted_reply (TheUpdate update) db = Changed (matched_count (TheUpdate update) (catalog_of db) (table_of (Some update.table) db))
-accepted_reply (TheDelete delete) db = Changed (matched_count (TheDelete delete) (catalog_of db) (table_of (Some delete.table) db))
+accepted_reply (TheUpdate update) db =
+    Changed (matched_count (TheUpdate update) (catalog_of db) (table_of (Some update.table) db))
+accepted_reply (TheDelete delete) db =
+    Changed (matched_count (TheDelete delete) (catalog_of db) (table_of (Some delete.table) db))
 
 abbrev pub reply_or : Option SqlRefusal → Option Statement → List Table → Reply
 reply_or (Some refusal) statement db = Refused refusal
 reply_or None None db = Refused Syntax
 reply_or None (Some statement) db = accepted_reply statement db
 
--- the reply to a reading, or to the want of one
+-- the reply to a statement, or to a text that is none
 unfoldable pub reply_of : Option Statement → List Table → Reply
 reply_of statement db = reply_or (refusal_of statement db) statement db
 

@@ -1,7 +1,7 @@
 //! Arithmetic on values: NULL where a side isn't a number, or the result is outside 64 bits.
 
 ghost use Rattle.std.specs.Prelude.{◌≡◌, ◌+ℤ◌, ◌-ℤ◌, ◌*ℤ◌, neg_ℤ};
-ghost use Rattle.sql_model.specs.Sense.{number_value, with_numbers};
+ghost use Rattle.sql_model.specs.Meaning.{number_value, with_numbers};
 ghost use Rattle.sql_model.specs.Evaluation.{number_or_null as number_given};
 
 use ldv_value::Value;

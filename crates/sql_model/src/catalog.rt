@@ -8,7 +8,7 @@ use crate::table::{Schemas, Table, Tables};
 use ldv_value::{CopyItem, List, Names, PlaceLists};
 use std::alloc::{AllocError, Global};
 
-/// The names of the tables, rising, and their schemas in the same order.
+/// The names of the tables, sorted, and their schemas in the same order.
 #[derive(Drop)]
 pub struct Catalog {
     pub names: Names,
@@ -26,7 +26,7 @@ pub struct Checked {
 }
 
 impl Catalog {
-    /// The names and schemas of tables, in their order. `AllocError` means want of memory alone.
+    /// The names and schemas of tables, in their order.
     pub fn of(alloc: Global, tables: &Tables) -> Result<Catalog, AllocError>
         ensures { IfOk result (λ catalog. catalog ≡ catalog_of tables.now) }
     {

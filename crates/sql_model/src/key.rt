@@ -91,8 +91,7 @@ fn compare_empty(values: &[Value]) -> Ordering
     }
 }
 
-/// The value of a row at a place, from 0; NULL where the row has none there. `AllocError` means want of
-/// memory alone.
+/// The value of a row at a place, from 0; NULL where the row has none there.
 pub fn value_at(alloc: Global, row: &Values, place: usize) -> Result<Value, AllocError>
     ensures { IfOk result (λ value. value ≡ value_at row.now place) }
 {

@@ -1,13 +1,13 @@
 //! The kinds of expressions.
 
-/// What an expression gives, whatever the rows are.
+/// The kind of an expression's values, which is the same for all rows.
 #[derive(Clone, Copy, Debug, PartialEq, Eq)]
 pub enum Kind {
     /// A number or NULL.
     Int,
     /// A text or NULL.
     Text,
-    /// NULL alone. It fits a number and a text.
+    /// Only NULL. It fits a number and a text.
     Any,
     /// A truth.
     Truth,

@@ -5,20 +5,23 @@
 //! - each part of a statement, a table, a reply or a need copies itself to an equal value;
 //! - `SqlRefusal::code` is the table of refusals of `docs/SQL.md`, and `is_sql_name` its rule for names;
 //! - `Catalog::of` copies the names and the schemas of tables;
-//! - `value_of` and `truth_of` give exactly what `specs/Sense.antt` says that an expression means over a
+//! - `value_of` and `truth_of` give exactly what `specs/Meaning.antt` says that an expression means over a
 //!   row, where its columns are given by places (`specs/Evaluation.antt`);
-//! - `RowKey` orders the values of rows, one by one, and `has_twice` tells whether a list has an item twice
-//!   (`specs/Keys.antt`).
+//! - `has_twice` says whether a list has an item twice, and `has_key_twice` whether two rows have one key,
+//!   without a copy of a key (`specs/Keys.antt`);
+//! - `meets_schema` and its parts are the rules of a schema (`specs/Tables.antt`).
 //!
-//! What texts are which statements stands in `specs/`: as a grammar (`GrammarOfTokens`, `Grammar` of
-//! expressions, `GrammarOfStatements`), and as a reading from left to right (`Texts`, over `Tokens`,
+//! `specs/` defines which texts are which statements: as a grammar (`GrammarOfTokens`, `Grammar` of
+//! expressions, `GrammarOfStatements`), and as a function from left to right (`Texts`, over `Tokens`,
 //! `Expressions`, `Queries` and others).
 //!
-//! What statements mean stands there too: `Scope` (which column a name means), `Kinds`, `Refusals`
-//! (what the schemas alone refuse) and `Places`; `Sense` (expressions), `Answers` and `Sorting` (queries,
-//! with the rows that each answer row comes from), `Changes` (INSERT, UPDATE and DELETE, and what rows
-//! refuse), `Statements` (refusal, reply and the tables after) and `Needs` (the rows that a statement
-//! needs, and the versions that it makes). `Built` says which statements run so far.
+//! It defines what a valid schema, a valid table and a database are (`Tables`), and what statements mean:
+//! `Scope` (which column a name means), `Kinds`, `Refusals` (the refusals that only the schemas decide) and
+//! `Places`; `Meaning` (expressions), `QueryAnswer` and `Sorting` (queries, with the rows that each answer
+//! row comes from), `Changes` (INSERT, UPDATE and DELETE, and the refusals that rows decide), `Statements`
+//! (refusal, reply and the tables after), `Needs` (the rows that a statement needs, and the versions that
+//! it makes) and `Origins` (lineages as sets). `Built` says which statements run so far. `Types` has the
+//! types under one name each.
 //!
 //! A recursive expression holds its parts in `Boxed` of `sqlite_items`, which contracts see as the part
 //! itself (`docs/DECISIONS.md`).
@@ -31,13 +34,14 @@ mod key;
 mod kind;
 mod names;
 mod need;
-mod reading;
 mod repeats;
 mod reply;
+mod schema;
 mod statement;
 mod table;
 mod token;
 mod truths;
+mod unique;
 mod value;
 
 pub use catalog::{Catalog, Checked};
@@ -46,13 +50,16 @@ pub use key::{RowKey, value_at};
 pub use kind::Kind;
 pub use names::is_sql_name;
 pub use need::{Member, Members, Need, Needs, Rule};
-pub use reading::{Deep, Joint, Opening, Place, Sources, Wrap};
 pub use repeats::has_twice;
 pub use reply::{Replies, Reply, SqlRefusal};
+pub use schema::{
+    is_key_not_null, meets_column_count, meets_column_names, meets_key_places, meets_schema,
+};
 pub use statement::{
     Core, Cores, Delete, FromItem, FromItems, Insert, Item, Items, Order, OrderKey, Orders, Query,
     Set, Sets, Statement, Update,
 };
 pub use table::{Column, Columns, Schema, Schemas, Table, TableRow, TableRows, Tables};
 pub use token::Token;
+pub use unique::{HasValues, has_key_twice};
 pub use value::{truth_of, value_of};

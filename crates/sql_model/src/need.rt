@@ -30,9 +30,9 @@ pub struct Need {
     pub rule: Rule,
 }
 
-/// Members, rising by table and row, each row once.
+/// Members, sorted by table and row, each row once.
 pub type Members = List<Member>;
-/// Needs, rising by table and row, each row once.
+/// Needs, sorted by table and row, each row once.
 pub type Needs = List<Need>;
 
 impl CopyItem for Member {

@@ -13,10 +13,10 @@ pub enum SqlRefusal {
     Syntax,
     /// A named table isn't there, or two sources of one SELECT have the same name.
     NoTable,
-    /// A column isn't there or means two; one stands ungrouped in a core that groups; a key of ORDER BY
+    /// A column isn't there or means two; one isn't grouped in a core that groups; a key of ORDER BY
     /// isn't exactly one answer column.
     NoColumn,
-    /// Kinds or counts of columns don't fit; an aggregate stands where none may; a column is set or named
+    /// Kinds or counts of columns don't fit; an aggregate is where none may be; a column is set or named
     /// twice; a parameter of LIMIT isn't a number of at least 0.
     TypeClash,
     /// A row that is inserted or matched would have NULL in a NOT NULL column.
@@ -28,7 +28,7 @@ pub enum SqlRefusal {
     Full,
 }
 
-/// What a statement answers.
+/// The reply to a statement.
 #[derive(Drop)]
 pub enum Reply {
     /// The rows of a query.

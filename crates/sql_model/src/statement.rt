@@ -20,14 +20,14 @@ pub enum Statement {
 pub struct Query {
     pub cores: Cores,
     pub order: Orders,
-    /// What stands after LIMIT.
+    /// The value after LIMIT.
     pub limit: Option<Value>,
 }
 
 /// One SELECT.
 #[derive(Drop)]
 pub struct Core {
-    /// Whether UNION ALL stands right before the core; false in the first core.
+    /// Whether UNION ALL comes right before the core; false in the first core.
     pub joined_all: bool,
     pub distinct: bool,
     /// The items; `None` is `*`.

@@ -18,15 +18,15 @@ pub struct Schema {
     pub key: Places,
 }
 
-/// A row with its number, at most 4,294,967,294, which it keeps as long as it stands.
+/// A row with its number, at most 4,294,967,294, which it keeps until it is deleted.
 #[derive(Drop)]
 pub struct TableRow {
     pub number: u32,
     pub values: Values,
 }
 
-/// A table. Its row numbers rise and are below `next`, at most 4,294,967,295, the number of the next new
-/// row.
+/// A table. Its row numbers are strictly increasing and below `next`, the number of the next new row, which
+/// is at most 4,294,967,295.
 #[derive(Drop)]
 pub struct Table {
     pub name: Utf8,
@@ -41,7 +41,7 @@ pub type Columns = List<Column>;
 pub type Schemas = List<Schema>;
 /// Rows with their numbers.
 pub type TableRows = List<TableRow>;
-/// Tables, rising by name.
+/// Tables, sorted by name.
 pub type Tables = List<Table>;
 
 impl CopyItem for Column {

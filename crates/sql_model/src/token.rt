@@ -12,7 +12,7 @@ pub enum Token {
     Number(i64),
     /// A text between quotes: its content, of at most 65,536 bytes, with one quote for each two.
     Quoted(Utf8),
-    /// The value of the parameter for which a `?` stands.
+    /// The value of a parameter, in place of its `?`.
     Given(Value),
 }
 

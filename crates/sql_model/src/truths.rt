@@ -2,7 +2,7 @@
 
 ghost use Rattle.std.specs.Prelude.{◌≡◌};
 ghost use Rattle.ldv_value.specs.Order.{known, test_of};
-ghost use Rattle.sql_model.specs.Sense.{truth_not, truth_and, truth_or, is_null, null_test};
+ghost use Rattle.sql_model.specs.Meaning.{truth_not, truth_and, truth_or, is_null, null_test};
 
 use ldv_value::{Cmp, Truth, Value, holds};
 

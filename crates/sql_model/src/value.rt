@@ -2,8 +2,8 @@
 
 ghost use Rattle.std.specs.Prelude.{◌≡◌, ◌∷◌, [], drop, IfOk, OnOk};
 ghost use Rattle.ldv_value.specs.Order.{test_of};
-ghost use Rattle.sql_model.specs.Evaluation.{placed, column_placed, IsValue, IsTruth};
-ghost use Rattle.sql_model.specs.Sense.{negated, value_both, folded, known_values};
+ghost use Rattle.sql_model.specs.Evaluation.{eval_at, column_at, IsValue, IsTruth};
+ghost use Rattle.sql_model.specs.Meaning.{negated, value_both, folded, known_values};
 
 use crate::arithmetic::{difference, number_or_null, opposite, product, sum};
 use crate::expr::{Expr, Fold, Operator};
@@ -14,8 +14,7 @@ use std::alloc::{AllocError, Global};
 
 /// The value of an expression over a row, where `places` gives the row's place of each column that the
 /// expression names, left to right, from 0: those that its names have in some scope. An aggregate is
-/// taken over this one row, and an expression that has a truth has the value NULL. `AllocError` means want
-/// of memory alone.
+/// taken over this one row, and an expression that has a truth has the value NULL.
 pub fn value_of(
     alloc: Global,
     expr: &Expr,
@@ -30,7 +29,7 @@ pub fn value_of(
 }
 
 /// The truth of a condition over a row, with `places` as in `value_of`. An expression that has a value
-/// has the truth Unknown. `AllocError` means want of memory alone.
+/// has the truth Unknown.
 pub fn truth_of(
     alloc: Global,
     expr: &Expr,
@@ -44,7 +43,7 @@ pub fn truth_of(
     Ok(truth)
 }
 
-// The value by the places from `at` on, which goes behind those of the expression.
+// The value by the places from `at` on; afterwards `at` is after those of the expression.
 fn value_in(
     alloc: Global,
     expr: &Expr,
@@ -52,8 +51,10 @@ fn value_in(
     places: &Places,
     at: &mut usize,
 ) -> Result<Value, AllocError>
-    ensures value { IfOk result (λ value. value ≡ (placed row.now expr.now (drop at.old places.now)).sense.value) }
-    ensures rest { OnOk result (drop at.new places.now ≡ (placed row.now expr.now (drop at.old places.now)).rest) }
+    ensures value { IfOk result (λ value.
+        value ≡ (eval_at row.now expr.now (drop at.old places.now)).meaning.value) }
+    ensures rest { OnOk result
+        (drop at.new places.now ≡ (eval_at row.now expr.now (drop at.old places.now)).rest) }
 {
     match expr {
         Expr::Constant(value) => value.copy_item(alloc),
@@ -91,8 +92,10 @@ fn truth_in(
     places: &Places,
     at: &mut usize,
 ) -> Result<Truth, AllocError>
-    ensures truth { IfOk result (λ truth. truth ≡ (placed row.now expr.now (drop at.old places.now)).sense.truth) }
-    ensures rest { OnOk result (drop at.new places.now ≡ (placed row.now expr.now (drop at.old places.now)).rest) }
+    ensures truth { IfOk result (λ truth.
+        truth ≡ (eval_at row.now expr.now (drop at.old places.now)).meaning.truth) }
+    ensures rest { OnOk result
+        (drop at.new places.now ≡ (eval_at row.now expr.now (drop at.old places.now)).rest) }
 {
     match expr {
         Expr::Constant(_) => no_truth(alloc, expr, row, places, at),
@@ -136,7 +139,8 @@ fn no_truth(
     at: &mut usize,
 ) -> Result<Truth, AllocError>
     ensures truth { IfOk result (λ truth. truth ≡ Truth.Unknown) }
-    ensures rest { OnOk result (drop at.new places.now ≡ (placed row.now expr.now (drop at.old places.now)).rest) }
+    ensures rest { OnOk result
+        (drop at.new places.now ≡ (eval_at row.now expr.now (drop at.old places.now)).rest) }
 {
     let _value = value_in(alloc, expr, row, places, at)?;
     Ok(Truth::Unknown)
@@ -152,11 +156,11 @@ fn comparison(
     at: &mut usize,
 ) -> Result<Truth, AllocError>
     ensures truth { IfOk result (λ truth.
-        let first = placed row.now left.now (drop at.old places.now) in
-        truth ≡ test_of test first.sense.value (placed row.now right.now first.rest).sense.value) }
+        let first = eval_at row.now left.now (drop at.old places.now) in
+        truth ≡ test_of test first.meaning.value (eval_at row.now right.now first.rest).meaning.value) }
     ensures rest { OnOk result (
-        let first = placed row.now left.now (drop at.old places.now) in
-        drop at.new places.now ≡ (placed row.now right.now first.rest).rest) }
+        let first = eval_at row.now left.now (drop at.old places.now) in
+        drop at.new places.now ≡ (eval_at row.now right.now first.rest).rest) }
 {
     let left = value_in(alloc, left, row, places, at)?;
     let right = value_in(alloc, right, row, places, at)?;
@@ -170,8 +174,9 @@ fn next_value(
     places: &Places,
     at: &mut usize,
 ) -> Result<Value, AllocError>
-    ensures value { IfOk result (λ value. value ≡ (column_placed row.now (drop at.old places.now)).sense.value) }
-    ensures rest { OnOk result (drop at.new places.now ≡ (column_placed row.now (drop at.old places.now)).rest) }
+    ensures value { IfOk result (λ value.
+        value ≡ (column_at row.now (drop at.old places.now)).meaning.value) }
+    ensures rest { OnOk result (drop at.new places.now ≡ (column_at row.now (drop at.old places.now)).rest) }
 {
     match places.get(*at) {
         None => Ok(Value::Null),

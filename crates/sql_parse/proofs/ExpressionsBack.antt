@@ -15,22 +15,23 @@ use Rattle.sql_model.specs.declared.expr.Fold.{Fold}
 use Rattle.sql_model.specs.declared.expr.Fold.TheVariants as fold
 use Rattle.sql_model.specs.declared.expr.Operator.{Operator}
 use Rattle.sql_model.specs.declared.expr.Operator.TheVariants.{Add, Subtract, Multiply, Compare, And, Or}
-use Rattle.sql_model.specs.declared.reading.Deep.{Deep}
-use Rattle.sql_model.specs.declared.reading.Opening.TheVariants.{Leaf, Around}
-use Rattle.sql_model.specs.declared.reading.Wrap.{Wrap}
-use Rattle.sql_model.specs.declared.reading.Wrap.TheVariants.{Not, Minus, Bracket, FoldOf}
-use Rattle.sql_model.specs.declared.reading.Joint.{Joint}
-use Rattle.sql_model.specs.declared.reading.Joint.TheVariants.{Both, IsNull}
+use Rattle.sql_parse.specs.declared.state.ParsedExpr.{ParsedExpr}
+use Rattle.sql_parse.specs.declared.state.Opening.TheVariants.{Leaf, Nested}
+use Rattle.sql_parse.specs.declared.state.Prefix.{Prefix}
+use Rattle.sql_parse.specs.declared.state.Prefix.TheVariants.{Not, Minus, Bracket, FoldOf}
+use Rattle.sql_parse.specs.declared.state.Infix.{Infix}
+use Rattle.sql_parse.specs.declared.state.Infix.TheVariants.{Both, IsNull}
 use Rattle.sql_model.specs.declared.token.Token.{Token}
 use Rattle.sql_model.specs.declared.token.Token.TheVariants.{Word, Number, Quoted, Given}
-use Rattle.sql_model.specs.Columns.{column_behind}
-use Rattle.sql_model.specs.Expressions.{word_opening, opening, inside_level, closed, pair, operand_at, operand, joined, goes_on, joins_more, within, reads_expr}
-use Rattle.sql_model.specs.Then.{◌>>=◌}
+use Rattle.sql_parse.specs.Columns.{column_behind}
+use Rattle.sql_parse.specs.Expressions.{word_opening, opening, inside_level, closed, pair, operand_at, operand, joined, goes_on, joins_more, within, reads_expr}
+use Rattle.ldv_value.specs.Options.{◌>>=◌, only_if}
 use Rattle.sql_model.specs.Grammar.{word, fold_word, GoesNotOn, GoesOnWith, Writes, IsName, IsConstant, IsColumn, IsExpr}
-use Rattle.sql_model.specs.Operators.{joint_of, level_of, left_of, operator_level, operator_left, right_of, may_join, joins}
-use Rattle.sql_model.specs.Reader.{only_if, starts, tail, reads_name, repeat}
+use Rattle.sql_model.specs.Levels.{operator_level, operator_left, right_of}
+use Rattle.sql_parse.specs.Operators.{joint_of, level_of, left_of, may_join, joins}
+use Rattle.sql_parse.specs.Reader.{starts, tail, reads_name, repeat}
 use Rattle.sql_parse.proofs.ExpressionsLaw.{JointWrites, begins, form_level, joint_sound, starts_is, text_is}
-use Rattle.sql_parse.proofs.Options.{some_same}
+use Rattle.ldv_value.proofs.Options.{same-some}
 use Rattle.sql_parse.proofs.Repeat.{after, repeat_suc}
 use Rattle.sql_parse.proofs.Within.{within_suc}
 
@@ -40,13 +41,13 @@ use Rattle.sql_parse.proofs.Within.{within_suc}
 -- no joint of that level or a higher one.
 pub record Ends (least : ℕ) (rest : List Token) : Type 0 where
   pub no_dot : starts (codes ".") rest ≡ false
-  pub below : (j : Joint) → joint_of rest ≡ Some j → level_of j < least
+  pub below : (j : Infix) → joint_of rest ≡ Some j → level_of j < least
 
 pub ends_more : (m n : ℕ) (rest : List Token) → m ≤ n → Ends m rest → Ends n rest
 ends_more m n rest le ends = record { no_dot = ends.no_dot; below = λ j h. let few : level_of j < m = ends.below j h in omega arith }
 
 -- no joint has the level of NOT, nor one as high as that of a minus
-none_as_not : (j : Joint) → level_of j < 4 → level_of j < 3
+none_as_not : (j : Infix) → level_of j < 4 → level_of j < 3
 none_as_not (Both Or) h = omega arith
 none_as_not (Both And) h = omega arith
 none_as_not (Both (Compare c)) h = absurd (omega (arith, h))
@@ -55,7 +56,7 @@ none_as_not (Both Subtract) h = absurd (omega (arith, h))
 none_as_not (Both Multiply) h = absurd (omega (arith, h))
 none_as_not IsNull h = absurd (omega (arith, h))
 
-none_as_minus : (j : Joint) → level_of j < 7
+none_as_minus : (j : Infix) → level_of j < 7
 none_as_minus (Both Or) = omega arith
 none_as_minus (Both And) = omega arith
 none_as_minus (Both (Compare c)) = omega arith
@@ -64,7 +65,7 @@ none_as_minus (Both Subtract) = omega arith
 none_as_minus (Both Multiply) = omega arith
 none_as_minus IsNull = omega arith
 
-some_joint_level : (j : Joint) → 1 ≤ level_of j
+some_joint_level : (j : Infix) → 1 ≤ level_of j
 some_joint_level (Both Or) = omega arith
 some_joint_level (Both And) = omega arith
 some_joint_level (Both (Compare c)) = omega arith
@@ -73,7 +74,7 @@ some_joint_level (Both Subtract) = omega arith
 some_joint_level (Both Multiply) = omega arith
 some_joint_level IsNull = omega arith
 
-level_left : (j : Joint) → level_of j ≤ left_of j
+level_left : (j : Infix) → level_of j ≤ left_of j
 level_left (Both Or) = omega arith
 level_left (Both And) = omega arith
 level_left (Both (Compare c)) = omega arith
@@ -99,7 +100,7 @@ comparison_read Gt t ts h = ap (λ u. joint_of (u ∷ ts)) h
 comparison_read Ge t ts h = ap (λ u. joint_of (u ∷ ts)) h
 
 -- what is written as a joint is read as one
-joint_read : (j : Joint) (t : Token) (ts : List Token) → JointWrites j t → joint_of (t ∷ ts) ≡ Some j
+joint_read : (j : Infix) (t : Token) (ts : List Token) → JointWrites j t → joint_of (t ∷ ts) ≡ Some j
 joint_read (Both Or) t ts h = ap (λ u. joint_of (u ∷ ts)) h
 joint_read (Both And) t ts h = ap (λ u. joint_of (u ∷ ts)) h
 joint_read (Both (Compare c)) t ts h = comparison_read c t ts h
@@ -108,24 +109,24 @@ joint_read (Both Subtract) t ts h = ap (λ u. joint_of (u ∷ ts)) h
 joint_read (Both Multiply) t ts h = ap (λ u. joint_of (u ∷ ts)) h
 joint_read IsNull t ts h = ap (λ u. joint_of (u ∷ ts)) h
 
-joint_no_dot : (j : Joint) (ts : List Token) → joint_of ts ≡ Some j → starts (codes ".") ts ≡ false
+joint_no_dot : (j : Infix) (ts : List Token) → joint_of ts ≡ Some j → starts (codes ".") ts ≡ false
 joint_no_dot j ts is = false_from_ne_true (starts (codes ".") ts) (λ dot.
     let none : None ≡ Some j = sym (ap joint_of (starts_is (codes ".") ts dot)) ∙ is in cc)
 
-joint_ends : (j : Joint) (ts : List Token) (least : ℕ) → joint_of ts ≡ Some j → level_of j < least → Ends least ts
+joint_ends : (j : Infix) (ts : List Token) (least : ℕ) → joint_of ts ≡ Some j → level_of j < least → Ends least ts
 joint_ends j ts least is le = record {
   no_dot = joint_no_dot j ts is;
-  below = λ i h. let same : j ≡ i = some_same j i (sym is ∙ h) in subst (λ (k : Joint). level_of k < least) same le;
+  below = λ i h. let same : j ≡ i = same-some j i (sym is ∙ h) in subst (λ (k : Infix). level_of k < least) same le;
 }
 
-may_not_join : (least level : ℕ) (o : Option Joint) → ((j : Joint) → o ≡ Some j → level_of j < least) → (o >>= λ joint. only_if (may_join least level joint) (Some joint)) ≡ None
+may_not_join : (least level : ℕ) (o : Option Infix) → ((j : Infix) → o ≡ Some j → level_of j < least) → (o >>= λ joint. only_if (may_join least level joint) (Some joint)) ≡ None
 may_not_join least level None few = refl
 may_not_join least level (Some j) few = ap (λ b. only_if b (Some j)) (and_left _ _ (lt-leb least (level_of j) (few j refl)))
 
 joins_none : (least level : ℕ) (rest : List Token) → Ends least rest → joins least level rest ≡ None
 joins_none least level rest ends = may_not_join least level (joint_of rest) ends.below
 
-joins_some : (least level : ℕ) (j : Joint) (ts : List Token) → joint_of ts ≡ Some j → least ≤ level_of j → left_of j ≤ level → joins least level ts ≡ Some j
+joins_some : (least level : ℕ) (j : Infix) (ts : List Token) → joint_of ts ≡ Some j → least ≤ level_of j → left_of j ≤ level → joins least level ts ≡ Some j
 joins_some least level j ts is le left =
     ap (λ o. o >>= λ joint. only_if (may_join least level joint) (Some joint)) is
     ∙ ap (λ a. only_if (a && nat_le (left_of j) level) (Some j)) (le-leb least (level_of j) le)
@@ -133,11 +134,11 @@ joins_some least level j ts is le left =
 
 -- ---- an expression that is read
 
-abbrev pub deep : ℕ → ℕ → Expr → Deep
+abbrev pub deep : ℕ → ℕ → Expr → ParsedExpr
 deep level depth e = record { expr = e; depth = depth; level = level }
 
 -- the first operand, and then so many joints
-abbrev pub joined_up : ℕ → ℕ → ℕ → List Token → Option (Deep × List Token)
+abbrev pub joined_up : ℕ → ℕ → ℕ → List Token → Option (ParsedExpr × List Token)
 joined_up m least k ts = operand (within m) least ts >>= λ r. repeat (joins_more (within m) m least) k r.0 r.1
 
 -- after some joints, fewer than it is deep, an expression in front of the rest is whole
@@ -262,31 +263,31 @@ column_readable ts c is = elim is [
 -- ---- forms around an expression
 
 -- the tokens with which a form ends
-abbrev pub finishes : Wrap → List Token
+abbrev pub finishes : Prefix → List Token
 finishes Not = []
 finishes Minus = []
 finishes Bracket = word ")" ∷ []
 finishes (FoldOf f) = word ")" ∷ []
 
-abbrev pub form_of : Wrap → Expr → Expr
+abbrev pub form_of : Prefix → Expr → Expr
 form_of Not e = expr.Not e
 form_of Minus e = expr.Negate e
 form_of Bracket e = e
 form_of (FoldOf f) e = expr.Aggregate f (Some e)
 
-fold_opens : (f : Fold) (least : ℕ) (ts : List Token) → starts (codes "*") ts ≡ false → opening least (fold_word f ∷ word "(" ∷ ts) ≡ Some (Around (FoldOf f), ts)
-fold_opens fold.Count least ts no_star = if_false (starts (codes "*") ts) _ (Some (Around (FoldOf fold.Count), ts)) no_star
+fold_opens : (f : Fold) (least : ℕ) (ts : List Token) → starts (codes "*") ts ≡ false → opening least (fold_word f ∷ word "(" ∷ ts) ≡ Some (Nested (FoldOf f), ts)
+fold_opens fold.Count least ts no_star = if_false (starts (codes "*") ts) _ (Some (Nested (FoldOf fold.Count), ts)) no_star
 fold_opens fold.Sum least ts no_star = refl
 fold_opens fold.Min least ts no_star = refl
 fold_opens fold.Max least ts no_star = refl
 
-form_opens : (w : Wrap) (least : ℕ) (ts : List Token) → least ≤ form_level w → starts (codes "*") ts ≡ false → opening least (begins w ++ ts) ≡ Some (Around w, ts)
-form_opens Not least ts low no_star = ap (λ b. only_if b (Some (Around Not)) >>= λ o. Some (o, ts)) (le-leb least 3 low)
+form_opens : (w : Prefix) (least : ℕ) (ts : List Token) → least ≤ form_level w → starts (codes "*") ts ≡ false → opening least (begins w ++ ts) ≡ Some (Nested w, ts)
+form_opens Not least ts low no_star = ap (λ b. only_if b (Some (Nested Not)) >>= λ o. Some (o, ts)) (le-leb least 3 low)
 form_opens Minus least ts low no_star = refl
 form_opens Bracket least ts low no_star = refl
 form_opens (FoldOf f) least ts low no_star = fold_opens f least ts no_star
 
-form_closes : (w : Wrap) (level depth : ℕ) (e : Expr) (rest : List Token) → closed w (deep level depth e) (finishes w ++ rest) ≡ Some (deep (form_level w) (depth + 1) (form_of w e), rest)
+form_closes : (w : Prefix) (level depth : ℕ) (e : Expr) (rest : List Token) → closed w (deep level depth e) (finishes w ++ rest) ≡ Some (deep (form_level w) (depth + 1) (form_of w e), rest)
 form_closes Not level depth e rest = refl
 form_closes Minus level depth e rest = refl
 form_closes Bracket level depth e rest = refl
@@ -295,7 +296,7 @@ form_closes (FoldOf f) level depth e rest = refl
 bracket_ends : (least : ℕ) (rest : List Token) → Ends least (word ")" ∷ rest)
 bracket_ends least rest = record { no_dot = refl; below = λ j h. let none : None ≡ Some j = h in cc }
 
-form_ends : (w : Wrap) (rest : List Token) → Ends (suc (form_level w)) rest → Ends (inside_level w) (finishes w ++ rest)
+form_ends : (w : Prefix) (rest : List Token) → Ends (suc (form_level w)) rest → Ends (inside_level w) (finishes w ++ rest)
 form_ends Not rest ends = record { no_dot = ends.no_dot; below = λ j h. none_as_not j (ends.below j h) }
 form_ends Minus rest ends = record { no_dot = ends.no_dot; below = λ j h. none_as_minus j }
 form_ends Bracket rest ends = bracket_ends 1 rest
@@ -307,22 +308,22 @@ fold_no_star fold.Sum ts = refl
 fold_no_star fold.Min ts = refl
 fold_no_star fold.Max ts = refl
 
-form_no_star : (w : Wrap) (ts rest : List Token) → starts (codes "*") ((begins w ++ ts) ++ rest) ≡ false
+form_no_star : (w : Prefix) (ts rest : List Token) → starts (codes "*") ((begins w ++ ts) ++ rest) ≡ false
 form_no_star Not ts rest = refl
 form_no_star Minus ts rest = refl
 form_no_star Bracket ts rest = refl
 form_no_star (FoldOf f) ts rest = fold_no_star f (word "(" ∷ ts ++ rest)
 
-some_form_level : (w : Wrap) → 1 ≤ form_level w
+some_form_level : (w : Prefix) → 1 ≤ form_level w
 some_form_level Not = omega arith
 some_form_level Minus = omega arith
 some_form_level Bracket = omega arith
 some_form_level (FoldOf f) = omega arith
 
-form_grouped : (w : Wrap) (ts rest : List Token) → (begins w ++ (ts ++ finishes w)) ++ rest ≡ begins w ++ (ts ++ (finishes w ++ rest))
+form_grouped : (w : Prefix) (ts rest : List Token) → (begins w ++ (ts ++ finishes w)) ++ rest ≡ begins w ++ (ts ++ (finishes w ++ rest))
 form_grouped w ts rest = append_assoc (begins w) (ts ++ finishes w) rest ∙ ap (λ l. begins w ++ l) (append_assoc ts (finishes w) rest)
 
-form_operand : (w : Wrap) (level depth : ℕ) (ts : List Token) (e : Expr) (m least : ℕ) (rest : List Token) → inside_level w ≤ level → Readable level depth ts e
+form_operand : (w : Prefix) (level depth : ℕ) (ts : List Token) (e : Expr) (m least : ℕ) (rest : List Token) → inside_level w ≤ level → Readable level depth ts e
     → depth ≤ m → least ≤ form_level w → Ends (suc (form_level w)) rest
     → operand (within m) least ((begins w ++ (ts ++ finishes w)) ++ rest) ≡ Some (deep (form_level w) (depth + 1) (form_of w e), rest)
 form_operand w level depth ts e m least rest inside is shallow low ends =
@@ -331,7 +332,7 @@ form_operand w level depth ts e m least rest inside is shallow low ends =
     ∙ ap (λ o. o >>= λ r. closed w r.0 r.1) (read_whole level depth ts e is m (inside_level w) (finishes w ++ rest) shallow inside (form_ends w rest ends))
     ∙ form_closes w level depth e rest
 
-form_readable : (w : Wrap) (level depth : ℕ) (ts : List Token) (e : Expr) → inside_level w ≤ level → Readable level depth ts e → Readable (form_level w) (depth + 1) (begins w ++ (ts ++ finishes w)) (form_of w e)
+form_readable : (w : Prefix) (level depth : ℕ) (ts : List Token) (e : Expr) → inside_level w ≤ level → Readable level depth ts e → Readable (form_level w) (depth + 1) (begins w ++ (ts ++ finishes w)) (form_of w e)
 form_readable w level depth ts e inside is = record {
   some_depth = omega arith;
   some_level = some_form_level w;
@@ -343,7 +344,7 @@ form_readable w level depth ts e inside is = record {
 
 -- ---- joints behind an expression
 
-joint_steps : (m least : ℕ) (j : Joint) (d made : Deep) (ts rest : List Token) → joins least d.level ts ≡ Some j → d.depth ≤ m → joined (within m) j d (tail ts) ≡ Some (made, rest)
+joint_steps : (m least : ℕ) (j : Infix) (d made : ParsedExpr) (ts rest : List Token) → joins least d.level ts ≡ Some j → d.depth ≤ m → joined (within m) j d (tail ts) ≡ Some (made, rest)
     → joins_more (within m) m least d ts ≡ Some ((made, true), rest)
 joint_steps m least j d made ts rest joining shallow h =
     ap (λ o. goes_on (within m) m o d ts) joining
@@ -365,10 +366,10 @@ one_more m least level depth ts a behind i n e rest left deeper h = record {
 }
 
 -- what a joint makes of an operand in front of it
-abbrev pub JoinedAs : Joint → Deep → List Token → ℕ → Expr → Type 0
+abbrev pub JoinedAs : Infix → ParsedExpr → List Token → ℕ → Expr → Type 0
 JoinedAs j d back depth e = (m : ℕ) (rest : List Token) → depth ≤ suc m → Ends (suc (level_of j)) rest → joined (within m) j d (back ++ rest) ≡ Some (deep (level_of j) depth e, rest)
 
-joint_readable : (j : Joint) (t : Token) (level depth : ℕ) (front : List Token) (a : Expr) (back : List Token) (n : ℕ) (e : Expr) → JointWrites j t → left_of j ≤ level
+joint_readable : (j : Infix) (t : Token) (level depth : ℕ) (front : List Token) (a : Expr) (back : List Token) (n : ℕ) (e : Expr) → JointWrites j t → left_of j ≤ level
     → Readable level depth front a → depth < n → JoinedAs j (deep level depth a) back n e → Readable (level_of j) n (front ++ t ∷ back) e
 joint_readable j t level depth front a back n e writes left is deeper joins_as = record {
   some_depth = let some : 1 ≤ depth = is.some_depth in omega arith;
@@ -435,14 +436,14 @@ within_back level depth front e n least rest is shallow low ends = read_whole le
 
 -- ---- what goes on with no expression
 
-sign_goes_on : (j : Joint) (t : Token) → JointWrites j t → GoesOnWith t
+sign_goes_on : (j : Infix) (t : Token) → JointWrites j t → GoesOnWith t
 sign_goes_on (Both op) t h = inl (op, h)
 sign_goes_on IsNull t h = inr (inl h)
 
 first_is : (s t : Token) (xs ys : List Token) → s ∷ xs ≡ t ∷ ys → s ≡ t
 first_is s t xs ys h = cc
 
-joint_goes_on : (t : Token) (ts : List Token) (j : Joint) → joint_of (t ∷ ts) ≡ Some j → GoesOnWith t
+joint_goes_on : (t : Token) (ts : List Token) (j : Infix) → joint_of (t ∷ ts) ≡ Some j → GoesOnWith t
 joint_goes_on t ts j h =
     let sign : (s : Token) × (t ∷ ts ≡ s ∷ ts) × JointWrites j s = joint_sound (t ∷ ts) j h in
     sign_goes_on j t (subst (JointWrites j) (sym (first_is t sign.0 ts ts sign.1)) sign.2)
@@ -484,5 +485,5 @@ expression_one ts level depth e m n f is also =
     let other : Readable m n ts f = readable m n ts f also in
     let reads : within (depth + n) 1 (ts ++ []) ≡ Some (deep level depth e, []) = read_whole level depth ts e one (depth + n) 1 [] (omega arith) one.some_level (ends_all [] tt) in
     let too : within (depth + n) 1 (ts ++ []) ≡ Some (deep m n f, []) = read_whole m n ts f other (depth + n) 1 [] (omega arith) other.some_level (ends_all [] tt) in
-    let same : deep level depth e ≡ deep m n f = ap (λ (p : Deep × List Token). p.0) (some_same _ _ (sym reads ∙ too)) in
-    (ap (λ (d : Deep). d.expr) same, ap (λ (d : Deep). d.level) same, ap (λ (d : Deep). d.depth) same)
+    let same : deep level depth e ≡ deep m n f = ap (λ (p : ParsedExpr × List Token). p.0) (same-some _ _ (sym reads ∙ too)) in
+    (ap (λ (d : ParsedExpr). d.expr) same, ap (λ (d : ParsedExpr). d.level) same, ap (λ (d : ParsedExpr). d.depth) same)

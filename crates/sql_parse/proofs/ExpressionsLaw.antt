@@ -12,28 +12,29 @@ use Rattle.sql_model.specs.declared.expr.Expr.{Expr}
 use Rattle.sql_model.specs.declared.expr.Expr.TheVariants as expr
 use Rattle.sql_model.specs.declared.expr.Fold.{Fold}
 use Rattle.sql_model.specs.declared.expr.Fold.TheVariants as fold
-use Rattle.sql_model.specs.declared.reading.Deep.{Deep}
-use Rattle.sql_model.specs.declared.reading.Opening.{Opening}
-use Rattle.sql_model.specs.declared.reading.Opening.TheVariants.{Leaf, Around}
-use Rattle.sql_model.specs.declared.reading.Wrap.{Wrap}
-use Rattle.sql_model.specs.declared.reading.Wrap.TheVariants.{Not, Minus, Bracket, FoldOf}
-use Rattle.sql_model.specs.declared.reading.Joint.{Joint}
-use Rattle.sql_model.specs.declared.reading.Joint.TheVariants.{Both, IsNull}
-use Rattle.sql_model.specs.Operators.{comparison_of, compared, joint_in, joint_of, level_of, left_of, right_of, may_join, joins}
+use Rattle.sql_parse.specs.declared.state.ParsedExpr.{ParsedExpr}
+use Rattle.sql_parse.specs.declared.state.Opening.{Opening}
+use Rattle.sql_parse.specs.declared.state.Opening.TheVariants.{Leaf, Nested}
+use Rattle.sql_parse.specs.declared.state.Prefix.{Prefix}
+use Rattle.sql_parse.specs.declared.state.Prefix.TheVariants.{Not, Minus, Bracket, FoldOf}
+use Rattle.sql_parse.specs.declared.state.Infix.{Infix}
+use Rattle.sql_parse.specs.declared.state.Infix.TheVariants.{Both, IsNull}
+use Rattle.sql_model.specs.Levels.{right_of}
+use Rattle.sql_parse.specs.Operators.{comparison_of, compared, joint_in, joint_of, level_of, left_of, may_join, joins}
 use Rattle.sql_model.specs.declared.expr.Operator.{Operator}
 use Rattle.sql_model.specs.declared.expr.Operator.TheVariants.{Add, Subtract, Multiply, Compare, And, Or}
 use Rattle.ldv_value.specs.declared.value.Cmp.{Cmp}
 use Rattle.sql_model.specs.declared.token.Token.{Token}
 use Rattle.sql_model.specs.declared.token.Token.TheVariants.{Word, Number, Quoted, Given}
-use Rattle.sql_model.specs.Expressions.{leaf, negation, fold_opening, count_inside, count_opening, column_opening, word_opening, opening, inside_level, closed, null_test, pair, operand_at, operand, joined, joined_within, goes_on, joins_more, within, reads_expr}
-use Rattle.sql_model.specs.Columns.{column_behind}
-use Rattle.sql_model.specs.Then.{◌>>=◌}
+use Rattle.sql_parse.specs.Expressions.{leaf, negation, fold_opening, count_inside, count_opening, column_opening, word_opening, opening, inside_level, closed, null_test, pair, operand_at, operand, joined, joined_within, goes_on, joins_more, within, reads_expr}
+use Rattle.sql_parse.specs.Columns.{column_behind}
+use Rattle.ldv_value.specs.Options.{◌>>=◌, only_if}
 use Rattle.sql_model.specs.Grammar.{word, fold_word, Writes, IsName, IsConstant, IsColumn, IsExpr}
-use Rattle.sql_model.specs.Reader.{only_if, starts, tail, behind, name_in, reads_name, repeat}
+use Rattle.sql_parse.specs.Reader.{starts, tail, behind, name_in, reads_name, repeat}
 use Rattle.sql_parse.proofs.Repeat.{after, repeat_none, repeat_suc}
 use Rattle.sql_parse.proofs.ExpressionsDepth.{within_depth}
 use Rattle.sql_parse.proofs.Within.{within_none, within_suc}
-use Rattle.sql_parse.proofs.Options.{bind_some, only_if_some, either_some, some_same}
+use Rattle.ldv_value.proofs.Options.{bind-some, only_if-some, if-some, same-some}
 
 pub text_is : (a b : List ℕ) → pointwise nat_eq a b ≡ true → a ≡ b
 text_is a b h = (bytes_eq-Decides a b).0 h
@@ -47,98 +48,98 @@ starts_is w (Given v ∷ ts) h = cc
 
 pub behind_is : (w : List ℕ) (ts rest : List Token) → behind w ts ≡ Some rest → ts ≡ Word w ∷ rest
 behind_is w ts rest h =
-    let both : (starts w ts ≡ true) × (Some (tail ts) ≡ Some rest) = only_if_some (starts w ts) (Some (tail ts)) rest h in
-    starts_is w ts both.0 ∙ ap (λ r. Word w ∷ r) (some_same _ _ both.1)
+    let both : (starts w ts ≡ true) × (Some (tail ts) ≡ Some rest) = only_if-some (starts w ts) (Some (tail ts)) rest h in
+    starts_is w ts both.0 ∙ ap (λ r. Word w ∷ r) (same-some _ _ both.1)
 
 -- the tokens with which a form begins, and those with which it ends
-abbrev pub begins : Wrap → List Token
+abbrev pub begins : Prefix → List Token
 begins Not = word "not" ∷ []
 begins Minus = word "-" ∷ []
 begins Bracket = word "(" ∷ []
 begins (FoldOf f) = fold_word f ∷ word "(" ∷ []
 
-abbrev pub form_level : Wrap → ℕ
+abbrev pub form_level : Prefix → ℕ
 form_level Not = 3
 form_level Minus = 7
 form_level Bracket = 8
 form_level (FoldOf f) = 8
 
 -- a form that begins with these tokens
-abbrev pub Closes : Wrap → List Token → Deep → List Token → Type 0
+abbrev pub Closes : Prefix → List Token → ParsedExpr → List Token → Type 0
 Closes w inside d front = IsExpr (form_level w) d.depth (begins w ++ (inside ++ front)) d.expr × (d.level ≡ form_level w)
 
-pub closed_sound : (w : Wrap) (d made : Deep) (inside ts rest : List Token) → inside_level w ≤ d.level → IsExpr d.level d.depth inside d.expr
+pub closed_sound : (w : Prefix) (d made : ParsedExpr) (inside ts rest : List Token) → inside_level w ≤ d.level → IsExpr d.level d.depth inside d.expr
     → closed w d ts ≡ Some (made, rest) → (back : List Token) × (ts ≡ back ++ rest) × Closes w inside made back
 closed_sound Not d made inside ts rest least is h =
-    let same : (record { expr = expr.Not d.expr; depth = d.depth + 1; level = 3 }, ts) ≡ (made, rest) = some_same _ _ h in
-    ([], ap (λ p. p.1) same, subst (λ (m : Deep). Closes Not inside m []) (ap (λ p. p.0) same) (subst (λ (l : List Token). IsExpr 3 (d.depth + 1) (word "not" ∷ l) (expr.Not d.expr)) (sym (append-nil inside)) (IsExpr.ANot d.level d.depth inside d.expr least is), refl))
+    let same : (record { expr = expr.Not d.expr; depth = d.depth + 1; level = 3 }, ts) ≡ (made, rest) = same-some _ _ h in
+    ([], ap (λ p. p.1) same, subst (λ (m : ParsedExpr). Closes Not inside m []) (ap (λ p. p.0) same) (subst (λ (l : List Token). IsExpr 3 (d.depth + 1) (word "not" ∷ l) (expr.Not d.expr)) (sym (append-nil inside)) (IsExpr.ANot d.level d.depth inside d.expr least is), refl))
 closed_sound Minus d made inside ts rest least is h =
-    let same : (record { expr = expr.Negate d.expr; depth = d.depth + 1; level = 7 }, ts) ≡ (made, rest) = some_same _ _ h in
-    ([], ap (λ p. p.1) same, subst (λ (m : Deep). Closes Minus inside m []) (ap (λ p. p.0) same) (subst (λ (l : List Token). IsExpr 7 (d.depth + 1) (word "-" ∷ l) (expr.Negate d.expr)) (sym (append-nil inside)) (IsExpr.AMinus d.level d.depth inside d.expr least is), refl))
+    let same : (record { expr = expr.Negate d.expr; depth = d.depth + 1; level = 7 }, ts) ≡ (made, rest) = same-some _ _ h in
+    ([], ap (λ p. p.1) same, subst (λ (m : ParsedExpr). Closes Minus inside m []) (ap (λ p. p.0) same) (subst (λ (l : List Token). IsExpr 7 (d.depth + 1) (word "-" ∷ l) (expr.Negate d.expr)) (sym (append-nil inside)) (IsExpr.AMinus d.level d.depth inside d.expr least is), refl))
 closed_sound Bracket d made inside ts rest least is h =
-    let b : (x : List Token) × (behind (codes ")") ts ≡ Some x) × (Some (record { expr = d.expr; depth = d.depth + 1; level = 8 }, x) ≡ Some (made, rest)) = bind_some (behind (codes ")") ts) _ (made, rest) h in
-    let same : (record { expr = d.expr; depth = d.depth + 1; level = 8 }, b.0) ≡ (made, rest) = some_same _ _ b.2 in
-    (word ")" ∷ [], behind_is (codes ")") ts b.0 b.1 ∙ ap (λ r. word ")" ∷ r) (ap (λ p. p.1) same), subst (λ (m : Deep). Closes Bracket inside m (word ")" ∷ [])) (ap (λ p. p.0) same) (IsExpr.InBrackets d.level d.depth inside d.expr is, refl))
+    let b : (x : List Token) × (behind (codes ")") ts ≡ Some x) × (Some (record { expr = d.expr; depth = d.depth + 1; level = 8 }, x) ≡ Some (made, rest)) = bind-some (behind (codes ")") ts) _ (made, rest) h in
+    let same : (record { expr = d.expr; depth = d.depth + 1; level = 8 }, b.0) ≡ (made, rest) = same-some _ _ b.2 in
+    (word ")" ∷ [], behind_is (codes ")") ts b.0 b.1 ∙ ap (λ r. word ")" ∷ r) (ap (λ p. p.1) same), subst (λ (m : ParsedExpr). Closes Bracket inside m (word ")" ∷ [])) (ap (λ p. p.0) same) (IsExpr.InBrackets d.level d.depth inside d.expr is, refl))
 closed_sound (FoldOf f) d made inside ts rest least is h =
-    let b : (x : List Token) × (behind (codes ")") ts ≡ Some x) × (Some (record { expr = expr.Aggregate f (Some d.expr); depth = d.depth + 1; level = 8 }, x) ≡ Some (made, rest)) = bind_some (behind (codes ")") ts) _ (made, rest) h in
-    let same : (record { expr = expr.Aggregate f (Some d.expr); depth = d.depth + 1; level = 8 }, b.0) ≡ (made, rest) = some_same _ _ b.2 in
-    (word ")" ∷ [], behind_is (codes ")") ts b.0 b.1 ∙ ap (λ r. word ")" ∷ r) (ap (λ p. p.1) same), subst (λ (m : Deep). Closes (FoldOf f) inside m (word ")" ∷ [])) (ap (λ p. p.0) same) (IsExpr.AFold f d.level d.depth inside d.expr is, refl))
+    let b : (x : List Token) × (behind (codes ")") ts ≡ Some x) × (Some (record { expr = expr.Aggregate f (Some d.expr); depth = d.depth + 1; level = 8 }, x) ≡ Some (made, rest)) = bind-some (behind (codes ")") ts) _ (made, rest) h in
+    let same : (record { expr = expr.Aggregate f (Some d.expr); depth = d.depth + 1; level = 8 }, b.0) ≡ (made, rest) = same-some _ _ b.2 in
+    (word ")" ∷ [], behind_is (codes ")") ts b.0 b.1 ∙ ap (λ r. word ")" ∷ r) (ap (λ p. p.1) same), subst (λ (m : ParsedExpr). Closes (FoldOf f) inside m (word ")" ∷ [])) (ap (λ p. p.0) same) (IsExpr.AFold f d.level d.depth inside d.expr is, refl))
 
 -- ---- how an operand begins
 
 abbrev pub Opened : ℕ → List Token → Opening × List Token → Type 0
 Opened least ts (Leaf e, rest) = (front : List Token) × (ts ≡ front ++ rest) × IsExpr 8 1 front e
-Opened least ts (Around w, rest) = (ts ≡ begins w ++ rest) × (least ≤ form_level w)
+Opened least ts (Nested w, rest) = (ts ≡ begins w ++ rest) × (least ≤ form_level w)
 
 leaf_sound : (least : ℕ) (t : Token) (v : Value) (ts : List Token) (p : Opening × List Token) → IsConstant t v → leaf (expr.Constant v) ts ≡ Some p → Opened least (t ∷ ts) p
-leaf_sound least t v ts p is h = subst (Opened least (t ∷ ts)) (some_same _ _ h) (t ∷ [], refl, IsExpr.AConstant t v is)
+leaf_sound least t v ts p is h = subst (Opened least (t ∷ ts)) (same-some _ _ h) (t ∷ [], refl, IsExpr.AConstant t v is)
 
-around_sound : (least : ℕ) (w : Wrap) (whole ts : List Token) (p : Opening × List Token) → whole ≡ begins w ++ ts → least ≤ form_level w → Some (Around w, ts) ≡ Some p → Opened least whole p
-around_sound least w whole ts p is le h = subst (Opened least whole) (some_same _ _ h) (is, le)
+around_sound : (least : ℕ) (w : Prefix) (whole ts : List Token) (p : Opening × List Token) → whole ≡ begins w ++ ts → least ≤ form_level w → Some (Nested w, ts) ≡ Some p → Opened least whole p
+around_sound least w whole ts p is le h = subst (Opened least whole) (same-some _ _ h) (is, le)
 
 not_sound : (least : ℕ) (ts : List Token) (p : Opening × List Token) → (negation least >>= λ o. Some (o, ts)) ≡ Some p → Opened least (word "not" ∷ ts) p
 not_sound least ts p h =
-    let b : (o : Opening) × (negation least ≡ Some o) × (Some (o, ts) ≡ Some p) = bind_some (negation least) (λ o. Some (o, ts)) p h in
-    let c : (nat_le least 3 ≡ true) × (Some (Around Not) ≡ Some b.0) = only_if_some (nat_le least 3) (Some (Around Not)) b.0 b.1 in
-    around_sound least Not (word "not" ∷ ts) ts p refl (leb-true least 3 c.0) (ap (λ o. Some (o, ts)) (some_same _ _ c.1) ∙ b.2)
+    let b : (o : Opening) × (negation least ≡ Some o) × (Some (o, ts) ≡ Some p) = bind-some (negation least) (λ o. Some (o, ts)) p h in
+    let c : (nat_le least 3 ≡ true) × (Some (Nested Not) ≡ Some b.0) = only_if-some (nat_le least 3) (Some (Nested Not)) b.0 b.1 in
+    around_sound least Not (word "not" ∷ ts) ts p refl (leb-true least 3 c.0) (ap (λ o. Some (o, ts)) (same-some _ _ c.1) ∙ b.2)
 
 fold_sound : (least : ℕ) (f : Fold) (ts : List Token) (p : Opening × List Token) → least ≤ 7 → fold_opening f ts ≡ Some p → Opened least (fold_word f ∷ ts) p
 fold_sound least f ts p le h =
-    let b : (x : List Token) × (behind (codes "(") ts ≡ Some x) × (Some (Around (FoldOf f), x) ≡ Some p) = bind_some (behind (codes "(") ts) (λ x. Some (Around (FoldOf f), x)) p h in
+    let b : (x : List Token) × (behind (codes "(") ts ≡ Some x) × (Some (Nested (FoldOf f), x) ≡ Some p) = bind-some (behind (codes "(") ts) (λ x. Some (Nested (FoldOf f), x)) p h in
     around_sound least (FoldOf f) (fold_word f ∷ ts) b.0 p (ap (λ l. fold_word f ∷ l) (behind_is (codes "(") ts b.0 b.1)) (omega (arith, le)) b.2
 
 count_sound : (least : ℕ) (ts : List Token) (p : Opening × List Token) → least ≤ 7 → count_opening ts ≡ Some p → Opened least (word "count" ∷ ts) p
 count_sound least ts p le h =
-    let b : (x : List Token) × (behind (codes "(") ts ≡ Some x) × (count_inside x ≡ Some p) = bind_some (behind (codes "(") ts) count_inside p h in
+    let b : (x : List Token) × (behind (codes "(") ts ≡ Some x) × (count_inside x ≡ Some p) = bind-some (behind (codes "(") ts) count_inside p h in
     let begun : ts ≡ word "(" ∷ b.0 = behind_is (codes "(") ts b.0 b.1 in
-    elim (either_some (starts (codes "*") b.0) (behind (codes ")") (tail b.0) >>= λ x. Some (Leaf (expr.Aggregate fold.Count None), x)) (Some (Around (FoldOf fold.Count), b.0)) p b.2) [
+    elim (if-some (starts (codes "*") b.0) (behind (codes ")") (tail b.0) >>= λ x. Some (Leaf (expr.Aggregate fold.Count None), x)) (Some (Nested (FoldOf fold.Count), b.0)) p b.2) [
       | inl star ↦
-          let c : (x : List Token) × (behind (codes ")") (tail b.0) ≡ Some x) × (Some (Leaf (expr.Aggregate fold.Count None), x) ≡ Some p) = bind_some (behind (codes ")") (tail b.0)) (λ x. Some (Leaf (expr.Aggregate fold.Count None), x)) p star.1 in
+          let c : (x : List Token) × (behind (codes ")") (tail b.0) ≡ Some x) × (Some (Leaf (expr.Aggregate fold.Count None), x) ≡ Some p) = bind-some (behind (codes ")") (tail b.0)) (λ x. Some (Leaf (expr.Aggregate fold.Count None), x)) p star.1 in
           let all : b.0 ≡ word "*" ∷ word ")" ∷ c.0 = starts_is (codes "*") b.0 star.0 ∙ ap (λ l. word "*" ∷ l) (behind_is (codes ")") (tail b.0) c.0 c.1) in
-          subst (Opened least (word "count" ∷ ts)) (some_same _ _ c.2) (word "count" ∷ word "(" ∷ word "*" ∷ word ")" ∷ [], ap (λ l. word "count" ∷ l) (begun ∙ ap (λ l. word "(" ∷ l) all), IsExpr.CountAll)
+          subst (Opened least (word "count" ∷ ts)) (same-some _ _ c.2) (word "count" ∷ word "(" ∷ word "*" ∷ word ")" ∷ [], ap (λ l. word "count" ∷ l) (begun ∙ ap (λ l. word "(" ∷ l) all), IsExpr.CountAll)
       | inr more ↦ around_sound least (FoldOf fold.Count) (word "count" ∷ ts) b.0 p (ap (λ l. word "count" ∷ l) begun) (omega (arith, le)) more
     ]
 
 name_sound : (ts : List Token) (r : List ℕ × List Token) → reads_name ts ≡ Some r → (ts ≡ Word r.0 ∷ r.1) × IsName r.0
 name_sound [] r h = cc
 name_sound (Word w ∷ ts) r h =
-    let b : (n : List ℕ) × (name_in w ≡ Some n) × (Some (n, ts) ≡ Some r) = bind_some (name_in w) (λ n. Some (n, ts)) r h in
-    let c : (sql_name_test w ≡ true) × (Some w ≡ Some b.0) = only_if_some (sql_name_test w) (Some w) b.0 b.1 in
-    subst (λ (q : List ℕ × List Token). (Word w ∷ ts ≡ Word q.0 ∷ q.1) × IsName q.0) (some_same _ _ (ap (λ n. Some (n, ts)) (some_same _ _ c.1) ∙ b.2)) (refl, c.0)
+    let b : (n : List ℕ) × (name_in w ≡ Some n) × (Some (n, ts) ≡ Some r) = bind-some (name_in w) (λ n. Some (n, ts)) r h in
+    let c : (sql_name_test w ≡ true) × (Some w ≡ Some b.0) = only_if-some (sql_name_test w) (Some w) b.0 b.1 in
+    subst (λ (q : List ℕ × List Token). (Word w ∷ ts ≡ Word q.0 ∷ q.1) × IsName q.0) (same-some _ _ (ap (λ n. Some (n, ts)) (same-some _ _ c.1) ∙ b.2)) (refl, c.0)
 name_sound (Number z ∷ ts) r h = cc
 name_sound (Quoted t ∷ ts) r h = cc
 name_sound (Given v ∷ ts) r h = cc
 
 column_sound : (n : List ℕ) (ts : List Token) (p : ColumnName × List Token) → IsName n → column_behind n ts ≡ Some p → (front : List Token) × (Word n ∷ ts ≡ front ++ p.1) × IsColumn front p.0
 column_sound n ts p named h =
-    elim (either_some (starts (codes ".") ts) (reads_name (tail ts) >>= λ r. Some (record { table = Some n; name = r.0 }, r.1)) (Some (record { table = None; name = n }, ts)) p h) [
+    elim (if-some (starts (codes ".") ts) (reads_name (tail ts) >>= λ r. Some (record { table = Some n; name = r.0 }, r.1)) (Some (record { table = None; name = n }, ts)) p h) [
       | inl dot ↦
-          let b : (r : List ℕ × List Token) × (reads_name (tail ts) ≡ Some r) × (Some (record { table = Some n; name = r.0 }, r.1) ≡ Some p) = bind_some (reads_name (tail ts)) (λ r. Some (record { table = Some n; name = r.0 }, r.1)) p dot.1 in
+          let b : (r : List ℕ × List Token) × (reads_name (tail ts) ≡ Some r) × (Some (record { table = Some n; name = r.0 }, r.1) ≡ Some p) = bind-some (reads_name (tail ts)) (λ r. Some (record { table = Some n; name = r.0 }, r.1)) p dot.1 in
           let second : (tail ts ≡ Word b.0.0 ∷ b.0.1) × IsName b.0.0 = name_sound (tail ts) b.0 b.1 in
-          subst (λ (q : ColumnName × List Token). (front : List Token) × (Word n ∷ ts ≡ front ++ q.1) × IsColumn front q.0) (some_same _ _ b.2)
+          subst (λ (q : ColumnName × List Token). (front : List Token) × (Word n ∷ ts ≡ front ++ q.1) × IsColumn front q.0) (same-some _ _ b.2)
           (Word n ∷ word "." ∷ Word b.0.0 ∷ [], ap (λ l. Word n ∷ l) (starts_is (codes ".") ts dot.0 ∙ ap (λ l. word "." ∷ l) second.0), inr (n, refl, refl, named, second.1))
       | inr alone ↦
-          subst (λ (q : ColumnName × List Token). (front : List Token) × (Word n ∷ ts ≡ front ++ q.1) × IsColumn front q.0) (some_same _ _ alone) (Word n ∷ [], refl, inl (refl, refl, named))
+          subst (λ (q : ColumnName × List Token). (front : List Token) × (Word n ∷ ts ≡ front ++ q.1) × IsColumn front q.0) (same-some _ _ alone) (Word n ∷ [], refl, inl (refl, refl, named))
     ]
 
 at_word : (least : ℕ) (w v : List ℕ) (ts : List Token) (p : Opening × List Token) → pointwise nat_eq w v ≡ true → Opened least (Word v ∷ ts) p → Opened least (Word w ∷ ts) p
@@ -146,12 +147,12 @@ at_word least w v ts p is opened = subst (λ (u : List ℕ). Opened least (Word 
 
 column_opened : (least : ℕ) (w : List ℕ) (ts : List Token) (p : Opening × List Token) → column_opening w ts ≡ Some p → Opened least (Word w ∷ ts) p
 column_opened least w ts p h =
-    let b : (n : List ℕ) × (name_in w ≡ Some n) × ((column_behind n ts >>= λ c. Some (Leaf (expr.Column c.0), c.1)) ≡ Some p) = bind_some (name_in w) (λ n. column_behind n ts >>= λ c. Some (Leaf (expr.Column c.0), c.1)) p h in
-    let c : (sql_name_test w ≡ true) × (Some w ≡ Some b.0) = only_if_some (sql_name_test w) (Some w) b.0 b.1 in
-    let same : w ≡ b.0 = some_same _ _ c.1 in
-    let d : (q : ColumnName × List Token) × (column_behind b.0 ts ≡ Some q) × (Some (Leaf (expr.Column q.0), q.1) ≡ Some p) = bind_some (column_behind b.0 ts) (λ c. Some (Leaf (expr.Column c.0), c.1)) p b.2 in
+    let b : (n : List ℕ) × (name_in w ≡ Some n) × ((column_behind n ts >>= λ c. Some (Leaf (expr.Column c.0), c.1)) ≡ Some p) = bind-some (name_in w) (λ n. column_behind n ts >>= λ c. Some (Leaf (expr.Column c.0), c.1)) p h in
+    let c : (sql_name_test w ≡ true) × (Some w ≡ Some b.0) = only_if-some (sql_name_test w) (Some w) b.0 b.1 in
+    let same : w ≡ b.0 = same-some _ _ c.1 in
+    let d : (q : ColumnName × List Token) × (column_behind b.0 ts ≡ Some q) × (Some (Leaf (expr.Column q.0), q.1) ≡ Some p) = bind-some (column_behind b.0 ts) (λ c. Some (Leaf (expr.Column c.0), c.1)) p b.2 in
     let made : (front : List Token) × (Word b.0 ∷ ts ≡ front ++ d.0.1) × IsColumn front d.0.0 = column_sound b.0 ts d.0 (subst IsName same c.0) d.1 in
-    subst (Opened least (Word w ∷ ts)) (some_same _ _ d.2) (made.0, ap (λ u. Word u ∷ ts) same ∙ made.1, IsExpr.AColumn made.0 d.0.0 made.2)
+    subst (Opened least (Word w ∷ ts)) (same-some _ _ d.2) (made.0, ap (λ u. Word u ∷ ts) same ∙ made.1, IsExpr.AColumn made.0 d.0.0 made.2)
 
 choose : {A G : Type 0} (b : Bool) (o q : Option A) (y : A) → (if b then o else q) ≡ Some y → (b ≡ true → o ≡ Some y → G) → (q ≡ Some y → G) → G
 choose true o q y h f g = f refl h
@@ -179,24 +180,24 @@ opening_sound least (Given v ∷ ts) p le h = leaf_sound least (Given v) v ts p 
 -- ---- an operand
 
 -- what is read as an expression of at least a level
-pub record Reading (least : ℕ) (ts : List Token) (p : Deep × List Token) : Type 0 where
+pub record Reading (least : ℕ) (ts : List Token) (p : ParsedExpr × List Token) : Type 0 where
   pub front : List Token
   pub cut : ts ≡ front ++ p.1
   pub is : IsExpr p.0.level p.0.depth front p.0.expr
   pub level : least ≤ p.0.level
 
-inside_bound : (w : Wrap) → inside_level w ≤ 7
+inside_bound : (w : Prefix) → inside_level w ≤ 7
 inside_bound Not = omega arith
 inside_bound Minus = omega arith
 inside_bound Bracket = omega arith
 inside_bound (FoldOf f) = omega arith
 
-module _ (read : ℕ → List Token → Option (Deep × List Token)) (sound : (l : ℕ) (ts : List Token) (q : Deep × List Token) → l ≤ 7 → read l ts ≡ Some q → Reading l ts q) where
-  operand_at_sound : (least : ℕ) (o : Opening) (ts0 ts : List Token) (q : Deep × List Token) → least ≤ 7 → Opened least ts0 (o, ts) → operand_at read o ts ≡ Some q → Reading least ts0 q
+module _ (read : ℕ → List Token → Option (ParsedExpr × List Token)) (sound : (l : ℕ) (ts : List Token) (q : ParsedExpr × List Token) → l ≤ 7 → read l ts ≡ Some q → Reading l ts q) where
+  operand_at_sound : (least : ℕ) (o : Opening) (ts0 ts : List Token) (q : ParsedExpr × List Token) → least ≤ 7 → Opened least ts0 (o, ts) → operand_at read o ts ≡ Some q → Reading least ts0 q
   operand_at_sound least (Leaf e) ts0 ts q le opened h =
-      subst (Reading least ts0) (some_same _ _ h) (record { front = opened.0; cut = opened.1; is = opened.2; level = omega (arith, le) })
-  operand_at_sound least (Around w) ts0 ts q le opened h =
-      let b : (r : Deep × List Token) × (read (inside_level w) ts ≡ Some r) × (closed w r.0 r.1 ≡ Some q) = bind_some (read (inside_level w) ts) (λ r. closed w r.0 r.1) q h in
+      subst (Reading least ts0) (same-some _ _ h) (record { front = opened.0; cut = opened.1; is = opened.2; level = omega (arith, le) })
+  operand_at_sound least (Nested w) ts0 ts q le opened h =
+      let b : (r : ParsedExpr × List Token) × (read (inside_level w) ts ≡ Some r) × (closed w r.0 r.1 ≡ Some q) = bind-some (read (inside_level w) ts) (λ r. closed w r.0 r.1) q h in
       let inside : Reading (inside_level w) ts b.0 = sound (inside_level w) ts b.0 (inside_bound w) b.1 in
       let made : (back : List Token) × (b.0.1 ≡ back ++ q.1) × Closes w inside.front q.0 back = closed_sound w b.0.0 q.0 inside.front b.0.1 q.1 inside.level inside.is b.2 in
       record {
@@ -206,44 +207,44 @@ module _ (read : ℕ → List Token → Option (Deep × List Token)) (sound : (l
         level = subst (λ (l : ℕ). least ≤ l) (sym made.2.1) opened.1;
       }
 
-  pub operand_sound : (least : ℕ) (ts : List Token) (q : Deep × List Token) → least ≤ 7 → operand read least ts ≡ Some q → Reading least ts q
+  pub operand_sound : (least : ℕ) (ts : List Token) (q : ParsedExpr × List Token) → least ≤ 7 → operand read least ts ≡ Some q → Reading least ts q
   operand_sound least ts q le h =
-      let b : (r : Opening × List Token) × (opening least ts ≡ Some r) × (operand_at read r.0 r.1 ≡ Some q) = bind_some (opening least ts) (λ r. operand_at read r.0 r.1) q h in
+      let b : (r : Opening × List Token) × (opening least ts ≡ Some r) × (operand_at read r.0 r.1 ≡ Some q) = bind-some (opening least ts) (λ r. operand_at read r.0 r.1) q h in
       operand_at_sound least b.0.0 ts b.0.1 q le (opening_sound least ts b.0 le b.1) b.2
 
 -- ---- what follows an operand
 
-abbrev pub JointWrites : Joint → Token → Type 0
+abbrev pub JointWrites : Infix → Token → Type 0
 JointWrites (Both op) t = Writes op t
 JointWrites IsNull t = t ≡ word "is"
 
 comparison_sound : (w : List ℕ) (c : Cmp) → comparison_of w ≡ Some c → Writes (Compare c) (Word w)
 comparison_sound w c h =
-    choose _ _ _ c h (λ is made. subst (λ (k : Cmp). Writes (Compare k) (Word w)) (some_same _ _ made) (ap Word (text_is w (codes "=") is))) (λ h1.
-    choose _ _ _ c h1 (λ is made. subst (λ (k : Cmp). Writes (Compare k) (Word w)) (some_same _ _ made) (inl (ap Word (text_is w (codes "<>") is)))) (λ h2.
-    choose _ _ _ c h2 (λ is made. subst (λ (k : Cmp). Writes (Compare k) (Word w)) (some_same _ _ made) (inr (ap Word (text_is w (codes "!=") is)))) (λ h3.
-    choose _ _ _ c h3 (λ is made. subst (λ (k : Cmp). Writes (Compare k) (Word w)) (some_same _ _ made) (ap Word (text_is w (codes "<") is))) (λ h4.
-    choose _ _ _ c h4 (λ is made. subst (λ (k : Cmp). Writes (Compare k) (Word w)) (some_same _ _ made) (ap Word (text_is w (codes "<=") is))) (λ h5.
-    choose _ _ _ c h5 (λ is made. subst (λ (k : Cmp). Writes (Compare k) (Word w)) (some_same _ _ made) (ap Word (text_is w (codes ">") is))) (λ h6.
-    choose _ _ _ c h6 (λ is made. subst (λ (k : Cmp). Writes (Compare k) (Word w)) (some_same _ _ made) (ap Word (text_is w (codes ">=") is))) (λ h7.
+    choose _ _ _ c h (λ is made. subst (λ (k : Cmp). Writes (Compare k) (Word w)) (same-some _ _ made) (ap Word (text_is w (codes "=") is))) (λ h1.
+    choose _ _ _ c h1 (λ is made. subst (λ (k : Cmp). Writes (Compare k) (Word w)) (same-some _ _ made) (inl (ap Word (text_is w (codes "<>") is)))) (λ h2.
+    choose _ _ _ c h2 (λ is made. subst (λ (k : Cmp). Writes (Compare k) (Word w)) (same-some _ _ made) (inr (ap Word (text_is w (codes "!=") is)))) (λ h3.
+    choose _ _ _ c h3 (λ is made. subst (λ (k : Cmp). Writes (Compare k) (Word w)) (same-some _ _ made) (ap Word (text_is w (codes "<") is))) (λ h4.
+    choose _ _ _ c h4 (λ is made. subst (λ (k : Cmp). Writes (Compare k) (Word w)) (same-some _ _ made) (ap Word (text_is w (codes "<=") is))) (λ h5.
+    choose _ _ _ c h5 (λ is made. subst (λ (k : Cmp). Writes (Compare k) (Word w)) (same-some _ _ made) (ap Word (text_is w (codes ">") is))) (λ h6.
+    choose _ _ _ c h6 (λ is made. subst (λ (k : Cmp). Writes (Compare k) (Word w)) (same-some _ _ made) (ap Word (text_is w (codes ">=") is))) (λ h7.
     (let none : None ≡ Some c = h7 in cc))))))))
 
-compared_sound : (w : List ℕ) (j : Joint) → compared w ≡ Some j → JointWrites j (Word w)
+compared_sound : (w : List ℕ) (j : Infix) → compared w ≡ Some j → JointWrites j (Word w)
 compared_sound w j h =
-    let b : (c : Cmp) × (comparison_of w ≡ Some c) × (Some (Both (Compare c)) ≡ Some j) = bind_some (comparison_of w) (λ c. Some (Both (Compare c))) j h in
-    subst (λ (k : Joint). JointWrites k (Word w)) (some_same _ _ b.2) (comparison_sound w b.0 b.1)
+    let b : (c : Cmp) × (comparison_of w ≡ Some c) × (Some (Both (Compare c)) ≡ Some j) = bind-some (comparison_of w) (λ c. Some (Both (Compare c))) j h in
+    subst (λ (k : Infix). JointWrites k (Word w)) (same-some _ _ b.2) (comparison_sound w b.0 b.1)
 
-joint_in_sound : (w : List ℕ) (j : Joint) → joint_in w ≡ Some j → JointWrites j (Word w)
+joint_in_sound : (w : List ℕ) (j : Infix) → joint_in w ≡ Some j → JointWrites j (Word w)
 joint_in_sound w j h =
-    choose _ _ _ j h (λ is made. subst (λ (k : Joint). JointWrites k (Word w)) (some_same _ _ made) (ap Word (text_is w (codes "or") is))) (λ h1.
-    choose _ _ _ j h1 (λ is made. subst (λ (k : Joint). JointWrites k (Word w)) (some_same _ _ made) (ap Word (text_is w (codes "and") is))) (λ h2.
-    choose _ _ _ j h2 (λ is made. subst (λ (k : Joint). JointWrites k (Word w)) (some_same _ _ made) (ap Word (text_is w (codes "is") is))) (λ h3.
-    choose _ _ _ j h3 (λ is made. subst (λ (k : Joint). JointWrites k (Word w)) (some_same _ _ made) (ap Word (text_is w (codes "+") is))) (λ h4.
-    choose _ _ _ j h4 (λ is made. subst (λ (k : Joint). JointWrites k (Word w)) (some_same _ _ made) (ap Word (text_is w (codes "-") is))) (λ h5.
-    choose _ _ _ j h5 (λ is made. subst (λ (k : Joint). JointWrites k (Word w)) (some_same _ _ made) (ap Word (text_is w (codes "*") is))) (λ h6.
+    choose _ _ _ j h (λ is made. subst (λ (k : Infix). JointWrites k (Word w)) (same-some _ _ made) (ap Word (text_is w (codes "or") is))) (λ h1.
+    choose _ _ _ j h1 (λ is made. subst (λ (k : Infix). JointWrites k (Word w)) (same-some _ _ made) (ap Word (text_is w (codes "and") is))) (λ h2.
+    choose _ _ _ j h2 (λ is made. subst (λ (k : Infix). JointWrites k (Word w)) (same-some _ _ made) (ap Word (text_is w (codes "is") is))) (λ h3.
+    choose _ _ _ j h3 (λ is made. subst (λ (k : Infix). JointWrites k (Word w)) (same-some _ _ made) (ap Word (text_is w (codes "+") is))) (λ h4.
+    choose _ _ _ j h4 (λ is made. subst (λ (k : Infix). JointWrites k (Word w)) (same-some _ _ made) (ap Word (text_is w (codes "-") is))) (λ h5.
+    choose _ _ _ j h5 (λ is made. subst (λ (k : Infix). JointWrites k (Word w)) (same-some _ _ made) (ap Word (text_is w (codes "*") is))) (λ h6.
     compared_sound w j h6))))))
 
-pub joint_sound : (ts : List Token) (j : Joint) → joint_of ts ≡ Some j → (t : Token) × (ts ≡ t ∷ tail ts) × JointWrites j t
+pub joint_sound : (ts : List Token) (j : Infix) → joint_of ts ≡ Some j → (t : Token) × (ts ≡ t ∷ tail ts) × JointWrites j t
 joint_sound [] j h = cc
 joint_sound (Word w ∷ ts) j h = (Word w, refl, joint_in_sound w j h)
 joint_sound (Number z ∷ ts) j h = cc
@@ -255,20 +256,20 @@ and_true true b h = (refl, h)
 and_true false b h = cc
 
 -- what stands next joins an operand of this level
-pub record Joins (least level : ℕ) (ts : List Token) (j : Joint) : Type 0 where
+pub record Joins (least level : ℕ) (ts : List Token) (j : Infix) : Type 0 where
   pub sign : Token
   pub cut : ts ≡ sign ∷ tail ts
   pub writes : JointWrites j sign
   pub least_holds : least ≤ level_of j
   pub left_holds : left_of j ≤ level
 
-joins_sound : (least level : ℕ) (ts : List Token) (j : Joint) → joins least level ts ≡ Some j → Joins least level ts j
+joins_sound : (least level : ℕ) (ts : List Token) (j : Infix) → joins least level ts ≡ Some j → Joins least level ts j
 joins_sound least level ts j h =
-    let b : (i : Joint) × (joint_of ts ≡ Some i) × (only_if (may_join least level i) (Some i) ≡ Some j) = bind_some (joint_of ts) (λ i. only_if (may_join least level i) (Some i)) j h in
-    let c : (may_join least level b.0 ≡ true) × (Some b.0 ≡ Some j) = only_if_some (may_join least level b.0) (Some b.0) j b.2 in
+    let b : (i : Infix) × (joint_of ts ≡ Some i) × (only_if (may_join least level i) (Some i) ≡ Some j) = bind-some (joint_of ts) (λ i. only_if (may_join least level i) (Some i)) j h in
+    let c : (may_join least level b.0 ≡ true) × (Some b.0 ≡ Some j) = only_if-some (may_join least level b.0) (Some b.0) j b.2 in
     let s : (t : Token) × (ts ≡ t ∷ tail ts) × JointWrites b.0 t = joint_sound ts b.0 b.1 in
     let m : (nat_le least (level_of b.0) ≡ true) × (nat_le (left_of b.0) level ≡ true) = and_true _ _ c.0 in
-    subst (Joins least level ts) (some_same _ _ c.1) (record { sign = s.0; cut = s.1; writes = s.2; least_holds = leb-true _ _ m.0; left_holds = leb-true _ _ m.1 })
+    subst (Joins least level ts) (same-some _ _ c.1) (record { sign = s.0; cut = s.1; writes = s.2; least_holds = leb-true _ _ m.0; left_holds = leb-true _ _ m.1 })
 
 right_bound : (op : Operator) → right_of op ≤ 7
 right_bound Or = omega arith
@@ -279,15 +280,15 @@ right_bound Subtract = omega arith
 right_bound Multiply = omega arith
 
 -- what an operand in front and a joint make of the rest
-abbrev pub Joined : Joint → Token → List Token → List Token → Deep × List Token → Type 0
+abbrev pub Joined : Infix → Token → List Token → List Token → ParsedExpr × List Token → Type 0
 Joined j t front ts q = (back : List Token) × (ts ≡ back ++ q.1) × IsExpr q.0.level q.0.depth (front ++ t ∷ back) q.0.expr × (q.0.level ≡ level_of j)
 
-null_sound : (d : Deep) (t : Token) (front ts : List Token) (q : Deep × List Token) → IsExpr d.level d.depth front d.expr → 5 ≤ d.level → t ≡ word "is" → null_test d ts ≡ Some q → Joined IsNull t front ts q
+null_sound : (d : ParsedExpr) (t : Token) (front ts : List Token) (q : ParsedExpr × List Token) → IsExpr d.level d.depth front d.expr → 5 ≤ d.level → t ≡ word "is" → null_test d ts ≡ Some q → Joined IsNull t front ts q
 null_sound d t front ts q is left writes h = elim (cases_Bool (starts (codes "not") ts)) [
   | inl negated ↦
       let h1 : (behind (codes "null") (tail ts) >>= λ rest. Some (record { expr = expr.IsNull d.expr true; depth = d.depth + 1; level = 4 }, rest)) ≡ Some q = rw negated at h in
-      let b : (x : List Token) × (behind (codes "null") (tail ts) ≡ Some x) × (Some (record { expr = expr.IsNull d.expr true; depth = d.depth + 1; level = 4 }, x) ≡ Some q) = bind_some (behind (codes "null") (tail ts)) _ q h1 in
-      subst (Joined IsNull t front ts) (some_same _ _ b.2) (
+      let b : (x : List Token) × (behind (codes "null") (tail ts) ≡ Some x) × (Some (record { expr = expr.IsNull d.expr true; depth = d.depth + 1; level = 4 }, x) ≡ Some q) = bind-some (behind (codes "null") (tail ts)) _ q h1 in
+      subst (Joined IsNull t front ts) (same-some _ _ b.2) (
         word "not" ∷ word "null" ∷ [],
         starts_is (codes "not") ts negated ∙ ap (λ l. word "not" ∷ l) (behind_is (codes "null") (tail ts) b.0 b.1),
         subst (λ (u : Token). IsExpr 4 (d.depth + 1) (front ++ u ∷ word "not" ∷ word "null" ∷ []) (expr.IsNull d.expr true)) (sym writes) (IsExpr.ANotNull d.level d.depth front d.expr left is),
@@ -295,8 +296,8 @@ null_sound d t front ts q is left writes h = elim (cases_Bool (starts (codes "no
       )
   | inr plain ↦
       let h1 : (behind (codes "null") ts >>= λ rest. Some (record { expr = expr.IsNull d.expr false; depth = d.depth + 1; level = 4 }, rest)) ≡ Some q = rw plain at h in
-      let b : (x : List Token) × (behind (codes "null") ts ≡ Some x) × (Some (record { expr = expr.IsNull d.expr false; depth = d.depth + 1; level = 4 }, x) ≡ Some q) = bind_some (behind (codes "null") ts) _ q h1 in
-      subst (Joined IsNull t front ts) (some_same _ _ b.2) (
+      let b : (x : List Token) × (behind (codes "null") ts ≡ Some x) × (Some (record { expr = expr.IsNull d.expr false; depth = d.depth + 1; level = 4 }, x) ≡ Some q) = bind-some (behind (codes "null") ts) _ q h1 in
+      subst (Joined IsNull t front ts) (same-some _ _ b.2) (
         word "null" ∷ [],
         behind_is (codes "null") ts b.0 b.1,
         subst (λ (u : Token). IsExpr 4 (d.depth + 1) (front ++ u ∷ word "null" ∷ []) (expr.IsNull d.expr false)) (sym writes) (IsExpr.ANull d.level d.depth front d.expr left is),
@@ -307,44 +308,44 @@ null_sound d t front ts q is left writes h = elim (cases_Bool (starts (codes "no
 -- ---- a chain of operators
 
 -- what an operand in front and the operators that follow it make of tokens
-pub record Chain (least : ℕ) (front ts : List Token) (q : Deep × List Token) : Type 0 where
+pub record Chain (least : ℕ) (front ts : List Token) (q : ParsedExpr × List Token) : Type 0 where
   pub back : List Token
   pub cut : ts ≡ back ++ q.1
   pub is : IsExpr q.0.level q.0.depth (front ++ back) q.0.expr
   pub level : least ≤ q.0.level
 
-none_added : (least : ℕ) (d : Deep) (front ts : List Token) → IsExpr d.level d.depth front d.expr → least ≤ d.level → Chain least front ts (d, ts)
+none_added : (least : ℕ) (d : ParsedExpr) (front ts : List Token) → IsExpr d.level d.depth front d.expr → least ≤ d.level → Chain least front ts (d, ts)
 none_added least d front ts is level = record { back = []; cut = refl; is = subst (λ (l : List Token). IsExpr d.level d.depth l d.expr) (sym (append-nil front)) is; level = level }
 
-module _ (read : ℕ → List Token → Option (Deep × List Token)) (sound : (l : ℕ) (ts : List Token) (q : Deep × List Token) → l ≤ 7 → read l ts ≡ Some q → Reading l ts q) where
-  joined_sound : (j : Joint) (d : Deep) (t : Token) (front ts : List Token) (q : Deep × List Token) → IsExpr d.level d.depth front d.expr → left_of j ≤ d.level → JointWrites j t
+module _ (read : ℕ → List Token → Option (ParsedExpr × List Token)) (sound : (l : ℕ) (ts : List Token) (q : ParsedExpr × List Token) → l ≤ 7 → read l ts ≡ Some q → Reading l ts q) where
+  joined_sound : (j : Infix) (d : ParsedExpr) (t : Token) (front ts : List Token) (q : ParsedExpr × List Token) → IsExpr d.level d.depth front d.expr → left_of j ≤ d.level → JointWrites j t
       → joined read j d ts ≡ Some q → Joined j t front ts q
   joined_sound (Both op) d t front ts q is left writes h =
-      let b : (r : Deep × List Token) × (read (right_of op) ts ≡ Some r) × (Some (pair op d r.0, r.1) ≡ Some q) = bind_some (read (right_of op) ts) (λ r. Some (pair op d r.0, r.1)) q h in
+      let b : (r : ParsedExpr × List Token) × (read (right_of op) ts ≡ Some r) × (Some (pair op d r.0, r.1) ≡ Some q) = bind-some (read (right_of op) ts) (λ r. Some (pair op d r.0, r.1)) q h in
       let right : Reading (right_of op) ts b.0 = sound (right_of op) ts b.0 (right_bound op) b.1 in
-      subst (Joined (Both op) t front ts) (some_same _ _ b.2)
+      subst (Joined (Both op) t front ts) (same-some _ _ b.2)
       (right.front, right.cut, IsExpr.APair op t d.level d.depth front d.expr b.0.0.level b.0.0.depth right.front b.0.0.expr writes left is right.level right.is, refl)
   joined_sound IsNull d t front ts q is left writes h = null_sound d t front ts q is left writes h
 
-  goes_on_sound : (limit least : ℕ) (o : Option Joint) (d : Deep) (front ts : List Token) (r : (Deep × Bool) × List Token) → IsExpr d.level d.depth front d.expr → least ≤ d.level
+  goes_on_sound : (limit least : ℕ) (o : Option Infix) (d : ParsedExpr) (front ts : List Token) (r : (ParsedExpr × Bool) × List Token) → IsExpr d.level d.depth front d.expr → least ≤ d.level
       → joins least d.level ts ≡ o → goes_on read limit o d ts ≡ Some r → Chain least front ts (r.0.0, r.1)
   goes_on_sound limit least None d front ts r is level eq h =
-      subst (λ (p : (Deep × Bool) × List Token). Chain least front ts (p.0.0, p.1)) (some_same _ _ h) (none_added least d front ts is level)
+      subst (λ (p : (ParsedExpr × Bool) × List Token). Chain least front ts (p.0.0, p.1)) (same-some _ _ h) (none_added least d front ts is level)
   goes_on_sound limit least (Some j) d front ts r is level eq h =
-      let b : (q : Deep × List Token) × (joined_within read limit j d (tail ts) ≡ Some q) × (Some ((q.0, true), q.1) ≡ Some r) = bind_some (joined_within read limit j d (tail ts)) (λ q. Some ((q.0, true), q.1)) r h in
-      let c : (nat_le d.depth limit ≡ true) × (joined read j d (tail ts) ≡ Some b.0) = only_if_some (nat_le d.depth limit) (joined read j d (tail ts)) b.0 b.1 in
+      let b : (q : ParsedExpr × List Token) × (joined_within read limit j d (tail ts) ≡ Some q) × (Some ((q.0, true), q.1) ≡ Some r) = bind-some (joined_within read limit j d (tail ts)) (λ q. Some ((q.0, true), q.1)) r h in
+      let c : (nat_le d.depth limit ≡ true) × (joined read j d (tail ts) ≡ Some b.0) = only_if-some (nat_le d.depth limit) (joined read j d (tail ts)) b.0 b.1 in
       let s : Joins least d.level ts j = joins_sound least d.level ts j eq in
       let m : Joined j s.sign front (tail ts) b.0 = joined_sound j d s.sign front (tail ts) b.0 is s.left_holds s.writes c.1 in
-      subst (λ (p : (Deep × Bool) × List Token). Chain least front ts (p.0.0, p.1)) (some_same _ _ b.2)
+      subst (λ (p : (ParsedExpr × Bool) × List Token). Chain least front ts (p.0.0, p.1)) (same-some _ _ b.2)
       (record { back = s.sign ∷ m.0; cut = s.cut ∙ ap (λ l. s.sign ∷ l) m.1; is = m.2; level = subst (λ (l : ℕ). least ≤ l) (sym m.3) s.least_holds })
 
-  chain_sound : (limit least k : ℕ) (d : Deep) (front ts : List Token) (q : Deep × List Token) → IsExpr d.level d.depth front d.expr → least ≤ d.level
+  chain_sound : (limit least k : ℕ) (d : ParsedExpr) (front ts : List Token) (q : ParsedExpr × List Token) → IsExpr d.level d.depth front d.expr → least ≤ d.level
       → repeat (joins_more read limit least) k d ts ≡ Some q → Chain least front ts q
   chain_sound limit least zero d front ts q is level h =
       let none : None ≡ Some q = sym (repeat_none (joins_more read limit least) d ts) ∙ h in cc
   chain_sound limit least (suc k) d front ts q is level h =
       let h1 : after (joins_more read limit least) k (joins_more read limit least d ts) ≡ Some q = sym (repeat_suc (joins_more read limit least) k d ts) ∙ h in
-      let b : (r : (Deep × Bool) × List Token) × (joins_more read limit least d ts ≡ Some r) × ((if r.0.1 then repeat (joins_more read limit least) k r.0.0 r.1 else Some (r.0.0, r.1)) ≡ Some q) = bind_some (joins_more read limit least d ts) (λ r. if r.0.1 then repeat (joins_more read limit least) k r.0.0 r.1 else Some (r.0.0, r.1)) q h1 in
+      let b : (r : (ParsedExpr × Bool) × List Token) × (joins_more read limit least d ts ≡ Some r) × ((if r.0.1 then repeat (joins_more read limit least) k r.0.0 r.1 else Some (r.0.0, r.1)) ≡ Some q) = bind-some (joins_more read limit least d ts) (λ r. if r.0.1 then repeat (joins_more read limit least) k r.0.0 r.1 else Some (r.0.0, r.1)) q h1 in
       let one : Chain least front ts (b.0.0.0, b.0.1) = goes_on_sound limit least (joins least d.level ts) d front ts b.0 is level refl b.1 in
       choose b.0.0.1 (repeat (joins_more read limit least) k b.0.0.0 b.0.1) (Some (b.0.0.0, b.0.1)) q b.2
       (λ going made.
@@ -355,14 +356,14 @@ module _ (read : ℕ → List Token → Option (Deep × List Token)) (sound : (l
         is = subst (λ (l : List Token). IsExpr q.0.level q.0.depth l q.0.expr) (append_assoc front one.back more.back) more.is;
         level = more.level;
       })
-      (λ made. subst (Chain least front ts) (some_same _ _ made) one)
+      (λ made. subst (Chain least front ts) (same-some _ _ made) one)
 
 -- what is read within a depth is an expression of the grammar
-pub within_sound : (n least : ℕ) (ts : List Token) (q : Deep × List Token) → least ≤ 7 → within n least ts ≡ Some q → Reading least ts q
+pub within_sound : (n least : ℕ) (ts : List Token) (q : ParsedExpr × List Token) → least ≤ 7 → within n least ts ≡ Some q → Reading least ts q
 within_sound zero least ts q le h = let none : None ≡ Some q = sym (within_none least ts) ∙ h in cc
 within_sound (suc n) least ts q le h =
     let h1 : (operand (within n) least ts >>= λ r. repeat (joins_more (within n) n least) (suc n) r.0 r.1) ≡ Some q = sym (within_suc n least ts) ∙ h in
-    let b : (r : Deep × List Token) × (operand (within n) least ts ≡ Some r) × (repeat (joins_more (within n) n least) (suc n) r.0 r.1 ≡ Some q) = bind_some (operand (within n) least ts) (λ r. repeat (joins_more (within n) n least) (suc n) r.0 r.1) q h1 in
+    let b : (r : ParsedExpr × List Token) × (operand (within n) least ts ≡ Some r) × (repeat (joins_more (within n) n least) (suc n) r.0 r.1 ≡ Some q) = bind-some (operand (within n) least ts) (λ r. repeat (joins_more (within n) n least) (suc n) r.0 r.1) q h1 in
     let first : Reading least ts b.0 = operand_sound (within n) (within_sound n) least ts b.0 le b.1 in
     let all : Chain least first.front b.0.1 q = chain_sound (within n) (within_sound n) n least (suc n) b.0.0 first.front b.0.1 q first.is first.level b.2 in
     record {
@@ -375,8 +376,8 @@ within_sound (suc n) least ts q le h =
 pub expression_sound : (ts : List Token) (e : Expr) (rest : List Token) → reads_expr ts ≡ Some (e, rest)
     → (front : List Token) × (ts ≡ front ++ rest) × (level : ℕ) × (depth : ℕ) × (depth ≤ 64) × IsExpr level depth front e
 expression_sound ts e rest h =
-    let b : (r : Deep × List Token) × (within 64 1 ts ≡ Some r) × (Some (r.0.expr, r.1) ≡ Some (e, rest)) = bind_some (within 64 1 ts) (λ r. Some (r.0.expr, r.1)) (e, rest) h in
+    let b : (r : ParsedExpr × List Token) × (within 64 1 ts ≡ Some r) × (Some (r.0.expr, r.1) ≡ Some (e, rest)) = bind-some (within 64 1 ts) (λ r. Some (r.0.expr, r.1)) (e, rest) h in
     let low : 1 ≤ 7 = omega arith in
     let all : Reading 1 ts b.0 = within_sound 64 1 ts b.0 low b.1 in
-    subst (λ (p : Expr × List Token). (front : List Token) × (ts ≡ front ++ p.1) × (level : ℕ) × (depth : ℕ) × (depth ≤ 64) × IsExpr level depth front p.0) (some_same _ _ b.2)
+    subst (λ (p : Expr × List Token). (front : List Token) × (ts ≡ front ++ p.1) × (level : ℕ) × (depth : ℕ) × (depth ≤ 64) × IsExpr level depth front p.0) (same-some _ _ b.2)
     (all.front, all.cut, b.0.0.level, b.0.0.depth, within_depth 64 1 ts b.0 b.1, all.is)

@@ -4,15 +4,15 @@ use Rattle.std.specs.Prelude.{Option, if◌then◌else◌, codes}
 use Prim.Native.String.{String}
 use Rattle.sql_model.specs.declared.token.Token.{Token}
 use Rattle.sql_model.specs.declared.token.Token.TheVariants.{Word, Number, Quoted, Given}
-use Rattle.sql_model.specs.Then.{◌>>=◌}
+use Rattle.ldv_value.specs.Options.{◌>>=◌, only_if}
 use Rattle.sql_model.specs.SqlNames.{sql_name_test}
 use Rattle.sql_model.specs.Grammar.{word, IsName}
 use Rattle.sql_model.specs.GrammarOfStatements.{Then, Behind, Flag, Optionally, Named}
-use Rattle.sql_model.specs.Reader.{only_if, starts, tail, passed, behind, reads_token, name_of, reads_name}
+use Rattle.sql_parse.specs.Reader.{starts, tail, passed, behind, reads_token, name_of, reads_name}
 use Rattle.sql_parse.proofs.Choices.{choose}
 use Rattle.sql_parse.proofs.ExpressionsLaw.{starts_is, behind_is}
 use Rattle.sql_parse.proofs.Follows.{all_words, among, ends_by, lacks, ends_lack, ends_more, Follows, starts_self, behind_self}
-use Rattle.sql_parse.proofs.Options.{bind_some, only_if_some, some_same}
+use Rattle.ldv_value.proofs.Options.{bind-some, only_if-some, same-some}
 
 -- What is read from the front of tokens has the form, and what has the form is read from the front, where
 -- what stands behind it is nothing or begins with one of the words.
@@ -23,7 +23,7 @@ pub record Law {X : Type 0} (Form : X → List Token → Type 0) (ws : List (Lis
 -- what was read, said of a pair
 pub taken : {X : Type 0} (Form : X → List Token → Type 0) (ts : List Token) (p q : X × List Token) → Some p ≡ Some q → (front : List Token) × (ts ≡ front ++ p.1) × Form p.0 front
     → (front : List Token) × (ts ≡ front ++ q.1) × Form q.0 front
-taken Form ts p q e made = subst (λ r. (front : List Token) × (ts ≡ front ++ r.1) × Form r.0 front) (some_same p q e) made
+taken Form ts p q e made = subst (λ r. (front : List Token) × (ts ≡ front ++ r.1) × Form r.0 front) (same-some p q e) made
 
 -- the same said in other words
 pub state_law : {X : Type 0} (F G : X → List Token → Type 0) (ws : List (List ℕ)) (read : List Token → Option (X × List Token)) → Law F ws read
@@ -71,7 +71,7 @@ token_law {X = X} f ws = record {
         → (front : List Token) × (ts ≡ front ++ rest) × ((t : Token) × (front ≡ t ∷ []) × (f t ≡ Some x))
     token_sound f [] x rest h = cc
     token_sound {X = X} f (t ∷ ts) x rest h =
-        let p : (y : X) × (f t ≡ Some y) × (Some (y, ts) ≡ Some (x, rest)) = bind_some (f t) (λ y. Some (y, ts)) (x, rest) h in
+        let p : (y : X) × (f t ≡ Some y) × (Some (y, ts) ≡ Some (x, rest)) = bind-some (f t) (λ y. Some (y, ts)) (x, rest) h in
         taken (λ z front. (t : Token) × (front ≡ t ∷ []) × (f t ≡ Some z)) (t ∷ ts) (p.0, ts) (x, rest) p.2 (t ∷ [], refl, (t, refl, p.1))
 
 -- a word, and then a form
@@ -79,7 +79,7 @@ pub behind_law : {X : Type 0} {Form : X → List Token → Type 0} {ws : List (L
     → Law (λ x ts. Behind s (Form x) ts) ws (λ ts. behind (codes s) ts >>= λ rest. next rest)
 behind_law {X = X} {next = next} s law = record {
   sound = λ ts x rest h.
-      let p : (more : List Token) × (behind (codes s) ts ≡ Some more) × (next more ≡ Some (x, rest)) = bind_some (behind (codes s) ts) (λ rest. next rest) (x, rest) h in
+      let p : (more : List Token) × (behind (codes s) ts ≡ Some more) × (next more ≡ Some (x, rest)) = bind-some (behind (codes s) ts) (λ rest. next rest) (x, rest) h in
       let q = law.sound p.0 x rest p.2 in
       (word s ∷ q.0, behind_is (codes s) ts p.0 p.1 ∙ ap (λ l. word s ∷ l) q.1, (q.0, refl, q.2));
   complete = λ front rest x form e.
@@ -92,7 +92,7 @@ pub then_law : {A X : Type 0} {First : A → List Token → Type 0} {Second : A 
     → Law (λ x ts. (a : A) × Then (First a) (Second a x) ts) ws (λ ts. read ts >>= λ r. next r.0 r.1)
 then_law {A = A} {First = First} {Second = Second} {vs = vs} {ws = ws} {read = read} {next = next} one two follows = record {
   sound = λ ts x rest h.
-      let p : (r : A × List Token) × (read ts ≡ Some r) × (next r.0 r.1 ≡ Some (x, rest)) = bind_some (read ts) (λ r. next r.0 r.1) (x, rest) h in
+      let p : (r : A × List Token) × (read ts ≡ Some r) × (next r.0 r.1 ≡ Some (x, rest)) = bind-some (read ts) (λ r. next r.0 r.1) (x, rest) h in
       let first = one.sound ts p.0.0 p.0.1 p.1 in
       let second = (two p.0.0).sound p.0.1 x rest p.2 in
       (first.0 ++ second.0, first.1 ∙ ap (λ l. first.0 ++ l) second.1 ∙ sym (append_assoc first.0 second.0 rest), (p.0.0, (first.0, second.0, refl, first.2, second.2)));
@@ -108,7 +108,7 @@ pub made_law : {A X : Type 0} {Form : A → List Token → Type 0} {ws : List (L
     → Law (λ x ts. (a : A) × (x ≡ f a) × Form a ts) ws (λ ts. read ts >>= λ r. Some (f r.0, r.1))
 made_law {A = A} {X = X} {Form = Form} {read = read} f law = record {
   sound = λ ts x rest h.
-      let p : (r : A × List Token) × (read ts ≡ Some r) × (Some (f r.0, r.1) ≡ Some (x, rest)) = bind_some (read ts) (λ r. Some (f r.0, r.1)) (x, rest) h in
+      let p : (r : A × List Token) × (read ts ≡ Some r) × (Some (f r.0, r.1) ≡ Some (x, rest)) = bind-some (read ts) (λ r. Some (f r.0, r.1)) (x, rest) h in
       let q = law.sound ts p.0.0 p.0.1 p.1 in
       taken (λ y front. (a : A) × (y ≡ f a) × Form a front) ts (f p.0.0, p.0.1) (x, rest) p.2 (q.0, q.1, (p.0.0, refl, q.2));
   complete = λ front rest x form e. ap (λ o. o >>= λ r. Some (f r.0, r.1)) (law.complete front rest form.0 form.2 e) ∙ ap (λ y. Some (y, rest)) (sym form.1);
@@ -183,8 +183,8 @@ flag_law {X = X} {Form = Form} {ws = ws} {next = next} s laws apart = record { s
 
 pub name_is : (t : Token) (x : List ℕ) → name_of t ≡ Some x → (t ≡ Word x) × IsName x
 name_is (Word w) x h =
-    let p : (sql_name_test w ≡ true) × (Some w ≡ Some x) = only_if_some (sql_name_test w) (Some w) x h in
-    let same : w ≡ x = some_same w x p.1 in
+    let p : (sql_name_test w ≡ true) × (Some w ≡ Some x) = only_if-some (sql_name_test w) (Some w) x h in
+    let same : w ≡ x = same-some w x p.1 in
     (ap Word same, subst IsName same p.0)
 name_is (Number z) x h = cc
 name_is (Quoted t) x h = cc
@@ -196,9 +196,9 @@ name_read x rest is = ap (λ b. only_if b (Some x) >>= λ n. Some (n, rest)) is
 pub name_taken : (ts : List Token) (x : List ℕ) (rest : List Token) → reads_name ts ≡ Some (x, rest) → (ts ≡ Word x ∷ rest) × IsName x
 name_taken [] x rest h = cc
 name_taken (t ∷ ts) x rest h =
-    let p : (n : List ℕ) × (name_of t ≡ Some n) × (Some (n, ts) ≡ Some (x, rest)) = bind_some (name_of t) (λ n. Some (n, ts)) (x, rest) h in
+    let p : (n : List ℕ) × (name_of t ≡ Some n) × (Some (n, ts) ≡ Some (x, rest)) = bind-some (name_of t) (λ n. Some (n, ts)) (x, rest) h in
     let is : (t ≡ Word p.0) × IsName p.0 = name_is t p.0 p.1 in
-    let same : (p.0, ts) ≡ (x, rest) = some_same _ _ p.2 in
+    let same : (p.0, ts) ≡ (x, rest) = same-some _ _ p.2 in
     (ap (λ u. u ∷ ts) is.0 ∙ ap (λ (q : List ℕ × List Token). Word q.0 ∷ q.1) same, subst IsName (ap (λ (q : List ℕ × List Token). q.0) same) is.1)
 
 pub name_law : (ws : List (List ℕ)) → Law Named ws reads_name
@@ -212,7 +212,7 @@ pub named_law : {X : Type 0} {Form : List ℕ → X → List Token → Type 0} {
     → Law (λ x ts. (n : List ℕ) × Then (Named n) (Form n x) ts) ws (λ ts. reads_name ts >>= λ r. next r.0 r.1)
 named_law {X = X} {Form = Form} {ws = ws} {next = next} laws = record {
   sound = λ ts x rest h.
-      let p : (r : List ℕ × List Token) × (reads_name ts ≡ Some r) × (next r.0 r.1 ≡ Some (x, rest)) = bind_some (reads_name ts) (λ r. next r.0 r.1) (x, rest) h in
+      let p : (r : List ℕ × List Token) × (reads_name ts ≡ Some r) × (next r.0 r.1 ≡ Some (x, rest)) = bind-some (reads_name ts) (λ r. next r.0 r.1) (x, rest) h in
       let n = name_taken ts p.0.0 p.0.1 p.1 in
       let q = (laws p.0.0).sound p.0.1 x rest p.2 in
       (Word p.0.0 ∷ q.0, n.0 ∙ ap (λ (l : List Token). Word p.0.0 ∷ l) q.1, (p.0.0, (Word p.0.0 ∷ [], q.0, refl, (refl, n.1), q.2)));

@@ -5,12 +5,13 @@ pub mod ExpressionsDepth
 pub mod ExpressionsLaw
 pub mod Follows
 pub mod Laws
-pub mod Options
 pub mod PartsLaw
 pub mod Placed
 pub mod QueriesLaw
+pub mod Quotes
 pub mod Repeat
 pub mod RepeatLaws
+pub mod Results
 pub mod SourcesLaw
 pub mod StatementsLaw
 pub mod Symbols
@@ -18,6 +19,4 @@ pub mod TokensFrom
 pub mod TokensRead
 pub mod TokensSound
 pub mod TokensSteps
-pub mod Utf8
-pub mod Utf8Parts
 pub mod Within

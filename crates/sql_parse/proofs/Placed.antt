@@ -5,11 +5,10 @@ use Rattle.ldv_value.specs.declared.value.Value.{Value}
 use Rattle.sql_parse.specs.declared.stop.ParseStop.{ParseStop}
 use Rattle.sql_parse.specs.declared.stop.ParseStop.TheVariants.{Syntax, NoMemory}
 use Rattle.sql_model.specs.declared.token.Token.{Token}
-use Rattle.sql_model.specs.Then.{◌>>=◌}
+use Rattle.ldv_value.specs.Options.{◌>>=◌, only_if}
 use Rattle.sql_parse.specs.Gives.{Fails}
-use Rattle.sql_model.specs.Reader.{only_if}
-use Rattle.sql_model.specs.Texts.{placed_token, placed}
-use Rattle.sql_model.specs.Tokens.{before}
+use Rattle.sql_parse.specs.Texts.{placed_token, placed}
+use Rattle.ldv_value.specs.Scan.{before}
 
 joined_one : (front : List Token) (t : Token) (o : Option (List Token)) → before front (o >>= λ rest. Some (t ∷ rest)) ≡ before (front ++ t ∷ []) o
 joined_one front t None = refl

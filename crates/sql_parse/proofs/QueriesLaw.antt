@@ -10,15 +10,15 @@ use Rattle.sql_model.specs.declared.statement.OrderKey.TheVariants.{Name, Place}
 use Rattle.sql_model.specs.declared.statement.Query.{Query}
 use Rattle.sql_model.specs.declared.token.Token.{Token}
 use Rattle.sql_model.specs.declared.token.Token.TheVariants.{Word, Number, Quoted, Given}
-use Rattle.sql_model.specs.Then.{◌>>=◌}
+use Rattle.ldv_value.specs.Options.{◌>>=◌, only_if}
 use Rattle.sql_model.specs.Grammar.{word, IsName}
 use Rattle.sql_model.specs.GrammarOfStatements.{Then, Behind, Optionally, Listed, AreCores, IsKey, IsDirection, IsOrder, AreOrders, IsBound, IsQuery}
-use Rattle.sql_model.specs.Queries.{place_of, key_of, reads_key, directed, reads_order, reads_orders, bound_of, reads_bound, reads_limit, reads_query}
-use Rattle.sql_model.specs.Reader.{only_if, starts, tail, passed, name_in}
+use Rattle.sql_parse.specs.Queries.{place_of, key_of, reads_key, directed, reads_order, reads_orders, bound_of, reads_bound, reads_limit, reads_query}
+use Rattle.sql_parse.specs.Reader.{starts, tail, passed, name_in}
 use Rattle.sql_parse.proofs.ExpressionsLaw.{starts_is}
 use Rattle.sql_parse.proofs.Follows.{ends_by, ends_lack, Follows, follows_behind, follows_nothing, follows_optional, follows_then}
 use Rattle.sql_parse.proofs.Laws.{Law, state_law, same_law, nothing_law, token_law, token_read, behind_law, then_law, made_law, either_law, name_is}
-use Rattle.sql_parse.proofs.Options.{bind_some, some_same}
+use Rattle.ldv_value.proofs.Options.{bind-some, same-some}
 use Rattle.sql_parse.proofs.PartsLaw.{comma, listed_law, then_filled}
 use Rattle.sql_parse.proofs.CoresLaw.{behind_cores, cores_law, cores_start}
 
@@ -38,7 +38,7 @@ behind_key = codes "asc" ∷ codes "desc" ∷ behind_order
 -- ---- the key of an order
 
 place_is : (z : ℤ) (n : ℕ) → place_of z ≡ Some n → z ≡ pos n
-place_is (pos m) n h = ap pos (some_same m n h)
+place_is (pos m) n h = ap pos (same-some m n h)
 place_is (negsuc m) n h = cc
 
 abbrev KeyForm : OrderKey → List Token → Type 0
@@ -46,12 +46,12 @@ KeyForm k ts = (t : Token) × (ts ≡ t ∷ []) × (key_of t ≡ Some k)
 
 key_is : (t : Token) (k : OrderKey) → key_of t ≡ Some k → IsKey k (t ∷ [])
 key_is (Word w) k h =
-    let p : (n : List ℕ) × (name_in w ≡ Some n) × (Some (Name n) ≡ Some k) = bind_some (name_in w) (λ n. Some (Name n)) k h in
+    let p : (n : List ℕ) × (name_in w ≡ Some n) × (Some (Name n) ≡ Some k) = bind-some (name_in w) (λ n. Some (Name n)) k h in
     let q : (Word w ≡ Word p.0) × IsName p.0 = name_is (Word w) p.0 p.1 in
-    subst (λ (j : OrderKey). IsKey j (Word w ∷ [])) (some_same _ _ p.2) (ap (λ (t : Token). t ∷ []) q.0, q.1)
+    subst (λ (j : OrderKey). IsKey j (Word w ∷ [])) (same-some _ _ p.2) (ap (λ (t : Token). t ∷ []) q.0, q.1)
 key_is (Number z) k h =
-    let p : (n : ℕ) × (place_of z ≡ Some n) × (Some (Place n) ≡ Some k) = bind_some (place_of z) (λ n. Some (Place n)) k h in
-    subst (λ (j : OrderKey). IsKey j (Number z ∷ [])) (some_same _ _ p.2) (ap (λ (y : ℤ). Number y ∷ []) (place_is z p.0 p.1))
+    let p : (n : ℕ) × (place_of z ≡ Some n) × (Some (Place n) ≡ Some k) = bind-some (place_of z) (λ n. Some (Place n)) k h in
+    subst (λ (j : OrderKey). IsKey j (Number z ∷ [])) (same-some _ _ p.2) (ap (λ (y : ℤ). Number y ∷ []) (place_is z p.0 p.1))
 key_is (Quoted t) k h = absurd cc
 key_is (Given v) k h = absurd cc
 
@@ -104,7 +104,7 @@ directs k ts = Some (record { key = k; descending = starts (codes "desc") ts }, 
 direction_law : (k : OrderKey) → Law (DirectedForm k) behind_order (directs k)
 direction_law k = record {
   sound = λ ts o rest h.
-      let same : (record { key = k; descending = starts (codes "desc") ts }, directed ts) ≡ (o, rest) = some_same _ _ h in
+      let same : (record { key = k; descending = starts (codes "desc") ts }, directed ts) ≡ (o, rest) = same-some _ _ h in
       let d : Directed ts = direction_read ts in
       subst (λ (p : Order × List Token). (front : List Token) × (ts ≡ front ++ p.1) × DirectedForm k p.0 front) same (d.0, d.1, (refl, d.2));
   complete = λ front rest o form ends.
@@ -163,9 +163,9 @@ TokenForm v ts = (t : Token) × (ts ≡ t ∷ []) × (bound_of t ≡ Some v)
 
 bound_is : (t : Token) (v : Value) → bound_of t ≡ Some v → IsBound v (t ∷ [])
 bound_is (Word w) v h = absurd cc
-bound_is (Number z) v h = inl (z, refl, sym (some_same _ _ h))
+bound_is (Number z) v h = inl (z, refl, sym (same-some _ _ h))
 bound_is (Quoted t) v h = absurd cc
-bound_is (Given u) v h = inr (ap (λ (x : Value). Given x ∷ []) (some_same _ _ h))
+bound_is (Given u) v h = inr (ap (λ (x : Value). Given x ∷ []) (same-some _ _ h))
 
 bound_to : (v : Value) (ts : List Token) → TokenForm v ts → IsBound v ts
 bound_to v ts (t, e, is) = subst (IsBound v) (sym e) (bound_is t v is)

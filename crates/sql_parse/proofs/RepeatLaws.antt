@@ -4,15 +4,15 @@ use Rattle.std.specs.Prelude.{Option, if◌then◌else◌, codes}
 use Prim.Native.String.{String}
 use Rattle.std.proofs.lemmas.List.{length-append}
 use Rattle.sql_model.specs.declared.token.Token.{Token}
-use Rattle.sql_model.specs.Then.{◌>>=◌}
+use Rattle.ldv_value.specs.Options.{◌>>=◌}
 use Rattle.sql_model.specs.Grammar.{word}
 use Rattle.sql_model.specs.GrammarOfStatements.{Behind, Repeated, Separated}
-use Rattle.sql_model.specs.Reader.{starts, tail, repeat}
+use Rattle.sql_parse.specs.Reader.{starts, tail, repeat}
 use Rattle.sql_parse.proofs.Choices.{choose}
 use Rattle.sql_parse.proofs.ExpressionsLaw.{starts_is}
 use Rattle.sql_parse.proofs.Follows.{all_words, among, ends_by, lacks, ends_lack, follows_repeated, starts_self}
 use Rattle.sql_parse.proofs.Laws.{Law}
-use Rattle.sql_parse.proofs.Options.{bind_some, some_same}
+use Rattle.ldv_value.proofs.Options.{bind-some, same-some}
 use Rattle.sql_parse.proofs.Repeat.{after, repeat_none, repeat_suc}
 
 abbrev pub added : {A X : Type 0} → (A → X → A) → A → List X → A
@@ -46,7 +46,7 @@ module _ {A X : Type 0} (add : A → X → A) (Form : X → List Token → Type 
       (x ∷ m.0, front ++ m.1, e ∙ ap (λ l. front ++ l) m.2 ∙ sym (append_assoc front m.1 q.1), (front, m.1, refl, form, m.3), m.4 ∙ ap (λ b. added add b m.0) is, longer)
   one_more k a ts r q (inr (stops, same, rest)) more h =
       let h1 : Some (r.0.0, r.1) ≡ Some q = sym (ap (λ b. if b then repeat step k r.0.0 r.1 else Some (r.0.0, r.1)) stops) ∙ h in
-      let is : (r.0.0, r.1) ≡ q = some_same _ _ h1 in
+      let is : (r.0.0, r.1) ≡ q = same-some _ _ h1 in
       let none : length {A = X} [] < suc k = omega arith in
       ([], [], sym rest ∙ ap (λ p. p.1) is, refl, sym (ap (λ p. p.0) is) ∙ same, none)
 
@@ -54,7 +54,7 @@ module _ {A X : Type 0} (add : A → X → A) (Form : X → List Token → Type 
   repeat_sound zero a ts q h = let none : None ≡ Some q = sym (repeat_none step a ts) ∙ h in absurd cc
   repeat_sound (suc k) a ts q h =
       let p : (r : (A × Bool) × List Token) × (step a ts ≡ Some r) × ((if r.0.1 then repeat step k r.0.0 r.1 else Some (r.0.0, r.1)) ≡ Some q) =
-      bind_some (step a ts) (λ r. if r.0.1 then repeat step k r.0.0 r.1 else Some (r.0.0, r.1)) q (sym (repeat_suc step k a ts) ∙ h) in
+      bind-some (step a ts) (λ r. if r.0.1 then repeat step k r.0.0 r.1 else Some (r.0.0, r.1)) q (sym (repeat_suc step k a ts) ∙ h) in
       one_more k a ts p.0 q (law.makes a ts p.0 p.1) (λ b e. repeat_sound k b p.0.1 q e) p.2
 
   pub repeat_complete : (xs : List X) (k : ℕ) (a : A) (front rest : List Token) → Repeated Form xs front → length xs < k → ends_by ws rest ≡ true → repeat step k a (front ++ rest) ≡ Some (added add a xs, rest)
@@ -97,13 +97,13 @@ more_law {X = X} {Form = Form} {read = read} s ws law lack less self = record {
     went : (a : List X) (ts : List Token) (r : (List X × Bool) × List Token) → starts (codes s) ts ≡ true → (read (tail ts) >>= λ r. Some ((a ++ r.0 ∷ [], true), r.1)) ≡ Some r
         → Steps put_last (λ x ts. Behind s (Form x) ts) a ts r
     went a ts r is made =
-        let p : (q : X × List Token) × (read (tail ts) ≡ Some q) × (Some ((a ++ q.0 ∷ [], true), q.1) ≡ Some r) = bind_some (read (tail ts)) (λ r. Some ((a ++ r.0 ∷ [], true), r.1)) r made in
+        let p : (q : X × List Token) × (read (tail ts) ≡ Some q) × (Some ((a ++ q.0 ∷ [], true), q.1) ≡ Some r) = bind-some (read (tail ts)) (λ r. Some ((a ++ r.0 ∷ [], true), r.1)) r made in
         let q = law.sound (tail ts) p.0.0 p.0.1 p.1 in
-        subst (Steps put_last (λ x ts. Behind s (Form x) ts) a ts) (some_same _ _ p.2)
+        subst (Steps put_last (λ x ts. Behind s (Form x) ts) a ts) (same-some _ _ p.2)
         (inl (refl, (p.0.0, word s ∷ q.0, starts_is (codes s) ts is ∙ ap (λ l. word s ∷ l) q.1, (q.0, refl, q.2), refl)))
 
     stopped : (a : List X) (ts : List Token) (r : (List X × Bool) × List Token) → Some ((a, false), ts) ≡ Some r → Steps put_last (λ x ts. Behind s (Form x) ts) a ts r
-    stopped a ts r made = subst (Steps put_last (λ x ts. Behind s (Form x) ts) a ts) (some_same _ _ made) (inr (refl, refl, refl))
+    stopped a ts r made = subst (Steps put_last (λ x ts. Behind s (Form x) ts) a ts) (same-some _ _ made) (inr (refl, refl, refl))
 
 -- as many forms behind words have as many tokens at least
 repeated_length : {X : Type 0} (Form : X → List Token → Type 0) (s : String) (xs : List X) (ts : List Token) → Repeated (λ y. Behind s (Form y)) xs ts → length xs ≤ length ts
@@ -118,7 +118,7 @@ pub separated_law : {X : Type 0} {First Form : X → List Token → Type 0} {fir
 separated_law {X = X} {First = First} {Form = Form} {first = first} {read = read} s ws one law some lack less self = record {
   sound = λ ts xs rest h.
       let p : (r : X × List Token) × (first ts ≡ Some r) × (repeat (more_of s read) (length ts) (r.0 ∷ []) r.1 ≡ Some (xs, rest)) =
-      bind_some (first ts) (λ r. repeat (more_of s read) (length ts) (r.0 ∷ []) r.1) (xs, rest) h in
+      bind-some (first ts) (λ r. repeat (more_of s read) (length ts) (r.0 ∷ []) r.1) (xs, rest) h in
       let q = one.sound ts p.0.0 p.0.1 p.1 in
       let m : Made put_last (λ x ts. Behind s (Form x) ts) (length ts) (p.0.0 ∷ []) p.0.1 (xs, rest) =
       repeat_sound put_last (λ x ts. Behind s (Form x) ts) ws (codes s ∷ ws) (more_of s read) (more_law s ws law lack less self) (length ts) (p.0.0 ∷ []) p.0.1 (xs, rest) p.2 in

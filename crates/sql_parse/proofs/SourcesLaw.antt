@@ -7,19 +7,19 @@ use Rattle.std.proofs.lemmas.List.{length-map}
 use Rattle.sql_model.specs.declared.expr.Expr.{Expr}
 use Rattle.sql_model.specs.declared.statement.FromItem.{FromItem}
 use Rattle.sql_model.specs.SqlNames.{sql_name_test}
-use Rattle.sql_model.specs.declared.reading.Sources.{Sources}
+use Rattle.sql_parse.specs.declared.state.Sources.{Sources}
 use Rattle.sql_model.specs.declared.token.Token.{Token}
 use Rattle.sql_model.specs.declared.token.Token.TheVariants.{Word}
-use Rattle.sql_model.specs.Then.{◌>>=◌}
+use Rattle.ldv_value.specs.Options.{◌>>=◌}
 use Rattle.sql_model.specs.Grammar.{word, IsName}
 use Rattle.sql_model.specs.GrammarOfStatements.{Then, Behind, Named, IsExpression, IsSecondName, IsSource, Joined, IsConditioned, IsJoinedBy, IsJoined, source_of, conditions, AreSources}
-use Rattle.sql_model.specs.Queries.{names, second_name, reads_source, plain_source, joined_source, another_source, reads_sources}
-use Rattle.sql_model.specs.Reader.{starts, tail, behind, reads_name, repeat}
+use Rattle.sql_parse.specs.Queries.{names, second_name, reads_source, plain_source, joined_source, another_source, reads_sources}
+use Rattle.sql_parse.specs.Reader.{starts, tail, behind, reads_name, repeat}
 use Rattle.sql_parse.proofs.Choices.{choose}
 use Rattle.sql_parse.proofs.ExpressionsLaw.{starts_is, behind_is, text_is}
 use Rattle.sql_parse.proofs.Follows.{ends_by, ends_lack, ends_more, ends_unnamed, follows_behind, follows_repeated}
 use Rattle.sql_parse.proofs.Laws.{Law, state_law, behind_law, then_law, made_law, either_law, name_law, named_law}
-use Rattle.sql_parse.proofs.Options.{bind_some, some_same}
+use Rattle.ldv_value.proofs.Options.{bind-some, same-some}
 use Rattle.sql_parse.proofs.PartsLaw.{comma, expr_law}
 use Rattle.sql_parse.proofs.RepeatLaws.{added, Steps, StepLaw, Made, repeat_sound, repeat_complete}
 
@@ -61,7 +61,7 @@ bare_law table = record {
   sound = λ ts n rest h. choose (names ts) (reads_name ts) (Some (table, ts)) (n, rest) h
       (λ is made. let q = (name_law behind_names).sound ts n rest made in (q.0, q.1, inl q.2))
       (λ is made.
-      let same : (table, ts) ≡ (n, rest) = some_same _ _ made in
+      let same : (table, ts) ≡ (n, rest) = same-some _ _ made in
       ([], ap (λ (p : List ℕ × List Token). p.1) same, inr (sym (ap (λ (p : List ℕ × List Token). p.0) same), refl)));
   complete = bare_complete table;
 }
@@ -158,13 +158,13 @@ source_makes made ts r h =
     (λ is went. joined_made made ts (tail ts) r went (λ front cut s e form. (word "join" ∷ front, starts_is (codes "join") ts is ∙ ap (λ (l : List Token). word "join" ∷ l) cut, inl (front, refl, form)))) (λ n2 h2.
     choose (starts (codes "inner") ts) _ _ r h2
     (λ is went.
-    let p : (rest : List Token) × (behind (codes "join") (tail ts) ≡ Some rest) × (joined_source made rest ≡ Some r) = bind_some (behind (codes "join") (tail ts)) (λ rest. joined_source made rest) r went in
+    let p : (rest : List Token) × (behind (codes "join") (tail ts) ≡ Some rest) × (joined_source made rest ≡ Some r) = bind-some (behind (codes "join") (tail ts)) (λ rest. joined_source made rest) r went in
     joined_made made ts p.0 r p.2 (λ front cut s e form. (
       word "inner" ∷ word "join" ∷ front,
       starts_is (codes "inner") ts is ∙ ap (λ (l : List Token). word "inner" ∷ l) (behind_is (codes "join") (tail ts) p.0 p.1 ∙ ap (λ (l : List Token). word "join" ∷ l) cut),
       inr (word "join" ∷ front, refl, (front, refl, form)),
     )))
-    (λ n3 went. subst (MoreSources made ts) (some_same _ _ went) (inr (refl, refl, refl)))))
+    (λ n3 went. subst (MoreSources made ts) (same-some _ _ went) (inr (refl, refl, refl)))))
 
 wider : (rest : List Token) → ends_by behind_source rest ≡ true → ends_by behind_names rest ≡ true
 wider rest h = ends_more behind_source behind_names rest refl h
@@ -244,7 +244,7 @@ sources_complete front rest x (first, more, (one, back, e, source, others), from
 pub sources_law : Law SourcesForm behind_sources (reads_sources 8)
 sources_law = record {
   sound = λ ts x rest h.
-      let p : (r : FromItem × List Token) × (reads_source ts ≡ Some r) × (from_first r ≡ Some (x, rest)) = bind_some (reads_source ts) (λ r. from_first r) (x, rest) h in
+      let p : (r : FromItem × List Token) × (reads_source ts ≡ Some r) × (from_first r ≡ Some (x, rest)) = bind-some (reads_source ts) (λ r. from_first r) (x, rest) h in
       let q = source_law.sound ts p.0.0 p.0.1 p.1 in
       let m : Made add_source IsJoined 8 (first_sources p.0.0) p.0.1 (x, rest) = repeat_sound add_source IsJoined behind_sources behind_source another_source source_step 8 (first_sources p.0.0) p.0.1 (x, rest) p.2 in
       let same : x ≡ with_more (first_sources p.0.0) m.0 = m.4 ∙ added_sources m.0 (first_sources p.0.0) in

@@ -11,22 +11,22 @@ use Rattle.sql_model.specs.declared.statement.Set.{Set}
 use Rattle.sql_model.specs.declared.statement.Statement.{Statement}
 use Rattle.sql_model.specs.declared.statement.Statement.TheVariants as statement
 use Rattle.sql_model.specs.declared.statement.Update.{Update}
-use Rattle.sql_model.specs.declared.reading.Place.TheVariants.{Between}
+use Rattle.sql_parse.specs.declared.state.LexState.TheVariants.{Between}
 use Rattle.sql_model.specs.declared.token.Token.{Token}
 use Rattle.sql_model.specs.declared.token.Token.TheVariants.{Word, Number, Quoted, Given}
-use Rattle.sql_model.specs.Then.{◌>>=◌}
+use Rattle.ldv_value.specs.Options.{◌>>=◌, only_if}
 use Rattle.sql_model.specs.Grammar.{word}
 use Rattle.sql_model.specs.GrammarOfStatements.{Then, Behind, Optionally, Listed, Named, IsExpression, AreColumns, IsTuple, IsSet, IsStatement, IsEnd, IsWhole, IsGiven, Reads}
-use Rattle.sql_model.specs.Parts.{reads_optional}
-use Rattle.sql_model.specs.Queries.{reads_query}
-use Rattle.sql_model.specs.Reader.{only_if, is_word, starts, tail}
-use Rattle.sql_model.specs.Texts.{reads_insert, reads_set, reads_update, reads_delete, reads_statement, placed, is_end, whole_statement, statement_of}
-use Rattle.sql_model.specs.Tokens.{tokens_of}
+use Rattle.sql_parse.specs.Parts.{reads_optional}
+use Rattle.sql_parse.specs.Queries.{reads_query}
+use Rattle.sql_parse.specs.Reader.{is_word, starts, tail}
+use Rattle.sql_parse.specs.Texts.{reads_insert, reads_set, reads_update, reads_delete, reads_statement, placed, is_end, whole_statement, statement_of}
+use Rattle.sql_parse.specs.Tokens.{tokens_of}
 use Rattle.sql_parse.proofs.Choices.{choose}
 use Rattle.sql_parse.proofs.ExpressionsLaw.{starts_is, text_is}
 use Rattle.sql_parse.proofs.Follows.{ends_by, Follows, follows_behind, follows_optional}
 use Rattle.sql_parse.proofs.Laws.{Law, state_law, behind_law, then_law, made_law, optional_law, named_law}
-use Rattle.sql_parse.proofs.Options.{bind_some, only_if_some, some_same}
+use Rattle.ldv_value.proofs.Options.{bind-some, only_if-some, same-some}
 use Rattle.sql_parse.proofs.PartsLaw.{comma, expr_law, listed_law, columns_law, tuple_law, behind_filled, named_filled, then_filled}
 use Rattle.sql_parse.proofs.QueriesLaw.{behind_all, query_law, query_start}
 use Rattle.sql_parse.proofs.TokensRead.{tokens_complete}
@@ -152,17 +152,17 @@ changed : {A : Type 0} {Form : A → List Token → Type 0} {read : List Token �
     → ((a : A) (more : List Token) → Form a more → IsStatement (make a) (Word w ∷ more)) → starts w ts ≡ true
     → (read (tail ts) >>= λ r. made_of make r) ≡ Some (s, rest) → StatementRead ts s rest
 changed {A = A} {read = read} w make ts s rest law form is h =
-    let p : (r : A × List Token) × (read (tail ts) ≡ Some r) × (made_of make r ≡ Some (s, rest)) = bind_some (read (tail ts)) (λ r. made_of make r) (s, rest) h in
+    let p : (r : A × List Token) × (read (tail ts) ≡ Some r) × (made_of make r ≡ Some (s, rest)) = bind-some (read (tail ts)) (λ r. made_of make r) (s, rest) h in
     let q = law.sound (tail ts) p.0.0 p.0.1 p.1 in
-    subst (λ (x : Statement × List Token). StatementRead ts x.0 x.1) (some_same _ _ p.2) (Word w ∷ q.0, starts_is w ts is ∙ ap (λ (l : List Token). Word w ∷ l) q.1, form p.0.0 q.0 q.2)
+    subst (λ (x : Statement × List Token). StatementRead ts x.0 x.1) (same-some _ _ p.2) (Word w ∷ q.0, starts_is w ts is ∙ ap (λ (l : List Token). Word w ∷ l) q.1, form p.0.0 q.0 q.2)
 
 statement_sound : (ts : List Token) (s : Statement) (rest : List Token) → reads_statement ts ≡ Some (s, rest) → StatementRead ts s rest
 statement_sound ts s rest h =
     choose (starts (codes "select") ts) _ _ (s, rest) h
     (λ is made.
-    let p : (r : Query × List Token) × (reads_query ts ≡ Some r) × (Some (statement.Query r.0, r.1) ≡ Some (s, rest)) = bind_some (reads_query ts) (λ r. Some (statement.Query r.0, r.1)) (s, rest) made in
+    let p : (r : Query × List Token) × (reads_query ts ≡ Some r) × (Some (statement.Query r.0, r.1) ≡ Some (s, rest)) = bind-some (reads_query ts) (λ r. Some (statement.Query r.0, r.1)) (s, rest) made in
     let q = query_law.sound ts p.0.0 p.0.1 p.1 in
-    subst (λ (x : Statement × List Token). StatementRead ts x.0 x.1) (some_same _ _ p.2) (q.0, q.1, q.2)) (λ n1 h1.
+    subst (λ (x : Statement × List Token). StatementRead ts x.0 x.1) (same-some _ _ p.2) (q.0, q.1, q.2)) (λ n1 h1.
     choose (starts (codes "insert") ts) _ _ (s, rest) h1 (λ is made. changed (codes "insert") (λ i. statement.Insert i) ts s rest insert_law (λ i more form. (more, refl, form)) is made) (λ n2 h2.
     choose (starts (codes "update") ts) _ _ (s, rest) h2 (λ is made. changed (codes "update") (λ u. statement.Update u) ts s rest update_law (λ u more form. (more, refl, form)) is made) (λ n3 h3.
     choose (starts (codes "delete") ts) _ _ (s, rest) h3 (λ is made. changed (codes "delete") (λ d. statement.Delete d) ts s rest delete_law (λ d more form. (more, refl, form)) is made) (λ n4 h4.
@@ -208,10 +208,10 @@ end_complete ts (inr e) = (ap is_end e, ap (ends_by behind_all) e)
 
 whole_sound : (ts : List Token) (s : Statement) → whole_statement ts ≡ Some s → IsWhole s ts
 whole_sound ts s h =
-    let p : (r : Statement × List Token) × (reads_statement ts ≡ Some r) × (only_if (is_end r.1) (Some r.0) ≡ Some s) = bind_some (reads_statement ts) (λ r. only_if (is_end r.1) (Some r.0)) s h in
-    let q : (is_end p.0.1 ≡ true) × (Some p.0.0 ≡ Some s) = only_if_some (is_end p.0.1) (Some p.0.0) s p.2 in
+    let p : (r : Statement × List Token) × (reads_statement ts ≡ Some r) × (only_if (is_end r.1) (Some r.0) ≡ Some s) = bind-some (reads_statement ts) (λ r. only_if (is_end r.1) (Some r.0)) s h in
+    let q : (is_end p.0.1 ≡ true) × (Some p.0.0 ≡ Some s) = only_if-some (is_end p.0.1) (Some p.0.0) s p.2 in
     let r : StatementRead ts p.0.0 p.0.1 = statement_sound ts p.0.0 p.0.1 p.1 in
-    (r.0, p.0.1, r.1, subst (λ (x : Statement). IsStatement x r.0) (some_same _ _ q.1) r.2, end_sound p.0.1 q.0)
+    (r.0, p.0.1, r.1, subst (λ (x : Statement). IsStatement x r.0) (same-some _ _ q.1) r.2, end_sound p.0.1 q.0)
 
 whole_complete : (ts : List Token) (s : Statement) → IsWhole s ts → whole_statement ts ≡ Some s
 whole_complete ts s (front, back, e, form, last) =
@@ -272,25 +272,25 @@ placed_rest params ts r = placed params r.1 ts >>= λ rest. Some (r.0 ∷ rest)
 
 given_sound : (ts : List Token) (params : List Value) (place : ℕ) (given : List Token) → placed params place ts ≡ Some given → IsGiven (drop place params) ts given
 given_sound [] params place given h =
-    let p : (place == length params ≡ true) × (Some [] ≡ Some given) = only_if_some (place == length params) (Some []) given h in
-    (drop_nothing params place (eqb-true place (length params) p.0), sym (some_same _ _ p.1))
+    let p : (place == length params ≡ true) × (Some [] ≡ Some given) = only_if-some (place == length params) (Some []) given h in
+    (drop_nothing params place (eqb-true place (length params) p.0), sym (same-some _ _ p.1))
 given_sound (t ∷ ts) params place given h = elim (cases_Bool (is_word (codes "?") t)) [
   | inl mark ↦
       let h2 : ((slice_get params place >>= λ v. Some (Given v, place + 1)) >>= λ r. placed_rest params ts r) ≡ Some given =
       sym (ap (λ b. (if b then (slice_get params place >>= λ v. Some (Given v, place + 1)) else Some (t, place)) >>= λ r. placed_rest params ts r) mark) ∙ h in
       let p : (r : Token × ℕ) × ((slice_get params place >>= λ v. Some (Given v, place + 1)) ≡ Some r) × (placed_rest params ts r ≡ Some given) =
-      bind_some (slice_get params place >>= λ v. Some (Given v, place + 1)) (λ r. placed_rest params ts r) given h2 in
-      let q : (v : Value) × (slice_get params place ≡ Some v) × (Some (Given v, place + 1) ≡ Some p.0) = bind_some (slice_get params place) (λ v. Some (Given v, place + 1)) p.0 p.1 in
-      let next : (Given q.0, place + 1) ≡ p.0 = some_same _ _ q.2 in
+      bind-some (slice_get params place >>= λ v. Some (Given v, place + 1)) (λ r. placed_rest params ts r) given h2 in
+      let q : (v : Value) × (slice_get params place ≡ Some v) × (Some (Given v, place + 1) ≡ Some p.0) = bind-some (slice_get params place) (λ v. Some (Given v, place + 1)) p.0 p.1 in
+      let next : (Given q.0, place + 1) ≡ p.0 = same-some _ _ q.2 in
       let h3 : placed_rest params ts (Given q.0, place + 1) ≡ Some given = ap (λ (r : Token × ℕ). placed_rest params ts r) next ∙ p.2 in
-      let r : (rest : List Token) × (placed params (place + 1) ts ≡ Some rest) × (Some (Given q.0 ∷ rest) ≡ Some given) = bind_some (placed params (place + 1) ts) (λ rest. Some (Given q.0 ∷ rest)) given h3 in
+      let r : (rest : List Token) × (placed params (place + 1) ts ≡ Some rest) × (Some (Given q.0 ∷ rest) ≡ Some given) = bind-some (placed params (place + 1) ts) (λ rest. Some (Given q.0 ∷ rest)) given h3 in
       let others : IsGiven (drop (suc place) params) ts r.0 = subst (λ (n : ℕ). IsGiven (drop n params) ts r.0) (plus_one place) (given_sound ts params (place + 1) r.0 r.1) in
-      inl (word_is_mark t mark, (q.0, drop (suc place) params, r.0, drop_some params place q.0 q.1, sym (some_same _ _ r.2), others))
+      inl (word_is_mark t mark, (q.0, drop (suc place) params, r.0, drop_some params place q.0 q.1, sym (same-some _ _ r.2), others))
   | inr other ↦
       let h2 : placed_rest params ts (t, place) ≡ Some given =
       sym (ap (λ b. (if b then (slice_get params place >>= λ v. Some (Given v, place + 1)) else Some (t, place)) >>= λ r. placed_rest params ts r) other) ∙ h in
-      let r : (rest : List Token) × (placed params place ts ≡ Some rest) × (Some (t ∷ rest) ≡ Some given) = bind_some (placed params place ts) (λ rest. Some (t ∷ rest)) given h2 in
-      inr (mark_not t other, (r.0, sym (some_same _ _ r.2), given_sound ts params place r.0 r.1))
+      let r : (rest : List Token) × (placed params place ts ≡ Some rest) × (Some (t ∷ rest) ≡ Some given) = bind-some (placed params place ts) (λ rest. Some (t ∷ rest)) given h2 in
+      inr (mark_not t other, (r.0, sym (same-some _ _ r.2), given_sound ts params place r.0 r.1))
 ]
 
 given_complete : (ts : List Token) (params : List Value) (place : ℕ) (given : List Token) → place ≤ length params → IsGiven (drop place params) ts given → placed params place ts ≡ Some given
@@ -316,8 +316,8 @@ drop_none (p ∷ params) = refl
 
 pub reading_sound : (text : List ℕ) (params : List Value) (s : Statement) → statement_of text params ≡ Some s → Reads text params s
 reading_sound text params s h =
-    let p : (ts : List Token) × (tokens_of text ≡ Some ts) × ((placed params 0 ts >>= λ given. whole_statement given) ≡ Some s) = bind_some (tokens_of text) (λ ts. placed params 0 ts >>= λ given. whole_statement given) s h in
-    let q : (given : List Token) × (placed params 0 p.0 ≡ Some given) × (whole_statement given ≡ Some s) = bind_some (placed params 0 p.0) (λ given. whole_statement given) s p.2 in
+    let p : (ts : List Token) × (tokens_of text ≡ Some ts) × ((placed params 0 ts >>= λ given. whole_statement given) ≡ Some s) = bind-some (tokens_of text) (λ ts. placed params 0 ts >>= λ given. whole_statement given) s h in
+    let q : (given : List Token) × (placed params 0 p.0 ≡ Some given) × (whole_statement given ≡ Some s) = bind-some (placed params 0 p.0) (λ given. whole_statement given) s p.2 in
     (p.0, q.0, tokens_sound text Between p.0 p.1, subst (λ (l : List Value). IsGiven l p.0 q.0) (drop_none params) (given_sound p.0 params 0 q.0 q.1), whole_sound q.0 s q.2)
 
 pub reading_complete : (text : List ℕ) (params : List Value) (s : Statement) → IsUtf8 text → Reads text params s → statement_of text params ≡ Some s

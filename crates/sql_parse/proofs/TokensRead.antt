@@ -9,16 +9,20 @@ use Rattle.std.proofs.lemmas.Str.{is_utf8-from_IsUtf8, IsUtf8-from_ascii}
 use Rattle.std.proofs.lemmas.Str.Ascii.{IsAscii-nil, IsAscii-cons}
 use Rattle.sql_model.specs.declared.token.Token.{Token}
 use Rattle.sql_model.specs.declared.token.Token.TheVariants.{Word, Number, Quoted, Given}
-use Rattle.sql_model.specs.declared.reading.Place.{Place}
-use Rattle.sql_model.specs.declared.reading.Place.TheVariants.{Between, InWord, InNumber, InText, InSymbol, Ended}
-use Rattle.sql_model.specs.Then.{◌>>=◌}
+use Rattle.sql_parse.specs.declared.state.LexState.{LexState}
+use Rattle.sql_parse.specs.declared.state.LexState.TheVariants.{Between, InWord, InNumber, InText, InSymbol, Ended}
+use Rattle.ldv_value.specs.Options.{◌>>=◌}
 use Rattle.sql_model.specs.GrammarOfTokens.{AreBlanks, BeginsNot, is_inside, is_quote, digits_from, doubled, IsSymbol, IsWhole, IsToken, Spells}
-use Rattle.sql_model.specs.Tokens.{is_blank, is_letter, is_upper, is_digit, begins_symbol, folded, is_pair, longer, text_of, word_token, number_token, text_token, symbol_token, short_symbol, start, before, tokens_from, tokens_of}
+use Rattle.sql_model.specs.TextBytes.{is_blank, is_letter, is_upper, is_digit, folded}
+use Rattle.ldv_value.specs.Texts.{text_of}
+use Rattle.ldv_value.specs.Scan.{before}
+use Rattle.sql_parse.specs.Tokens.{begins_symbol, is_pair, longer, word_token, number_token, text_token, symbol_token, short_symbol, start, tokens_from, tokens_of}
 use Rattle.sql_parse.proofs.Choices.{or_go, and_true, not_false}
 use Rattle.sql_parse.proofs.Symbols.{pair_symbol, symbol_low}
 use Rattle.sql_parse.proofs.TokensSteps.{put, start_goes, word_closes, number_closes, quote_closes, symbol_closes, ended_closes, word_goes, number_goes, text_goes, text_quote, quote_quote, pair_goes}
 use Rattle.sql_parse.proofs.TokensSound.{LIMIT, AreInside, AreAllDigits, longer_is}
-use Rattle.sql_parse.proofs.Utf8Parts.{utf8_behind, utf8_cut, utf8_after, doubled_utf8}
+use Rattle.ldv_value.proofs.Utf8Parts.{utf8-tail, utf8-cut, utf8-rest}
+use Rattle.sql_parse.proofs.Quotes.{doubled_utf8}
 
 -- ---- which bytes they are
 
@@ -73,7 +77,7 @@ letter_starts b h = rw (letter_no_blank b h, h) refl
 digit_starts : (b : ℕ) → is_digit b ≡ true → start b ≡ Some (InNumber (b - 48))
 digit_starts b h = rw (digit_no_blank b h, digit_no_letter b h, h) refl
 
-begin : (b : ℕ) (bs : List ℕ) (p : Place) → start b ≡ Some p → tokens_from (b ∷ bs) Between ≡ tokens_from bs p
+begin : (b : ℕ) (bs : List ℕ) (p : LexState) → start b ≡ Some p → tokens_from (b ∷ bs) Between ≡ tokens_from bs p
 begin b bs p h = start_goes b bs ∙ ap (λ o. o >>= λ p. tokens_from bs p) h
 
 blanks_run : (front line : List ℕ) → AreBlanks front → tokens_from (front ++ line) Between ≡ tokens_from line Between
@@ -119,8 +123,8 @@ word_made w ascii short =
     ap (λ c. cond c (text_of w >>= λ t. Some (Word t)) None) (le-leb (length w) 63 short)
     ∙ ap (λ c. cond c (Some w) None >>= λ t. Some (Word t)) (is_utf8-from_IsUtf8 w (IsUtf8-from_ascii w ascii))
 
-text_made : (t : List ℕ) → IsUtf8 t → length t ≤ 65536 → text_token t ≡ Some (Quoted t)
-text_made t u short =
+text_of-string : (t : List ℕ) → IsUtf8 t → length t ≤ 65536 → text_token t ≡ Some (Quoted t)
+text_of-string t u short =
     ap (λ c. cond c (text_of t >>= λ u. Some (Quoted u)) None) (le-leb (length t) 65536 short)
     ∙ ap (λ c. cond c (Some t) None >>= λ u. Some (Quoted u)) (is_utf8-from_IsUtf8 t u)
 
@@ -196,11 +200,11 @@ token_run (Number z) (b ∷ piece) rest u (are, e, fits, ends) =
     begin b (piece ++ rest) (InNumber (b - 48)) (digit_starts b are.1.0) ∙ number_run piece (b - 48) (0 * 10 + (b - 48)) rest small are.1.1 ends ∙ ap (λ o. put o rest) made
 token_run (Quoted text) piece rest u (e, short, ends) =
     let u2 : IsUtf8 (39 ∷ doubled text ++ 39 ∷ rest) = subst IsUtf8 (ap (λ (l : List ℕ). l ++ rest) e ∙ ap (λ (l : List ℕ). 39 ∷ l) (append_assoc (doubled text) (39 ∷ []) rest)) u in
-    let inner : IsUtf8 (doubled text) = (utf8_cut (doubled text) 39 rest (omega arith) (utf8_behind 39 (doubled text ++ 39 ∷ rest) (omega arith) u2)).0 in
+    let inner : IsUtf8 (doubled text) = (utf8-cut (doubled text) 39 rest (omega arith) (utf8-tail 39 (doubled text ++ 39 ∷ rest) (omega arith) u2)).0 in
     ap (λ (l : List ℕ). tokens_from (l ++ rest) Between) e
     ∙ begin 39 ((doubled text ++ 39 ∷ []) ++ rest) (InText []) refl
     ∙ ap (λ (l : List ℕ). tokens_from l (InText [])) (append_assoc (doubled text) (39 ∷ []) rest)
-    ∙ text_run text [] rest ends ∙ ap (λ o. put o rest) (text_made text (doubled_utf8 text inner) short)
+    ∙ text_run text [] rest ends ∙ ap (λ o. put o rest) (text_of-string text (doubled_utf8 text inner) short)
 token_run (Given v) piece rest u is = absurd is
 
 -- ---- what stands behind a token is UTF-8
@@ -219,12 +223,12 @@ blank_bytes (b ∷ piece) h = (omega (arith, blank_low b h.0), blank_bytes piece
 
 behind_token : (t : Token) (piece rest : List ℕ) → IsUtf8 (piece ++ rest) → IsToken piece rest t → IsUtf8 rest
 behind_token (Word w) [] rest u (inl (is, e, ends)) = absurd is
-behind_token (Word w) (b ∷ piece) rest u (inl (is, e, ends)) = utf8_after (b ∷ piece) rest (omega (arith, (letter_range b is.0).1), inside_bytes piece is.1) u
-behind_token (Word w) piece rest u (inr (is, e, whole)) = utf8_after piece rest (symbol_low piece is) u
-behind_token (Number z) piece rest u (are, e, fits, ends) = utf8_after piece rest (digit_bytes piece are.1) u
+behind_token (Word w) (b ∷ piece) rest u (inl (is, e, ends)) = utf8-rest (b ∷ piece) rest (omega (arith, (letter_range b is.0).1), inside_bytes piece is.1) u
+behind_token (Word w) piece rest u (inr (is, e, whole)) = utf8-rest piece rest (symbol_low piece is) u
+behind_token (Number z) piece rest u (are, e, fits, ends) = utf8-rest piece rest (digit_bytes piece are.1) u
 behind_token (Quoted text) piece rest u (e, short, ends) =
     let u2 : IsUtf8 (39 ∷ doubled text ++ 39 ∷ rest) = subst IsUtf8 (ap (λ (l : List ℕ). l ++ rest) e ∙ ap (λ (l : List ℕ). 39 ∷ l) (append_assoc (doubled text) (39 ∷ []) rest)) u in
-    utf8_behind 39 rest (omega arith) (utf8_cut (doubled text) 39 rest (omega arith) (utf8_behind 39 (doubled text ++ 39 ∷ rest) (omega arith) u2)).1
+    utf8-tail 39 rest (omega arith) (utf8-cut (doubled text) 39 rest (omega arith) (utf8-tail 39 (doubled text ++ 39 ∷ rest) (omega arith) u2)).1
 behind_token (Given v) piece rest u is = absurd is
 
 -- ---- all of them
@@ -232,6 +236,6 @@ behind_token (Given v) piece rest u is = absurd is
 pub tokens_complete : (ts : List Token) (bytes : List ℕ) → IsUtf8 bytes → Spells bytes ts → tokens_of bytes ≡ Some ts
 tokens_complete [] bytes u h = blanks_only bytes h
 tokens_complete (t ∷ ts) bytes u (front, piece, rest, e, blanks, is, more) =
-    let behind : IsUtf8 (piece ++ rest) = utf8_after front (piece ++ rest) (blank_bytes front blanks) (subst IsUtf8 e u) in
+    let behind : IsUtf8 (piece ++ rest) = utf8-rest front (piece ++ rest) (blank_bytes front blanks) (subst IsUtf8 e u) in
     ap (λ (l : List ℕ). tokens_from l Between) e ∙ blanks_run front (piece ++ rest) blanks ∙ token_run t piece rest behind is
     ∙ ap (before (t ∷ [])) (tokens_complete ts rest (behind_token t piece rest behind is) more)

@@ -8,13 +8,15 @@ use Rattle.std.proofs.lemmas.Option.{cond_some}
 use Rattle.std.proofs.lemmas.List.{length-map}
 use Rattle.sql_model.specs.declared.token.Token.{Token}
 use Rattle.sql_model.specs.declared.token.Token.TheVariants.{Word, Number, Quoted}
-use Rattle.sql_model.specs.declared.reading.Place.{Place}
-use Rattle.sql_model.specs.declared.reading.Place.TheVariants.{Between, InWord, InNumber, InText, BehindQuote, InSymbol, Ended}
-use Rattle.sql_model.specs.Then.{◌>>=◌}
+use Rattle.sql_parse.specs.declared.state.LexState.{LexState}
+use Rattle.sql_parse.specs.declared.state.LexState.TheVariants.{Between, InWord, InNumber, InText, AfterQuote, InSymbol, Ended}
+use Rattle.ldv_value.specs.Options.{◌>>=◌}
 use Rattle.sql_model.specs.GrammarOfTokens.{BeginsNot, is_inside, is_quote, digits_from, doubled, IsSymbol, IsWhole, IsToken, Spells}
-use Rattle.sql_model.specs.Tokens.{is_blank, is_letter, is_digit, is_whole_symbol, begins_symbol, folded, is_pair, longer, text_of, word_token, number_token, text_token, symbol_token, short_symbol, start, tokens_from}
+use Rattle.sql_model.specs.TextBytes.{is_blank, is_letter, is_digit, folded}
+use Rattle.ldv_value.specs.Texts.{text_of}
+use Rattle.sql_parse.specs.Tokens.{is_whole_symbol, begins_symbol, is_pair, longer, word_token, number_token, text_token, symbol_token, short_symbol, start, tokens_from}
 use Rattle.sql_parse.proofs.Choices.{choose, and_true, false_not}
-use Rattle.sql_parse.proofs.Options.{bind_some, some_same}
+use Rattle.ldv_value.proofs.Options.{bind-some, same-some}
 use Rattle.sql_parse.proofs.Symbols.{symbol_form, whole_cases, begins_cases, whole_symbol, less_symbol, more_symbol, pair_symbol}
 use Rattle.sql_parse.proofs.TokensSteps.{put_some, start_goes, word_closes, number_closes, quote_closes, symbol_closes, ended_closes, word_goes, number_goes, number_stops, text_goes, text_quote, quote_quote, pair_goes}
 
@@ -27,28 +29,28 @@ pub word_is : (w : List ℕ) (k : Token) → word_token w ≡ Some k → (length
 word_is w k h =
     choose (nat_le (length w) 63) (text_of w >>= λ t. Some (Word t)) None k h
     (λ fits made.
-    let p : (t : List ℕ) × (text_of w ≡ Some t) × (Some (Word t) ≡ Some k) = bind_some (text_of w) (λ t. Some (Word t)) k made in
-    (leb-true (length w) 63 fits, sym (some_same _ _ p.2) ∙ ap Word (text_same w p.0 p.1)))
+    let p : (t : List ℕ) × (text_of w ≡ Some t) × (Some (Word t) ≡ Some k) = bind-some (text_of w) (λ t. Some (Word t)) k made in
+    (leb-true (length w) 63 fits, sym (same-some _ _ p.2) ∙ ap Word (text_same w p.0 p.1)))
     (λ long none. let no : None ≡ Some k = none in cc)
 
 pub text_is_token : (t : List ℕ) (k : Token) → text_token t ≡ Some k → (length t ≤ 65536) × (k ≡ Quoted t)
 text_is_token t k h =
     choose (nat_le (length t) 65536) (text_of t >>= λ u. Some (Quoted u)) None k h
     (λ fits made.
-    let p : (u : List ℕ) × (text_of t ≡ Some u) × (Some (Quoted u) ≡ Some k) = bind_some (text_of t) (λ u. Some (Quoted u)) k made in
-    (leb-true (length t) 65536 fits, sym (some_same _ _ p.2) ∙ ap Quoted (text_same t p.0 p.1)))
+    let p : (u : List ℕ) × (text_of t ≡ Some u) × (Some (Quoted u) ≡ Some k) = bind-some (text_of t) (λ u. Some (Quoted u)) k made in
+    (leb-true (length t) 65536 fits, sym (same-some _ _ p.2) ∙ ap Quoted (text_same t p.0 p.1)))
     (λ long none. let no : None ≡ Some k = none in cc)
 
 pub number_is : (n : ℕ) (k : Token) → number_token n ≡ Some k → (n < 2 ^ 63) × (k ≡ Number (pos n))
 number_is n k h =
     choose (nat_lt n (2 ^ 63)) (Some (Number (pos n))) None k h
-    (λ fits made. (ltb-true n (2 ^ 63) fits, sym (some_same _ _ made)))
+    (λ fits made. (ltb-true n (2 ^ 63) fits, sym (same-some _ _ made)))
     (λ long none. let no : None ≡ Some k = none in cc)
 
 symbol_is : (s : List ℕ) (k : Token) → symbol_token s ≡ Some k → k ≡ Word s
 symbol_is s k h =
-    let p : (t : List ℕ) × (text_of s ≡ Some t) × (Some (Word t) ≡ Some k) = bind_some (text_of s) (λ t. Some (Word t)) k h in
-    sym (some_same _ _ p.2) ∙ ap Word (text_same s p.0 p.1)
+    let p : (t : List ℕ) × (text_of s ≡ Some t) × (Some (Word t) ≡ Some k) = bind-some (text_of s) (λ t. Some (Word t)) k h in
+    sym (same-some _ _ p.2) ∙ ap Word (text_same s p.0 p.1)
 
 short_is : (b : ℕ) (k : Token) → short_symbol b ≡ Some k → ((b == 33) ≡ false) × (k ≡ Word (b ∷ []))
 short_is b k h =
@@ -91,12 +93,12 @@ SymbolMeans a bs ts = (BeginsNot (is_pair a) bs × ((k : Token) × (more : List 
 abbrev pub EndedMeans : Token → List ℕ → List Token → Type 0
 EndedMeans k bs ts = (more : List Token) × (ts ≡ k ∷ more) × Spells bs more
 
-abbrev pub Means : Place → List ℕ → List Token → Type 0
+abbrev pub Means : LexState → List ℕ → List Token → Type 0
 Means Between bs ts = Spells bs ts
 Means (InWord w) bs ts = WordMeans w bs ts
 Means (InNumber n) bs ts = NumberMeans n bs ts
 Means (InText t) bs ts = TextMeans t bs ts
-Means (BehindQuote t) bs ts = QuoteMeans t bs ts
+Means (AfterQuote t) bs ts = QuoteMeans t bs ts
 Means (InSymbol a) bs ts = SymbolMeans a bs ts
 Means (Ended k) bs ts = EndedMeans k bs ts
 
@@ -167,9 +169,9 @@ whole_starts : (a : ℕ) (bs : List ℕ) (ts : List Token) (k : Token) → is_wh
 whole_starts a bs ts k h is (more, are, spells) =
     one (a ∷ bs) (a ∷ []) bs k ts more refl (subst (IsToken (a ∷ []) bs) (sym (symbol_is (a ∷ []) k is)) (inr (whole_symbol a h, refl, whole_simple a bs h))) are spells
 
-starts : (b : ℕ) (bs : List ℕ) (ts : List Token) (p : Place) → start b ≡ Some p → Means p bs ts → Spells (b ∷ bs) ts
+starts : (b : ℕ) (bs : List ℕ) (ts : List Token) (p : LexState) → start b ≡ Some p → Means p bs ts → Spells (b ∷ bs) ts
 starts b bs ts p h means =
-    let at : (q : Place) → Some q ≡ Some p → Means q bs ts = λ q e. subst (λ (r : Place). Means r bs ts) (sym (some_same q p e)) means in
+    let at : (q : LexState) → Some q ≡ Some p → Means q bs ts = λ q e. subst (λ (r : LexState). Means r bs ts) (sym (same-some q p e)) means in
     choose (is_blank b) _ _ p h (λ is made. blank_more b bs ts is (at Between made)) (λ n1 h1.
     choose (is_letter b) _ _ p h1 (λ is made. word_starts b bs ts is (at (InWord (folded b ∷ [])) made)) (λ n2 h2.
     choose (is_digit b) _ _ p h2 (λ is made. number_starts b bs ts is (at (InNumber (b - 48)) made)) (λ n3 h3.
@@ -177,7 +179,7 @@ starts b bs ts p h means =
     choose (begins_symbol b) _ _ p h4 (λ is made. symbol_starts b bs ts is (at (InSymbol b) made)) (λ n5 h5.
     choose (is_whole_symbol b) _ _ p h5
     (λ is made.
-    let q : (k : Token) × (symbol_token (b ∷ []) ≡ Some k) × (Some (Ended k) ≡ Some p) = bind_some (symbol_token (b ∷ [])) (λ k. Some (Ended k)) p made in
+    let q : (k : Token) × (symbol_token (b ∷ []) ≡ Some k) × (Some (Ended k) ≡ Some p) = bind-some (symbol_token (b ∷ [])) (λ k. Some (Ended k)) p made in
     whole_starts b bs ts q.0 is q.1 (at (Ended q.0) q.2))
     (λ n6 h6. let none : None ≡ Some p = h6 in cc))))))
 
@@ -197,7 +199,7 @@ number_ends n bs ts ends behind h m same =
     let p = put_some (number_token n) bs ts (sym (number_closes n bs ends) ∙ h) in
     ([], bs, p.0, p.2, refl, tt, ends, ap number_token (sym same) ∙ p.1, p.3, behind p.2 p.4)
 
-quote_ends : (t bs : List ℕ) (ts : List Token) → BeginsNot is_quote bs → Behind bs → tokens_from bs (BehindQuote t) ≡ Some ts → QuoteMeans t bs ts
+quote_ends : (t bs : List ℕ) (ts : List Token) → BeginsNot is_quote bs → Behind bs → tokens_from bs (AfterQuote t) ≡ Some ts → QuoteMeans t bs ts
 quote_ends t bs ts ends behind h =
     let p = put_some (text_token t) bs ts (sym (quote_closes t bs ends) ∙ h) in
     inl (ends, (p.0, p.2, p.1, p.3, behind p.2 p.4))
@@ -210,7 +212,7 @@ symbol_ends a bs ts ends behind h =
 ended_ends : (k : Token) (bs : List ℕ) (ts : List Token) → Behind bs → tokens_from bs (Ended k) ≡ Some ts → EndedMeans k bs ts
 ended_ends k bs ts behind h =
     let p = put_some (Some k) bs ts (sym (ended_closes k bs) ∙ h) in
-    (p.2, p.3 ∙ ap (λ (t : Token). t ∷ p.2) (sym (some_same k p.0 p.1)), behind p.2 p.4)
+    (p.2, p.3 ∙ ap (λ (t : Token). t ∷ p.2) (sym (same-some k p.0 p.1)), behind p.2 p.4)
 
 word_more : (w : List ℕ) (b : ℕ) (bs : List ℕ) (ts : List Token) → IsTrue (is_inside b) → WordMeans (w ++ folded b ∷ []) bs ts → WordMeans w (b ∷ bs) ts
 word_more w b bs ts inside (piece, rest, k, more, e, all, ends, is, are, spells) =
@@ -238,11 +240,11 @@ text_quoted t bs ts (inr (after, from, (text, rest, k, more, e, ends, is, are, s
 -- ---- all of it
 
 abbrev Sound : List ℕ → Type 0
-Sound bs = (place : Place) (ts : List Token) → tokens_from bs place ≡ Some ts → Means place bs ts
+Sound bs = (place : LexState) (ts : List Token) → tokens_from bs place ≡ Some ts → Means place bs ts
 
 between_sound : (b : ℕ) (bs : List ℕ) → Sound bs → Behind (b ∷ bs)
 between_sound b bs ih ts h =
-    let p : (q : Place) × (start b ≡ Some q) × (tokens_from bs q ≡ Some ts) = bind_some (start b) (λ q. tokens_from bs q) ts (sym (start_goes b bs) ∙ h) in
+    let p : (q : LexState) × (start b ≡ Some q) × (tokens_from bs q ≡ Some ts) = bind-some (start b) (λ q. tokens_from bs q) ts (sym (start_goes b bs) ∙ h) in
     starts b bs ts p.0 p.1 (ih p.0 ts p.2)
 
 more_sound : (b : ℕ) (bs : List ℕ) → Sound bs → Sound (b ∷ bs)
@@ -262,13 +264,13 @@ more_sound b bs ih (InText t) ts h = elim (cases_Bool (is_quote b)) [
   | inl quote ↦
       let is : b ≡ 39 = eqb-true b 39 quote in
       let h2 : tokens_from (39 ∷ bs) (InText t) ≡ Some ts = subst (λ (c : ℕ). tokens_from (c ∷ bs) (InText t) ≡ Some ts) is h in
-      subst (λ (c : ℕ). TextMeans t (c ∷ bs) ts) (sym is) (text_quoted t bs ts (ih (BehindQuote t) ts (sym (text_quote t bs) ∙ h2)))
+      subst (λ (c : ℕ). TextMeans t (c ∷ bs) ts) (sym is) (text_quoted t bs ts (ih (AfterQuote t) ts (sym (text_quote t bs) ∙ h2)))
   | inr other ↦ text_more t b bs ts other (ih (InText (t ++ b ∷ [])) ts (sym (text_goes t b bs other) ∙ h))
 ]
-more_sound b bs ih (BehindQuote t) ts h = elim (cases_Bool (is_quote b)) [
+more_sound b bs ih (AfterQuote t) ts h = elim (cases_Bool (is_quote b)) [
   | inl quote ↦
       let is : b ≡ 39 = eqb-true b 39 quote in
-      let h2 : tokens_from (39 ∷ bs) (BehindQuote t) ≡ Some ts = subst (λ (c : ℕ). tokens_from (c ∷ bs) (BehindQuote t) ≡ Some ts) is h in
+      let h2 : tokens_from (39 ∷ bs) (AfterQuote t) ≡ Some ts = subst (λ (c : ℕ). tokens_from (c ∷ bs) (AfterQuote t) ≡ Some ts) is h in
       inr (bs, ap (λ (c : ℕ). c ∷ bs) is, ih (InText (t ++ 39 ∷ [])) ts (sym (quote_quote t bs) ∙ h2))
   | inr other ↦ quote_ends t (b ∷ bs) ts (false_not (is_quote b) other) (between_sound b bs ih) h
 ]
@@ -281,14 +283,14 @@ more_sound b bs ih (InSymbol a) ts h = elim (cases_Bool (is_pair a b)) [
 more_sound b bs ih (Ended k) ts h = ended_ends k (b ∷ bs) ts (between_sound b bs ih) h
 
 behind_nothing : Behind []
-behind_nothing ts h = subst (Spells []) (some_same [] ts h) tt
+behind_nothing ts h = subst (Spells []) (same-some [] ts h) tt
 
 pub tokens_sound : (bs : List ℕ) → Sound bs
 tokens_sound [] Between ts h = behind_nothing ts h
 tokens_sound [] (InWord w) ts h = word_ends w [] ts tt behind_nothing h
 tokens_sound [] (InNumber n) ts h = number_ends n [] ts tt behind_nothing h
 tokens_sound [] (InText t) ts h = let none : None ≡ Some ts = h in absurd cc
-tokens_sound [] (BehindQuote t) ts h = quote_ends t [] ts tt behind_nothing h
+tokens_sound [] (AfterQuote t) ts h = quote_ends t [] ts tt behind_nothing h
 tokens_sound [] (InSymbol a) ts h = symbol_ends a [] ts tt behind_nothing h
 tokens_sound [] (Ended k) ts h = ended_ends k [] ts behind_nothing h
 tokens_sound (b ∷ bs) place ts h = more_sound b bs (tokens_sound bs) place ts h

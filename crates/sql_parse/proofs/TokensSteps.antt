@@ -2,20 +2,22 @@
 use Rattle.std.proofs.Common.{◌≡◌, ℕ, List, [], ◌∷◌, ◌++◌, refl, sym, ap, ◌∙◌, cond, true, false, Some, None}
 use Rattle.std.specs.Prelude.{Option, option_to_list}
 use Rattle.sql_model.specs.declared.token.Token.{Token}
-use Rattle.sql_model.specs.declared.reading.Place.{Place}
-use Rattle.sql_model.specs.declared.reading.Place.TheVariants.{Between, InWord, InNumber, InText, BehindQuote, InSymbol, Ended}
-use Rattle.sql_model.specs.Then.{◌>>=◌}
+use Rattle.sql_parse.specs.declared.state.LexState.{LexState}
+use Rattle.sql_parse.specs.declared.state.LexState.TheVariants.{Between, InWord, InNumber, InText, AfterQuote, InSymbol, Ended}
+use Rattle.ldv_value.specs.Options.{◌>>=◌}
 use Rattle.sql_model.specs.GrammarOfTokens.{BeginsNot, is_inside, is_quote}
-use Rattle.sql_model.specs.Tokens.{is_letter, is_digit, folded, is_pair, longer, word_token, number_token, text_token, symbol_token, short_symbol, start, ends, before, tokens_from}
+use Rattle.sql_model.specs.TextBytes.{is_letter, is_digit, folded}
+use Rattle.ldv_value.specs.Scan.{before}
+use Rattle.sql_parse.specs.Tokens.{is_pair, longer, word_token, number_token, text_token, symbol_token, short_symbol, start, ends, tokens_from}
 use Rattle.sql_parse.proofs.Choices.{not_false, or_false}
-use Rattle.sql_parse.proofs.Options.{bind_some, some_same}
+use Rattle.ldv_value.proofs.Options.{bind-some, same-some}
 
 pub before_nil : (o : Option (List Token)) → before [] o ≡ o
 before_nil None = refl
 before_nil (Some ts) = refl
 
 -- what follows a step
-abbrev pub on : List ℕ → Option (Place × Option Token) → Option (List Token)
+abbrev pub on : List ℕ → Option (LexState × Option Token) → Option (List Token)
 on rest o = o >>= λ s. before (option_to_list s.1) (tokens_from rest s.0)
 
 -- a token, and then those of the rest
@@ -25,17 +27,17 @@ put o rest = o >>= λ k. before (k ∷ []) (tokens_from rest Between)
 pub put_some : (o : Option Token) (rest : List ℕ) (ts : List Token) → put o rest ≡ Some ts
     → (k : Token) × (o ≡ Some k) × (more : List Token) × (ts ≡ k ∷ more) × (tokens_from rest Between ≡ Some more)
 put_some o rest ts h =
-    let p : (k : Token) × (o ≡ Some k) × (before (k ∷ []) (tokens_from rest Between) ≡ Some ts) = bind_some o (λ k. before (k ∷ []) (tokens_from rest Between)) ts h in
-    let q : (more : List Token) × (tokens_from rest Between ≡ Some more) × (Some (p.0 ∷ more) ≡ Some ts) = bind_some (tokens_from rest Between) (λ more. Some (p.0 ∷ more)) ts p.2 in
-    (p.0, p.1, q.0, sym (some_same _ _ q.2), q.1)
+    let p : (k : Token) × (o ≡ Some k) × (before (k ∷ []) (tokens_from rest Between) ≡ Some ts) = bind-some o (λ k. before (k ∷ []) (tokens_from rest Between)) ts h in
+    let q : (more : List Token) × (tokens_from rest Between ≡ Some more) × (Some (p.0 ∷ more) ≡ Some ts) = bind-some (tokens_from rest Between) (λ more. Some (p.0 ∷ more)) ts p.2 in
+    (p.0, p.1, q.0, sym (same-some _ _ q.2), q.1)
 
 -- ---- a token ends
 
-onward : (o : Option Place) (bs : List ℕ) → on bs (o >>= λ p. Some (p, None)) ≡ (o >>= λ p. tokens_from bs p)
+onward : (o : Option LexState) (bs : List ℕ) → on bs (o >>= λ p. Some (p, None)) ≡ (o >>= λ p. tokens_from bs p)
 onward None bs = refl
 onward (Some p) bs = before_nil (tokens_from bs p)
 
-onward_with : (k : Token) (o : Option Place) (bs : List ℕ) → on bs (o >>= λ p. Some (p, Some k)) ≡ before (k ∷ []) (o >>= λ p. tokens_from bs p)
+onward_with : (k : Token) (o : Option LexState) (bs : List ℕ) → on bs (o >>= λ p. Some (p, Some k)) ≡ before (k ∷ []) (o >>= λ p. tokens_from bs p)
 onward_with k None bs = refl
 onward_with k (Some p) bs = refl
 
@@ -62,7 +64,7 @@ number_closes n (b ∷ bs) h =
     ap (λ t. on bs (cond t (Some (InNumber (longer n b), None)) (cond (is_letter b) None (number_token n >>= λ k. ends k b)))) both.1
     ∙ ap (λ t. on bs (cond t None (number_token n >>= λ k. ends k b))) both.0 ∙ ends_goes (number_token n) b bs
 
-pub quote_closes : (t bs : List ℕ) → BeginsNot is_quote bs → tokens_from bs (BehindQuote t) ≡ put (text_token t) bs
+pub quote_closes : (t bs : List ℕ) → BeginsNot is_quote bs → tokens_from bs (AfterQuote t) ≡ put (text_token t) bs
 quote_closes t [] h = ends_here (text_token t)
 quote_closes t (b ∷ bs) h =
     ap (λ c. on bs (cond c (Some (InText (t ++ b ∷ []), None)) (text_token t >>= λ k. ends k b))) (not_false (is_quote b) h) ∙ ends_goes (text_token t) b bs
@@ -94,12 +96,12 @@ number_stops n b bs h l =
     ∙ ap (λ t. on bs (cond t None (number_token n >>= λ k. ends k b))) l
 
 pub text_goes : (t : List ℕ) (b : ℕ) (bs : List ℕ) → is_quote b ≡ false → tokens_from (b ∷ bs) (InText t) ≡ tokens_from bs (InText (t ++ b ∷ []))
-text_goes t b bs h = ap (λ c. on bs (cond c (Some (BehindQuote t, None)) (Some (InText (t ++ b ∷ []), None)))) h ∙ before_nil (tokens_from bs (InText (t ++ b ∷ [])))
+text_goes t b bs h = ap (λ c. on bs (cond c (Some (AfterQuote t, None)) (Some (InText (t ++ b ∷ []), None)))) h ∙ before_nil (tokens_from bs (InText (t ++ b ∷ [])))
 
-pub text_quote : (t bs : List ℕ) → tokens_from (39 ∷ bs) (InText t) ≡ tokens_from bs (BehindQuote t)
-text_quote t bs = before_nil (tokens_from bs (BehindQuote t))
+pub text_quote : (t bs : List ℕ) → tokens_from (39 ∷ bs) (InText t) ≡ tokens_from bs (AfterQuote t)
+text_quote t bs = before_nil (tokens_from bs (AfterQuote t))
 
-pub quote_quote : (t bs : List ℕ) → tokens_from (39 ∷ bs) (BehindQuote t) ≡ tokens_from bs (InText (t ++ 39 ∷ []))
+pub quote_quote : (t bs : List ℕ) → tokens_from (39 ∷ bs) (AfterQuote t) ≡ tokens_from bs (InText (t ++ 39 ∷ []))
 quote_quote t bs = before_nil (tokens_from bs (InText (t ++ 39 ∷ [])))
 
 ended_on : (o : Option Token) (bs : List ℕ) → on bs (o >>= λ k. Some (Ended k, None)) ≡ put o bs

@@ -1,4 +1,4 @@
--- How a call that may want memory answers what a definition gives.
+-- How a call that may run out of memory gives what a definition gives.
 use Rattle.std.specs.Prelude.{◌≡◌, List, Option, Some, None, Result, Ok, Err}
 use Rattle.sql_parse.specs.declared.stop.ParseStop.{ParseStop}
 use Rattle.sql_parse.specs.declared.stop.ParseStop.TheVariants.{Syntax, NoMemory}
@@ -8,7 +8,7 @@ abbrev pub Fails : {X : Type 0} → ParseStop → Option X → Type 0
 Fails Syntax due = due ≡ None
 Fails NoMemory due = Unit {0}
 
--- the answer is the value that is due, or `Syntax` where none is; want of memory may come in its place
+-- the result is the value that is due, or `Syntax` where none is, or out of memory
 abbrev pub Gives : {X : Type 0} → Result X ParseStop → Option X → Type 0
 Gives (Ok x) due = due ≡ Some x
 Gives (Err e) due = Fails e due

@@ -1,7 +1,7 @@
 //! Statements that change a table.
 
 ghost use Rattle.sql_parse.specs.Gives.{Reads};
-ghost use Rattle.sql_model.specs.Texts.{reads_columns, reads_insert, reads_set, reads_update, reads_delete};
+ghost use Rattle.sql_parse.specs.Texts.{reads_columns, reads_insert, reads_set, reads_update, reads_delete};
 
 use crate::expression::expression;
 use crate::part::{Part, listed, optional};
@@ -11,7 +11,7 @@ use ldv_value::{Names, Utf8};
 use sql_model::{Delete, Exprs, Insert, Set, Update};
 use std::alloc::Global;
 
-/// What stands behind INSERT.
+/// What follows INSERT.
 pub(crate) fn insert(alloc: Global, reader: &mut Reader) -> Result<Insert, ParseStop>
     ensures { Reads result reader.new (reads_insert reader.old) }
 {
@@ -40,7 +40,7 @@ fn columns(alloc: Global, reader: &mut Reader) -> Result<Option<Names>, ParseSto
     Ok(Some(names))
 }
 
-/// What stands behind UPDATE.
+/// What follows UPDATE.
 pub(crate) fn update(alloc: Global, reader: &mut Reader) -> Result<Update, ParseStop>
     ensures { Reads result reader.new (reads_update reader.old) }
 {
@@ -62,7 +62,7 @@ impl Part for Set {
     }
 }
 
-/// What stands behind DELETE.
+/// What follows DELETE.
 pub(crate) fn delete(alloc: Global, reader: &mut Reader) -> Result<Delete, ParseStop>
     ensures { Reads result reader.new (reads_delete reader.old) }
 {

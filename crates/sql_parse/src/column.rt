@@ -1,7 +1,7 @@
 //! Names of columns.
 
 ghost use Rattle.sql_parse.specs.Gives.{Reads};
-ghost use Rattle.sql_model.specs.Columns.{column_behind, reads_column};
+ghost use Rattle.sql_parse.specs.Columns.{column_behind, reads_column};
 
 use crate::reader::Reader;
 use crate::stop::ParseStop;
@@ -17,7 +17,7 @@ pub(crate) fn column(alloc: Global, reader: &mut Reader) -> Result<ColumnName, P
     column_behind(alloc, reader, name)
 }
 
-/// The column behind a name, which is its own or that of its source.
+/// The column that begins with a name, which is its own or that of its source.
 pub(crate) fn column_behind(
     alloc: Global,
     reader: &mut Reader,

@@ -2,14 +2,15 @@
 
 ghost use Rattle.std.specs.Prelude.{◌≡◌, ◌≤◌, ◌<◌, ◌+◌, ◌-◌, IfOk, Some};
 ghost use Rattle.sql_parse.specs.Gives.{Gives, Reads};
-ghost use Rattle.sql_model.specs.Expressions.{whole, closed, null_test, pair, operand_at, operand, joined, joined_within, goes_on, joins_more, within, reads_expr};
-ghost use Rattle.sql_model.specs.Reader.{repeat};
+ghost use Rattle.sql_parse.specs.Expressions.{whole, closed, null_test, pair, operand_at, operand, joined, joined_within, goes_on, joins_more, within, reads_expr};
+ghost use Rattle.sql_parse.specs.Reader.{repeat};
 
 use crate::opening::{inside_level, read_opening};
 use crate::operator::{joins, operator_level, right_of};
 use crate::reader::Reader;
+use crate::state::{Infix, Opening, ParsedExpr, Prefix};
 use crate::stop::ParseStop;
-use sql_model::{Deep, Expr, Joint, Opening, Operator, Wrap};
+use sql_model::{Expr, Operator};
 use sqlite_items::Boxed;
 use std::alloc::Global;
 
@@ -21,7 +22,7 @@ pub(crate) fn expression(alloc: Global, reader: &mut Reader) -> Result<Expr, Par
     ensures { Reads result reader.new (reads_expr reader.old) }
 {
     let deep = within(alloc, reader, DEPTH_LIMIT, 1)?;
-    let Deep {
+    let ParsedExpr {
         expr,
         depth: _,
         level: _,
@@ -32,7 +33,12 @@ pub(crate) fn expression(alloc: Global, reader: &mut Reader) -> Result<Expr, Par
 // An expression of at least a level, within a depth.
 #[cycle(expression)]
 #[tactic(auto, using(crate::proofs::Repeat::repeat_rules, crate::proofs::Within::within_rules))]
-fn within(alloc: Global, reader: &mut Reader, limit: usize, least: u8) -> Result<Deep, ParseStop>
+fn within(
+    alloc: Global,
+    reader: &mut Reader,
+    limit: usize,
+    least: u8,
+) -> Result<ParsedExpr, ParseStop>
     requires { limit ≤ 64 }
     ensures read { Reads result reader.new (within limit least reader.old) }
     ensures depth { IfOk result (λ deep. deep.depth ≤ limit) }
@@ -47,18 +53,23 @@ fn within(alloc: Global, reader: &mut Reader, limit: usize, least: u8) -> Result
 // An operand of at least a level, whose inside is within a depth.
 #[cycle(expression)]
 #[tactic(auto, using(crate::proofs::Repeat::repeat_rules, crate::proofs::Within::within_rules))]
-fn operand(alloc: Global, reader: &mut Reader, limit: usize, least: u8) -> Result<Deep, ParseStop>
+fn operand(
+    alloc: Global,
+    reader: &mut Reader,
+    limit: usize,
+    least: u8,
+) -> Result<ParsedExpr, ParseStop>
     requires { limit < 64 }
     ensures read { Reads result reader.new (operand (within limit) least reader.old) }
     ensures depth { IfOk result (λ deep. deep.depth ≤ limit + 1) }
 {
     match read_opening(alloc, reader, least)? {
-        Opening::Leaf(expr) => Ok(Deep {
+        Opening::Leaf(expr) => Ok(ParsedExpr {
             expr,
             depth: 1,
             level: 8,
         }),
-        Opening::Around(wrap) => {
+        Opening::Nested(wrap) => {
             let inside = within(alloc, reader, limit, inside_level(wrap))?;
             closed(alloc, reader, wrap, inside)
         }
@@ -73,8 +84,8 @@ fn chain(
     reader: &mut Reader,
     limit: usize,
     least: u8,
-    first: Deep,
-) -> Result<Deep, ParseStop>
+    first: ParsedExpr,
+) -> Result<ParsedExpr, ParseStop>
     requires some { 0 < limit }
     requires most { limit ≤ 64 }
     requires depth { first.depth ≤ limit }
@@ -100,8 +111,8 @@ fn joins_more(
     reader: &mut Reader,
     limit: usize,
     least: u8,
-    left: Deep,
-) -> Result<(Deep, bool), ParseStop>
+    left: ParsedExpr,
+) -> Result<(ParsedExpr, bool), ParseStop>
     requires most { limit < 64 }
     requires depth { left.depth ≤ limit + 1 }
     ensures read { Reads result reader.new (joins_more (within limit) limit least left reader.old) }
@@ -124,9 +135,9 @@ fn joined_within(
     alloc: Global,
     reader: &mut Reader,
     limit: usize,
-    joint: Joint,
-    left: Deep,
-) -> Result<Deep, ParseStop>
+    joint: Infix,
+    left: ParsedExpr,
+) -> Result<ParsedExpr, ParseStop>
     requires { limit < 64 }
     ensures read { Reads result reader.new (joined_within (within limit) limit joint left reader.old) }
     ensures depth { IfOk result (λ deep. deep.depth ≤ limit + 1) }
@@ -135,55 +146,60 @@ fn joined_within(
         return Err(ParseStop::Syntax);
     }
     match joint {
-        Joint::IsNull => null_test(alloc, reader, left),
-        Joint::Both(operator) => {
+        Infix::IsNull => null_test(alloc, reader, left),
+        Infix::Both(operator) => {
             let right = within(alloc, reader, limit, right_of(operator))?;
             pair(alloc, operator, left, right)
         }
     }
 }
 
-// The form around what is inside, behind its end.
-fn closed(alloc: Global, reader: &mut Reader, wrap: Wrap, inside: Deep) -> Result<Deep, ParseStop>
+// Closes a prefix form around its parsed operand.
+fn closed(
+    alloc: Global,
+    reader: &mut Reader,
+    wrap: Prefix,
+    inside: ParsedExpr,
+) -> Result<ParsedExpr, ParseStop>
     requires { inside.depth ≤ 64 }
     ensures read { Reads result reader.new (closed wrap inside reader.old) }
     ensures depth { IfOk result (λ deep. deep.depth ≡ inside.depth + 1) }
 {
-    let Deep {
+    let ParsedExpr {
         expr,
         depth,
         level: _,
     } = inside;
     let depth = depth + 1;
     match wrap {
-        Wrap::Not => {
+        Prefix::Not => {
             let expr = Expr::Not(Boxed::new(alloc, expr)?);
-            Ok(Deep {
+            Ok(ParsedExpr {
                 expr,
                 depth,
                 level: 3,
             })
         }
-        Wrap::Minus => {
+        Prefix::Minus => {
             let expr = Expr::Negate(Boxed::new(alloc, expr)?);
-            Ok(Deep {
+            Ok(ParsedExpr {
                 expr,
                 depth,
                 level: 7,
             })
         }
-        Wrap::Bracket => {
+        Prefix::Bracket => {
             reader.expect(")")?;
-            Ok(Deep {
+            Ok(ParsedExpr {
                 expr,
                 depth,
                 level: 8,
             })
         }
-        Wrap::FoldOf(fold) => {
+        Prefix::FoldOf(fold) => {
             reader.expect(")")?;
             let expr = Expr::Aggregate(fold, Some(Boxed::new(alloc, expr)?));
-            Ok(Deep {
+            Ok(ParsedExpr {
                 expr,
                 depth,
                 level: 8,
@@ -192,29 +208,34 @@ fn closed(alloc: Global, reader: &mut Reader, wrap: Wrap, inside: Deep) -> Resul
     }
 }
 
-// What stands behind IS.
-fn null_test(alloc: Global, reader: &mut Reader, left: Deep) -> Result<Deep, ParseStop>
+// What follows IS.
+fn null_test(alloc: Global, reader: &mut Reader, left: ParsedExpr) -> Result<ParsedExpr, ParseStop>
     requires { left.depth ≤ 64 }
     ensures read { Reads result reader.new (null_test left reader.old) }
     ensures depth { IfOk result (λ deep. deep.depth ≡ left.depth + 1) }
 {
     let negated = reader.pass("not");
     reader.expect("null")?;
-    let Deep {
+    let ParsedExpr {
         expr,
         depth,
         level: _,
     } = left;
     let expr = Expr::IsNull(Boxed::new(alloc, expr)?, negated);
-    Ok(Deep {
+    Ok(ParsedExpr {
         expr,
         depth: depth + 1,
         level: 4,
     })
 }
 
-// Two operands and what stands between them.
-fn pair(alloc: Global, operator: Operator, left: Deep, right: Deep) -> Result<Deep, ParseStop>
+// Two operands and the operator between them.
+fn pair(
+    alloc: Global,
+    operator: Operator,
+    left: ParsedExpr,
+    right: ParsedExpr,
+) -> Result<ParsedExpr, ParseStop>
     requires left { left.depth ≤ 64 }
     requires right { right.depth ≤ 64 }
     ensures { Gives result (Some (pair operator left right)) }
@@ -222,7 +243,7 @@ fn pair(alloc: Global, operator: Operator, left: Deep, right: Deep) -> Result<De
     let depth = left.depth.max(right.depth) + 1;
     let a = Boxed::new(alloc, left.expr)?;
     let b = Boxed::new(alloc, right.expr)?;
-    Ok(Deep {
+    Ok(ParsedExpr {
         expr: Expr::Both(operator, a, b),
         depth,
         level: operator_level(operator),

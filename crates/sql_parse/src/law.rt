@@ -5,18 +5,18 @@ ghost use Rattle.ldv_value.specs.declared.value.Value.{Value};
 ghost use Rattle.sql_model.specs.declared.expr.Expr.{Expr};
 ghost use Rattle.sql_model.specs.declared.statement.Statement.{Statement};
 ghost use Rattle.sql_model.specs.declared.token.Token.{Token};
-ghost use Rattle.sql_model.specs.Expressions.{reads_expr};
+ghost use Rattle.sql_parse.specs.Expressions.{reads_expr};
 ghost use Rattle.sql_model.specs.Grammar.{GoesNotOn, IsExpr};
 ghost use Rattle.sql_model.specs.GrammarOfStatements.{Reads};
 ghost use Rattle.sql_model.specs.GrammarOfTokens.{Spells};
-ghost use Rattle.sql_model.specs.Texts.{statement_of};
-ghost use Rattle.sql_model.specs.Tokens.{tokens_of};
+ghost use Rattle.sql_parse.specs.Texts.{statement_of};
+ghost use Rattle.sql_parse.specs.Tokens.{tokens_of};
 
 /// Reading agrees with the grammar of expressions, in both directions.
 ///
 /// What `reads_expr` reads from the front of tokens is an expression by the grammar, of some level and of a
-/// depth of at most 64, and the rest is what stands behind it. Each expression by the grammar of such a
-/// depth is read from the front of tokens, where it doesn't go on with the token behind it. And tokens are
+/// depth of at most 64, and the rest is what follows it. Each expression by the grammar of such a
+/// depth is read from the front of tokens, where it doesn't go on with the token after it. And tokens are
 /// an expression by the grammar in at most one way, whatever its depth.
 pub fn expression_law()
     ensures read { (ts : List Token) (e : Expr) (rest : List Token) → reads_expr ts ≡ Some (e, rest)

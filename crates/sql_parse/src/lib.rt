@@ -1,15 +1,15 @@
 //! SQL's parser.
 //!
-//! It promises to the layers above that `parse` gives the statement that `statement_of` of `sql_model` gives
-//! for the text and its parameters, and `Syntax` exactly where it gives none (its `specs/Texts.antt`, over
-//! `Queries`, `Parts`, `Columns`, `Expressions`, `Operators` and `Tokens`). Want of memory alone is free
-//! (`specs/Gives.antt`).
+//! It promises to the layers above that `parse` gives the statement as which a text with its parameters reads
+//! by the grammar, and `Syntax` exactly where there is none; only out of memory is free. The same is said
+//! with a function, `statement_of` (`specs/Texts.antt`, over `Queries`, `Parts`, `Columns`, `Expressions`,
+//! `Operators` and `Tokens`).
 //!
-//! What SQL is stands apart from how it is read: relations of `sql_model` say form by form how bytes spell
-//! tokens (`specs/GrammarOfTokens.antt`), and which tokens are an expression (`specs/Grammar.antt`) or a
-//! statement (`specs/GrammarOfStatements.antt`, at last `Reads`). `reading_law` says that `statement_of` gives
-//! exactly the statement as which the text with its parameters reads by this grammar, and that there is at
-//! most one. `token_law` and `expression_law` say the same of tokens and of expressions.
+//! The grammar is apart from how it is read: relations of `sql_model` say form by form how bytes spell tokens
+//! (`specs/GrammarOfTokens.antt`), and which tokens are an expression (`specs/Grammar.antt`) or a statement
+//! (`specs/GrammarOfStatements.antt`, at last `Reads`). `reading_law` says that `statement_of` gives exactly
+//! the statement as which the text with its parameters reads, and that there is at most one. `token_law` and
+//! `expression_law` say the same of tokens and of expressions.
 //!
 //! The way of the text: `scan` cuts it into tokens, `given` puts the parameters into the places of their
 //! `?`, and the other modules read the tokens from left to right, each its part of the grammar.
@@ -29,6 +29,7 @@ mod reading;
 mod scan;
 mod select;
 mod source;
+mod state;
 mod stop;
 mod token;
 

@@ -2,13 +2,14 @@
 
 ghost use Rattle.std.specs.Prelude.{◌≡◌};
 ghost use Rattle.sql_parse.specs.Gives.{Gives, Reads};
-ghost use Rattle.sql_model.specs.Expressions.{negation, fold_opening, count_inside, count_opening, column_opening, word_opening, opens, opening, inside_level};
+ghost use Rattle.sql_parse.specs.Expressions.{negation, fold_opening, count_inside, count_opening, column_opening, word_opening, opens, opening, inside_level};
 
 use crate::column::column_behind;
 use crate::reader::{Reader, name_in};
+use crate::state::{Opening, Prefix};
 use crate::stop::ParseStop;
 use ldv_value::{Utf8, Value};
-use sql_model::{Expr, Fold, Opening, Token, Wrap};
+use sql_model::{Expr, Fold, Token};
 use std::alloc::Global;
 
 /// The beginning of an operand of at least a level.
@@ -46,9 +47,9 @@ fn word_opening(
         let opening = negation(least)?;
         Ok(opening)
     } else if word.is_text("-") {
-        Ok(Opening::Around(Wrap::Minus))
+        Ok(Opening::Nested(Prefix::Minus))
     } else if word.is_text("(") {
-        Ok(Opening::Around(Wrap::Bracket))
+        Ok(Opening::Nested(Prefix::Bracket))
     } else if word.is_text("null") {
         Ok(Opening::Leaf(Expr::Constant(Value::Null)))
     } else if word.is_text("count") {
@@ -68,7 +69,7 @@ fn negation(least: u8) -> Result<Opening, ParseStop>
     ensures { Gives result (negation least) }
 {
     if least <= 3 {
-        Ok(Opening::Around(Wrap::Not))
+        Ok(Opening::Nested(Prefix::Not))
     } else {
         Err(ParseStop::Syntax)
     }
@@ -78,7 +79,7 @@ fn fold_opening(reader: &mut Reader, fold: Fold) -> Result<Opening, ParseStop>
     ensures { Reads result reader.new (fold_opening fold reader.old) }
 {
     reader.expect("(")?;
-    Ok(Opening::Around(Wrap::FoldOf(fold)))
+    Ok(Opening::Nested(Prefix::FoldOf(fold)))
 }
 
 fn count_opening(reader: &mut Reader) -> Result<Opening, ParseStop>
@@ -96,7 +97,7 @@ fn count_inside(reader: &mut Reader) -> Result<Opening, ParseStop>
         reader.expect(")")?;
         return Ok(Opening::Leaf(Expr::Aggregate(Fold::Count, None)));
     }
-    Ok(Opening::Around(Wrap::FoldOf(Fold::Count)))
+    Ok(Opening::Nested(Prefix::FoldOf(Fold::Count)))
 }
 
 fn column_opening(alloc: Global, reader: &mut Reader, word: Utf8) -> Result<Opening, ParseStop>
@@ -108,13 +109,13 @@ fn column_opening(alloc: Global, reader: &mut Reader, word: Utf8) -> Result<Open
 }
 
 /// The least level of what is inside a form.
-pub(crate) fn inside_level(wrap: Wrap) -> u8
+pub(crate) fn inside_level(wrap: Prefix) -> u8
     ensures { result ≡ inside_level wrap }
 {
     match wrap {
-        Wrap::Not => 3,
-        Wrap::Minus => 7,
-        Wrap::Bracket => 1,
-        Wrap::FoldOf(_) => 1,
+        Prefix::Not => 3,
+        Prefix::Minus => 7,
+        Prefix::Bracket => 1,
+        Prefix::FoldOf(_) => 1,
     }
 }

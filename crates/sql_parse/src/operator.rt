@@ -1,15 +1,16 @@
-//! What may stand between operands, and how strongly it binds.
+//! What may be between operands, and how strongly it binds.
 
 ghost use Rattle.std.specs.Prelude.{◌≡◌};
-ghost use Rattle.sql_model.specs.Operators.{comparison_of, compared, joint_in, joint_of, operator_level, level_of, operator_left, left_of, right_of, may_join, joins};
+ghost use Rattle.sql_model.specs.Levels.{operator_level, operator_left, right_of};
+ghost use Rattle.sql_parse.specs.Operators.{comparison_of, compared, joint_in, joint_of, level_of, left_of, may_join, joins};
 
 use crate::reader::Reader;
+use crate::state::Infix;
 use ldv_value::Cmp;
-use sql_model::{Joint, Operator, Token};
+use sql_model::{Operator, Token};
 
-/// What stands next, where it may go on with an operand of a level in a whole of at least the least
-/// level.
-pub(crate) fn joins(reader: &Reader, least: u8, level: u8) -> Option<Joint>
+/// The next infix operator, if it binds at least as tightly as `least` and can follow an operand of `level`.
+pub(crate) fn joins(reader: &Reader, least: u8, level: u8) -> Option<Infix>
     ensures { result ≡ joins least level reader.now }
 {
     let joint = next_joint(reader)?;
@@ -20,7 +21,7 @@ pub(crate) fn joins(reader: &Reader, least: u8, level: u8) -> Option<Joint>
     }
 }
 
-fn next_joint(reader: &Reader) -> Option<Joint>
+fn next_joint(reader: &Reader) -> Option<Infix>
     ensures { result ≡ joint_of reader.now }
 {
     match reader.peek() {
@@ -32,31 +33,31 @@ fn next_joint(reader: &Reader) -> Option<Joint>
     }
 }
 
-fn joint_in(word: &str) -> Option<Joint>
+fn joint_in(word: &str) -> Option<Infix>
     ensures { result ≡ joint_in word.now }
 {
     if word == "or" {
-        Some(Joint::Both(Operator::Or))
+        Some(Infix::Both(Operator::Or))
     } else if word == "and" {
-        Some(Joint::Both(Operator::And))
+        Some(Infix::Both(Operator::And))
     } else if word == "is" {
-        Some(Joint::IsNull)
+        Some(Infix::IsNull)
     } else if word == "+" {
-        Some(Joint::Both(Operator::Add))
+        Some(Infix::Both(Operator::Add))
     } else if word == "-" {
-        Some(Joint::Both(Operator::Subtract))
+        Some(Infix::Both(Operator::Subtract))
     } else if word == "*" {
-        Some(Joint::Both(Operator::Multiply))
+        Some(Infix::Both(Operator::Multiply))
     } else {
         compared(word)
     }
 }
 
-fn compared(word: &str) -> Option<Joint>
+fn compared(word: &str) -> Option<Infix>
     ensures { result ≡ compared word.now }
 {
     let cmp = comparison(word)?;
-    Some(Joint::Both(Operator::Compare(cmp)))
+    Some(Infix::Both(Operator::Compare(cmp)))
 }
 
 fn comparison(word: &str) -> Option<Cmp>
@@ -81,19 +82,19 @@ fn comparison(word: &str) -> Option<Cmp>
     }
 }
 
-fn may_join(least: u8, level: u8, joint: Joint) -> bool
+fn may_join(least: u8, level: u8, joint: Infix) -> bool
     ensures { result ≡ may_join least level joint }
 {
     least <= level_of(joint) && left_of(joint) <= level
 }
 
 /// The level of what a joint makes.
-pub(crate) fn level_of(joint: Joint) -> u8
+pub(crate) fn level_of(joint: Infix) -> u8
     ensures { result ≡ level_of joint }
 {
     match joint {
-        Joint::Both(operator) => operator_level(operator),
-        Joint::IsNull => 4,
+        Infix::Both(operator) => operator_level(operator),
+        Infix::IsNull => 4,
     }
 }
 
@@ -111,12 +112,12 @@ pub(crate) fn operator_level(operator: Operator) -> u8
     }
 }
 
-fn left_of(joint: Joint) -> u8
+fn left_of(joint: Infix) -> u8
     ensures { result ≡ left_of joint }
 {
     match joint {
-        Joint::Both(operator) => operator_left(operator),
-        Joint::IsNull => 5,
+        Infix::Both(operator) => operator_left(operator),
+        Infix::IsNull => 5,
     }
 }
 

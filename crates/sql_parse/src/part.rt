@@ -2,11 +2,11 @@
 
 ghost use Rattle.std.specs.Prelude.{List as Items, Option};
 ghost use Rattle.sql_model.specs.declared.token.Token.{Token};
-ghost use Rattle.sql_model.specs.Columns.{reads_column};
-ghost use Rattle.sql_model.specs.Expressions.{reads_expr};
+ghost use Rattle.sql_parse.specs.Columns.{reads_column};
+ghost use Rattle.sql_parse.specs.Expressions.{reads_expr};
 ghost use Rattle.sql_parse.specs.Gives.{Reads};
-ghost use Rattle.sql_model.specs.Parts.{another, listed, reads_tuple, reads_optional};
-ghost use Rattle.sql_model.specs.Reader.{repeat, reads_name};
+ghost use Rattle.sql_parse.specs.Parts.{another, listed, reads_tuple, reads_optional};
+ghost use Rattle.sql_parse.specs.Reader.{repeat, reads_name};
 
 use crate::column::column;
 use crate::expression::expression;
@@ -16,7 +16,7 @@ use ldv_value::{List, Utf8};
 use sql_model::{ColumnName, Expr, Exprs};
 use std::alloc::Global;
 
-/// What a list in a statement has between its commas.
+/// An element of a comma-separated list.
 pub(crate) trait Part: Drop {
     /// What is read at the front of tokens.
     ghost reads: { Items Token → Option (Self × Items Token) };
@@ -111,7 +111,7 @@ impl Part for Exprs {
     }
 }
 
-/// The expression behind a word, where the word stands.
+/// The expression after a word, where the word is there.
 pub(crate) fn optional(
     alloc: Global,
     reader: &mut Reader,

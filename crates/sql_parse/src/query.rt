@@ -2,8 +2,8 @@
 
 ghost use Rattle.std.specs.Prelude.{◌≡◌, codes};
 ghost use Rattle.sql_parse.specs.Gives.{Gives, Reads};
-ghost use Rattle.sql_model.specs.Queries.{another_core, reads_cores, place_of, key_of, reads_key, directed, reads_order, reads_orders, bound_of, reads_bound, reads_limit, reads_query};
-ghost use Rattle.sql_model.specs.Reader.{repeat, starts};
+ghost use Rattle.sql_parse.specs.Queries.{another_core, reads_cores, place_of, key_of, reads_key, directed, reads_order, reads_orders, bound_of, reads_bound, reads_limit, reads_query};
+ghost use Rattle.sql_parse.specs.Reader.{repeat, starts};
 
 use crate::part::{Part, listed};
 use crate::reader::{Reader, name_in};

@@ -1,9 +1,11 @@
 //! From a text to its statement.
 
 ghost use Rattle.std.specs.Prelude.{◌≡◌, IfOk, IsErrOf, Some, None};
+ghost use Rattle.sql_model.specs.declared.statement.Statement.{Statement};
+ghost use Rattle.sql_model.specs.GrammarOfStatements.{Reads as ReadsAs};
 ghost use Rattle.sql_parse.specs.declared.stop.ParseStop.TheVariants.{Syntax};
 ghost use Rattle.sql_parse.specs.Gives.{Gives, Reads};
-ghost use Rattle.sql_model.specs.Texts.{reads_statement, is_end, whole_statement, statement_of};
+ghost use Rattle.sql_parse.specs.Texts.{reads_statement, is_end, whole_statement, statement_of};
 
 use crate::change::{delete, insert, update};
 use crate::given::placed;
@@ -18,8 +20,11 @@ use std::alloc::Global;
 /// Reads a statement, in one pass over the tokens of the text. The k-th `?` stands for the k-th parameter.
 /// `Syntax` comes exactly where the text with these parameters has no reading by the grammar of
 /// `docs/SQL.md`: also where it has more or fewer `?` than there are parameters, an expression deeper than
-/// 64, or more than 8 sources in a core. `NoMemory` means want of memory alone.
+/// 64, or more than 8 sources in a core.
 pub fn parse(alloc: Global, text: &str, params: &Values) -> Result<Statement, ParseStop>
+    ensures reading { IfOk result (λ statement. ReadsAs text.now params.now statement) }
+    ensures none { IsErrOf result Syntax → (statement : Statement) → ¬ ReadsAs text.now params.now statement }
+    // The same as a function of the text and the parameters.
     ensures statement { IfOk result (λ statement. statement_of text.now params.now ≡ Some statement) }
     ensures syntax { IsErrOf result Syntax → statement_of text.now params.now ≡ None }
 {
@@ -34,7 +39,7 @@ fn parsed(alloc: Global, text: &str, params: &Values) -> Result<Statement, Parse
     whole(alloc, Reader::new(given))
 }
 
-// A statement that is all of its tokens, but for a `;` behind it.
+// A statement that is all of its tokens, but for a `;` after it.
 fn whole(alloc: Global, tokens: Reader) -> Result<Statement, ParseStop>
     ensures { Gives result (whole_statement tokens) }
 {

@@ -2,12 +2,14 @@
 
 ghost use Rattle.std.specs.Prelude.{◌≡◌, ◌-◌, ◌++◌, OnOk, IsTrue, option_to_list};
 ghost use Rattle.sql_parse.specs.Gives.{Gives};
-ghost use Rattle.sql_model.specs.Tokens.{is_blank, is_digit, is_upper, is_letter, folded, is_whole_symbol, begins_symbol, is_pair, short_symbol, longer, start, ends, step_between, step_in_word, step_in_number, step_in_text, step_behind_quote, step_in_symbol, step, finish, tokens_of};
+ghost use Rattle.sql_model.specs.TextBytes.{is_blank, is_digit, is_upper, is_letter, folded};
+ghost use Rattle.sql_parse.specs.Tokens.{is_whole_symbol, begins_symbol, is_pair, short_symbol, longer, start, ends, step_between, step_in_word, step_in_number, step_in_text, step_behind_quote, step_in_symbol, step, finish, tokens_of};
 
+use crate::state::LexState;
 use crate::stop::ParseStop;
 use crate::token::{Tokens, number_token, symbol_token, text_token, word_token};
 use ldv_value::Bytes;
-use sql_model::{Place, Token};
+use sql_model::Token;
 use std::alloc::{AllocError, Global};
 
 /// The tokens of a text.
@@ -16,7 +18,7 @@ pub(crate) fn tokens(alloc: Global, text: &[u8]) -> Result<Tokens, ParseStop>
     ensures { Gives result (tokens_of text.now) }
 {
     let mut tokens = Tokens::new(alloc);
-    let mut place = Place::Between;
+    let mut place = LexState::Between;
     for b in text {
         let (next, token) = step(alloc, place, *b)?;
         add(&mut tokens, token)?;
@@ -36,21 +38,21 @@ fn add(tokens: &mut Tokens, token: Option<Token>) -> Result<(), AllocError>
     Ok(())
 }
 
-fn step(alloc: Global, place: Place, b: u8) -> Result<(Place, Option<Token>), ParseStop>
+fn step(alloc: Global, place: LexState, b: u8) -> Result<(LexState, Option<Token>), ParseStop>
     ensures { Gives result (step place b) }
 {
     match place {
-        Place::Between => between(alloc, b),
-        Place::InWord(word) => in_word(alloc, word, b),
-        Place::InNumber(number) => in_number(alloc, number, b),
-        Place::InText(text) => in_text(text, b),
-        Place::BehindQuote(text) => behind_quote(alloc, text, b),
-        Place::InSymbol(first) => in_symbol(alloc, first, b),
-        Place::Ended(token) => ends(alloc, token, b),
+        LexState::Between => between(alloc, b),
+        LexState::InWord(word) => in_word(alloc, word, b),
+        LexState::InNumber(number) => in_number(alloc, number, b),
+        LexState::InText(text) => in_text(text, b),
+        LexState::AfterQuote(text) => behind_quote(alloc, text, b),
+        LexState::InSymbol(first) => in_symbol(alloc, first, b),
+        LexState::Ended(token) => ends(alloc, token, b),
     }
 }
 
-fn between(alloc: Global, b: u8) -> Result<(Place, Option<Token>), ParseStop>
+fn between(alloc: Global, b: u8) -> Result<(LexState, Option<Token>), ParseStop>
     ensures { Gives result (step_between b) }
 {
     let place = start(alloc, b)?;
@@ -58,29 +60,29 @@ fn between(alloc: Global, b: u8) -> Result<(Place, Option<Token>), ParseStop>
 }
 
 // A token ends before a byte.
-fn ends(alloc: Global, token: Token, b: u8) -> Result<(Place, Option<Token>), ParseStop>
+fn ends(alloc: Global, token: Token, b: u8) -> Result<(LexState, Option<Token>), ParseStop>
     ensures { Gives result (ends token b) }
 {
     let place = start(alloc, b)?;
     Ok((place, Some(token)))
 }
 
-fn in_word(alloc: Global, mut word: Bytes, b: u8) -> Result<(Place, Option<Token>), ParseStop>
+fn in_word(alloc: Global, mut word: Bytes, b: u8) -> Result<(LexState, Option<Token>), ParseStop>
     ensures { Gives result (step_in_word word b) }
 {
     if letter(b) || digit(b) {
         word.push(fold(b))?;
-        return Ok((Place::InWord(word), None));
+        return Ok((LexState::InWord(word), None));
     }
     let token = word_token(word)?;
     ends(alloc, token, b)
 }
 
-fn in_number(alloc: Global, number: u64, b: u8) -> Result<(Place, Option<Token>), ParseStop>
+fn in_number(alloc: Global, number: u64, b: u8) -> Result<(LexState, Option<Token>), ParseStop>
     ensures { Gives result (step_in_number number b) }
 {
     if digit(b) {
-        return Ok((Place::InNumber(longer(number, b)), None));
+        return Ok((LexState::InNumber(longer(number, b)), None));
     }
     if letter(b) {
         return Err(ParseStop::Syntax);
@@ -89,34 +91,38 @@ fn in_number(alloc: Global, number: u64, b: u8) -> Result<(Place, Option<Token>)
     ends(alloc, token, b)
 }
 
-fn in_text(mut text: Bytes, b: u8) -> Result<(Place, Option<Token>), ParseStop>
+fn in_text(mut text: Bytes, b: u8) -> Result<(LexState, Option<Token>), ParseStop>
     ensures { Gives result (step_in_text text b) }
 {
     if b == b'\'' {
-        return Ok((Place::BehindQuote(text), None));
+        return Ok((LexState::AfterQuote(text), None));
     }
     text.push(b)?;
-    Ok((Place::InText(text), None))
+    Ok((LexState::InText(text), None))
 }
 
-fn behind_quote(alloc: Global, mut text: Bytes, b: u8) -> Result<(Place, Option<Token>), ParseStop>
+fn behind_quote(
+    alloc: Global,
+    mut text: Bytes,
+    b: u8,
+) -> Result<(LexState, Option<Token>), ParseStop>
     ensures { Gives result (step_behind_quote text b) }
 {
     if b == b'\'' {
         text.push(b)?;
-        return Ok((Place::InText(text), None));
+        return Ok((LexState::InText(text), None));
     }
     let token = text_token(text)?;
     ends(alloc, token, b)
 }
 
-fn in_symbol(alloc: Global, first: u8, b: u8) -> Result<(Place, Option<Token>), ParseStop>
+fn in_symbol(alloc: Global, first: u8, b: u8) -> Result<(LexState, Option<Token>), ParseStop>
     ensures { Gives result (step_in_symbol first b) }
 {
     if pair(first, b) {
         let bytes = Bytes::of_slice(alloc, &[first, b])?;
         let token = symbol_token(bytes)?;
-        return Ok((Place::Ended(token), None));
+        return Ok((LexState::Ended(token), None));
     }
     let token = short_symbol(alloc, first)?;
     ends(alloc, token, b)
@@ -132,57 +138,57 @@ fn short_symbol(alloc: Global, b: u8) -> Result<Token, ParseStop>
     symbol_token(bytes)
 }
 
-// Where the reading stands behind a byte that goes on with no token.
-fn start(alloc: Global, b: u8) -> Result<Place, ParseStop>
+// The scanner's state after a byte that starts something new.
+fn start(alloc: Global, b: u8) -> Result<LexState, ParseStop>
     ensures { Gives result (start b) }
 {
     if blank(b) {
-        return Ok(Place::Between);
+        return Ok(LexState::Between);
     }
     if letter(b) {
         let word = Bytes::of_slice(alloc, &[fold(b)])?;
-        return Ok(Place::InWord(word));
+        return Ok(LexState::InWord(word));
     }
     if digit(b) {
-        return Ok(Place::InNumber(value(b)));
+        return Ok(LexState::InNumber(value(b)));
     }
     if b == b'\'' {
-        return Ok(Place::InText(Bytes::new(alloc)));
+        return Ok(LexState::InText(Bytes::new(alloc)));
     }
     if symbol_begins(b) {
-        return Ok(Place::InSymbol(b));
+        return Ok(LexState::InSymbol(b));
     }
     if whole_symbol(b) {
         let bytes = Bytes::of_slice(alloc, &[b])?;
         let token = symbol_token(bytes)?;
-        return Ok(Place::Ended(token));
+        return Ok(LexState::Ended(token));
     }
     Err(ParseStop::Syntax)
 }
 
-fn finish(alloc: Global, place: Place) -> Result<Option<Token>, ParseStop>
+fn finish(alloc: Global, place: LexState) -> Result<Option<Token>, ParseStop>
     ensures { Gives result (finish place) }
 {
     match place {
-        Place::Between => Ok(None),
-        Place::InWord(word) => {
+        LexState::Between => Ok(None),
+        LexState::InWord(word) => {
             let token = word_token(word)?;
             Ok(Some(token))
         }
-        Place::InNumber(number) => {
+        LexState::InNumber(number) => {
             let token = number_token(number)?;
             Ok(Some(token))
         }
-        Place::InText(_) => Err(ParseStop::Syntax),
-        Place::BehindQuote(text) => {
+        LexState::InText(_) => Err(ParseStop::Syntax),
+        LexState::AfterQuote(text) => {
             let token = text_token(text)?;
             Ok(Some(token))
         }
-        Place::InSymbol(b) => {
+        LexState::InSymbol(b) => {
             let token = short_symbol(alloc, b)?;
             Ok(Some(token))
         }
-        Place::Ended(token) => Ok(Some(token)),
+        LexState::Ended(token) => Ok(Some(token)),
     }
 }
 

@@ -2,21 +2,22 @@
 
 ghost use Rattle.std.specs.Prelude.{◌≡◌, ◌++◌, OnOk, option_to_list};
 ghost use Rattle.sql_parse.specs.Gives.{Reads};
-ghost use Rattle.sql_model.specs.Queries.{reads_alias, reads_item, reads_items, reads_group, core_end, core_rest, reads_core};
+ghost use Rattle.sql_parse.specs.Queries.{reads_alias, reads_item, reads_items, reads_group, core_end, core_rest, reads_core};
 
 use crate::expression::expression;
 use crate::part::{Part, listed, optional};
 use crate::reader::Reader;
 use crate::source::all_sources;
+use crate::state::Sources;
 use crate::stop::ParseStop;
 use ldv_value::Utf8;
-use sql_model::{ColumnName, ColumnNames, Core, Expr, Exprs, Item, Items, Sources};
+use sql_model::{ColumnName, ColumnNames, Core, Expr, Exprs, Item, Items};
 use std::alloc::{AllocError, Global};
 
 /// The most sources of a core.
 const SOURCE_LIMIT: usize = 8;
 
-/// A core, of which it is known whether UNION ALL stands before it.
+/// Parses a core; `joined_all`: it follows UNION ALL.
 pub(crate) fn core(alloc: Global, reader: &mut Reader, joined_all: bool) -> Result<Core, ParseStop>
     ensures { Reads result reader.new (reads_core joined_all reader.old) }
 {

@@ -7,7 +7,7 @@ use std::alloc::AllocError;
 pub enum ParseStop {
     /// It has no reading with these parameters.
     Syntax,
-    /// Want of memory.
+    /// Out of memory.
     NoMemory,
 }
 

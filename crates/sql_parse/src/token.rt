@@ -2,7 +2,8 @@
 
 ghost use Rattle.std.specs.Str.{is_utf8};
 ghost use Rattle.sql_parse.specs.Gives.{Gives};
-ghost use Rattle.sql_model.specs.Tokens.{text_of, word_token, number_token, text_token, symbol_token};
+ghost use Rattle.ldv_value.specs.Texts.{text_of};
+ghost use Rattle.sql_parse.specs.Tokens.{word_token, number_token, text_token, symbol_token};
 
 use crate::stop::ParseStop;
 use ldv_value::{Bytes, List, TEXT_LIMIT, Utf8};
@@ -55,7 +56,7 @@ pub(crate) fn symbol_token(bytes: Bytes) -> Result<Token, ParseStop>
     Ok(Token::Word(text))
 }
 
-#[tactic(auto, using(crate::proofs::Utf8::text_rules))]
+#[tactic(auto, using(ldv_value::proofs::Utf8Parts::text_rules))]
 fn text(bytes: Bytes) -> Result<Utf8, ParseStop>
     ensures { Gives result (text_of bytes) }
 {

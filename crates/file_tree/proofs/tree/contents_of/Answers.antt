@@ -1,6 +1,6 @@
 use Rattle.std.proofs.Common.{◌∙◌, sym, ap}
-use Rattle.std.specs.FinMap.{insert}
-use Rattle.file_tree.proofs.Files.{files_onto, files_onto_push, files_onto_empty}
+use Rattle.ldv_value.specs.FileState.{put_file}
+use Rattle.file_tree.proofs.Onto.{files_onto, files_onto_push, files_onto_empty}
 use Rattle.file_tree.proofs.tree.contents_of.Goals as goal
 
 pub loop-file-init : goal.loop-file-init
@@ -11,5 +11,5 @@ loop-file-preserved c =
     let before = c.loop-file.contents in
     let file = c.in-Some.file in
     let left = c.pop.new.self.items in
-    ap (λ m. files_onto m left) (c.in_ok-insert.ensures.ok ∙ ap (λ path. insert before path file.content) c.into_string.ensures)
+    ap (λ m. files_onto m left) (c.in_ok-insert.ensures.ok ∙ ap (λ path. put_file path file.content before) c.into_string.ensures)
     ∙ sym (files_onto_push before left file) ∙ ap (files_onto before) (sym c.in-Some.ensures.items) ∙ c.loop-file.invariant

@@ -2,7 +2,7 @@ use Rattle.std.proofs.Common.{◌≡◌, ◌==◌, ◌||◌, ◌∙◌, Bool, tr
 use Rattle.std.proofs.lemmas.Int.{to_z-of_z}
 use Rattle.lanes.specs.Sets.{member}
 use Rattle.lanes.specs.Selection.{holds_at}
-use Rattle.lanes.proofs.PlainLaws.{held, both_true}
+use Rattle.lanes.proofs.PlainLaws.{held, and-when_true}
 use Rattle.lanes.proofs.plain.select_place.Goals as goal
 
 pub returns : goal.returns
@@ -12,4 +12,4 @@ returns c n =
     let is = simp to_z-of_z at c.compares.ensures in
     let on : c.compares.result ≡ true = c.if-not-compares.false in
     let passed : holds_at c.args.op c.args.column.now c.args.constant c.args.place ≡ true = held c.args.op c.args.column.now c.args.constant c.args.place c.requires.within ∙ sym is ∙ on in
-    c.insert.ensures n ∙ ap (λ (b : Bool). b || member c.args.mask.now n) (sym (both_true (n == c.args.place) _ passed))
+    c.insert.ensures n ∙ ap (λ (b : Bool). b || member c.args.mask.now n) (sym (and-when_true (n == c.args.place) _ passed))

@@ -1,5 +1,5 @@
 use Rattle.std.proofs.Common.{◌≡◌, ◌++◌, map}
-use Rattle.run_model.specs.Slice.{own_file}
+use Rattle.run_model.specs.Package.{own_file}
 use Rattle.ldv_top.proofs.replay.own_files.Given as goal
 
 abbrev pub invariant-loop-file : goal.invariant-loop-file

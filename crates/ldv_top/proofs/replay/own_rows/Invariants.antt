@@ -1,5 +1,5 @@
 use Rattle.std.proofs.Common.{◌≡◌, ◌++◌, map}
-use Rattle.run_model.specs.Slice.{own_row}
+use Rattle.run_model.specs.Package.{own_row}
 use Rattle.ldv_top.proofs.replay.own_rows.Given as goal
 
 abbrev pub invariant-loop-row : goal.invariant-loop-row

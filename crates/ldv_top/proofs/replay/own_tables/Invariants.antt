@@ -1,5 +1,5 @@
 use Rattle.std.proofs.Common.{◌≡◌, ◌++◌, map}
-use Rattle.run_model.specs.Slice.{own_table}
+use Rattle.run_model.specs.Package.{own_table}
 use Rattle.ldv_top.proofs.replay.own_tables.Given as goal
 
 abbrev pub invariant-loop-table : goal.invariant-loop-table

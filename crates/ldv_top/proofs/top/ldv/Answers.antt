@@ -1,28 +1,17 @@
-use Rattle.std.proofs.Common.{◌≡◌, Option, Some, sym, ap, ◌∙◌, subst}
-use Rattle.ldv_top.specs.Comes.{Comes}
-use Rattle.ldv_top.specs.declared.command.Command.{Command}
-use Rattle.ldv_top.specs.declared.command.Command.TheVariants.{Record, Replay}
-use Rattle.ldv_top.specs.declared.exit.Exit.TheVariants.{Done}
-use Rattle.ldv_top.specs.Due.{Due, due_of}
-use Rattle.ldv_top.proofs.TopLaws.{complete}
+use Rattle.std.proofs.Common.{sym, ◌∙◌}
+use Rattle.ldv_top.proofs.TopLaws.{usage_ends, command_ends}
 use Rattle.ldv_top.proofs.top.ldv.Goals as goal
 
-pub returns-in-Some-clause-complete : goal.returns-in-Some-clause-complete
-returns-in-Some-clause-complete g c = λ input left is no_read no_write.
-    complete (due_of (Some c.in-Some.command) input) c.obey.result _ _ _ _ (c.obey.ensures.due input left)
-    (subst (λ (o : Option Command). (due_of o input).exit ≡ Done) (sym c.read_words.ensures ∙ c.in-Some.is) is)
-    c.obey.ensures.read_fault c.obey.ensures.write_fault no_read no_write
+pub returns-in-None : goal.returns-in-None
+returns-in-None g c =
+    usage_ends g.S.Source.left g.S.Source.faults g.K.Sink.taken g.K.Sink.faults _ c.args.source.now c.args.sink.now
+    (sym c.read_words.ensures.command ∙ c.in-None.is)
 
-pub returns-in-Some-clause-recorded : goal.returns-in-Some-clause-recorded
-returns-in-Some-clause-recorded g c = λ document is told ends.
-    let named : Some c.in-Some.command ≡ Some Record = sym c.in-Some.is ∙ c.read_words.ensures ∙ is in
-    let same : c.in-Some.command ≡ Record = cc in
-    c.obey.ensures.recorded document same told ends
-
-pub returns-in-Some-clause-headline : goal.returns-in-Some-clause-headline
-returns-in-Some-clause-headline g c = λ w input is told packed.
-    let named : Some c.in-Some.command ≡ Some Replay = sym c.in-Some.is ∙ c.read_words.ensures ∙ is in
-    let same : c.in-Some.command ≡ Replay = cc in
-    subst (λ (d : Due). Comes d c.obey.result (g.K.Sink.taken c.args.sink.now) (g.K.Sink.taken c.obey.new.sink))
-    (ap (λ (k : Command). due_of (Some k) input) same ∙ c.headline_law.ensures.replayed w input packed)
-    (c.obey.ensures.due input told)
+pub returns-in-Some : goal.returns-in-Some
+returns-in-Some g c =
+    let called = c.run_command.ensures in
+    command_ends g.S.Source.left g.S.Source.faults g.K.Sink.taken g.K.Sink.faults _ c.in-Some.command
+    (sym c.read_words.ensures.command ∙ c.in-Some.is) c.args.source.now c.run_command.new.source
+    c.args.sink.now c.run_command.new.sink c.run_command.result
+    called.read_fault called.write_fault called.due called.recorded called.unwritten called.all_read called.not_usage
+    c.headline_law.ensures.replayed

@@ -1,5 +1,5 @@
 use Rattle.std.specs.List.{All}
-use Rattle.file_tree.specs.State.{IsFile}
+use Rattle.ldv_value.specs.FileState.{IsFile}
 use Rattle.library_tests.proofs.trees.tree_of.Given as goal
 
 abbrev pub invariant-loop-path : goal.invariant-loop-path

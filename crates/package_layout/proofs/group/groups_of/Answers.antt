@@ -5,8 +5,8 @@ use Rattle.package_layout.proofs.group.groups_of.Goals as goal
 
 pub loop-item-preserved : goal.loop-item-preserved
 loop-item-preserved g c =
-    let table_of = g.X.Placed.table_of in
-    let part_of = g.X.Placed.part_of in
+    let table_of = g.X.GroupedRow.table_of in
+    let part_of = g.X.GroupedRow.part_of in
     let xs = c.args.items.now in
     let i = c.loop-item.item-index in
     let x = c.item-item.result in

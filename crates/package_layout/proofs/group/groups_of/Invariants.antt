@@ -3,4 +3,4 @@ use Rattle.package_layout.specs.Groups.{groups}
 use Rattle.package_layout.proofs.group.groups_of.Given as goal
 
 abbrev pub invariant-loop-item : goal.invariant-loop-item
-invariant-loop-item g l = l.found.items ≡ groups g.X.Placed.table_of g.X.Placed.part_of (take l.item-index l.items)
+invariant-loop-item g l = l.found.items ≡ groups g.X.GroupedRow.table_of g.X.GroupedRow.part_of (take l.item-index l.items)

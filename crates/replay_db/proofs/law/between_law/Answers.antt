@@ -1,23 +1,26 @@
 use Rattle.replay_db.proofs.EndedLaw.{ended_law}
-use Rattle.replay_db.proofs.PicksLaw.{interleaving_law}
-use Rattle.replay_db.proofs.SliceLaws.{own_law}
-use Rattle.replay_db.proofs.WorldLaws as laws
+use Rattle.replay_db.proofs.Membership.{membership_law}
+use Rattle.replay_db.proofs.SliceLaws.{slice_law, own_law}
+use Rattle.replay_db.proofs.WorldLaws.{between_law, interleaving_law, replay_law}
 use Rattle.replay_db.proofs.law.between_law.Goals as goal
 
 pub returns-clause-between : goal.returns-clause-between
-returns-clause-between c = laws.between_law
+returns-clause-between c = between_law
+
+pub returns-clause-interleaved : goal.returns-clause-interleaved
+returns-clause-interleaved c = interleaving_law
+
+pub returns-clause-members : goal.returns-clause-members
+returns-clause-members c = membership_law
 
 pub returns-clause-slice : goal.returns-clause-slice
-returns-clause-slice c = laws.slice_law
+returns-clause-slice c = slice_law
 
 pub returns-clause-own : goal.returns-clause-own
 returns-clause-own c = own_law
 
 pub returns-clause-replay : goal.returns-clause-replay
-returns-clause-replay c = laws.replay_law
+returns-clause-replay c = replay_law
 
 pub returns-clause-settled : goal.returns-clause-settled
 returns-clause-settled c = ended_law
-
-pub returns-clause-interleaved : goal.returns-clause-interleaved
-returns-clause-interleaved c = interleaving_law

@@ -1,5 +1,9 @@
 use Rattle.replay_db.proofs.PackageValid.{valid_package, typed_package}
+use Rattle.replay_db.proofs.WorldRules.{world_tables}
 use Rattle.replay_db.proofs.law.package_law.Goals as goal
+
+pub returns-clause-tables : goal.returns-clause-tables
+returns-clause-tables c = world_tables
 
 pub returns-clause-valid : goal.returns-clause-valid
 returns-clause-valid c = valid_package

@@ -1,5 +1,6 @@
 use Rattle.std.proofs.Common.{◌≡◌, drop}
-use Rattle.script_parse.specs.Tokens.{before, tokens_from, tokens_of}
+use Rattle.ldv_value.specs.Scan.{before}
+use Rattle.script_parse.specs.Tokens.{tokens_from, tokens_of}
 use Rattle.script_parse.proofs.scan.tokens.Given as goal
 
 abbrev pub invariant-loop-b : goal.invariant-loop-b

@@ -1,7 +1,7 @@
 use Rattle.std.proofs.Common.{◌∙◌, sym, ap, Some}
-use Rattle.script_parse.proofs.Utf8.{text_made}
+use Rattle.ldv_value.proofs.Utf8Parts.{text_of-string}
 use Rattle.script_parse.proofs.token.text.Goals as goal
 
 pub returns-in-Ok : goal.returns-in-Ok
 returns-in-Ok c =
-    text_made c.in-Ok.text c.args.bytes (ap (λ v. v.items) c.in-Ok.ensures.ok ∙ c.into_vec.ensures) ∙ ap Some (sym c.of_string.ensures)
+    text_of-string c.in-Ok.text c.args.bytes (ap (λ v. v.items) c.in-Ok.ensures.ok ∙ c.into_vec.ensures) ∙ ap Some (sym c.of_string.ensures)

@@ -1,4 +1,4 @@
-use Rattle.sql_model.specs.Parts.{another}
+use Rattle.sql_parse.specs.Parts.{another}
 use Rattle.sql_parse.proofs.Repeat.{steps_go, steps_stop}
 use Rattle.sql_parse.proofs.part.more.Goals as goal
 

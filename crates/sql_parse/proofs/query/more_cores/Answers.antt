@@ -1,4 +1,4 @@
-use Rattle.sql_model.specs.Queries.{another_core}
+use Rattle.sql_parse.specs.Queries.{another_core}
 use Rattle.sql_parse.proofs.Repeat.{steps_go, steps_stop}
 use Rattle.sql_parse.proofs.query.more_cores.Goals as goal
 

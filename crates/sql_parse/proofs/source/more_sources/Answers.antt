@@ -1,4 +1,4 @@
-use Rattle.sql_model.specs.Queries.{another_source}
+use Rattle.sql_parse.specs.Queries.{another_source}
 use Rattle.sql_parse.proofs.Repeat.{steps_go, steps_stop}
 use Rattle.sql_parse.proofs.source.more_sources.Goals as goal
 

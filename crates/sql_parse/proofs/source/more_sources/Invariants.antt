@@ -1,6 +1,6 @@
 use Rattle.std.proofs.Common.{◌≡◌, ◌-◌}
-use Rattle.sql_model.specs.Queries.{another_source}
-use Rattle.sql_model.specs.Reader.{repeat}
+use Rattle.sql_parse.specs.Queries.{another_source}
+use Rattle.sql_parse.specs.Reader.{repeat}
 use Rattle.sql_parse.proofs.source.more_sources.Given as goal
 
 abbrev pub invariant-loop-count : goal.invariant-loop-count

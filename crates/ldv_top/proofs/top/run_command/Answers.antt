@@ -1,0 +1,16 @@
+use Rattle.std.proofs.Common.{ℕ, List, Some, subst}
+use Rattle.ldv_top.specs.Comes.{Comes}
+use Rattle.ldv_top.specs.Due.{due_of, due_record}
+use Rattle.ldv_top.specs.Headline.{Recorded}
+use Rattle.ldv_top.proofs.TopLaws.{got_all}
+use Rattle.ldv_top.proofs.top.run_command.Goals as goal
+
+pub returns-in-Ok-clause-due : goal.returns-in-Ok-clause-due
+returns-in-Ok-clause-due g c = λ input told.
+    subst (λ (l : List ℕ). Comes (due_of (Some c.args.command) l) c.respond_and_write.result (g.K.Sink.taken c.args.sink.now) (g.K.Sink.taken c.respond_and_write.new.sink))
+    (got_all _ _ _ input told c.in-Ok.ensures.whole c.in-Ok.ensures.end) c.respond_and_write.ensures.responds.due
+
+pub returns-in-Ok-clause-recorded : goal.returns-in-Ok-clause-recorded
+returns-in-Ok-clause-recorded g c = λ mode budget document is told ends.
+    subst (λ (l : List ℕ). Recorded mode budget l (due_record mode budget l).bytes)
+    (got_all _ _ _ document told c.in-Ok.ensures.whole c.in-Ok.ensures.end) (c.respond_and_write.ensures.recorded mode budget is ends)

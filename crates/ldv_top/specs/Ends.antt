@@ -1,0 +1,58 @@
+-- What the program promises of its exit, for its words and for what the source and the sink had.
+--
+-- Of a stream these are known: the bytes that are left in a source, or that a sink has taken, where they are
+-- reported, and the count of its faults.
+use Rattle.std.specs.Prelude.{◌≡◌, ◌≢◌, ◌⊎◌, ◌↔◌, ◌≤◌, ℕ, List, [], Bool, true, false, Option, Some, None}
+use Rattle.std.specs.Io.KnownBytes.{IsAtEnd}
+use Rattle.ldv_io.specs.Causes.{Rose}
+use Rattle.run_model.specs.declared.package.Mode.{Mode}
+use Rattle.run_model.specs.declared.world.World.{World}
+use Rattle.run_model.specs.WorldRun.{steps_by}
+use Rattle.ldv_top.specs.Comes.{IsInput, Comes, IsQuiet}
+use Rattle.ldv_top.specs.declared.command.Command.{Command}
+use Rattle.ldv_top.specs.declared.command.Command.TheVariants.{Record, Replay}
+use Rattle.ldv_top.specs.declared.exit.Exit.{Exit}
+use Rattle.ldv_top.specs.declared.exit.Exit.TheVariants.{Done, Usage, ReadFault, WriteFault, NoMemory}
+use Rattle.ldv_top.specs.Due.{Due, due_of, due_record, due_world}
+use Rattle.ldv_top.specs.Headline.{IsPackageOf, Recorded}
+use Rattle.ldv_top.specs.Words.{command_of, reads}
+
+-- What comes of a response that is due, in a sink before and after it is written.
+pub record Responds {Writer : Type 0} (taken : Writer → Option (List ℕ)) (faults : Writer → ℕ) (response : Due) (sink after : Writer) (exit : Exit) : Type 0 where
+  -- the exit is the one that is due, and Done has written its bytes
+  pub due : Comes response exit (taken sink) (taken after)
+  -- a fault comes only where the sink's count of faults increased
+  pub write_fault : exit ≡ WriteFault → Rose (faults sink) (faults after)
+  pub unwritten : IsQuiet exit → after ≡ sink
+  pub not_read : exit ≢ ReadFault
+  pub not_usage : exit ≢ Usage
+
+-- What comes of the words, with a source and a sink before and after the call.
+pub record Ends {Reader Writer : Type 0} (left : Reader → Option (List ℕ)) (read_faults : Reader → ℕ) (taken : Writer → Option (List ℕ)) (write_faults : Writer → ℕ) (words : List (List ℕ)) (source source_after : Reader) (sink sink_after : Writer) (exit : Exit) : Type 0 where
+  -- the words are judged first: Usage comes exactly where they are no command
+  pub usage : (exit ≡ Usage) ↔ (command_of words ≡ None)
+  -- without a command that reads, nothing is read
+  pub unread : reads (command_of words) ≡ false → source_after ≡ source
+  -- a fault comes only where the stream's count of faults increased
+  pub read_fault : exit ≡ ReadFault → Rose (read_faults source) (read_faults source_after)
+  pub write_fault : exit ≡ WriteFault → Rose (write_faults sink) (write_faults sink_after)
+  -- every other exit is the one that is due, and Done has written its bytes; only out of memory may come in
+  -- its place
+  pub due : (input : List ℕ) → IsInput (reads (command_of words)) (left source) input
+      → Comes (due_of (command_of words) input) exit (taken sink) (taken sink_after)
+  pub unwritten : IsQuiet exit → sink_after ≡ sink
+  pub all_read : exit ≡ Done → reads (command_of words) ≡ true → IsAtEnd (left source_after)
+  -- what is due to be done is done, where nothing fails
+  pub complete : (input : List ℕ) → IsInput (reads (command_of words)) (left source) input
+      → (due_of (command_of words) input).exit ≡ Done
+      → (Rose (read_faults source) (read_faults source_after) → ⊥)
+      → (Rose (write_faults sink) (write_faults sink_after) → ⊥)
+      → (exit ≡ Done) ⊎ (exit ≡ NoMemory)
+  -- what was recorded of a document is the package of its world, with what the run needed and no more
+  pub recorded : (mode : Mode) (budget : ℕ) (document : List ℕ) → command_of words ≡ Some (Record mode budget)
+      → left source ≡ Some document → exit ≡ Done
+      → Recorded mode budget document (due_record mode budget document).bytes
+  -- the package of a valid world is replayed as the world is run, within at least the steps of that run
+  pub headline : (mode : Mode) (n budget : ℕ) (w : World) (input : List ℕ)
+      → command_of words ≡ Some (Replay budget) → left source ≡ Some input → IsPackageOf mode n w input
+      → steps_by n [] w ≤ budget → Comes (due_world n w) exit (taken sink) (taken sink_after)

@@ -1,0 +1,238 @@
+//! The lines of the exits, written with no memory.
+
+ghost use Rattle.std.specs.Prelude.{◌≡◌, ◌++◌, ◌∷◌, [], ℕ, ◌<◌, ◌≤◌, option_map, OnErr};
+ghost use Rattle.std.specs.List.{flat_map};
+ghost use Rattle.std.specs.Fmt.{decimal};
+ghost use Rattle.ldv_io.specs.Causes.{Rose};
+ghost use Rattle.run_model.specs.OutcomeText.{name_text};
+ghost use Rattle.ldv_top.specs.Exits.{fixed_fault, damage_line, fixed_line, located, bad_script_line, numbered_line, line_of};
+ghost use Rattle.ldv_top.specs.Written.{Wrote};
+
+use crate::exit::Exit;
+use itoa::Buffer;
+use ldv_io::{Sink, WriteStop, write_all};
+use package_layout::DamageKind;
+use world_json::WorldFault;
+
+#[tactic(auto, using(crate::proofs::WriteLemmas::wrote_all))]
+fn write_piece<K: Sink>(sink: &mut K, bytes: &[u8]) -> Result<(), WriteStop>
+    ensures written { Wrote (K.taken sink.old) (K.taken sink.new) bytes.now result }
+    ensures later { K.faults sink.old ≤ K.faults sink.new }
+    ensures fault { OnErr result (Rose (K.faults sink.old) (K.faults sink.new)) }
+{
+    write_all(sink, bytes)
+}
+
+#[tactic(auto, using(crate::proofs::WriteLemmas::write_steps))]
+fn write_two<K: Sink>(sink: &mut K, first: &[u8], second: &[u8]) -> Result<(), WriteStop>
+    ensures written { Wrote (K.taken sink.old) (K.taken sink.new) (first.now ++ second.now) result }
+    ensures later { K.faults sink.old ≤ K.faults sink.new }
+    ensures fault { OnErr result (Rose (K.faults sink.old) (K.faults sink.new)) }
+{
+    write_piece(sink, first)?;
+    write_piece(sink, second)
+}
+
+fn write_number<K: Sink>(sink: &mut K, number: u32) -> Result<(), WriteStop>
+    ensures written { Wrote (K.taken sink.old) (K.taken sink.new) (decimal number) result }
+    ensures later { K.faults sink.old ≤ K.faults sink.new }
+    ensures fault { OnErr result (Rose (K.faults sink.old) (K.faults sink.new)) }
+{
+    let mut buffer = Buffer::new();
+    write_piece(sink, buffer.format(number).as_bytes())
+}
+
+#[tactic(auto, using(crate::proofs::WriteLemmas::write_steps))]
+fn write_headed<K: Sink>(sink: &mut K, head: &[u8], number: u32) -> Result<(), WriteStop>
+    ensures written { Wrote (K.taken sink.old) (K.taken sink.new) (head.now ++ decimal number) result }
+    ensures later { K.faults sink.old ≤ K.faults sink.new }
+    ensures fault { OnErr result (Rose (K.faults sink.old) (K.faults sink.new)) }
+{
+    write_piece(sink, head)?;
+    write_number(sink, number)
+}
+
+#[tactic(auto, using(crate::proofs::WriteLemmas::write_steps))]
+fn write_numbered<K: Sink>(
+    sink: &mut K,
+    head: &[u8],
+    number: u32,
+    tail: &[u8],
+) -> Result<(), WriteStop>
+    ensures written { Wrote (K.taken sink.old)
+        (K.taken sink.new) (head.now ++ decimal number ++ tail.now) result }
+    ensures later { K.faults sink.old ≤ K.faults sink.new }
+    ensures fault { OnErr result (Rose (K.faults sink.old) (K.faults sink.new)) }
+{
+    write_headed(sink, head, number)?;
+    write_piece(sink, tail)
+}
+
+// A point and a number before each of the parts.
+fn write_parts<K: Sink>(sink: &mut K, parts: &[u32]) -> Result<(), WriteStop>
+    ensures written { Wrote (K.taken sink.old) (K.taken sink.new) (flat_map
+        (λ part. 46 ∷ decimal part) parts.now) result }
+    ensures later { K.faults sink.old ≤ K.faults sink.new }
+    ensures fault { OnErr result (Rose (K.faults sink.old) (K.faults sink.new)) }
+{
+    for part in parts {
+        match write_headed(sink, b".", *part) {
+            Ok(()) => {}
+            Err(stop) => return Err(stop),
+        }
+    }
+    Ok(())
+}
+
+#[tactic(auto, using(crate::proofs::WriteLemmas::write_steps))]
+fn write_first_parts<K: Sink>(sink: &mut K, first: u32, rest: &[u32]) -> Result<(), WriteStop>
+    ensures written { Wrote (K.taken sink.old) (K.taken sink.new) (decimal first ++ flat_map
+        (λ part. 46 ∷ decimal part) rest.now) result }
+    ensures later { K.faults sink.old ≤ K.faults sink.new }
+    ensures fault { OnErr result (Rose (K.faults sink.old) (K.faults sink.new)) }
+{
+    write_number(sink, first)?;
+    write_parts(sink, rest)
+}
+
+fn write_name<K: Sink>(sink: &mut K, parts: &[u32]) -> Result<(), WriteStop>
+    ensures written { Wrote (K.taken sink.old) (K.taken sink.new) (name_text parts.now) result }
+    ensures later { K.faults sink.old ≤ K.faults sink.new }
+    ensures fault { OnErr result (Rose (K.faults sink.old) (K.faults sink.new)) }
+{
+    match parts {
+        [] => write_piece(sink, b""),
+        [first, rest @ ..] => write_first_parts(sink, *first, rest),
+    }
+}
+
+#[tactic(auto, using(crate::proofs::WriteLemmas::write_steps))]
+fn write_named<K: Sink>(sink: &mut K, head: &[u8], parts: &[u32]) -> Result<(), WriteStop>
+    ensures written { Wrote (K.taken sink.old)
+        (K.taken sink.new) (head.now ++ name_text parts.now) result }
+    ensures later { K.faults sink.old ≤ K.faults sink.new }
+    ensures fault { OnErr result (Rose (K.faults sink.old) (K.faults sink.new)) }
+{
+    write_piece(sink, head)?;
+    write_name(sink, parts)
+}
+
+#[tactic(auto, using(crate::proofs::WriteLemmas::write_steps))]
+fn write_located<K: Sink>(
+    sink: &mut K,
+    head: &[u8],
+    parts: &[u32],
+    middle: &[u8],
+    number: u32,
+) -> Result<(), WriteStop>
+    ensures written { Wrote (K.taken sink.old)
+        (K.taken sink.new) (located head.now parts.now middle.now number (10 ∷ [])) result }
+    ensures later { K.faults sink.old ≤ K.faults sink.new }
+    ensures fault { OnErr result (Rose (K.faults sink.old) (K.faults sink.new)) }
+{
+    write_named(sink, head, parts)?;
+    write_numbered(sink, middle, number, b"\n")
+}
+
+fn fault_line(fault: &WorldFault) -> Option<&'static [u8]>
+    ensures { option_map (λ x. x.now) result ≡ fixed_fault fault.now }
+{
+    match fault {
+        WorldFault::NotJson => Some(b"ldv: not a world: not json\n"),
+        WorldFault::Shape => Some(b"ldv: not a world: shape\n"),
+        WorldFault::Name => Some(b"ldv: not a world: name\n"),
+        WorldFault::Limit => Some(b"ldv: not a world: limit\n"),
+        WorldFault::RowType => Some(b"ldv: not a world: row type\n"),
+        WorldFault::NotNull => Some(b"ldv: not a world: not null\n"),
+        WorldFault::Key => Some(b"ldv: not a world: key\n"),
+        WorldFault::NoStart => Some(b"ldv: not a world: no start\n"),
+        WorldFault::BadScript(_) => None,
+    }
+}
+
+fn kind_line(kind: &DamageKind) -> &'static [u8]
+    ensures { result.now ≡ damage_line kind.now }
+{
+    match kind {
+        DamageKind::Magic => b"ldv: damaged: magic\n",
+        DamageKind::Digest => b"ldv: damaged: digest\n",
+        DamageKind::Form => b"ldv: damaged: form\n",
+    }
+}
+
+// The line of an exit in which no number and no name stands.
+fn fixed_message(exit: &Exit) -> Option<&'static [u8]>
+    ensures { option_map (λ x. x.now) result ≡ fixed_line exit.now }
+{
+    match exit {
+        Exit::Done => Some(b""),
+        Exit::Usage => Some(b"ldv: usage\n"),
+        Exit::ReadFault => Some(b"ldv: read fault\n"),
+        Exit::WriteFault => Some(b"ldv: write fault\n"),
+        Exit::TooLong => Some(b"ldv: input longer than 67108864 bytes\n"),
+        Exit::NotWorld(fault) => fault_line(fault),
+        Exit::NotEnded { steps: _ } => None,
+        Exit::Damaged(kind) => Some(kind_line(kind)),
+        Exit::Diverged {
+            process: _,
+            index: _,
+        } => None,
+        Exit::NoSuch => Some(b"ldv: no such item\n"),
+        Exit::NoMemory => Some(b"ldv: out of memory\n"),
+        Exit::PackageTooLong => Some(b"ldv: package longer than 67108864 bytes\n"),
+        Exit::NotBuilt => Some(b"ldv: not built\n"),
+    }
+}
+
+fn write_bad_script<K: Sink>(sink: &mut K, fault: &WorldFault) -> Result<(), WriteStop>
+    ensures written { Wrote (K.taken sink.old) (K.taken sink.new) (bad_script_line fault.now) result }
+    ensures later { K.faults sink.old ≤ K.faults sink.new }
+    ensures fault { OnErr result (Rose (K.faults sink.old) (K.faults sink.new)) }
+{
+    match fault {
+        WorldFault::BadScript(line) => write_numbered(
+            sink,
+            b"ldv: not a world: bad script line ",
+            *line,
+            b"\n",
+        ),
+        _ => write_piece(sink, b""),
+    }
+}
+
+fn write_with_number<K: Sink>(sink: &mut K, exit: &Exit) -> Result<(), WriteStop>
+    ensures written { Wrote (K.taken sink.old) (K.taken sink.new) (numbered_line exit.now) result }
+    ensures later { K.faults sink.old ≤ K.faults sink.new }
+    ensures fault { OnErr result (Rose (K.faults sink.old) (K.faults sink.new)) }
+{
+    match exit {
+        Exit::NotWorld(fault) => write_bad_script(sink, fault),
+        Exit::NotEnded { steps } => write_numbered(
+            sink,
+            b"ldv: not ended after ",
+            *steps,
+            b" steps\n",
+        ),
+        Exit::Diverged { process, index } => write_located(
+            sink,
+            b"ldv: diverged: process ",
+            process.parts.items(),
+            b" statement ",
+            *index,
+        ),
+        _ => write_piece(sink, b""),
+    }
+}
+
+/// Writes the line of an exit, and nothing where all was written. It takes no memory. `Fault` comes only
+/// where a write failed, and then a proper prefix of the line was taken.
+pub fn exit_line<K: Sink>(exit: &Exit, sink: &mut K) -> Result<(), WriteStop>
+    ensures written { Wrote (K.taken sink.old) (K.taken sink.new) (line_of exit.now) result }
+    ensures later { K.faults sink.old ≤ K.faults sink.new }
+    ensures fault { OnErr result (Rose (K.faults sink.old) (K.faults sink.new)) }
+{
+    match fixed_message(exit) {
+        Some(line) => write_piece(sink, line),
+        None => write_with_number(sink, exit),
+    }
+}

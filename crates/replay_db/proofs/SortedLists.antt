@@ -1,0 +1,216 @@
+-- Lists that are sorted by a key, strictly: one with the same items is the same, and each of its items is found
+-- by its key.
+use Rattle.std.proofs.Common.{◌≡◌, List, [], ◌∷◌, refl, sym, ap, ◌∙◌, subst, Bool, true, false, inl, inr}
+use Rattle.std.specs.Prelude.{Option, Some, None, find, filter, ◌&&◌, ◌⊎◌}
+use Rattle.std.specs.List.{filter_map, cons_option, list_any}
+use Rattle.std.proofs.lemmas.Bool.{cases_Bool, and_parts, and_from}
+use Rattle.package_layout.specs.Order.{is_below_next, rises}
+use Rattle.run_model.specs.Between.{IsIn}
+use Rattle.replay_db.proofs.Tests.{cases_option, or_first, or_second, found_passes}
+
+-- ---- membership
+
+module _ {X : Type 0} where
+  pub found_in : (p : X → Bool) (xs : List X) (x : X) → find p xs ≡ Some x → IsIn x xs
+  found_in p [] x is = cc
+  found_in p (y ∷ ys) x is = elim (cases_Bool (p y)) [
+    | inl hit ↦ let e : Some y ≡ Some x = rw hit at is in let same : y ≡ x = cc in inl (sym same)
+    | inr miss ↦ inr (found_in p ys x (rw miss at is))
+  ]
+
+  -- an item that passes the test isn't missed
+  pub none_in : (p : X → Bool) (xs : List X) (x : X) → find p xs ≡ None → IsIn x xs → p x ≡ false
+  none_in p [] x none is = absurd is
+  none_in p (y ∷ ys) x none is = elim (cases_Bool (p y)) [
+    | inl hit ↦ let never : Some y ≡ None = rw hit at none in cc
+    | inr miss ↦ let rest : find p ys ≡ None = rw miss at none in by (λ more. none_in p ys x rest more) miss is
+  ]
+    where
+      by : (IsIn x ys → p x ≡ false) → p y ≡ false → (x ≡ y) ⊎ IsIn x ys → p x ≡ false
+      by later miss (inl same) = ap p same ∙ miss
+      by later miss (inr more) = later more
+
+  pub any_in : (p : X → Bool) (xs : List X) → list_any p xs ≡ true → (x : X) × (IsIn x xs × (p x ≡ true))
+  any_in p [] any = cc
+  any_in p (y ∷ ys) any = elim (cases_Bool (p y)) [
+    | inl hit ↦ (y, (inl refl, hit))
+    | inr miss ↦ let more = any_in p ys (rw miss at any) in (more.0, (inr more.1.0, more.1.1))
+  ]
+
+  pub in_any : (p : X → Bool) (xs : List X) (x : X) → IsIn x xs → p x ≡ true → list_any p xs ≡ true
+  in_any p [] x is hit = absurd is
+  in_any p (y ∷ ys) x (inl same) hit = or_first (p y) (list_any p ys) (ap p (sym same) ∙ hit)
+  in_any p (y ∷ ys) x (inr more) hit = or_second (p y) (list_any p ys) (in_any p ys x more hit)
+
+  pub in_filter : (p : X → Bool) (xs : List X) (x : X) → IsIn x xs → p x ≡ true → IsIn x (filter p xs)
+  in_filter p [] x is hit = absurd is
+  in_filter p (y ∷ ys) x (inl same) hit = let here : p y ≡ true = ap p (sym same) ∙ hit in rw here (inl same)
+  in_filter p (y ∷ ys) x (inr more) hit = elim (cases_Bool (p y)) [
+    | inl here ↦ rw here (inr (in_filter p ys x more hit))
+    | inr miss ↦ rw miss (in_filter p ys x more hit)
+  ]
+
+  pub filter_in : (p : X → Bool) (xs : List X) (x : X) → IsIn x (filter p xs) → IsIn x xs × (p x ≡ true)
+  filter_in p [] x is = absurd is
+  filter_in p (y ∷ ys) x is = elim (cases_Bool (p y)) [
+    | inl here ↦ by (λ more. filter_in p ys x more) here (rw here at is)
+    | inr miss ↦ let more = filter_in p ys x (rw miss at is) in (inr more.0, more.1)
+  ]
+    where
+      by : (IsIn x (filter p ys) → IsIn x ys × (p x ≡ true)) → p y ≡ true → (x ≡ y) ⊎ IsIn x (filter p ys)
+          → IsIn x (y ∷ ys) × (p x ≡ true)
+      by later here (inl same) = (inl same, ap p same ∙ here)
+      by later here (inr more) = let rest = later more in (inr rest.0, rest.1)
+
+module _ {X Y : Type 0} (f : X → Option Y) where
+  in_cons : (o : Option Y) (y : Y) (ys : List Y) → o ≡ Some y → IsIn y (cons_option o ys)
+  in_cons None y ys is = cc
+  in_cons (Some z) y ys is = let same : z ≡ y = cc in inl (sym same)
+
+  in_later : (o : Option Y) (y : Y) (ys : List Y) → IsIn y ys → IsIn y (cons_option o ys)
+  in_later None y ys is = is
+  in_later (Some z) y ys is = inr is
+
+  pub in_filter_map : (xs : List X) (x : X) (y : Y) → IsIn x xs → f x ≡ Some y → IsIn y (filter_map f xs)
+  in_filter_map [] x y is gives = absurd is
+  in_filter_map (z ∷ zs) x y (inl same) gives = in_cons (f z) y (filter_map f zs) (ap f (sym same) ∙ gives)
+  in_filter_map (z ∷ zs) x y (inr more) gives = in_later (f z) y (filter_map f zs) (in_filter_map zs x y more gives)
+
+  pub filter_map_in : (xs : List X) (y : Y) → IsIn y (filter_map f xs) → (x : X) × (IsIn x xs × (f x ≡ Some y))
+  filter_map_in [] y is = absurd is
+  filter_map_in (z ∷ zs) y is = by (λ more. filter_map_in zs y more) (f z) refl is
+    where
+      by : (IsIn y (filter_map f zs) → (x : X) × (IsIn x zs × (f x ≡ Some y))) → (o : Option Y) → f z ≡ o
+          → IsIn y (cons_option o (filter_map f zs)) → (x : X) × (IsIn x (z ∷ zs) × (f x ≡ Some y))
+      by later None gives is = let more = later is in (more.0, (inr more.1.0, more.1.1))
+      by later (Some u) gives (inl same) = (z, (inl refl, gives ∙ ap Some (sym same)))
+      by later (Some u) gives (inr is) = let more = later is in (more.0, (inr more.1.0, more.1.1))
+
+-- ---- sorted lists
+
+module _ {X K : Type 0} (key : X → K) (lower : K → K → Bool) (itself : (k : K) → lower k k ≡ false)
+    (chain : (a b c : K) → lower a b ≡ true → lower b c ≡ true → lower a c ≡ true) where
+  abbrev pub under : X → X → Bool
+  under x y = lower (key x) (key y)
+
+  abbrev pub Sorted : List X → Type 0
+  Sorted xs = rises under xs ≡ true
+
+  next_under : (x y : X) (ys : List X) → under x y ≡ true → is_below_next under y ys ≡ true → is_below_next under x ys ≡ true
+  next_under x y [] first next = refl
+  next_under x y (z ∷ zs) first next = chain (key x) (key y) (key z) first next
+
+  -- all later items are above the first
+  pub all_under : (x : X) (ys : List X) → is_below_next under x ys ≡ true → Sorted ys → (z : X) → IsIn z ys → under x z ≡ true
+  all_under x [] next rest z is = absurd is
+  all_under x (y ∷ ys) next rest z (inl same) = ap (under x) same ∙ next
+  all_under x (y ∷ ys) next rest z (inr more) =
+      let both = and_parts (is_below_next under y ys) (rises under ys) rest in
+      all_under x ys (next_under x y ys next both.0) both.1 z more
+
+  not_itself : (x y : X) → under x y ≡ true → key x ≡ key y → true ≡ false
+  not_itself x y above same = sym above ∙ ap (λ k. lower k (key y)) same ∙ itself (key y)
+
+  -- two items of one key are one
+  pub same_item : (xs : List X) → Sorted xs → (x y : X) → IsIn x xs → IsIn y xs → key x ≡ key y → x ≡ y
+  same_item [] sorted x y in_x in_y same = absurd in_x
+  same_item (z ∷ zs) sorted x y (inl x_is) (inl y_is) same = x_is ∙ sym y_is
+  same_item (z ∷ zs) sorted x y (inl x_is) (inr y_in) same =
+      let both = and_parts (is_below_next under z zs) (rises under zs) sorted in
+      let never : true ≡ false = not_itself z y (all_under z zs both.0 both.1 y y_in) (ap key (sym x_is) ∙ same) in cc
+  same_item (z ∷ zs) sorted x y (inr x_in) (inl y_is) same =
+      let both = and_parts (is_below_next under z zs) (rises under zs) sorted in
+      let never : true ≡ false = not_itself z x (all_under z zs both.0 both.1 x x_in) (ap key (sym y_is) ∙ sym same) in cc
+  same_item (z ∷ zs) sorted x y (inr x_in) (inr y_in) same =
+      same_item zs (and_parts (is_below_next under z zs) (rises under zs) sorted).1 x y x_in y_in same
+
+  -- the first of two lists with the same items is the same
+  first_same : (x y : X) (xs ys : List X) → Sorted (x ∷ xs) → Sorted (y ∷ ys) → IsIn x (y ∷ ys) → IsIn y (x ∷ xs) → x ≡ y
+  first_same x y xs ys sx sy (inl same) back = same
+  first_same x y xs ys sx sy (inr more) (inl same) = sym same
+  first_same x y xs ys sx sy (inr in_ys) (inr in_xs) =
+      let bx = and_parts (is_below_next under x xs) (rises under xs) sx in
+      let by = and_parts (is_below_next under y ys) (rises under ys) sy in
+      let up : under x y ≡ true = all_under x xs bx.0 bx.1 y in_xs in
+      let down : under y x ≡ true = all_under y ys by.0 by.1 x in_ys in
+      let never : true ≡ false = sym (chain (key x) (key y) (key x) up down) ∙ itself (key x) in cc
+
+  rest_in : (x y : X) (xs ys : List X) → Sorted (x ∷ xs) → x ≡ y → ((z : X) → IsIn z (x ∷ xs) → IsIn z (y ∷ ys)) → (z : X) → IsIn z xs → IsIn z ys
+  rest_in x y xs ys sx same there z is = by (there z (inr is))
+    where
+      by : (z ≡ y) ⊎ IsIn z ys → IsIn z ys
+      by (inr more) = more
+      by (inl first) =
+          let both = and_parts (is_below_next under x xs) (rises under xs) sx in
+          let never : true ≡ false = not_itself x z (all_under x xs both.0 both.1 z is) (ap key (same ∙ sym first)) in cc
+
+  pub same_list : (xs ys : List X) → Sorted xs → Sorted ys → ((z : X) → IsIn z xs → IsIn z ys) → ((z : X) → IsIn z ys → IsIn z xs) → xs ≡ ys
+  same_list [] [] sx sy there back = refl
+  same_list [] (y ∷ ys) sx sy there back = absurd (back y (inl refl))
+  same_list (x ∷ xs) [] sx sy there back = absurd (there x (inl refl))
+  same_list (x ∷ xs) (y ∷ ys) sx sy there back =
+      let first : x ≡ y = first_same x y xs ys sx sy (there x (inl refl)) (back y (inl refl)) in
+      let bx = and_parts (is_below_next under x xs) (rises under xs) sx in
+      let by = and_parts (is_below_next under y ys) (rises under ys) sy in
+      let rest : xs ≡ ys = same_list xs ys bx.1 by.1 (rest_in x y xs ys sx first there) (rest_in y x ys xs sy (sym first) back) in
+      λ j. first j ∷ rest j
+
+  -- what a function leaves of each item, with the item's key, is sorted too
+  module _ (f : X → Option X) (keeps : (x y : X) → f x ≡ Some y → key y ≡ key x) where
+    kept_next : (x : X) (ys : List X) → ((z : X) → IsIn z ys → under x z ≡ true) → is_below_next under x (filter_map f ys) ≡ true
+    kept_next x [] all = refl
+    kept_next x (y ∷ ys) all = by (kept_next x ys (λ z is. all z (inr is))) (f y) refl
+      where
+        by : is_below_next under x (filter_map f ys) ≡ true → (o : Option X) → f y ≡ o
+            → is_below_next under x (cons_option o (filter_map f ys)) ≡ true
+        by later None gives = later
+        by later (Some u) gives = ap (lower (key x)) (keeps y u gives) ∙ all y (inl refl)
+
+    pub filter_map_sorted : (xs : List X) → Sorted xs → Sorted (filter_map f xs)
+    filter_map_sorted [] sorted = refl
+    filter_map_sorted (x ∷ xs) sorted =
+        let both = and_parts (is_below_next under x xs) (rises under xs) sorted in
+        by (filter_map_sorted xs both.1) (kept_next x xs (all_under x xs both.0 both.1)) (f x) refl
+      where
+        first_at : (u : X) (zs : List X) → key u ≡ key x → is_below_next under x zs ≡ true → is_below_next under u zs ≡ true
+        first_at u [] same next = refl
+        first_at u (z ∷ zs) same next = ap (λ k. lower k (key z)) same ∙ next
+
+        by : Sorted (filter_map f xs) → is_below_next under x (filter_map f xs) ≡ true → (o : Option X) → f x ≡ o
+            → rises under (cons_option o (filter_map f xs)) ≡ true
+        by later next None gives = later
+        by later next (Some u) gives =
+            and_from (is_below_next under u (filter_map f xs)) (rises under (filter_map f xs))
+            (first_at u (filter_map f xs) (keeps x u gives) next) later
+
+  -- ---- items by key
+
+  module _ (equal : K → K → Bool) (is : (a b : K) → equal a b ≡ true → a ≡ b) (self : (k : K) → equal k k ≡ true) where
+    abbrev pub at : K → List X → Option X
+    at k xs = find (λ x. equal (key x) k) xs
+
+    pub at_key : (k : K) (xs : List X) (x : X) → at k xs ≡ Some x → key x ≡ k
+    at_key k xs x found = is (key x) k (found_passes (λ y. equal (key y) k) xs x found)
+
+    -- an item of a sorted list is the one that is found by its key
+    pub at_item : (xs : List X) → Sorted xs → (x : X) → IsIn x xs → at (key x) xs ≡ Some x
+    at_item xs sorted x is_in = by (at (key x) xs) refl
+      where
+        by : (o : Option X) → at (key x) xs ≡ o → at (key x) xs ≡ Some x
+        by None none =
+            let never : true ≡ false = sym (self (key x)) ∙ none_in (λ y. equal (key y) (key x)) xs x none is_in in cc
+        by (Some y) found =
+            let there : IsIn y xs = found_in (λ z. equal (key z) (key x)) xs y found in
+            found ∙ ap Some (same_item xs sorted y x there is_in (at_key (key x) xs y found))
+
+    -- a list is what is found in it by the keys of another that has all its keys
+    pub found_all : (small whole : List X) → Sorted small → Sorted whole → ((x : X) → IsIn x small → (y : X) × (IsIn y whole × (key y ≡ key x)))
+        → filter_map (λ y. at (key y) small) whole ≡ small
+    found_all small whole s_small s_whole cover =
+        same_list (filter_map (λ y. at (key y) small) whole) small
+        (filter_map_sorted (λ y. at (key y) small) (λ x y found. at_key (key x) small y found) whole s_whole)
+        s_small
+        (λ z there. let from = filter_map_in (λ y. at (key y) small) whole z there in found_in (λ x. equal (key x) (key from.0)) small z from.1.1)
+        (λ z there.
+        let of = cover z there in
+        in_filter_map (λ y. at (key y) small) whole of.0 z of.1.0 (ap (λ k. at k small) of.1.1 ∙ at_item small s_small z there))

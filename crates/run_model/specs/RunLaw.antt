@@ -1,0 +1,24 @@
+-- A run is never stuck: while a process hasn't ended, the scheduler chooses one that may run.
+use Rattle.std.specs.Prelude.{◌≡◌, ℕ, List, Bool, true, false, Option, Some, slice_get}
+use Rattle.run_model.specs.Types.{File, Instr}
+use Rattle.run_model.specs.Core.{Process, Core, all_ended, start_core}
+use Rattle.run_model.specs.Database.{Base}
+use Rattle.run_model.specs.Run.{run}
+use Rattle.run_model.specs.Schedule.{is_runnable, choose}
+use Rattle.run_model.specs.State.{State}
+
+-- the process of a creation number is there, hasn't ended, and doesn't wait for one that hasn't
+abbrev pub MayRun : ℕ → Core → Type 0
+MayRun number c =
+    (p : Process) × (slice_get c.processes number ≡ Some p) × (is_runnable c.processes p ≡ true)
+
+abbrev pub started : {Db : Type 0} → List (List ℕ) → ℕ → List File → List Instr → Db → State Db
+started start seed files script db = record { core = start_core start seed files script; db = db }
+
+-- over any database, after any steps of any script, whatever chooses: the seed, or any pick
+abbrev pub NeverStuckLaw : Type 0 → Type 0
+NeverStuckLaw Db = (base : Base Db) (n : ℕ) (picks : List ℕ)
+    (start : List (List ℕ)) (seed : ℕ) (files : List File) (script : List Instr) (db : Db) (pick : Option ℕ)
+    → all_ended (run base n picks (started start seed files script db)).core ≡ false
+    → MayRun (choose pick (run base n picks (started start seed files script db)).core)
+    (run base n picks (started start seed files script db)).core

@@ -1,0 +1,159 @@
+-- Valid traces: what the events of a run, one after another, meet.
+use Rattle.std.specs.Prelude.{ℕ, ◌+◌, List, [], ◌∷◌, Bool, true, false, ◌&&◌, ◌==◌, nat_lt, nat_le}
+use Rattle.std.specs.Prelude.{IsTrue, bytes_eq}
+use Rattle.std.specs.List.{list_all}
+use Rattle.std.specs.declared.cmp.Ordering.{Ordering}
+use Rattle.std.specs.declared.cmp.Ordering.TheVariants.{Less, Equal, Greater}
+use Rattle.std.specs.Ordering.{nat_cmp}
+use Rattle.std.specs.Cmp.Lexicographic.{slice_cmp}
+use Rattle.ldv_value.specs.Limits.{max_processes}
+use Rattle.ldv_value.specs.Names.{path_test}
+use Rattle.ldv_value.specs.Sorted.{is_strictly_sorted, text_precedes}
+use Rattle.sql_model.specs.SqlNames.{sql_name_test}
+use Rattle.run_model.specs.declared.event.Act.TheVariants as acts
+use Rattle.run_model.specs.Types.{Member, Need, Act, Event}
+
+-- ---- the order of rows: by table and then by row
+
+abbrev pub row_after_table : Ordering → ℕ → ℕ → Bool
+row_after_table Less m n = true
+row_after_table Equal m n = nat_lt m n
+row_after_table Greater m n = false
+
+abbrev pub member_precedes : Member → Member → Bool
+member_precedes a b = row_after_table (slice_cmp nat_cmp a.table b.table) a.row b.row
+
+abbrev pub need_precedes : Need → Need → Bool
+need_precedes a b = member_precedes a.member b.member
+
+-- ---- events
+
+-- how many processes are made and how many statements were asked before an event, and the step of the
+-- event before it
+pub record Progress : Type 0 where
+  pub made : ℕ
+  pub asked : ℕ
+  pub step : ℕ
+
+-- each path is valid, a child is a process that was made, at most max_processes are made, statements are
+-- numbered from 0, and lists are strictly increasing
+abbrev pub act_rule : Progress → Act → Bool
+act_rule before (acts.Started path) = false
+act_rule before (acts.Spawned path) = path_test path && nat_lt before.made max_processes
+act_rule before (acts.Unspawned path found) = path_test path
+act_rule before (acts.OpenedRead path) = path_test path
+act_rule before (acts.OpenedWrite path) = path_test path
+act_rule before (acts.OpenedAppend path found) = path_test path
+act_rule before (acts.OpenedNew path) = path_test path
+act_rule before (acts.Unopened path found) = path_test path
+act_rule before (acts.Read path) = path_test path
+act_rule before (acts.Wrote path) = path_test path
+act_rule before (acts.Removed path) = path_test path
+act_rule before (acts.Tested path found) = path_test path
+act_rule before (acts.Waited child) = nat_lt child before.made
+act_rule before (acts.Ended status) = true
+act_rule before (acts.Asked statement tables reads made) =
+    (statement == before.asked) && list_all sql_name_test tables && is_strictly_sorted text_precedes tables
+    && is_strictly_sorted need_precedes reads && is_strictly_sorted member_precedes made
+
+-- steps never decrease and end with the run, and the process is one that was made
+abbrev pub event_rule : ℕ → Progress → Event → Bool
+event_rule steps before e =
+    nat_le before.step e.step && nat_le e.step steps && nat_lt e.process before.made && act_rule before e.act
+
+abbrev pub made_after : ℕ → Act → ℕ
+made_after made (acts.Started path) = made
+made_after made (acts.Spawned path) = made + 1
+made_after made (acts.Unspawned path found) = made
+made_after made (acts.OpenedRead path) = made
+made_after made (acts.OpenedWrite path) = made
+made_after made (acts.OpenedAppend path found) = made
+made_after made (acts.OpenedNew path) = made
+made_after made (acts.Unopened path found) = made
+made_after made (acts.Read path) = made
+made_after made (acts.Wrote path) = made
+made_after made (acts.Removed path) = made
+made_after made (acts.Tested path found) = made
+made_after made (acts.Waited child) = made
+made_after made (acts.Ended status) = made
+made_after made (acts.Asked statement tables reads written) = made
+
+abbrev pub is_asked : Act → Bool
+is_asked (acts.Started path) = false
+is_asked (acts.Spawned path) = false
+is_asked (acts.Unspawned path found) = false
+is_asked (acts.OpenedRead path) = false
+is_asked (acts.OpenedWrite path) = false
+is_asked (acts.OpenedAppend path found) = false
+is_asked (acts.OpenedNew path) = false
+is_asked (acts.Unopened path found) = false
+is_asked (acts.Read path) = false
+is_asked (acts.Wrote path) = false
+is_asked (acts.Removed path) = false
+is_asked (acts.Tested path found) = false
+is_asked (acts.Waited child) = false
+is_asked (acts.Ended status) = false
+is_asked (acts.Asked statement tables reads made) = true
+
+abbrev pub asked_after : ℕ → Bool → ℕ
+asked_after asked true = asked + 1
+asked_after asked false = asked
+
+abbrev pub progress_after : Progress → Event → Progress
+progress_after before e = record {
+  made = made_after before.made e.act;
+  asked = asked_after before.asked (is_asked e.act);
+  step = e.step;
+}
+
+-- the events after the first
+abbrev pub follows : ℕ → Progress → List Event → Bool
+follows steps before [] = true
+follows steps before (e ∷ es) = event_rule steps before e && follows steps (progress_after before e) es
+
+-- ---- traces
+
+-- one process is made, no statement was asked, and steps are 1 at least
+abbrev pub at_start : Progress
+at_start = record { made = 1; asked = 0; step = 1 }
+
+abbrev pub starts_on : List ℕ → Act → Bool
+starts_on path (acts.Started started) = bytes_eq started path
+starts_on path (acts.Spawned spawned) = false
+starts_on path (acts.Unspawned other found) = false
+starts_on path (acts.OpenedRead other) = false
+starts_on path (acts.OpenedWrite other) = false
+starts_on path (acts.OpenedAppend other found) = false
+starts_on path (acts.OpenedNew other) = false
+starts_on path (acts.Unopened other found) = false
+starts_on path (acts.Read other) = false
+starts_on path (acts.Wrote other) = false
+starts_on path (acts.Removed other) = false
+starts_on path (acts.Tested other found) = false
+starts_on path (acts.Waited child) = false
+starts_on path (acts.Ended status) = false
+starts_on path (acts.Asked statement tables reads made) = false
+
+-- the first event starts the first process on its path, at step 0
+abbrev pub starts : List ℕ → Event → Bool
+starts path e = (e.step == 0) && (e.process == 0) && starts_on path e.act
+
+-- the events of a run that starts with a path and has the given number of steps
+abbrev pub trace_test : List ℕ → ℕ → List Event → Bool
+trace_test path steps [] = false
+trace_test path steps (e ∷ es) = starts path e && follows steps at_start es
+
+abbrev pub ValidTrace : List ℕ → ℕ → List Event → Type 0
+ValidTrace path steps events = IsTrue (trace_test path steps events)
+
+-- the events of some run
+abbrev pub IsTrace : List Event → Type 0
+IsTrace events = (path : List ℕ) × (steps : ℕ) × IsTrue (path_test path) × ValidTrace path steps events
+
+-- how many statements were asked, after the given number of them
+abbrev pub asked_among : ℕ → List Event → ℕ
+asked_among asked [] = asked
+asked_among asked (e ∷ es) = asked_among (asked_after asked (is_asked e.act)) es
+
+abbrev pub asked_count : List Event → ℕ
+asked_count events = asked_among 0 events

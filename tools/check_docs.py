@@ -1,0 +1,220 @@
+#!/usr/bin/env python3
+"""Compares the documents with the tree that they speak of.
+
+    tools/check_docs.py [ROOT]
+
+ROOT is the top of a checkout, by default that of this script. Checked are
+
+- the tables of crates in docs/ARCHITECTURE.md against crates.txt: the crates in their order, what each stands
+  on, and the libraries of the kit; and that its entry function and its first definition are where it says;
+- each relative link of each document, with its heading where it names one;
+- each path in a document that begins with a folder of this repository or with a crate, such as
+  `crates/ldv_top/specs/Due.antt` or `ldv_top/specs/Due.antt`;
+- the tables of docs/DEFINITIONS.md: that each name is defined in the file of its row.
+
+It prints a line for each difference, and ends with status 1 where there is one.
+"""
+import os
+import re
+import sys
+
+ARCHITECTURE = 'docs/ARCHITECTURE.md'
+DEFINITIONS = 'docs/DEFINITIONS.md'
+FOLDERS = ('crates', 'docs', 'tools', 'examples', 'bench', '.ci')
+LINK = re.compile(r'\[[^\]\n]*\]\(([^)\s]+)\)')
+CODE = re.compile(r'`([^`\n]+)`')
+PATH = re.compile(r'(?<![\w./-])(?:%s)/[\w./+*-]*' % '|'.join(re.escape(f) for f in FOLDERS))
+CRATE_PATH = re.compile(r'(?<![\w./-])\w+/(?:src|specs|proofs|must-fail)/[\w./+*-]*')
+# A path with such a mark stands for several, or for one that a build makes.
+PLACEHOLDER = re.compile(r'\*|\bNAME\b|/out\b|[A-Z]{3,}\b')
+
+
+class Differences:
+    """Prints each difference, and counts them."""
+
+    def __init__(self):
+        self.count = 0
+
+    def add(self, document, line, text):
+        self.count += 1
+        print(f'{document}:{line}: {text}')
+
+
+def read(root, name):
+    with open(os.path.join(root, name), encoding='utf-8') as file:
+        return file.read()
+
+
+def exists(root, name):
+    return os.path.exists(os.path.join(root, name))
+
+
+def documents(root):
+    """All documents of the checkout, but for what a build makes."""
+    found = []
+    for folder, folders, files in os.walk(root):
+        folders[:] = sorted(f for f in folders if f not in ('.git', 'out'))
+        found += [os.path.relpath(os.path.join(folder, f), root) for f in files if f.endswith('.md')]
+    return sorted(found)
+
+
+def crates_in(root):
+    """The lines of crates.txt: each crate with what it stands on, in their order."""
+    crates = {}
+    for line in read(root, 'crates.txt').splitlines():
+        if line.strip() and not line.lstrip().startswith('#'):
+            name, _, uses = line.partition(':')
+            crates[name.strip()] = uses.split()
+    return crates
+
+
+def tables(text):
+    """The tables of a document: each row as its line number, its cells and the cells of the table's head."""
+    head = None
+    for number, line in enumerate(text.splitlines(), 1):
+        if not line.startswith('|'):
+            head = None
+            continue
+        cells = [cell.strip() for cell in line.strip().strip('|').split('|')]
+        if head is None:
+            head = cells
+        elif not set(''.join(cells)) <= set('-: '):
+            yield number, cells, head
+
+
+def codes(cell):
+    return CODE.findall(cell)
+
+
+# ---- the tables of crates
+
+def place(crate, path):
+    """A file of the crate itself, or of another one whose name stands before it."""
+    own = path.split('/')[0] in ('src', 'specs', 'proofs')
+    return f'crates/{crate}/{path}' if own else f'crates/{path}'
+
+
+def check_entry(root, number, crate, cell, differ):
+    """The last code in the cell is a file, and those before it are functions that it defines."""
+    words = codes(cell)
+    if not words:
+        return
+    file = place(crate, words[-1])
+    if not exists(root, file):
+        differ.add(ARCHITECTURE, number, f'there is no {file}')
+        return
+    text = read(root, file)
+    for word in words[:-1]:
+        if not re.search(r'\bfn %s\b' % re.escape(word.split('::')[-1]), text):
+            differ.add(ARCHITECTURE, number, f'{file} has no function {word}')
+
+
+def check_crates(root, differ):
+    crates = crates_in(root)
+    rows = [row for row in tables(read(root, ARCHITECTURE)) if row[2][0] == 'Crate']
+    listed = [codes(cells[0])[0] for _, cells, _ in rows]
+    if listed != list(crates):
+        differ.add(ARCHITECTURE, rows[0][0] if rows else 1,
+                   'the crates are %s, in crates.txt %s' % (' '.join(listed), ' '.join(crates)))
+    for number, cells, _ in rows:
+        if len(cells) != 5:
+            differ.add(ARCHITECTURE, number, 'a row of crates has five cells')
+            continue
+        name, _, entry, first, uses = cells
+        crate = codes(name)[0]
+        own = [use for use in crates.get(crate, []) if use in crates]
+        if sorted(uses.split()) != sorted(own):
+            differ.add(ARCHITECTURE, number, f'{crate} stands on: {" ".join(own)}')
+        check_entry(root, number, crate, entry, differ)
+        for path in codes(first):
+            if not exists(root, place(crate, path)):
+                differ.add(ARCHITECTURE, number, f'there is no {place(crate, path)}')
+    check_kit(crates, differ, root)
+
+
+def check_kit(crates, differ, root):
+    used = {}
+    for crate, uses in crates.items():
+        for use in uses:
+            if use not in crates:
+                used.setdefault(use, []).append(crate)
+    listed = set()
+    for number, cells, head in tables(read(root, ARCHITECTURE)):
+        if head[0] != 'Library':
+            continue
+        library = codes(cells[0])[0]
+        listed.add(library)
+        if sorted(cells[-1].split()) != sorted(used.get(library, [])):
+            differ.add(ARCHITECTURE, number, f'{library} is used by: {" ".join(used.get(library, []))}')
+    for library in sorted(set(used) - listed):
+        differ.add(ARCHITECTURE, 1, f'the library {library} is missing')
+
+
+# ---- links and paths
+
+def headings(text):
+    """The anchors of a document's headings."""
+    titles = re.findall(r'^#+ (.*)$', text, re.M)
+    return {re.sub(r'[^\w\- ]', '', title.lower()).replace(' ', '-') for title in titles}
+
+
+def check_link(root, document, number, target, differ):
+    if re.match(r'[a-z]+:', target):
+        return
+    path, _, anchor = target.partition('#')
+    file = os.path.normpath(os.path.join(os.path.dirname(document), path)) if path else document
+    if not exists(root, file):
+        differ.add(document, number, f'the link {target} leads nowhere')
+    elif anchor and file.endswith('.md') and anchor not in headings(read(root, file)):
+        differ.add(document, number, f'{file} has no heading {anchor}')
+
+
+def check_paths(root, document, differ):
+    for number, line in enumerate(read(root, document).splitlines(), 1):
+        for target in LINK.findall(line):
+            check_link(root, document, number, target, differ)
+        rest = LINK.sub('', line)
+        paths = PATH.findall(rest) + ['crates/' + path for path in CRATE_PATH.findall(rest)]
+        for path in paths:
+            path = path.rstrip('.')
+            if not PLACEHOLDER.search(path) and '..' not in path and not exists(root, path):
+                differ.add(document, number, f'there is no {path}')
+
+
+# ---- definitions
+
+def check_definitions(root, differ):
+    """A row's names are defined in the file of its last cell, in the folder that its section's heading names."""
+    text = read(root, DEFINITIONS)
+    folders = {}
+    folder = ''
+    for number, line in enumerate(text.splitlines(), 1):
+        if line.startswith('#'):
+            found = re.search(r'`crates/([\w/]+)`', line)
+            folder = found.group(1) if found else ''
+        folders[number] = folder
+    for number, cells, head in tables(text):
+        if head[0] != 'Definition':
+            continue
+        files = [f if '/' in f else f'{folders[number]}/{f}' for f in codes(cells[-1])]
+        missing = [f for f in files if not exists(root, 'crates/' + f)]
+        for file in missing:
+            differ.add(DEFINITIONS, number, f'there is no crates/{file}')
+        defined = '\n'.join(read(root, 'crates/' + f) for f in files if f not in missing)
+        for name in codes(cells[0]):
+            if not re.search(r'(?:^|\s)%s (?::|\(|\{)' % re.escape(name), defined, re.M):
+                differ.add(DEFINITIONS, number, f'{name} is not defined in {" ".join(files)}')
+
+
+def main(words):
+    root = words[0] if words else os.path.dirname(os.path.dirname(os.path.abspath(__file__)))
+    differ = Differences()
+    check_crates(root, differ)
+    for document in documents(root):
+        check_paths(root, document, differ)
+    check_definitions(root, differ)
+    return 1 if differ.count else 0
+
+
+if __name__ == '__main__':
+    sys.exit(main(sys.argv[1:]))
