@@ -16,7 +16,7 @@ use std::collections::BTreeSet;
 use std::rt::Files;
 use std::{fs, io};
 
-/// The files to check, and the name of the cases that alone are wanted.
+/// The files to check, and the name of the only cases that are wanted.
 #[derive(Clone, Copy)]
 pub(crate) struct Request<'a> {
     pub files: &'a [String],

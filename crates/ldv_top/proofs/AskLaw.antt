@@ -10,10 +10,8 @@ use Rattle.std.proofs.lemmas.List.{take_more}
 use Rattle.std.proofs.lemmas.Slice.Eq.{bytes_eq-Decides}
 use Rattle.ldv_value.specs.declared.value.Value.{Value}
 use Rattle.sql_model.specs.declared.catalog.Catalog.{Catalog}
-use Rattle.sql_model.specs.declared.catalog.Checked.{Checked}
 use Rattle.sql_model.specs.declared.expr.Expr.{Expr}
 use Rattle.sql_model.specs.declared.need.Need.{Need}
-use Rattle.sql_model.specs.declared.reply.Reply.{Reply}
 use Rattle.sql_model.specs.declared.reply.Reply.TheVariants.{Rows, Refused}
 use Rattle.sql_model.specs.declared.reply.SqlRefusal.{SqlRefusal}
 use Rattle.sql_model.specs.declared.reply.SqlRefusal.TheVariants.{Syntax}
@@ -28,23 +26,23 @@ use Rattle.sql_model.specs.QueryAnswer.{meets_all}
 use Rattle.sql_model.specs.Built.{has_at_most_one, is_built}
 use Rattle.sql_model.specs.Changes.{or_else}
 use Rattle.sql_model.specs.Kinds.{names_in}
-use Rattle.sql_model.specs.Needs.{NeededRow, need_of, asked_tables}
+use Rattle.sql_model.specs.Needs.{asked_tables}
 use Rattle.sql_model.specs.Places.{checked_unless, checked_of, places_of}
 use Rattle.sql_model.specs.Refusals.{check_refusal}
 use Rattle.sql_model.specs.Scope.{InScope, same_text, is_table, table_at, rows_of, catalog_of, scope_of, places_in, environment}
 use Rattle.sql_model.specs.Meaning.{is_true, truth}
 use Rattle.sql_model.specs.Statements.{refusal_of, reply_or, reply_of}
 use Rattle.ldv_top.proofs.BuiltStatements.{plain_core, plain_query, Plain, query_is, reply_is, need_none}
-use Rattle.ldv_top.proofs.SelectionNeeds.{Rise, read_row, picked_rows, built_reply, built_needs, refused_query, built_tables}
+use Rattle.ldv_top.proofs.SelectionNeeds.{NeedsSorted, read_row, picked_rows, built_reply, built_needs, refused_query, built_tables}
 use Rattle.ldv_top.specs.Asks.{core_of, source_in, names_in_source, rows_in_source, first_places, verdict_of, is_met, condition_names, InScopes, row_values, row_need, picked_values, picked_needs, needs_in_source}
-use Rattle.ldv_top.specs.Rising.{Above, RowsRise, TablesRise}
+use Rattle.ldv_top.specs.SortedTables.{Above, RowsSorted, TablesSorted}
 use Rattle.ldv_top.specs.Traces.{first_version, reads_of}
 
 cases_option : {A : Type 0} (o : Option A) → (o ≡ None) ⊎ ((x : A) × (o ≡ Some x))
 cases_option None = inl refl
 cases_option (Some x) = inr (x, refl)
 
--- ---- rows whose numbers rise
+-- ---- rows sorted by number
 
 above_less : (m n : ℕ) (rows : List TableRow) → m < n → Above n rows → Above m rows
 above_less m n [] less above = tt
@@ -53,9 +51,9 @@ above_less m n (row ∷ rows) less above =
     let lower : m < row.number = omega arith in
     (lower, above.1)
 
-above_rise : (n : ℕ) (rows : List TableRow) → Above n rows → RowsRise rows
-above_rise n [] above = tt
-above_rise n (row ∷ rows) above = above.1
+above_sorted : (n : ℕ) (rows : List TableRow) → Above n rows → RowsSorted rows
+above_sorted n [] above = tt
+above_sorted n (row ∷ rows) above = above.1
 
 filter_above : (p : TableRow → Bool) (n : ℕ) (rows : List TableRow) → Above n rows → Above n (filter p rows)
 filter_above p n [] above = tt
@@ -64,18 +62,18 @@ filter_above p n (row ∷ rows) above = elim (cases_Bool (p row)) [
   | inr miss ↦ rw miss (filter_above p n rows (above_less n row.number rows above.0 above.1))
 ]
 
-filter_rise : (p : TableRow → Bool) (rows : List TableRow) → RowsRise rows → RowsRise (filter p rows)
-filter_rise p [] rise = tt
-filter_rise p (row ∷ rows) rise = elim (cases_Bool (p row)) [
-  | inl hit ↦ rw hit (filter_above p row.number rows rise)
-  | inr miss ↦ rw miss (filter_rise p rows (above_rise row.number rows rise))
+filter_sorted : (p : TableRow → Bool) (rows : List TableRow) → RowsSorted rows → RowsSorted (filter p rows)
+filter_sorted p [] sorted = tt
+filter_sorted p (row ∷ rows) sorted = elim (cases_Bool (p row)) [
+  | inl hit ↦ rw hit (filter_above p row.number rows sorted)
+  | inr miss ↦ rw miss (filter_sorted p rows (above_sorted row.number rows sorted))
 ]
 
-found_rise : (p : Table → Bool) (db : List Table) → TablesRise db → RowsRise (rows_of (find p db))
-found_rise p [] rise = tt
-found_rise p (first ∷ db) rise = elim (cases_Bool (p first)) [
-  | inl hit ↦ rw hit rise.0
-  | inr miss ↦ rw miss (found_rise p db rise.1)
+found_sorted : (p : Table → Bool) (db : List Table) → TablesSorted db → RowsSorted (rows_of (find p db))
+found_sorted p [] sorted = tt
+found_sorted p (first ∷ db) sorted = elim (cases_Bool (p first)) [
+  | inl hit ↦ rw hit sorted.0
+  | inr miss ↦ rw miss (found_sorted p db sorted.1)
 ]
 
 unlike : (t : List ℕ) (m n : ℕ) → m < n → (same_text t t && m == n) ≡ false
@@ -90,10 +88,10 @@ earlier t m n b less =
     let order : Less ≡ nat_cmp m n = nat_cmp_is m n Less less in
     rw self (ap is_lt (sym order))
 
-reads_rise : (t : List ℕ) (rows : List TableRow) → RowsRise rows → Rise (map (read_row t) rows)
-reads_rise t [] rise = tt
-reads_rise t (row ∷ []) rise = tt
-reads_rise t (row ∷ next ∷ rows) rise = (unlike t row.number next.number rise.0, earlier t row.number next.number _ rise.0, reads_rise t (next ∷ rows) rise.1)
+reads_sorted : (t : List ℕ) (rows : List TableRow) → RowsSorted rows → NeedsSorted (map (read_row t) rows)
+reads_sorted t [] sorted = tt
+reads_sorted t (row ∷ []) sorted = tt
+reads_sorted t (row ∷ next ∷ rows) sorted = (unlike t row.number next.number sorted.0, earlier t row.number next.number _ sorted.0, reads_sorted t (next ∷ rows) sorted.1)
 
 first_versions : (t : List ℕ) (rows : List TableRow) → map first_version (map (read_row t) rows) ≡ map (row_need t) rows
 first_versions t [] = refl
@@ -131,10 +129,10 @@ module _ (joined : Bool) (item : FromItem) (picks : List Expr) (one : has_at_mos
       ap Rows (is ∙ ap (map row_values) (sym rows_same))
       ∙ sym (built_reply query (plain_core joined item picks) item db built refl refl accepted)
 
-  plain_reads : refusal_of (Some (TheQuery query)) db ≡ None → TablesRise db → (needs : List Need) → needs ≡ picked_needs picks item.table scope rows → needs ≡ reads_of (Some (TheQuery query)) db
-  plain_reads accepted rise needs is =
-      let rising : RowsRise (filter (is_met picks scope) rows) = filter_rise (is_met picks scope) rows (found_rise (is_table item.table) db rise) in
-      let reads : Rise (map (read_row item.table) (picked_rows item picks db)) = reads_rise item.table (picked_rows item picks db) (subst RowsRise (sym rows_same) rising) in
+  plain_reads : refusal_of (Some (TheQuery query)) db ≡ None → TablesSorted db → (needs : List Need) → needs ≡ picked_needs picks item.table scope rows → needs ≡ reads_of (Some (TheQuery query)) db
+  plain_reads accepted sorted needs is =
+      let filtered : RowsSorted (filter (is_met picks scope) rows) = filter_sorted (is_met picks scope) rows (found_sorted (is_table item.table) db sorted) in
+      let reads : NeedsSorted (map (read_row item.table) (picked_rows item picks db)) = reads_sorted item.table (picked_rows item picks db) (subst RowsSorted (sym rows_same) filtered) in
       is
       ∙ sym (ap (map first_version) (built_needs query (plain_core joined item picks) item db built refl refl accepted reads)
       ∙ first_versions item.table (picked_rows item picks db)
@@ -210,16 +208,16 @@ module _ (db : List Table) (core : Core) (places : List ℕ) where
   replies (TheDelete delete) built = absurd cc
 
   abbrev Reads : Statement → Type 0
-  Reads st = refusal_of (Some st) db ≡ None → core_of st ≡ Some core → places ≡ first_places (places_of st (catalog_of db)) → TablesRise db → (needs : List Need)
+  Reads st = refusal_of (Some st) db ≡ None → core_of st ≡ Some core → places ≡ first_places (places_of st (catalog_of db)) → TablesSorted db → (needs : List Need)
       → InScopes core.picks places (λ scope. needs ≡ needs_in_source core.picks scope (source_in (Some core)) db) → needs ≡ reads_of (Some st) db
 
   plain_needs : (joined : Bool) (item : FromItem) (picks : List Expr) → has_at_most_one picks ≡ true → Reads (TheQuery (plain_query joined item picks))
-  plain_needs joined item picks one = λ accepted is at rise needs so.
+  plain_needs joined item picks one = λ accepted is at sorted needs so.
       let given : Some (plain_core joined item picks) ≡ Some core = is in
       let same : core ≡ plain_core joined item picks = cc in
       let named : places_in (scope_of (item ∷ []) (catalog_of db)) (condition_names picks) ≡ places = places_same joined item picks one db ∙ sym at in
       let these : InScopes picks places (λ scope. needs ≡ picked_needs picks item.table scope (rows_of (table_at item.table db))) = subst (λ (c : Core). InScopes c.picks places (λ scope. needs ≡ needs_in_source c.picks scope (source_in (Some c)) db)) same so in
-      plain_reads joined item picks one db accepted rise needs (these (scope_of (item ∷ []) (catalog_of db)) named)
+      plain_reads joined item picks one db accepted sorted needs (these (scope_of (item ∷ []) (catalog_of db)) named)
 
   pub needs_law : (st : Statement) → is_built (Some st) ≡ true → Reads st
   needs_law (TheQuery query) built = by_parts (λ (q : Query). Reads (TheQuery q)) plain_needs query built

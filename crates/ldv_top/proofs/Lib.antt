@@ -7,9 +7,9 @@ pub mod DocumentWorlds
 pub mod HeadlineLaw
 pub mod RecordLaws
 pub mod ReplayLaws
-pub mod RisingRows
 pub mod RunLaw
 pub mod SelectionNeeds
+pub mod SortedRows
 pub mod TopLaws
 pub mod TraceLaw
 pub mod WriteLemmas

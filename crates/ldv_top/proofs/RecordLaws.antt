@@ -1,6 +1,6 @@
 -- What recording a world comes to.
-use Rattle.std.proofs.Common.{◌≡◌, ℕ, ◌≤◌, ◌<◌, List, length, refl, sym, ap, ◌∙◌, subst, true, false, arith, inl, inr, lit≤}
-use Rattle.std.specs.Prelude.{[], Option, Some, None, is_some, if◌then◌else◌, Result, Ok, Err, OnOk, nat_lt}
+use Rattle.std.proofs.Common.{◌≡◌, ℕ, ◌≤◌, ◌<◌, List, length, refl, sym, ap, ◌∙◌, true, false, arith, lit≤}
+use Rattle.std.specs.Prelude.{[], Option, Some, None, is_some, if◌then◌else◌, Result, Ok, Err, OnOk}
 use Rattle.std.proofs.lemmas.Bool.Decides.{nat_tests}
 use Rattle.ldv_value.specs.Limits.{input_limit}
 use Rattle.run_model.specs.declared.package.Mode.{Mode}
@@ -22,7 +22,7 @@ use Rattle.world_json.proofs.WorldFiles.{small_files}
 use Rattle.ldv_top.proofs.ResponseLaws.{StartsPlain, starts_plain, world_short, world_built, ended_whole, count_whole, run_in_time, run_late}
 use Rattle.ldv_top.proofs.BudgetLaw.{enough_package}
 use Rattle.ldv_top.proofs.DocumentWorlds.{document_world}
-use Rattle.ldv_top.proofs.RisingRows.{world_rises}
+use Rattle.ldv_top.proofs.SortedRows.{world_sorted}
 use Rattle.ldv_top.proofs.TraceLaw.{events_law, steps_law}
 
 -- ---- the limit of a spelling
@@ -104,4 +104,4 @@ recorded_on (Err x) mode budget document w short is law typed = tt
 
 pub ruleset document_worlds = (small_files, document_world)
 
-pub ruleset recorded_worlds = (world_short, world_built, world_rises)
+pub ruleset recorded_worlds = (world_short, world_built, world_sorted)

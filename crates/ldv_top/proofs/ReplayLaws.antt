@@ -8,7 +8,7 @@ use Rattle.run_model.specs.declared.package.PackedFile.{PackedFile}
 use Rattle.run_model.specs.Package.{own_file, own_world, or_empty}
 use Rattle.run_model.specs.Start.{has_small_files}
 use Rattle.package_layout.specs.Order.{rises, file_below}
-use Rattle.package_layout.specs.Valid.{Valid, start_rule, file_rule, content_rule, files_rule, tables_rule, logs_rule, parts_rule, whole_rule, keys_rule, script_rule}
+use Rattle.package_layout.specs.Valid.{Valid, start_rule, file_rule, content_rule, files_rule, tables_rule, logs_rule, parts_rule, whole_rule, script_rule}
 use Rattle.package_layout.specs.Whole.{has_room}
 
 and_both : (a b : Bool) → (a && b) ≡ true → (a ≡ true) × (b ≡ true)
@@ -32,17 +32,16 @@ files_of_rules start files tables logs h =
     let two = and_both (start && files) tables three.0 in
     (and_both start files two.0).1
 
-parts_of_rules : (room parts whole keys script : Bool) → (room && (parts && whole && keys && script)) ≡ true → parts ≡ true
-parts_of_rules room parts whole keys script h =
-    let all = and_both room (parts && whole && keys && script) h in
-    let three = and_both (parts && whole && keys) script all.1 in
-    let two = and_both (parts && whole) keys three.0 in
+parts_of_rules : (room parts whole script : Bool) → (room && (parts && whole && script)) ≡ true → parts ≡ true
+parts_of_rules room parts whole script h =
+    let all = and_both room (parts && whole && script) h in
+    let two = and_both (parts && whole) script all.1 in
     (and_both parts whole two.0).0
 
 pub own_small : (p : Package) → Valid p → has_small_files (own_world p) ≡ true
 own_small p valid =
-    let parts : parts_rule p ≡ true = parts_of_rules (has_room p) (parts_rule p) (whole_rule p) (keys_rule p.tables) (script_rule p.start p.files) valid in
+    let parts : parts_rule p ≡ true = parts_of_rules (has_room p) (parts_rule p) (whole_rule p) (script_rule p.start p.files) valid in
     let files : files_rule p.files ≡ true = files_of_rules (start_rule p.start) (files_rule p.files) (tables_rule p.tables) (logs_rule p.logs) parts in
-    let outer = and_both (nat_le (length p.files) 65536 && list_all file_rule p.files) (rises file_below p.files) files in
-    let inner = and_both (nat_le (length p.files) 65536) (list_all file_rule p.files) outer.0 in
-    files_small p.files inner.1
+    let outer = and_both (nat_le (length p.files) 65536) (list_all file_rule p.files && rises file_below p.files) files in
+    let inner = and_both (list_all file_rule p.files) (rises file_below p.files) outer.1 in
+    files_small p.files inner.0

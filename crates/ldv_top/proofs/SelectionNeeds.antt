@@ -22,26 +22,26 @@ use Rattle.sql_model.specs.Scope.{InScope, is_table, table_at, rows_of, catalog_
 use Rattle.sql_model.specs.Statements.{refusal_of, reply_or, reply_of}
 use Rattle.ldv_top.proofs.BuiltStatements.{plain_core, plain_query, Plain, query_is, reply_is, need_is, refused_needs, plain_answer, plain_needs}
 
--- ---- needed rows that rise
+-- ---- sorted lists of needed rows
 
 -- each row is before the next
-abbrev pub Rise : List NeededRow → Type 0
-Rise [] = Unit {0}
-Rise (n ∷ []) = Unit {0}
-Rise (n ∷ m ∷ ms) = (is_same_row n m ≡ false) × (is_earlier_row n m ≡ true) × Rise (m ∷ ms)
+abbrev pub NeedsSorted : List NeededRow → Type 0
+NeedsSorted [] = Unit {0}
+NeedsSorted (n ∷ []) = Unit {0}
+NeedsSorted (n ∷ m ∷ ms) = (is_same_row n m ≡ false) × (is_earlier_row n m ≡ true) × NeedsSorted (m ∷ ms)
 
-put_first : (n : NeededRow) (ns : List NeededRow) → Rise (n ∷ ns) → put_row n ns ≡ n ∷ ns
-put_first n [] rise = refl
-put_first n (m ∷ ms) rise = rw (rise.0, rise.1) refl
+put_first : (n : NeededRow) (ns : List NeededRow) → NeedsSorted (n ∷ ns) → put_row n ns ≡ n ∷ ns
+put_first n [] sorted = refl
+put_first n (m ∷ ms) sorted = rw (sorted.0, sorted.1) refl
 
-rise_rest : (n : NeededRow) (ns : List NeededRow) → Rise (n ∷ ns) → Rise ns
-rise_rest n [] rise = tt
-rise_rest n (m ∷ ms) rise = rise.2
+sorted_rest : (n : NeededRow) (ns : List NeededRow) → NeedsSorted (n ∷ ns) → NeedsSorted ns
+sorted_rest n [] sorted = tt
+sorted_rest n (m ∷ ms) sorted = sorted.2
 
--- a list that rises is as it is
-pub rising_same : (ns : List NeededRow) → Rise ns → sorted_needs ns ≡ ns
-rising_same [] rise = refl
-rising_same (n ∷ ns) rise = ap (put_row n) (rising_same ns (rise_rest n ns rise)) ∙ put_first n ns rise
+-- a sorted list is as it is
+pub sorted_same : (ns : List NeededRow) → NeedsSorted ns → sorted_needs ns ≡ ns
+sorted_same [] sorted = refl
+sorted_same (n ∷ ns) sorted = ap (put_row n) (sorted_same ns (sorted_rest n ns sorted)) ∙ put_first n ns sorted
 
 -- ---- picked rows
 
@@ -131,16 +131,16 @@ built_reply query core item db built one from accepted =
     ∙ ap (λ (q : Query). Rows (map answer_values (answer q db))) plain.1
     ∙ ap Rows (plain_values plain.0 item core.picks db)
 
--- where they rise, it needs them
+-- where they are sorted, it needs them
 pub built_needs : (query : Query) (core : Core) (item : FromItem) (db : List Table) → is_built (Some (TheQuery query)) ≡ true → query.cores ≡ core ∷ [] → core.from ≡ item ∷ [] → refusal_of (Some (TheQuery query)) db ≡ None
-    → Rise (map (read_row item.table) (picked_rows item core.picks db)) → need_of (Some (TheQuery query)) db ≡ map (read_row item.table) (picked_rows item core.picks db)
-built_needs query core item db built one from accepted rise =
+    → NeedsSorted (map (read_row item.table) (picked_rows item core.picks db)) → need_of (Some (TheQuery query)) db ≡ map (read_row item.table) (picked_rows item core.picks db)
+built_needs query core item db built one from accepted sorted =
     let plain = plain_is query core item built one from in
     need_is (TheQuery query) db
     ∙ ap (λ (refusal : Option SqlRefusal). sorted_needs (needs_by refusal (TheQuery query) db)) accepted
     ∙ ap (λ (q : Query). sorted_needs (accepted_needs (TheQuery q) db)) plain.1
     ∙ ap sorted_needs (plain_reads plain.0 item core.picks db)
-    ∙ rising_same (map (read_row item.table) (picked_rows item core.picks db)) rise
+    ∙ sorted_same (map (read_row item.table) (picked_rows item core.picks db)) sorted
 
 -- a refused query needs no row
 pub refused_query : (query : Query) (db : List Table) (refusal : SqlRefusal) → refusal_of (Some (TheQuery query)) db ≡ Some refusal → need_of (Some (TheQuery query)) db ≡ []

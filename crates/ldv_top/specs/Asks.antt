@@ -1,6 +1,7 @@
 -- What a statement that can be run so far asks, part by part: the rows of one table, and of them those that
--- meet one condition. `proofs/AskLaw.antt` shows that this is what the statement answers and needs.
-use Rattle.std.specs.Prelude.{◌≡◌, ℕ, List, [], ◌∷◌, ◌++◌, map, filter, Bool, true, if◌then◌else◌, Option, Some, None, Result, Ok, Err, slice_get}
+-- meet one condition. `proofs/AskLaw.antt` shows that this is what the statement returns and needs.
+use Rattle.std.specs.Prelude.{◌≡◌, ℕ, List, [], ◌∷◌, ◌++◌, map, filter, Bool, true, if◌then◌else◌, Option}
+use Rattle.std.specs.Prelude.{Some, None, Result, Ok, Err, slice_get}
 use Rattle.ldv_value.specs.declared.value.Value.{Value}
 use Rattle.sql_model.specs.declared.catalog.Checked.{Checked}
 use Rattle.sql_model.specs.declared.expr.ColumnName.{ColumnName}
@@ -11,7 +12,8 @@ use Rattle.sql_model.specs.declared.reply.SqlRefusal.{SqlRefusal}
 use Rattle.sql_model.specs.declared.statement.Core.{Core}
 use Rattle.sql_model.specs.declared.statement.FromItem.{FromItem}
 use Rattle.sql_model.specs.declared.statement.Statement.{Statement}
-use Rattle.sql_model.specs.declared.statement.Statement.TheVariants.{Query as TheQuery, Insert as TheInsert, Update as TheUpdate, Delete as TheDelete}
+use Rattle.sql_model.specs.declared.statement.Statement.TheVariants.{Query as TheQuery, Insert as TheInsert}
+use Rattle.sql_model.specs.declared.statement.Statement.TheVariants.{Update as TheUpdate, Delete as TheDelete}
 use Rattle.sql_model.specs.declared.table.Table.{Table}
 use Rattle.sql_model.specs.declared.table.TableRow.{TableRow}
 use Rattle.sql_model.specs.Kinds.{names_in}
@@ -64,7 +66,8 @@ condition_names (expr ∷ exprs) = names_in expr
 
 -- so it is in each scope in which the condition's columns have these places
 abbrev pub InScopes : List Expr → List ℕ → (List InScope → Type 0) → Type 0
-InScopes picks places So = (scope : List InScope) → places_in scope (condition_names picks) ≡ places → So scope
+InScopes picks places So = (scope : List InScope) → places_in scope (condition_names picks) ≡ places
+    → So scope
 
 abbrev pub row_values : TableRow → List Value
 row_values row = row.values
@@ -84,8 +87,10 @@ abbrev pub values_onto : List (List Value) → List Expr → List InScope → Ta
 values_onto values picks scope row = if is_met picks scope row then values ++ row.values ∷ [] else values
 
 abbrev pub needs_onto : List Need → List Expr → List ℕ → List InScope → TableRow → List Need
-needs_onto needs picks name scope row = if is_met picks scope row then needs ++ row_need name row ∷ [] else needs
+needs_onto needs picks name scope row = if is_met picks scope row then needs ++ row_need name row ∷ []
+    else needs
 
 abbrev pub needs_in_source : List Expr → List InScope → Option FromItem → List Table → List Need
 needs_in_source picks scope None db = []
-needs_in_source picks scope (Some item) db = picked_needs picks item.table scope (rows_of (table_at item.table db))
+needs_in_source picks scope (Some item) db =
+    picked_needs picks item.table scope (rows_of (table_at item.table db))

@@ -5,13 +5,15 @@ use Rattle.ldv_io.specs.Causes.{Rose}
 use Rattle.ldv_top.specs.Due.{Due}
 use Rattle.ldv_top.specs.Written.{AppendsPart}
 use Rattle.ldv_top.specs.declared.exit.Exit.{Exit}
-use Rattle.ldv_top.specs.declared.exit.Exit.TheVariants.{Done, Usage, ReadFault, WriteFault, TooLong, NotWorld, NotEnded, Damaged, Diverged, NoSuch, NoMemory, PackageTooLong, NotBuilt}
+use Rattle.ldv_top.specs.declared.exit.Exit.TheVariants.{Done, Usage, ReadFault, WriteFault, TooLong}
+use Rattle.ldv_top.specs.declared.exit.Exit.TheVariants.{NotWorld, NotEnded, Damaged, Diverged, NoSuch}
+use Rattle.ldv_top.specs.declared.exit.Exit.TheVariants.{NoMemory, PackageTooLong, NotBuilt}
 
 -- the input is what the source has, where the command reads
 abbrev pub IsInput : Bool → Option (List ℕ) → List ℕ → Type 0
 IsInput reading left input = IsTrue reading → left ≡ Some input
 
--- The exit is the one that is due. A fault and want of memory may come in its place.
+-- The exit is the one that is due. A fault or out of memory may come in its place.
 abbrev pub Comes : Due → Exit → Option (List ℕ) → Option (List ℕ) → Type 0
 Comes d Done old new = (d.exit ≡ Done) × Appends old new d.bytes
 Comes d WriteFault old new = (d.exit ≡ Done) × AppendsPart old new d.bytes
@@ -31,6 +33,6 @@ Comes d NotBuilt old new = d.exit ≡ NotBuilt
 abbrev pub IsQuiet : Exit → Type 0
 IsQuiet exit = (exit ≢ Done) × (exit ≢ WriteFault)
 
--- what is told of an exit: its line, or a proper prefix where the count of faults rose
+-- what is reported of an exit: its line, or a proper prefix where the count of faults increased
 abbrev pub Tells : ℕ → ℕ → Option (List ℕ) → Option (List ℕ) → List ℕ → Type 0
 Tells before now old new line = Appends old new line ⊎ (Rose before now × AppendsPart old new line)

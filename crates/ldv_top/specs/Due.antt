@@ -1,5 +1,6 @@
 -- What is due for words and an input: an exit, and the bytes that are written where it is Done.
-use Rattle.std.specs.Prelude.{◌≡◌, ℕ, List, [], ◌∷◌, length, Bool, true, false, nat_lt, if◌then◌else◌, Option, Some, None, option_and_then, is_some, Result, Ok, Err}
+use Rattle.std.specs.Prelude.{◌≡◌, ℕ, List, [], ◌∷◌, length, Bool, true, false, nat_lt, if◌then◌else◌, Option}
+use Rattle.std.specs.Prelude.{Some, None, option_and_then, is_some, Result, Ok, Err}
 use Rattle.ldv_value.specs.Limits.{input_limit}
 use Rattle.run_model.specs.declared.outcome.Outcome.{Outcome}
 use Rattle.run_model.specs.declared.package.Mode.{Mode}
@@ -20,7 +21,8 @@ use Rattle.ldv_top.specs.declared.response.Response.TheVariants as responses
 use Rattle.ldv_top.specs.declared.command.Command.{Command}
 use Rattle.ldv_top.specs.declared.command.Command.TheVariants.{Run, Record, Replay}
 use Rattle.ldv_top.specs.declared.exit.Exit.{Exit}
-use Rattle.ldv_top.specs.declared.exit.Exit.TheVariants.{Done, Usage, TooLong, NotWorld, NotEnded, Damaged, PackageTooLong, NotBuilt}
+use Rattle.ldv_top.specs.declared.exit.Exit.TheVariants.{Done, Usage, TooLong, NotWorld, NotEnded, Damaged}
+use Rattle.ldv_top.specs.declared.exit.Exit.TheVariants.{PackageTooLong, NotBuilt}
 use Rattle.ldv_top.specs.declared.plain.PlainStep.{PlainStep}
 use Rattle.ldv_top.specs.Plain.{plain_script}
 use Rattle.ldv_top.specs.Words.{command_of}
@@ -54,7 +56,8 @@ due_outcome budget written (Some outcome) = written outcome
 
 -- what is written of the run within a budget, which has to end
 abbrev pub due_of_run : Mode → ℕ → World → (Outcome → Due) → Due
-due_of_run mode budget w written = if is_supported mode w then due_outcome budget written (outcome_within budget w) else refused NotBuilt
+due_of_run mode budget w written = if is_supported mode w
+    then due_outcome budget written (outcome_within budget w) else refused NotBuilt
 
 abbrev pub is_too_long : List ℕ → Bool
 is_too_long bytes = nat_lt input_limit (length bytes)
@@ -90,7 +93,8 @@ recorded_reading mode budget (Ok w) = recorded_world mode budget w
 recorded_reading mode budget (Err fault) = refused (NotWorld fault)
 
 abbrev pub due_record : Mode → ℕ → List ℕ → Due
-due_record mode budget input = if is_too_long input then refused TooLong else recorded_reading mode budget (world_reading input)
+due_record mode budget input = if is_too_long input then refused TooLong
+    else recorded_reading mode budget (world_reading input)
 
 -- ---- replay: the outcome of the package's own world, which is run again
 
@@ -102,7 +106,8 @@ replayed_reading budget (Ok p) = replayed_package budget p
 replayed_reading budget (Err kind) = refused (Damaged kind)
 
 abbrev pub due_replay : ℕ → List ℕ → Due
-due_replay budget input = if is_too_long input then refused TooLong else replayed_reading budget (reading input)
+due_replay budget input = if is_too_long input then refused TooLong
+    else replayed_reading budget (reading input)
 
 -- ---- all commands
 

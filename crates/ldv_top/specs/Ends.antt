@@ -18,7 +18,10 @@ use Rattle.ldv_top.specs.Headline.{IsPackageOf, Recorded}
 use Rattle.ldv_top.specs.Words.{command_of, reads}
 
 -- What comes of a response that is due, in a sink before and after it is written.
-pub record Responds {Writer : Type 0} (taken : Writer → Option (List ℕ)) (faults : Writer → ℕ) (response : Due) (sink after : Writer) (exit : Exit) : Type 0 where
+pub record Responds {Writer : Type 0}
+    (taken : Writer → Option (List ℕ)) (faults : Writer → ℕ)
+    (response : Due) (sink after : Writer) (exit : Exit)
+    : Type 0 where
   -- the exit is the one that is due, and Done has written its bytes
   pub due : Comes response exit (taken sink) (taken after)
   -- a fault comes only where the sink's count of faults increased
@@ -28,7 +31,11 @@ pub record Responds {Writer : Type 0} (taken : Writer → Option (List ℕ)) (fa
   pub not_usage : exit ≢ Usage
 
 -- What comes of the words, with a source and a sink before and after the call.
-pub record Ends {Reader Writer : Type 0} (left : Reader → Option (List ℕ)) (read_faults : Reader → ℕ) (taken : Writer → Option (List ℕ)) (write_faults : Writer → ℕ) (words : List (List ℕ)) (source source_after : Reader) (sink sink_after : Writer) (exit : Exit) : Type 0 where
+pub record Ends {Reader Writer : Type 0}
+    (left : Reader → Option (List ℕ)) (read_faults : Reader → ℕ)
+    (taken : Writer → Option (List ℕ)) (write_faults : Writer → ℕ)
+    (words : List (List ℕ)) (source source_after : Reader) (sink sink_after : Writer) (exit : Exit)
+    : Type 0 where
   -- the words are judged first: Usage comes exactly where they are no command
   pub usage : (exit ≡ Usage) ↔ (command_of words ≡ None)
   -- without a command that reads, nothing is read

@@ -5,9 +5,12 @@ use Rattle.run_model.specs.OutcomeText.{name_text}
 use Rattle.package_layout.specs.declared.damage.DamageKind.{DamageKind}
 use Rattle.package_layout.specs.declared.damage.DamageKind.TheVariants.{Magic, Digest, Form}
 use Rattle.world_json.specs.declared.fault.WorldFault.{WorldFault}
-use Rattle.world_json.specs.declared.fault.WorldFault.TheVariants.{NotJson, Shape, Name, Limit, RowType, NotNull, Key, NoStart, BadScript}
+use Rattle.world_json.specs.declared.fault.WorldFault.TheVariants.{NotJson, Shape, Name, Limit, RowType}
+use Rattle.world_json.specs.declared.fault.WorldFault.TheVariants.{NotNull, Key, NoStart, BadScript}
 use Rattle.ldv_top.specs.declared.exit.Exit.{Exit}
-use Rattle.ldv_top.specs.declared.exit.Exit.TheVariants.{Done, Usage, ReadFault, WriteFault, TooLong, NotWorld, NotEnded, Damaged, Diverged, NoSuch, NoMemory, PackageTooLong, NotBuilt}
+use Rattle.ldv_top.specs.declared.exit.Exit.TheVariants.{Done, Usage, ReadFault, WriteFault, TooLong}
+use Rattle.ldv_top.specs.declared.exit.Exit.TheVariants.{NotWorld, NotEnded, Damaged, Diverged, NoSuch}
+use Rattle.ldv_top.specs.declared.exit.Exit.TheVariants.{NoMemory, PackageTooLong, NotBuilt}
 
 abbrev pub status_of : Exit → ℕ
 status_of Done = 0
@@ -71,7 +74,8 @@ bad_script_line other = []
 abbrev pub numbered_line : Exit → List ℕ
 numbered_line (NotWorld fault) = bad_script_line fault
 numbered_line (NotEnded steps) = numbered (codes "ldv: not ended after ") steps (codes " steps\n")
-numbered_line (Diverged process index) = located (codes "ldv: diverged: process ") process.parts (codes " statement ") index (codes "\n")
+numbered_line (Diverged process index) =
+    located (codes "ldv: diverged: process ") process.parts (codes " statement ") index (codes "\n")
 numbered_line other = []
 
 abbrev pub line_from : Option (List ℕ) → Exit → List ℕ

@@ -31,5 +31,6 @@ pub record Recorded (mode : Mode) (budget : ℕ) (document bytes : List ℕ) : T
   pub spelled : bytes ≡ spelling (package_of mode budget world)
   pub read_back : reading bytes ≡ Ok (package_of mode budget world)
   pub within : steps_by budget [] world ≤ budget
-  pub replayed : (steps : ℕ) → steps_by budget [] world ≤ steps → due_replay steps bytes ≡ due_run budget document
+  pub replayed : (steps : ℕ) → steps_by budget [] world ≤ steps → due_replay steps bytes
+      ≡ due_run budget document
   pub ends : (due_run budget document).exit ≡ Done

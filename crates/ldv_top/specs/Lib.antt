@@ -6,7 +6,7 @@ pub mod Exits
 pub mod Headline
 pub mod Packages
 pub mod Plain
-pub mod Rising
+pub mod SortedTables
 pub mod Traces
 pub mod Words
 pub mod Written

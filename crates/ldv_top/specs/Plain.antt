@@ -1,7 +1,8 @@
 -- Plain scripts: the scripts that can be run so far. Each instruction is `print`, `exit` or `sql` with
--- constant operands alone, and an `sql` whose first operand is a text reads as a statement that can be run
+-- constant operands only, and an `sql` whose first operand is a text reads as a statement that can be run
 -- so far, or as none.
-use Rattle.std.specs.Prelude.{◌≡◌, ℕ, ◌+◌, List, [], ◌∷◌, ◌++◌, length, Bool, true, nat_lt, if◌then◌else◌, Option, Some, None, option_map, option_and_then}
+use Rattle.std.specs.Prelude.{◌≡◌, ℕ, ◌+◌, List, [], ◌∷◌, ◌++◌, length, Bool, true, nat_lt, if◌then◌else◌}
+use Rattle.std.specs.Prelude.{Option, Some, None, option_map, option_and_then}
 use Rattle.std.specs.List.{list_all}
 use Rattle.ldv_value.specs.declared.value.Value.{Value}
 use Rattle.ldv_value.specs.declared.value.Value.TheVariants.{Null, Int, Text}
@@ -17,7 +18,8 @@ use Rattle.sql_model.specs.Statements.{reply_of}
 use Rattle.sql_parse.specs.Texts.{statement_of}
 use Rattle.run_model.specs.declared.outcome.Outcome.{Outcome}
 use Rattle.run_model.specs.declared.outcome.ProcOutcome.{ProcOutcome}
-use Rattle.run_model.specs.Step.{printed_line, exit_status}
+use Rattle.run_model.specs.Step.{printed_line, exit_status, too_long, wrong_kind}
+use Rattle.ldv_value.specs.Limits.{printed_limit}
 use Rattle.ldv_top.specs.declared.finish.Finish.{Finish}
 use Rattle.ldv_top.specs.declared.finish.Shown.{Shown}
 use Rattle.ldv_top.specs.declared.plain.PlainStep.{PlainStep}
@@ -79,7 +81,7 @@ asks_built Misuse = true
 abbrev pub all_built : List PlainStep → Bool
 all_built steps = list_all asks_built steps
 
--- ---- what a plain script comes to
+-- ---- what a plain script yields
 
 abbrev pub shown_as : List ℕ → List Reply → Shown
 shown_as printed replies = record { printed = printed; replies = replies }
@@ -90,13 +92,14 @@ pub data Went : Type 0 where
   Stops : ℕ → Went
 
 abbrev pub shown_line : List ℕ → Shown → Went
-shown_line text s = if nat_lt 16777216 (length s.printed + length text) then Stops 242 else Goes (shown_as (s.printed ++ text) s.replies)
+shown_line text s = if nat_lt printed_limit (length s.printed + length text) then Stops too_long
+    else Goes (shown_as (s.printed ++ text) s.replies)
 
 abbrev pub take_step : List Table → PlainStep → Shown → Went
 take_step db (Show values) s = shown_line (printed_line values) s
 take_step db (Stop status) s = Stops (exit_status status)
 take_step db (Ask reading) s = Goes (shown_as s.printed (s.replies ++ reply_of reading db ∷ []))
-take_step db Misuse s = Stops 240
+take_step db Misuse s = Stops wrong_kind
 
 abbrev pub finish_as : ℕ → Shown → Finish
 finish_as status s = record { status = status; shown = s }
@@ -120,7 +123,13 @@ Took went (Some status) old new = (went ≡ Stops status) × (new ≡ old)
 
 -- the outcome of the one process; no path is touched
 abbrev pub process_from : Finish → ProcOutcome
-process_from f = record { name = record { parts = 0 ∷ [] }; status = f.status; printed = f.shown.printed; replies = f.shown.replies }
+process_from f =
+    record {
+      name = record { parts = 0 ∷ [] };
+      status = f.status;
+      printed = f.shown.printed;
+      replies = f.shown.replies;
+    }
 
 abbrev pub outcome_from : Finish → Outcome
 outcome_from f = record { processes = process_from f ∷ []; paths = [] }

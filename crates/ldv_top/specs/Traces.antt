@@ -27,7 +27,8 @@ reads_of reading db = map first_version (need_of reading db)
 
 -- the asking of the statement of a number
 abbrev pub asked_event : ℕ → ℕ → Option Statement → List Table → Event
-asked_event step statement reading db = event_at step 0 (Asked statement (asked_tables reading db) (reads_of reading db) [])
+asked_event step statement reading db =
+    event_at step 0 (Asked statement (asked_tables reading db) (reads_of reading db) [])
 
 abbrev pub asked_events : ℕ → ℕ → PlainStep → List Table → List Event
 asked_events step statement (Show values) db = []
@@ -49,7 +50,8 @@ events_on rest step (Stops status) = ended_event step status ∷ []
 -- the number of replies
 abbrev pub step_events : List Table → ℕ → List PlainStep → Shown → List Event
 step_events db step [] s = ended_event step 0 ∷ []
-step_events db step (st ∷ sts) s = asked_events step (length s.replies) st db ++ events_on (step_events db (step + 1) sts) step (take_step db st s)
+step_events db step (st ∷ sts) s = asked_events step (length s.replies) st db
+    ++ events_on (step_events db (step + 1) sts) step (take_step db st s)
 
 -- of the whole run; steps are numbered from 1, and the start is step 0
 abbrev pub plain_events : World → List PlainStep → List Event

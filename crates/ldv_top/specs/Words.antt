@@ -1,5 +1,6 @@
 -- The words of the command line.
-use Rattle.std.specs.Prelude.{◌≡◌, ℕ, ◌+◌, ◌-◌, ◌*◌, ◌≤◌, List, [], ◌∷◌, codes, Bool, true, false, ◌&&◌, ◌==◌, nat_le, if◌then◌else◌, Option, Some, None, option_and_then, bytes_eq}
+use Rattle.std.specs.Prelude.{◌≡◌, ℕ, ◌+◌, ◌-◌, ◌*◌, ◌≤◌, List, [], ◌∷◌, codes, Bool, true, false, ◌&&◌, ◌==◌}
+use Rattle.std.specs.Prelude.{nat_le, if◌then◌else◌, Option, Some, None, option_and_then, bytes_eq}
 use Rattle.ldv_value.specs.Limits.{max_steps, default_steps}
 use Rattle.run_model.specs.declared.package.Mode.TheVariants.{Included, Excluded}
 use Rattle.ldv_top.specs.declared.command.Command.{Command}
@@ -17,7 +18,8 @@ with_digit limit n byte =
 
 abbrev pub with_digits : ℕ → ℕ → List ℕ → Option ℕ
 with_digits limit n [] = Some n
-with_digits limit n (byte ∷ bytes) = option_and_then (λ m. with_digits limit m bytes) (with_digit limit n byte)
+with_digits limit n (byte ∷ bytes) =
+    option_and_then (λ m. with_digits limit m bytes) (with_digit limit n byte)
 
 -- from 1 to the limit
 abbrev pub positive_within : ℕ → List ℕ → Option ℕ
@@ -36,7 +38,8 @@ command_named word budget =
 -- a command of a word and a flag
 abbrev pub command_flagged : List ℕ → List ℕ → ℕ → Option Command
 command_flagged word flag budget =
-    if bytes_eq word (codes "record") && bytes_eq flag (codes "--excluded") then Some (Record Excluded budget) else None
+    if bytes_eq word (codes "record") && bytes_eq flag (codes "--excluded")
+    then Some (Record Excluded budget) else None
 
 -- N of `--steps N`, the last two words
 abbrev pub budget_in : List ℕ → List ℕ → Option ℕ
@@ -47,7 +50,8 @@ command_of [] = None
 command_of (word ∷ []) = command_named word default_steps
 command_of (word ∷ flag ∷ []) = command_flagged word flag default_steps
 command_of (word ∷ option ∷ number ∷ []) = option_and_then (command_named word) (budget_in option number)
-command_of (word ∷ flag ∷ option ∷ number ∷ []) = option_and_then (command_flagged word flag) (budget_in option number)
+command_of (word ∷ flag ∷ option ∷ number ∷ []) =
+    option_and_then (command_flagged word flag) (budget_in option number)
 command_of (word ∷ flag ∷ option ∷ number ∷ more ∷ words) = None
 
 -- whether the command reads its input

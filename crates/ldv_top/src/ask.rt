@@ -1,15 +1,18 @@
-//! What a statement that can be run so far answers, and what it tells: the tables that it asks and the rows
-//! that it reads.
+//! The reply to a statement that is supported, and what is recorded of it: the tables that it names and the
+//! rows that it reads.
 
-ghost use Rattle.std.specs.Prelude.{◌≡◌, ◌++◌, ◌∷◌, [], true, IfOk, OnOk, map, filter, option_map, if◌then◌else◌, Some, None, Ok};
+ghost use Rattle.std.specs.Prelude.{◌≡◌, ◌++◌, ◌∷◌, [], true, IfOk, OnOk, map, filter, option_map};
+ghost use Rattle.std.specs.Prelude.{if◌then◌else◌, Some, None, Ok};
 ghost use Rattle.sql_model.specs.Built.{is_built};
 ghost use Rattle.sql_model.specs.Needs.{table_name, asked_tables};
 ghost use Rattle.sql_model.specs.Places.{checked_of, places_of};
 ghost use Rattle.sql_model.specs.Scope.{catalog_of, is_table, table_at, rows_of};
 ghost use Rattle.sql_model.specs.Meaning.{is_true};
 ghost use Rattle.sql_model.specs.Statements.{refusal_of, reply_of};
-ghost use Rattle.ldv_top.specs.Asks.{core_of, source_in, names_in_source, rows_in_source, first_places, verdict_of, is_met, InScopes, row_need, picked_values, picked_needs, values_onto, needs_onto, needs_in_source};
-ghost use Rattle.ldv_top.specs.Rising.{TablesRise};
+ghost use Rattle.ldv_top.specs.Asks.{core_of, source_in, rows_in_source, first_places};
+ghost use Rattle.ldv_top.specs.Asks.{verdict_of, is_met, InScopes, row_need, picked_values, picked_needs};
+ghost use Rattle.ldv_top.specs.Asks.{values_onto, needs_onto, needs_in_source};
+ghost use Rattle.ldv_top.specs.SortedTables.{TablesSorted};
 ghost use Rattle.ldv_top.specs.Traces.{reads_of};
 
 use ldv_value::{Names, PlaceLists, Places, RowList, Truth, Utf8};
@@ -275,7 +278,7 @@ fn reply_to_statement(
 }
 
 /// The reply to what a text was read as: the rows that WHERE picks, or the refusal of code 1, 2, 3 or 4.
-/// The catalog is that of the tables. `AllocError` means want of memory alone.
+/// The catalog is that of the tables. `AllocError` means out of memory only.
 #[tactic(auto, using(crate::proofs::AskLaw::reply_none))]
 pub fn reply_to(
     alloc: Global,
@@ -333,8 +336,8 @@ fn tables_of_statement(
     }
 }
 
-/// The tables that a text asks: the one that its statement names, if it is there. `AllocError` means want
-/// of memory alone.
+/// The tables that a text asks: the one that its statement names, if it is there. `AllocError` means out
+/// of memory only.
 pub fn tables_asked(
     alloc: Global,
     reading: &Option<Statement>,
@@ -391,7 +394,7 @@ fn needs_accepted(
     requires built { is_built (Some statement.now) ≡ true }
     requires accepted { refusal_of (Some statement.now) tables.now ≡ None }
     requires places { places.now ≡ first_places (places_of statement.now (catalog_of tables.now)) }
-    requires rising { TablesRise tables.now }
+    requires sorted { TablesSorted tables.now }
     ensures { IfOk result (λ needs. needs ≡ reads_of (Some statement.now) tables.now) }
 {
     match core_of(statement) {
@@ -409,7 +412,7 @@ fn needs_of_statement(
 ) -> Result<Needs, AllocError>
     requires built { is_built (Some statement.now) ≡ true }
     requires catalog { catalog.now ≡ catalog_of tables.now }
-    requires rising { TablesRise tables.now }
+    requires sorted { TablesSorted tables.now }
     ensures { IfOk result (λ needs. needs ≡ reads_of (Some statement.now) tables.now) }
 {
     match verdict(alloc, statement, catalog)? {
@@ -419,8 +422,8 @@ fn needs_of_statement(
 }
 
 /// The rows that a text's statement reads, in the order of its table: those that WHERE picks, and none
-/// where it is refused. The catalog is that of the tables, whose rows rise by number. `AllocError` means
-/// want of memory alone.
+/// where it is refused. The catalog is that of the tables, whose rows are sorted by number. `AllocError`
+/// means out of memory only.
 #[tactic(auto, using(crate::proofs::AskLaw::reads_none))]
 pub fn rows_read(
     alloc: Global,
@@ -430,7 +433,7 @@ pub fn rows_read(
 ) -> Result<Needs, AllocError>
     requires built { is_built reading.now ≡ true }
     requires catalog { catalog.now ≡ catalog_of tables.now }
-    requires rising { TablesRise tables.now }
+    requires sorted { TablesSorted tables.now }
     ensures { IfOk result (λ needs. needs ≡ reads_of reading.now tables.now) }
 {
     match reading {

@@ -2,7 +2,8 @@
 
 ghost use Rattle.std.specs.Prelude.{◌≡◌, Some};
 ghost use Rattle.sql_model.specs.declared.statement.Statement.TheVariants.{Query as TheQuery};
-ghost use Rattle.sql_model.specs.Built.{has_none, has_one, has_at_most_one, is_built_core, is_built_union, is_built_query, is_built};
+ghost use Rattle.sql_model.specs.Built.{has_none, has_one, has_at_most_one, is_built_core, is_built_union};
+ghost use Rattle.sql_model.specs.Built.{is_built_query, is_built};
 
 use sql_model::{Core, Query, Statement};
 

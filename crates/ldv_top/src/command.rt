@@ -2,7 +2,8 @@
 
 ghost use Rattle.std.specs.Prelude.{◌≡◌, ◌≤◌, ◌∷◌, [], map, string_bytes, length, IfSome, ◌*◌, ◌+◌, ◌<◌, ◌^◌};
 ghost use Rattle.ldv_value.specs.Limits.{max_steps};
-ghost use Rattle.ldv_top.specs.Words.{IsBounded, budget_in, command_flagged, command_named, command_of, positive_within, with_digit, with_digits};
+ghost use Rattle.ldv_top.specs.Words.{IsBounded, budget_in, command_flagged, command_named, command_of};
+ghost use Rattle.ldv_top.specs.Words.{positive_within, with_digit, with_digits};
 
 use ldv_value::{DEFAULT_STEPS, MAX_STEPS};
 use run_model::Mode;

@@ -100,7 +100,7 @@ impl Shown {
     }
 
     /// Takes a step, and gives the status where the step ends the process. The catalog is that of the
-    /// tables. `AllocError` means want of memory alone.
+    /// tables. `AllocError` means out of memory only.
     pub fn take(
         &mut self,
         alloc: Global,
@@ -110,7 +110,8 @@ impl Shown {
     ) -> Result<Option<u8>, AllocError>
         requires built { asks_built step.now ≡ true }
         requires catalog { catalog.now ≡ catalog_of tables.now }
-        ensures { IfOk result (λ status. Took (take_step tables.now step.now self.old) status self.old self.new) }
+        ensures { IfOk result (λ status. Took (take_step tables.now step.now self.old) status self.old
+            self.new) }
     {
         match step {
             PlainStep::Show(values) => {
@@ -185,7 +186,7 @@ pub fn run_steps(alloc: Global, steps: &PlainSteps, tables: &Tables) -> Result<R
     })
 }
 
-/// The outcome of a run of one process that touched no path. `AllocError` means want of memory alone.
+/// The outcome of a run of one process that touched no path. `AllocError` means out of memory only.
 pub fn outcome_of(alloc: Global, end: Finish) -> Result<Outcome, AllocError>
     ensures { IfOk result (λ outcome. outcome ≡ outcome_from end) }
 {

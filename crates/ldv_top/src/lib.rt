@@ -1,13 +1,14 @@
 //! The program without its streams: `ldv` reads a source, and writes what the words ask for to a sink.
 //!
-//! The commands are `run`, `record` and `replay`, each with a budget of steps. What can be run so far are scripts of one process that
-//! print, exit and ask constant texts with constant parameters (`specs/Plain.antt`): a text that is no
-//! statement is refused, `SELECT * FROM` one table with any WHERE is answered, and a script with any other
-//! statement isn't run. Which texts are statements, and what they mean, `sql_model` says.
+//! The commands are `run`, `record` and `replay`, each with a budget of steps. What can be run so far are
+//! scripts of one process that print, exit and ask constant texts with constant parameters
+//! (`specs/Plain.antt`): a text that is no statement is refused, `SELECT * FROM` one table with any WHERE
+//! is answered, and a script with any other statement isn't run. Which texts are statements, and what they
+//! mean, `sql_model` says.
 //!
 //! It promises, in the clauses of `ldv`:
 //! - the exit and the bytes are those that are due for the words and the input (`specs/Due.antt`); only a
-//!   fault of a stream, where its count of faults rose, or want of memory comes in their place;
+//!   fault of a stream, where its count of faults increased, or out of memory comes in their place;
 //! - where all is written, what `record` wrote is the package of the document's world. It is read back as
 //!   that package, whole, and its replay within at least the steps of that run gives what `run` gives
 //!   (`specs/Headline.antt`, `Recorded`);

@@ -5,7 +5,8 @@ ghost use Rattle.std.specs.List.{flat_map};
 ghost use Rattle.std.specs.Fmt.{decimal};
 ghost use Rattle.ldv_io.specs.Causes.{Rose};
 ghost use Rattle.run_model.specs.OutcomeText.{name_text};
-ghost use Rattle.ldv_top.specs.Exits.{fixed_fault, damage_line, fixed_line, located, bad_script_line, numbered_line, line_of};
+ghost use Rattle.ldv_top.specs.Exits.{fixed_fault, damage_line, fixed_line, located, bad_script_line};
+ghost use Rattle.ldv_top.specs.Exits.{numbered_line, line_of};
 ghost use Rattle.ldv_top.specs.Written.{Wrote};
 
 use crate::exit::Exit;
@@ -70,8 +71,8 @@ fn write_numbered<K: Sink>(
 
 // A point and a number before each of the parts.
 fn write_parts<K: Sink>(sink: &mut K, parts: &[u32]) -> Result<(), WriteStop>
-    ensures written { Wrote (K.taken sink.old) (K.taken sink.new) (flat_map
-        (λ part. 46 ∷ decimal part) parts.now) result }
+    ensures written { Wrote (K.taken sink.old) (K.taken sink.new)
+        (flat_map (λ part. 46 ∷ decimal part) parts.now) result }
     ensures later { K.faults sink.old ≤ K.faults sink.new }
     ensures fault { OnErr result (Rose (K.faults sink.old) (K.faults sink.new)) }
 {

@@ -4,7 +4,8 @@ ghost use Rattle.std.specs.Prelude.{◌≡◌, true, IfOk, IfSome, option_map};
 ghost use Rattle.ldv_value.specs.declared.value.Value.TheVariants.{Text};
 ghost use Rattle.ldv_top.specs.declared.plain.PlainStep.TheVariants.{Show, Stop};
 ghost use Rattle.sql_parse.specs.Texts.{statement_of};
-ghost use Rattle.ldv_top.specs.Plain.{constant_in, constants_in, plain_ask, plain_sql, plain_step, plain_steps, plain_script};
+ghost use Rattle.ldv_top.specs.Plain.{constant_in, constants_in, plain_ask, plain_sql, plain_step};
+ghost use Rattle.ldv_top.specs.Plain.{plain_steps, plain_script};
 
 use crate::built::is_built;
 use ldv_value::{CopyItem, List, Utf8, Value, Values};
@@ -147,8 +148,8 @@ fn steps_of(alloc: Global, instrs: &[Instr]) -> Result<Option<PlainSteps>, Alloc
     Ok(Some(steps))
 }
 
-/// What a plain script does, `None` where the script isn't plain. `AllocError` means want of memory
-/// alone.
+/// What a plain script does, `None` where the script isn't plain. `AllocError` means out of memory
+/// only.
 pub fn plain_of(alloc: Global, script: &Script) -> Result<Option<PlainSteps>, AllocError>
     ensures { IfOk result (λ steps. steps ≡ plain_script script.now.instructions) }
 {

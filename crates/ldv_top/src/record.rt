@@ -11,7 +11,7 @@ ghost use Rattle.ldv_top.specs.Due.{response_due, due_spelling, plain_world, rec
 ghost use Rattle.ldv_top.specs.Headline.{Recorded};
 ghost use Rattle.ldv_top.specs.Packages.{plain_package};
 ghost use Rattle.ldv_top.specs.Plain.{all_built};
-ghost use Rattle.ldv_top.specs.Rising.{TablesRise};
+ghost use Rattle.ldv_top.specs.SortedTables.{TablesSorted};
 ghost use Rattle.ldv_top.specs.declared.exit.Exit.{Exit};
 
 use crate::headline::headline_law;
@@ -29,7 +29,7 @@ use world_json::{WorldStop, world_of};
 fn pack(alloc: Global, world: World, plain: &PlainSteps) -> Result<Package, AllocError>
     requires short { length plain.now ≤ 1000 }
     requires built { all_built plain.now ≡ true }
-    requires rising { TablesRise world.tables }
+    requires sorted { TablesSorted world.tables }
     ensures { IfOk result (λ p. p ≡ plain_package world plain.now) }
 {
     let Traced { events, steps } = trace_steps(alloc, &world, plain)?;
@@ -74,7 +74,8 @@ fn record_steps(
 ) -> Result<Response, AllocError>
     requires plain { plain_world world ≡ Some plain.now }
     requires ruled { IsTrue (world_rules world) }
-    ensures due { IfOk result (λ response. response_due response ≡ recorded_world Mode.Included budget world) }
+    ensures due { IfOk result (λ response. response_due response
+        ≡ recorded_world Mode.Included budget world) }
     ensures typed { OnOk result ((recorded_world Mode.Included budget world).exit ≡ Exit.Done
         → IsTyped (package_of Mode.Included budget world)) }
 {
@@ -90,7 +91,8 @@ fn record_steps(
 fn record_included(alloc: Global, budget: u32, world: World) -> Result<Response, AllocError>
     requires small { has_small_files world ≡ true }
     requires ruled { IsTrue (world_rules world) }
-    ensures due { IfOk result (λ response. response_due response ≡ recorded_world Mode.Included budget world) }
+    ensures due { IfOk result (λ response. response_due response
+        ≡ recorded_world Mode.Included budget world) }
     ensures typed { OnOk result ((recorded_world Mode.Included budget world).exit ≡ Exit.Done
         → IsTyped (package_of Mode.Included budget world)) }
 {
@@ -118,7 +120,7 @@ fn record_world(
     }
 }
 
-/// What `record` comes to for an input.
+/// The response of `record` to an input.
 #[tactic(auto, using(crate::proofs::RecordLaws::document_worlds))]
 pub fn record_response(
     alloc: Global,

@@ -133,7 +133,7 @@ fn replay_package(alloc: Global, budget: u32, package: Package) -> Result<Respon
     }
 }
 
-/// What `replay` comes to for an input.
+/// The response of `replay` to an input.
 #[tactic(auto, using(crate::proofs::ReplayLaws::own_small))]
 pub fn replay_response(alloc: Global, budget: u32, input: &Bytes) -> Result<Response, AllocError>
     requires { length input.now ≤ input_limit }

@@ -15,7 +15,7 @@ use script_parse::{Script, ScriptStop, parse_script};
 use std::alloc::{AllocError, Global};
 use world_json::{WorldFault, WorldStop, world_of};
 
-/// What a command comes to before anything is written: the bytes to write, or another exit.
+/// The response of a command, before anything is written: the bytes to write, or another exit.
 #[derive(Drop)]
 pub enum Response {
     /// These bytes are to be written.
@@ -92,7 +92,7 @@ fn steps_response(
     Ok(Response::Written(outcome_text(alloc, &outcome)?))
 }
 
-/// What the run of a world within a budget comes to.
+/// The response to the run of a world within a budget.
 #[tactic(auto, using(crate::proofs::ResponseLaws::due_unsupported))]
 pub(crate) fn world_response(
     alloc: Global,
@@ -108,7 +108,7 @@ pub(crate) fn world_response(
     }
 }
 
-/// What `run` comes to for an input.
+/// The response of `run` to an input.
 #[tactic(auto, using(world_json::proofs::WorldFiles::small_files))]
 pub fn run_response(alloc: Global, budget: u32, input: &Bytes) -> Result<Response, AllocError>
     requires { length input.now ≤ input_limit }

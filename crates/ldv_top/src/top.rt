@@ -116,7 +116,8 @@ pub fn ldv<S: Source, K: Sink>(
     source: &mut S,
     sink: &mut K,
 ) -> Exit
-    ensures { Ends S.left S.faults K.taken K.faults (map string_bytes words.now) source.old source.new sink.old sink.new result }
+    ensures { Ends S.left S.faults K.taken K.faults (map string_bytes words.now) source.old source.new
+        sink.old sink.new result }
 {
     headline_law();
     match read_words(words) {
@@ -135,8 +136,10 @@ pub fn ldv_main<S: Source, K: Sink, E: Sink>(
     errors: &mut E,
 ) -> u8
     ensures { (exit : Exit) × (result ≡ status_of exit)
-        × Ends S.left S.faults K.taken K.faults (map string_bytes words.now) source.old source.new sink.old sink.new exit
-        × Tells (E.faults errors.old) (E.faults errors.new) (E.taken errors.old) (E.taken errors.new) (line_of exit) }
+        × Ends S.left S.faults K.taken K.faults (map string_bytes words.now) source.old source.new sink.old
+        sink.new exit
+        × Tells (E.faults errors.old) (E.faults errors.new) (E.taken errors.old) (E.taken errors.new)
+        (line_of exit) }
 {
     let exit = ldv(alloc, words, source, sink);
     let _ = exit_line(&exit, errors);

@@ -5,7 +5,7 @@ ghost use Rattle.run_model.specs.Events.{start_events};
 ghost use Rattle.sql_model.specs.Built.{is_built};
 ghost use Rattle.sql_model.specs.Scope.{catalog_of};
 ghost use Rattle.ldv_top.specs.Plain.{asks_built, all_built};
-ghost use Rattle.ldv_top.specs.Rising.{TablesRise};
+ghost use Rattle.ldv_top.specs.SortedTables.{TablesSorted};
 ghost use Rattle.ldv_top.specs.Traces.{asked_event, asked_events, ended_event, plain_events, plain_count};
 
 use crate::ask::{rows_read, tables_asked};
@@ -16,7 +16,7 @@ use run_model::{Act, Event, Events, World};
 use sql_model::{Catalog, Members, Statement, Table};
 use std::alloc::{AllocError, Global};
 
-/// What is told of a run that has ended: its events, and the number of its steps.
+/// What is recorded of a run that has ended: its events, and the number of its steps.
 #[derive(Drop)]
 pub struct Traced {
     pub events: Events,
@@ -49,7 +49,7 @@ fn asking(
 ) -> Result<Event, AllocError>
     requires built { is_built reading.now ≡ true }
     requires catalog { catalog.now ≡ catalog_of tables.now }
-    requires rising { TablesRise tables.now }
+    requires sorted { TablesSorted tables.now }
     ensures { IfOk result (λ event. event
         ≡ asked_event number statement reading.now tables.now) }
 {
@@ -65,7 +65,7 @@ fn asking(
     })
 }
 
-// Appends what is told of a step before its end: the statement that it asks, if it asks one.
+// Appends what is recorded of a step before its end: the statement that it asks, if it asks one.
 fn push_asked(
     alloc: Global,
     events: &mut Events,
@@ -77,7 +77,7 @@ fn push_asked(
 ) -> Result<(), AllocError>
     requires built { asks_built step.now ≡ true }
     requires catalog { catalog.now ≡ catalog_of tables.now }
-    requires rising { TablesRise tables.now }
+    requires sorted { TablesSorted tables.now }
     ensures { OnOk result (events.new
         ≡ events.old ++ asked_events number statement step.now tables.now) }
 {
@@ -108,12 +108,12 @@ fn ended(mut events: Events, number: u32, status: u8) -> Result<Traced, AllocErr
 }
 
 /// Runs a plain script of at most 1,000 instructions to its end, and tells its events and the number of its
-/// steps. The rows of the tables rise by number. `AllocError` means want of memory alone.
+/// steps. The rows of the tables are sorted by number. `AllocError` means out of memory only.
 #[tactic(auto, using(crate::proofs::BuiltLaw::first_steps))]
 pub fn trace_steps(alloc: Global, world: &World, steps: &PlainSteps) -> Result<Traced, AllocError>
     requires short { length steps.now ≤ 1000 }
     requires built { all_built steps.now ≡ true }
-    requires rising { TablesRise world.now.tables }
+    requires sorted { TablesSorted world.now.tables }
     ensures events { IfOk result (λ t. t.events ≡ plain_events world.now steps.now) }
     ensures steps { IfOk result (λ t. t.steps ≡ plain_count world.now.tables steps.now) }
 {

@@ -181,3 +181,57 @@ fn keeps_what_it_had(rt: HostRuntime) -> Result<(), Fail> {
     expect_rows(&rt, &names, &set, 100)?;
     Ok(())
 }
+
+// The word that a block is to have at a place: 0, but for those that are listed.
+fn wanted_word(wants: &[(usize, u64)], place: usize) -> u64 {
+    match wants.iter().find(|want| want.0 == place) {
+        Some(want) => want.1,
+        None => 0,
+    }
+}
+
+// Expects the words of a block of the first table; no words where none is to be set.
+fn expect_block(rt: &impl Abort, set: &LineageSet, block: u32, wants: &[(usize, u64)]) {
+    match set.block(0, block) {
+        None => assert!(rt; wants.is_empty()),
+        Some(words) => {
+            assert!(rt; !wants.is_empty());
+            assert_eq!(rt; words.len(), 1_024);
+            for (place, word) in words.iter().enumerate() {
+                assert_eq!(rt; *word, wanted_word(wants, place));
+            }
+        }
+    }
+}
+
+#[test]
+fn lends_blocks(rt: HostRuntime) -> Result<(), Fail> {
+    let alloc = rt.alloc();
+    let names = three_names(alloc)?;
+    let left = [(0, 0, 0), (0, 63, 0), (0, 64, 0), (0, 4_294_967_294, 0)];
+    let right = [(0, 63, 0), (0, 128, 0)];
+    let mut set = set_of(&rt, alloc, &names, &left)?;
+    let other = set_of(&rt, alloc, &names, &right)?;
+    unite(&names, &mut set, &other)?;
+    expect(
+        &rt,
+        &names,
+        &set,
+        &[
+            ("a", 0, 0),
+            ("a", 63, 0),
+            ("a", 64, 0),
+            ("a", 128, 0),
+            ("a", 4_294_967_294, 0),
+        ],
+    )?;
+    expect_block(
+        &rt,
+        &set,
+        0,
+        &[(0, 9_223_372_036_854_775_809), (1, 1), (2, 1)],
+    );
+    expect_block(&rt, &set, 1, &[]);
+    expect_block(&rt, &set, 65_535, &[(1_023, 4_611_686_018_427_387_904)]);
+    Ok(())
+}

@@ -17,7 +17,7 @@ find_lookup (e ∷ es) q = ap (cond (is_at (row_cmp q) e.0) (Some e.1)) (find_lo
 pub version_found : (m : BTreeMap Row ℕ) (q : Row) → version_at (from_entries m.entries) q ≡ tree.get row_cmp m q
 version_found m q = get-from_entries row_total m.entries q ∙ find_lookup m.entries q
 
-turned : (row q : Row) → is_at (row_cmp row) q ≡ eq_by_cmp row_cmp q row
+pub turned : (row q : Row) → is_at (row_cmp row) q ≡ eq_by_cmp row_cmp q row
 turned row q = (eq_by_cmp_equiv row_total).symm row q
 
 pub put_version : (m n : BTreeMap Row ℕ) (row : Row) (v : ℕ) → Updates row_cmp m n row (Some v)

@@ -1,3 +1,5 @@
+pub mod Blocks
 pub mod Lineage
+pub mod Rows
 pub mod StandsFor
 pub mod Undo

@@ -5,14 +5,20 @@
 //! - `empty`, `add` and `union` leave exactly the rows that their names say, and a row that is in a set keeps
 //!   its version there;
 //! - `members` lists all of them, sorted, with the names of their tables;
+//! - `block` lends the rows of a table, 65,536 at a time, as bits (`specs/Blocks.antt`);
 //! - where memory is out, a set is as it was.
 //!
-//! `specs/StandsFor.antt` says how a set stands for the lineage of an answer row.
+//! `Picks` and `Answers` are what evaluators of queries hand to one another. `specs/StandsFor.antt` says how a
+//! set stands for the lineage of an answer row, and `specs/Rows.antt` how `Picks` and `Answers` stand for
+//! lists of answer rows.
 //!
-//! Laws of these definitions, for layers that reason by them, are in `proofs/Laws.antt` and
-//! `proofs/Origins.antt`.
+//! Laws of these definitions, for layers that reason by them, are in `proofs/Laws.antt`, `proofs/Origins.antt`
+//! and `proofs/RowLaws.antt`.
 #![tactic(auto)]
 
+mod answer;
+mod blocks;
 mod set;
 
+pub use answer::{Answer, Answers, Pick, Picks};
 pub use set::LineageSet;

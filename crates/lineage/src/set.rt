@@ -1,39 +1,45 @@
 //! The set of rows that an answer row comes from.
 
-ghost use Rattle.std.specs.Prelude.{◌≡◌, ◌<◌, length, IfOk, OnOk, OnErr};
+ghost use Rattle.std.specs.Prelude.{◌≡◌, ◌<◌, length, IfOk, OnOk, OnErr, IfSome, MatchOption};
 ghost use Rattle.std.specs.List.Sorted.{IsStrictlySortedBy};
 ghost use Rattle.std.specs.Ordering.{nat_cmp};
 ghost use Rattle.std.specs.Cmp.Lexicographic.{slice_cmp};
 ghost use Rattle.std.specs.FinMap as finmap;
 ghost use Rattle.lineage.specs.Lineage.{has_row, added, IsUnion, IsNamed, member, members_of, member_cmp};
 ghost use Rattle.lineage.specs.Undo.{without};
+ghost use Rattle.lineage.specs.Blocks.{HasNone, IsBlock};
 
+use crate::blocks::{Blocks, Row, block_of, clear_row, make_block, set_row, with_member};
 use ldv_value::Names;
 use sql_model::{Member, Members};
 use std::alloc::{AllocError, Global};
 use std::collections::BTreeMap;
 use std::marker::Model;
 
-// A row: the place of its table among the names of all tables, and its number.
-type Row = (u32, u32);
-
 /// Rows of tables, each at one version. A table is given by its place, from 0, among the names of all
 /// tables.
+///
+/// The rows lie as bits in blocks of words, with the versions of the rows beside them. A block without a
+/// row is kept only where memory was out while it was filled.
 #[derive(Drop)]
 pub struct LineageSet {
     alloc: Global,
     versions: BTreeMap<Row, u32>,
+    words: Blocks,
 }
 
 impl Model for LineageSet {
     ghost use Rattle.std.specs.FinMap as finmap;
     ghost use Rattle.lineage.specs.Lineage.{Lineage, lineage_code};
+    ghost use Rattle.lineage.specs.Blocks.{Keeps};
 
     ghost Value = { Lineage };
 
     ghost coded = { lineage_code };
 
     ghost view = { λ a. finmap.from_entries a.versions.entries };
+
+    ghost invariant = { λ a. Keeps a.versions a.words };
 }
 
 impl LineageSet {
@@ -44,6 +50,7 @@ impl LineageSet {
         LineageSet {
             alloc,
             versions: BTreeMap::new(alloc),
+            words: BTreeMap::new(alloc),
         }
     }
 
@@ -87,6 +94,19 @@ impl LineageSet {
         self.list(names)
     }
 
+    /// The rows of a table from 65,536 * `block` on as 1,024 words: bit i of word j is set exactly where the
+    /// row 65,536 * `block` + 64 * j + i is in the set. `None` exactly where none of these rows is. It takes no
+    /// memory.
+    pub fn block(&self, table: u32, block: u32) -> Option<&[u64]>
+        ensures none { MatchOption result (HasNone self.now table block) (λ _. ¬ HasNone self.now table block) }
+        ensures words { IfSome result (λ words. IsBlock self.now table block words.now) }
+    {
+        match self.words.get(&(table, block)) {
+            None => None,
+            Some(words) => with_member(words.items()),
+        }
+    }
+
     // Whether a row is in the set.
     fn has(&self, row: Row) -> bool
         ensures { result ≡ has_row self.now row }
@@ -99,7 +119,9 @@ impl LineageSet {
         ensures ok { OnOk result (self.new ≡ finmap.insert self.old row version) }
         ensures err { OnErr result (self.new ≡ self.old) }
     {
+        make_block(self.alloc, &mut self.words, block_of(row))?;
         self.versions.insert(row, version)?;
+        set_row(&mut self.words, row);
         Ok(())
     }
 
@@ -108,6 +130,7 @@ impl LineageSet {
         ensures { self.new ≡ finmap.remove self.old row }
     {
         self.versions.remove(&row);
+        clear_row(&mut self.words, row);
     }
 
     // Adds a row, and notes it where it is new.

@@ -11,10 +11,8 @@ use Rattle.package_layout.specs.Typed.{IsTyped}
 use Rattle.package_layout.specs.Version.{Version, One, magic}
 use Rattle.package_layout.specs.Whole.{spelling_as, has_room, all_of}
 pub use Rattle.run_model.specs.ValidPackage.{is_short_text, start_rule, content_rule, file_rule, files_rule}
-pub use Rattle.run_model.specs.ValidPackage.{has_same_name, columns_rule, is_not_null, key_rule}
-pub use Rattle.run_model.specs.ValidPackage.{is_short, value_rule, values_rule, row_rule, table_rule}
+pub use Rattle.run_model.specs.ValidPackage.{are_files, rows_rule, table_rule, are_tables}
 pub use Rattle.run_model.specs.ValidPackage.{tables_rule}
-pub use Rattle.run_model.specs.ValidPackage.{is_keyed, keys_rule}
 pub use Rattle.run_model.specs.ValidPackage.{refusal_rule, reply_rule, entry_rule, is_root_process, log_rule}
 pub use Rattle.run_model.specs.ValidPackage.{logs_rule}
 pub use Rattle.run_model.specs.ValidPackage.{mode_rule, steps_rule, is_script, is_script_file, script_rule}

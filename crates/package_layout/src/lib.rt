@@ -27,7 +27,6 @@ mod decode_error;
 mod event;
 mod file;
 mod group;
-mod keys;
 mod layout;
 mod log;
 mod number;

@@ -1,22 +1,21 @@
 //! The rules for start words, files, tables and logs.
 
-ghost use Rattle.std.specs.Prelude.{◌≡◌, ◌==◌, slice_get};
-ghost use Rattle.std.specs.List.{list_all, list_any, zip};
-ghost use Rattle.sql_model.specs.SqlNames.{sql_name_test};
-ghost use Rattle.sql_model.specs.Keys.{repeats};
-ghost use Rattle.package_layout.specs.Valid.{is_short_text, start_rule, content_rule, file_rule, files_rule};
-ghost use Rattle.package_layout.specs.Valid.{has_same_name, columns_rule, is_not_null, key_rule, is_short};
-ghost use Rattle.package_layout.specs.Valid.{value_rule, values_rule, row_rule, table_rule, tables_rule};
+ghost use Rattle.std.specs.Prelude.{◌≡◌, IfOk, nat_lt};
+ghost use Rattle.std.specs.List.{list_all};
+ghost use Rattle.sql_model.specs.Tables.{has_kind, allows, fits, each_value, is_row, is_short, numbers_test};
+ghost use Rattle.package_layout.specs.Valid.{is_short_text, start_rule, content_rule, file_rule, are_files};
+ghost use Rattle.package_layout.specs.Valid.{files_rule, rows_rule, table_rule, are_tables, tables_rule};
 ghost use Rattle.package_layout.specs.Valid.{refusal_rule, reply_rule, entry_rule, is_root_process, log_rule};
 ghost use Rattle.package_layout.specs.Valid.{logs_rule};
 
-use crate::order::is_strictly_sorted;
+use crate::order::is_ranked;
 use ldv_value::{
-    Bytes, FILE_LIMIT, MAX_COLUMNS, MAX_FILES, MAX_PARAMS, MAX_TABLES, Parts, Places, RowList,
-    TEXT_LIMIT, Utf8, Value, Values, Words, is_path,
+    Bytes, FILE_LIMIT, MAX_FILES, MAX_PARAMS, MAX_TABLES, Parts, RowList, TEXT_LIMIT, Utf8, Value,
+    Values, Words, is_path,
 };
-use run_model::{Entry, Log, Logs, PackedFile, PackedFiles, PackedRow, PackedTable, PackedTables};
-use sql_model::{Column, Columns, Reply, Schema, SqlRefusal, is_sql_name};
+use run_model::{Entry, Log, Logs, PackedFile, PackedFiles, PackedRows, PackedTable, PackedTables};
+use sql_model::{Column, Columns, Reply, SqlRefusal, has_key_twice, is_sql_name, meets_schema};
+use std::alloc::{AllocError, Global};
 
 pub(crate) fn is_valid_start(words: &Words) -> bool
     ensures { result ≡ start_rule words.now }
@@ -44,7 +43,13 @@ fn is_short_text(text: &Utf8) -> bool
 pub(crate) fn is_valid_files(files: &PackedFiles) -> bool
     ensures { result ≡ files_rule files.now }
 {
-    files.len() <= MAX_FILES && each_file(files) && is_strictly_sorted(files)
+    files.len() <= MAX_FILES && are_files(files)
+}
+
+fn are_files(files: &PackedFiles) -> bool
+    ensures { result ≡ are_files files.now }
+{
+    each_file(files) && is_ranked(files)
 }
 
 fn each_file(files: &PackedFiles) -> bool
@@ -68,157 +73,127 @@ fn is_valid_content(content: &Option<Bytes>) -> bool
     }
 }
 
-pub(crate) fn is_valid_tables(tables: &PackedTables) -> bool
-    ensures { result ≡ tables_rule tables.now }
+pub(crate) fn is_valid_tables(alloc: Global, tables: &PackedTables) -> Result<bool, AllocError>
+    ensures { IfOk result (λ holds. holds ≡ tables_rule tables.now) }
 {
-    tables.len() <= MAX_TABLES && each_table(tables) && is_strictly_sorted(tables)
+    if tables.len() > MAX_TABLES {
+        return Ok(false);
+    }
+    are_tables(alloc, tables)
 }
 
-fn each_table(tables: &PackedTables) -> bool
-    ensures { result ≡ list_all table_rule tables.now }
+fn are_tables(alloc: Global, tables: &PackedTables) -> Result<bool, AllocError>
+    ensures { IfOk result (λ holds. holds ≡ are_tables tables.now) }
 {
-    tables.items().iter().all(|table| is_valid_table(table))
+    if !each_table(alloc, tables)? {
+        return Ok(false);
+    }
+    Ok(is_ranked(tables))
 }
 
-fn is_valid_table(table: &PackedTable) -> bool
-    ensures { result ≡ table_rule table.now }
+fn each_table(alloc: Global, tables: &PackedTables) -> Result<bool, AllocError>
+    ensures { IfOk result (λ holds. holds ≡ list_all table_rule tables.now) }
 {
-    is_sql_name(table.name.as_str())
-        && is_valid_columns(&table.schema.columns)
-        && is_valid_key(&table.schema)
-        && each_row(table)
-        && is_strictly_sorted(&table.rows)
-}
-
-fn is_valid_columns(columns: &Columns) -> bool
-    ensures { result ≡ columns_rule columns.now }
-{
-    1 <= columns.len()
-        && columns.len() <= MAX_COLUMNS
-        && are_named(columns)
-        && !has_name_twice(columns.items())
-}
-
-fn are_named(columns: &Columns) -> bool
-    ensures { result ≡ list_all (λ column. sql_name_test column.name) columns.now }
-{
-    columns
-        .items()
-        .iter()
-        .all(|column| is_sql_name(column.name.as_str()))
-}
-
-// There are MAX_COLUMNS columns at most.
-fn has_name_twice(columns: &[Column]) -> bool
-    ensures { result ≡ repeats has_same_name columns.now }
-{
-    let mut left = columns;
-    loop {
-        match left {
-            [] => return false,
-            [first, rest @ ..] => {
-                if has_same_name(first, rest) {
-                    return true;
-                }
-                left = rest;
-            }
+    for table in tables.items() {
+        if !is_valid_table(alloc, table)? {
+            return Ok(false);
         }
     }
+    Ok(true)
 }
 
-fn has_same_name(column: &Column, columns: &[Column]) -> bool
-    ensures { result ≡ list_any (has_same_name column.now) columns.now }
+fn is_valid_table(alloc: Global, table: &PackedTable) -> Result<bool, AllocError>
+    ensures { IfOk result (λ holds. holds ≡ table_rule table.now) }
 {
-    columns.iter().any(|other| column.name.is_same(&other.name))
-}
-
-fn is_valid_key(schema: &Schema) -> bool
-    ensures { result ≡ key_rule schema.now }
-{
-    are_not_null(&schema.columns, &schema.key) && !has_place_twice(schema.key.items())
-}
-
-fn are_not_null(columns: &Columns, key: &Places) -> bool
-    ensures { result ≡ list_all (λ place. is_not_null (slice_get columns.now place)) key.now }
-{
-    key.items()
-        .iter()
-        .all(|place| is_not_null(columns, *place as usize))
-}
-
-fn is_not_null(columns: &Columns, place: usize) -> bool
-    ensures { result ≡ is_not_null (slice_get columns.now place) }
-{
-    match columns.get(place) {
-        None => false,
-        Some(column) => column.not_null,
+    if !is_sql_name(table.name.as_str()) {
+        return Ok(false);
     }
-}
-
-// A key has 255 places at most.
-fn has_place_twice(places: &[u32]) -> bool
-    ensures { result ≡ repeats (λ a b. a == b) places.now }
-{
-    let mut left = places;
-    loop {
-        match left {
-            [] => return false,
-            [first, rest @ ..] => {
-                if has_place(*first, rest) {
-                    return true;
-                }
-                left = rest;
-            }
-        }
+    if !meets_schema(alloc, &table.schema)? {
+        return Ok(false);
     }
+    if !is_valid_rows(table) {
+        return Ok(false);
+    }
+    Ok(!has_key_twice(alloc, &table.schema.key, table.rows.items())?)
 }
 
-fn has_place(place: u32, places: &[u32]) -> bool
-    ensures { result ≡ list_any (λ b. place == b) places.now }
+fn is_valid_rows(table: &PackedTable) -> bool
+    ensures { result ≡ rows_rule table.now }
 {
-    places.iter().any(|other| place == *other)
+    are_numbered(table.next, &table.rows)
+        && each_row(&table.schema.columns, &table.rows)
+        && each_row_short(&table.rows)
 }
 
-fn each_row(table: &PackedTable) -> bool
-    ensures { result ≡ list_all (row_rule table.now) table.now.rows }
+fn are_numbered(next: u32, rows: &PackedRows) -> bool
+    ensures { result ≡ numbers_test (λ row. row.number) next rows.now }
 {
-    table
-        .rows
-        .items()
-        .iter()
-        .all(|row| is_valid_row(table, row))
+    is_ranked(rows) && are_below(next, rows)
 }
 
-fn is_valid_row(table: &PackedTable, row: &PackedRow) -> bool
-    ensures { result ≡ row_rule table.now row.now }
+fn are_below(next: u32, rows: &PackedRows) -> bool
+    ensures { result ≡ list_all (λ row. nat_lt row.number next) rows.now }
 {
-    row.number < table.next && is_valid_values(&table.schema.columns, &row.values)
+    rows.items().iter().all(|row| row.number < next)
 }
 
-fn is_valid_values(columns: &Columns, values: &Values) -> bool
-    ensures { result ≡ values_rule columns.now values.now }
+fn each_row(columns: &Columns, rows: &PackedRows) -> bool
+    ensures { result ≡ list_all (λ row. is_row columns.now row.values) rows.now }
+{
+    rows.items().iter().all(|row| is_row(columns, &row.values))
+}
+
+fn is_row(columns: &Columns, values: &Values) -> bool
+    ensures { result ≡ is_row columns.now values.now }
+{
+    values.len() == columns.len() && each_fits(columns, values)
+}
+
+fn each_fits(columns: &Columns, values: &Values) -> bool
+    ensures { result ≡ each_value fits columns.now values.now }
 {
     columns
         .items()
         .iter()
         .zip(values.items().iter())
-        .all(|(column, value)| is_valid_value(column, value))
+        .all(|(column, value)| fits(column, value))
 }
 
-fn is_valid_value(column: &Column, value: &Value) -> bool
-    ensures { result ≡ value_rule column.now value.now }
+fn fits(column: &Column, value: &Value) -> bool
+    ensures { result ≡ fits column.now value.now }
+{
+    has_kind(column, value) && allows(column, value)
+}
+
+fn has_kind(column: &Column, value: &Value) -> bool
+    ensures { result ≡ has_kind column.now value.now }
+{
+    match value {
+        Value::Null => true,
+        Value::Int(_) => !column.text,
+        Value::Text(_) => column.text,
+    }
+}
+
+fn allows(column: &Column, value: &Value) -> bool
+    ensures { result ≡ allows column.now value.now }
 {
     match value {
         Value::Null => !column.not_null,
-        Value::Int(_) => !column.text,
-        Value::Text(text) => column.text && is_short_text(text),
+        _ => true,
     }
+}
+
+fn each_row_short(rows: &PackedRows) -> bool
+    ensures { result ≡ list_all (λ row. list_all is_short row.values) rows.now }
+{
+    rows.items().iter().all(|row| are_short_values(&row.values))
 }
 
 pub(crate) fn is_valid_logs(logs: &Logs) -> bool
     ensures { result ≡ logs_rule logs.now }
 {
-    each_log(logs) && is_strictly_sorted(logs)
+    each_log(logs) && is_ranked(logs)
 }
 
 fn each_log(logs: &Logs) -> bool

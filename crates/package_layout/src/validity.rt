@@ -7,7 +7,6 @@ ghost use Rattle.script_parse.specs.Script.{script_of};
 ghost use Rattle.package_layout.specs.Valid.{mode_rule, steps_rule, is_script, is_script_file, script_rule};
 ghost use Rattle.package_layout.specs.Valid.{trace_rule, reasons_rule, parts_rule, whole_rule, rules};
 
-use crate::keys::is_valid_keys;
 use crate::rules::{is_valid_files, is_valid_logs, is_valid_start, is_valid_tables};
 use crate::trace::{asked_count, is_trace};
 use ldv_value::{Bytes, FILE_LIMIT, MAX_STEPS, Utf8, Words};
@@ -20,25 +19,28 @@ use std::alloc::{AllocError, Global};
 pub(crate) fn is_valid_package(alloc: Global, package: &Package) -> Result<bool, AllocError>
     ensures { IfOk result (λ holds. holds ≡ rules «package».now) }
 {
-    if !is_valid_parts(package) {
+    if !is_valid_parts(alloc, package)? {
         return Ok(false);
     }
     if !is_valid_whole(package) {
         return Ok(false);
     }
-    if !is_valid_keys(alloc, &package.tables)? {
-        return Ok(false);
-    }
     starts_script(alloc, &package.start, &package.files)
 }
 
-fn is_valid_parts(package: &Package) -> bool
-    ensures { result ≡ parts_rule «package».now }
+fn is_valid_parts(alloc: Global, package: &Package) -> Result<bool, AllocError>
+    ensures { IfOk result (λ holds. holds ≡ parts_rule «package».now) }
 {
-    is_valid_start(&package.start)
-        && is_valid_files(&package.files)
-        && is_valid_tables(&package.tables)
-        && is_valid_logs(&package.logs)
+    if !is_valid_start(&package.start) {
+        return Ok(false);
+    }
+    if !is_valid_files(&package.files) {
+        return Ok(false);
+    }
+    if !is_valid_tables(alloc, &package.tables)? {
+        return Ok(false);
+    }
+    Ok(is_valid_logs(&package.logs))
 }
 
 fn is_valid_whole(package: &Package) -> bool

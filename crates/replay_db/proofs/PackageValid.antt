@@ -18,10 +18,10 @@ use Rattle.package_layout.specs.Order.{rises, table_below}
 use Rattle.package_layout.specs.Room.{some_thousands, table_room, log_room}
 use Rattle.package_layout.specs.Trace.{asked_count}
 use Rattle.package_layout.specs.Typed.{IsU32}
-use Rattle.package_layout.specs.Valid.{is_short_text, start_rule, files_rule, table_rule, tables_rule, keys_rule, script_rule, is_script_file, steps_rule, trace_rule, reasons_rule, parts_rule, whole_rule, rules, Valid}
+use Rattle.package_layout.specs.Valid.{is_short_text, start_rule, files_rule, table_rule, tables_rule, script_rule, is_script_file, steps_rule, trace_rule, reasons_rule, parts_rule, whole_rule, rules, Valid}
 use Rattle.package_layout.specs.Whole.{IsTyped, tables_room, has_room}
 use Rattle.replay_db.specs.Worlds.{all_of_file, all_of_world, TypedWorld, world_rules, ValidPackageLaw, TypedPackageLaw}
-use Rattle.replay_db.proofs.PackageValidParts.{files_valid, whole_found, rooms_valid, keys_valid, tables_valid}
+use Rattle.replay_db.proofs.PackageValidParts.{files_valid, whole_found, rooms_valid, tables_valid}
 use Rattle.replay_db.proofs.PackageValidTyped.{files_typed, tables_typed}
 use Rattle.replay_db.proofs.Tests.{cases_option, self_text}
 use Rattle.replay_db.proofs.TraceValid.{trace_is, steps_at_least_one, steps_at_most, reasons_valid, room_is, typed_is}
@@ -110,8 +110,7 @@ module _ (n : ℕ) (w : World) (met : IsTrue (world_rules w)) (valid : tables_te
   all_rules : rules p ≡ true
   all_rules =
       let starts : script_rule p.start p.files ≡ true = script_still w.start later p.events w.files begins ruled.script in
-      and_from (parts_rule p && whole_rule p && keys_rule p.tables) (script_rule p.start p.files)
-      (and_from (parts_rule p && whole_rule p) (keys_rule p.tables) (and_from (parts_rule p) (whole_rule p) parts whole) (keys_valid p.events w.tables ruled.keys)) starts
+      and_from (parts_rule p && whole_rule p) (script_rule p.start p.files) (and_from (parts_rule p) (whole_rule p) parts whole) starts
 
   script_valid : Valid p
   script_valid = and_from (has_room p) (rules p) room_valid all_rules

@@ -9,11 +9,12 @@ use Rattle.ldv_value.specs.Names.{path_test}
 use Rattle.replay_db.specs.Types.{File, Table, TableRow, Event, PackedFile, PackedRow, PackedTable}
 use Rattle.ldv_value.specs.declared.value.Value.{Value}
 use Rattle.sql_model.specs.SqlNames.{sql_name_test}
+use Rattle.sql_model.specs.Tables.{schema_test, is_row, is_short, numbers_test, are_keys_unique}
 use Rattle.run_model.specs.Slice.{FileNeed, Whole, Present, file_need, packed_as, packed_file, files_needed, Reason, first_reason, packed_because, packed_row, rows_needed, is_table_needed, packed_table, tables_needed}
 use Rattle.sql_model.specs.Keys.{repeats, same_values, values_at}
-use Rattle.package_layout.specs.Order.{rises, is_below, file_below, row_below, table_below}
+use Rattle.package_layout.specs.Order.{rises, is_below, file_below, table_below}
 use Rattle.package_layout.specs.Room.{few, key_room, row_room, table_room}
-use Rattle.package_layout.specs.Valid.{content_rule, file_rule, files_rule, columns_rule, key_rule, values_rule, row_rule, table_rule, tables_rule, is_keyed, keys_rule}
+use Rattle.package_layout.specs.Valid.{content_rule, file_rule, files_rule, rows_rule, table_rule, tables_rule}
 use Rattle.replay_db.specs.Worlds.{all_of_file, all_of_row, all_of_table}
 use Rattle.replay_db.proofs.PackageValidLists.{kept_if, Chains, tests_stay, within_still, rises_still, unique_still, some_kept, map_twice}
 
@@ -47,12 +48,12 @@ files_valid events files met =
     let all : List PackedFile = map all_of_file files in
     let f : File → Option PackedFile = packed_file events in
     let kept = files_needed events files in
-    let parts = and_parts (nat_le (length all) 65536 && list_all file_rule all) (rises file_below all) met in
-    let first = and_parts (nat_le (length all) 65536) (list_all file_rule all) parts.0 in
-    let few_files : nat_le (length kept) 65536 ≡ true = within_still all_of_file f files 65536 first.0 in
-    let each : list_all file_rule kept ≡ true = tests_stay all_of_file f file_rule file_rule (λ file y is. (file_kept file (file_need file.path events) y is).1) files first.1 in
-    let rising : rises file_below kept ≡ true = rises_still all_of_file f (λ y. y.path) (λ file y is. (file_kept file (file_need file.path events) y is).0) is_below texts_chain files parts.1 in
-    and_from (nat_le (length kept) 65536 && list_all file_rule kept) (rises file_below kept) (and_from (nat_le (length kept) 65536) (list_all file_rule kept) few_files each) rising
+    let parts = and_parts (nat_le (length all) 65536) (list_all file_rule all && rises file_below all) met in
+    let rest = and_parts (list_all file_rule all) (rises file_below all) parts.1 in
+    let few_files : nat_le (length kept) 65536 ≡ true = within_still all_of_file f files 65536 parts.0 in
+    let each : list_all file_rule kept ≡ true = tests_stay all_of_file f file_rule file_rule (λ file y is. (file_kept file (file_need file.path events) y is).1) files rest.0 in
+    let rising : rises file_below kept ≡ true = rises_still all_of_file f (λ y. y.path) (λ file y is. (file_kept file (file_need file.path events) y is).0) is_below texts_chain files rest.1 in
+    and_from (nat_le (length kept) 65536) (list_all file_rule kept && rises file_below kept) few_files (and_from (list_all file_rule kept) (rises file_below kept) each rising)
 
 -- a file of another path is passed over
 passed_over : (word : List ℕ) (file : File) → bytes_eq word file.path ≡ false → (need : Option FileNeed) (rest : List PackedFile)
@@ -118,28 +119,42 @@ module _ (events : List Event) (table : Table) where
   same_number : (row : TableRow) (y : PackedRow) → packed_row events table.name row ≡ Some y → y.number ≡ row.number
   same_number row y is = (keeps_row row y is).number
 
-  row_valid : (row : TableRow) (y : PackedRow) → packed_row events table.name row ≡ Some y → row_rule (all_of_table table) (all_of_row row) ≡ true → row_rule (packed_table events table) y ≡ true
-  row_valid row y is met = (λ j. nat_lt (same_number row y is j) table.next && values_rule table.schema.columns (values_stay row y is j)) ∙ met
+  -- a test of what a row has stays true
+  numbers_still : (test : ℕ → Bool) → list_all (λ row. test row.number) all_rows ≡ true → list_all (λ row. test row.number) kept_rows ≡ true
+  numbers_still test =
+      tests_stay all_of_row (packed_row events table.name) (λ row. test row.number) (λ row. test row.number) (λ row y is met. ap test (same_number row y is) ∙ met) table.rows
 
-  pub table_valid : table_rule (all_of_table table) ≡ true → table_rule (packed_table events table) ≡ true
-  table_valid met =
-      let named : Bool = sql_name_test table.name && columns_rule table.schema.columns && key_rule table.schema in
-      let parts = and_parts (named && list_all (row_rule (all_of_table table)) all_rows) (rises row_below all_rows) met in
-      let first = and_parts named (list_all (row_rule (all_of_table table)) all_rows) parts.0 in
-      let each : list_all (row_rule (packed_table events table)) kept_rows ≡ true =
-      tests_stay all_of_row (packed_row events table.name) (row_rule (all_of_table table)) (row_rule (packed_table events table)) row_valid table.rows first.1 in
-      let rising : rises row_below kept_rows ≡ true = rises_still all_of_row (packed_row events table.name) (λ y. y.number) same_number nat_lt numbers_chain table.rows parts.1 in
-      and_from (named && list_all (row_rule (packed_table events table)) kept_rows) (rises row_below kept_rows) (and_from named (list_all (row_rule (packed_table events table)) kept_rows) first.0 each) rising
+  values_still : (test : List Value → Bool) → list_all (λ row. test row.values) all_rows ≡ true → list_all (λ row. test row.values) kept_rows ≡ true
+  values_still test =
+      tests_stay all_of_row (packed_row events table.name) (λ row. test row.values) (λ row. test row.values) (λ row y is met. ap test (values_stay row y is) ∙ met) table.rows
 
-  pub table_roomy : table_room (all_of_table table) ≡ true → table_room (packed_table events table) ≡ true
-  table_roomy met =
-      let wide : ℕ = length table.schema.columns in
-      let first = and_parts (few table.schema.columns) (key_room table.schema.key && list_all (row_room wide) all_rows) met in
-      let second = and_parts (key_room table.schema.key) (list_all (row_room wide) all_rows) first.1 in
-      let each : list_all (row_room wide) kept_rows ≡ true =
-      tests_stay all_of_row (packed_row events table.name) (row_room wide) (row_room wide) (λ row y is fits. ap (λ (vs : List Value). length vs == wide) (values_stay row y is) ∙ fits) table.rows second.1 in
-      and_from (few table.schema.columns) (key_room table.schema.key && list_all (row_room wide) kept_rows) first.0
-      (and_from (key_room table.schema.key) (list_all (row_room wide) kept_rows) second.0 each)
+  abbrev sorted : List PackedRow → Bool
+  sorted rows = rises (λ a b. nat_lt a.number b.number) rows
+
+  abbrev below : List PackedRow → Bool
+  below rows = list_all (λ row. nat_lt row.number table.next) rows
+
+  abbrev numbered : List PackedRow → Bool
+  numbered rows = numbers_test (λ row. row.number) table.next rows
+
+  abbrev fit : List PackedRow → Bool
+  fit rows = list_all (λ row. is_row table.schema.columns row.values) rows
+
+  abbrev short : List PackedRow → Bool
+  short rows = list_all (λ row. list_all is_short row.values) rows
+
+  numbers_valid : numbered all_rows ≡ true → numbered kept_rows ≡ true
+  numbers_valid met =
+      let parts = and_parts (sorted all_rows) (below all_rows) met in
+      let rising : sorted kept_rows ≡ true = rises_still all_of_row (packed_row events table.name) (λ y. y.number) same_number nat_lt numbers_chain table.rows parts.0 in
+      and_from (sorted kept_rows) (below kept_rows) rising (numbers_still (λ n. nat_lt n table.next) parts.1)
+
+  rows_valid : rows_rule (all_of_table table) ≡ true → rows_rule (packed_table events table) ≡ true
+  rows_valid met =
+      let parts = and_parts (numbered all_rows && fit all_rows) (short all_rows) met in
+      let first = and_parts (numbered all_rows) (fit all_rows) parts.0 in
+      and_from (numbered kept_rows && fit kept_rows) (short kept_rows)
+      (and_from (numbered kept_rows) (fit kept_rows) (numbers_valid first.0) (values_still (is_row table.schema.columns) first.1)) (values_still (list_all is_short) parts.1)
 
   abbrev keys_of : List PackedRow → List (List Value)
   keys_of rows = map (values_at table.schema.key) (map (λ row. row.values) rows)
@@ -154,8 +169,27 @@ module _ (events : List Event) (table : Table) where
   no_two false r s keeps met = refl
   no_two true r s keeps met = not_from_false s (keeps (not-true r met))
 
-  pub table_keyed : is_keyed (all_of_table table) ≡ true → is_keyed (packed_table events table) ≡ true
+  abbrev keyed : List PackedRow → Bool
+  keyed rows = are_keys_unique table.schema.key (map (λ row. row.values) rows)
+
+  table_keyed : keyed all_rows ≡ true → keyed kept_rows ≡ true
   table_keyed met = no_two (not (length table.schema.key == 0)) (repeats same_values (keys_of all_rows)) (repeats same_values (keys_of kept_rows)) keys_unique met
+
+  pub table_valid : table_rule (all_of_table table) ≡ true → table_rule (packed_table events table) ≡ true
+  table_valid met =
+      let described : Bool = sql_name_test table.name && schema_test table.schema in
+      let kept : Bool = rows_rule (packed_table events table) in
+      let parts = and_parts (described && rows_rule (all_of_table table)) (keyed all_rows) met in
+      let first = and_parts described (rows_rule (all_of_table table)) parts.0 in
+      and_from (described && kept) (keyed kept_rows) (and_from described kept first.0 (rows_valid first.1)) (table_keyed parts.1)
+
+  pub table_roomy : table_room (all_of_table table) ≡ true → table_room (packed_table events table) ≡ true
+  table_roomy met =
+      let wide : ℕ = length table.schema.columns in
+      let first = and_parts (few table.schema.columns) (key_room table.schema.key && list_all (row_room wide) all_rows) met in
+      let second = and_parts (key_room table.schema.key) (list_all (row_room wide) all_rows) first.1 in
+      and_from (few table.schema.columns) (key_room table.schema.key && list_all (row_room wide) kept_rows) first.0
+      (and_from (key_room table.schema.key) (list_all (row_room wide) kept_rows) second.0 (values_still (λ values. length values == wide) second.1))
 
 module _ (events : List Event) where
   each_table : (p : PackedTable → Bool) → ((table : Table) → p (all_of_table table) ≡ true → p (packed_table events table) ≡ true) → (tables : List Table) → list_all p (map all_of_table tables) ≡ true → list_all p (tables_needed events tables) ≡ true
@@ -166,17 +200,14 @@ module _ (events : List Event) where
   pub rooms_valid : (tables : List Table) → list_all table_room (map all_of_table tables) ≡ true → list_all table_room (tables_needed events tables) ≡ true
   rooms_valid tables all = each_table table_room (table_roomy events) tables all
 
-  pub keys_valid : (tables : List Table) → keys_rule (map all_of_table tables) ≡ true → keys_rule (tables_needed events tables) ≡ true
-  keys_valid tables all = each_table is_keyed (table_keyed events) tables all
-
   pub tables_valid : (tables : List Table) → tables_rule (map all_of_table tables) ≡ true → tables_rule (tables_needed events tables) ≡ true
   tables_valid tables met =
       let all : List PackedTable = map all_of_table tables in
       let kept = tables_needed events tables in
-      let parts = and_parts (nat_le (length all) 256 && list_all table_rule all) (rises table_below all) met in
-      let first = and_parts (nat_le (length all) 256) (list_all table_rule all) parts.0 in
-      let few_tables : nat_le (length kept) 256 ≡ true = ap (λ (ts : List PackedTable). nat_le (length ts) 256) (tables_as events tables) ∙ within_still all_of_table (table_kept events) tables 256 first.0 in
-      let each : list_all table_rule kept ≡ true = each_table table_rule (table_valid events) tables first.1 in
+      let parts = and_parts (nat_le (length all) 256) (list_all table_rule all && rises table_below all) met in
+      let rest = and_parts (list_all table_rule all) (rises table_below all) parts.1 in
+      let few_tables : nat_le (length kept) 256 ≡ true = ap (λ (ts : List PackedTable). nat_le (length ts) 256) (tables_as events tables) ∙ within_still all_of_table (table_kept events) tables 256 parts.0 in
+      let each : list_all table_rule kept ≡ true = each_table table_rule (table_valid events) tables rest.0 in
       let rising : rises table_below kept ≡ true = ap (rises table_below) (tables_as events tables)
-      ∙ rises_still all_of_table (table_kept events) (λ y. y.name) (λ table y is. ap (λ (t : PackedTable). t.name) (table_is events table y is)) is_below texts_chain tables parts.1 in
-      and_from (nat_le (length kept) 256 && list_all table_rule kept) (rises table_below kept) (and_from (nat_le (length kept) 256) (list_all table_rule kept) few_tables each) rising
+      ∙ rises_still all_of_table (table_kept events) (λ y. y.name) (λ table y is. ap (λ (t : PackedTable). t.name) (table_is events table y is)) is_below texts_chain tables rest.1 in
+      and_from (nat_le (length kept) 256) (list_all table_rule kept && rises table_below kept) few_tables (and_from (list_all table_rule kept) (rises table_below kept) each rising)

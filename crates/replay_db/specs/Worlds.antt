@@ -1,4 +1,5 @@
 -- Valid worlds: what a world's parts meet is what the layout asks of a package that has all of them.
+use Rattle.ldv_value.specs.Limits.{max_steps}
 use Rattle.std.specs.Prelude.{◌≡◌, ◌≤◌, ℕ, [], map, Bool, true, ◌&&◌, Some, IsTrue}
 use Rattle.std.specs.List.{list_all}
 use Rattle.sql_model.specs.declared.need.Rule.TheVariants.{L}
@@ -8,7 +9,7 @@ use Rattle.replay_db.specs.Types.{PackedTable, World}
 use Rattle.run_model.specs.Package.{package_of}
 use Rattle.run_model.specs.WorldRun.{ends_within}
 use Rattle.package_layout.specs.Room.{table_room}
-use Rattle.package_layout.specs.Valid.{start_rule, files_rule, tables_rule, keys_rule, script_rule, Valid}
+use Rattle.package_layout.specs.Valid.{start_rule, files_rule, tables_rule, script_rule, Valid}
 use Rattle.package_layout.specs.Whole.{IsTyped}
 
 -- ---- the package that has all of a world, of which nothing was asked
@@ -45,11 +46,11 @@ all_of_world w = record {
 abbrev pub TypedWorld : World → Type 0
 TypedWorld w = IsTyped (all_of_world w)
 
--- start words, files, tables and keys meet the rules, and the first start word is a file that is a script
+-- start words, files and tables meet the rules, and the first start word is a file that is a script
 abbrev pub rules_of_parts : Package → Bool
 rules_of_parts p =
     start_rule p.start && files_rule p.files && tables_rule p.tables && list_all table_room p.tables
-    && keys_rule p.tables && script_rule p.start p.files
+    && script_rule p.start p.files
 
 abbrev pub world_rules : World → Bool
 world_rules w = rules_of_parts (all_of_world w)
@@ -68,11 +69,11 @@ WorldTablesLaw = (w : World) → ValidWorld w → tables_test w.tables ≡ true
 -- is valid
 abbrev pub ValidPackageLaw : Type 0
 ValidPackageLaw = (n : ℕ) (w : World) → IsTrue (world_rules w) → tables_test w.tables ≡ true
-    → n ≤ 10000000
+    → n ≤ max_steps
     → ends_within n w ≡ true
     → Valid (package_of Included n w)
 
 -- of a valid world, its numbers are those of their types and its texts are UTF-8
 abbrev pub TypedPackageLaw : Type 0
-TypedPackageLaw = (n : ℕ) (w : World) → ValidWorld w → n ≤ 10000000 → ends_within n w ≡ true
+TypedPackageLaw = (n : ℕ) (w : World) → ValidWorld w → n ≤ max_steps → ends_within n w ≡ true
     → IsTyped (package_of Included n w)

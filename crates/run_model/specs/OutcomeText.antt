@@ -80,7 +80,8 @@ process_text p = head_text p ++ line p.printed ++ flat_map reply_text p.replies
 -- `file A N`, the path and the N bytes
 abbrev pub file_text : List ℕ → List ℕ → List ℕ
 file_text path bytes =
-    line (codes "file " ++ decimal (length path) ++ codes " " ++ decimal (length bytes)) ++ line path ++ line bytes
+    line (codes "file " ++ decimal (length path) ++ codes " " ++ decimal (length bytes)) ++ line path
+    ++ line bytes
 
 -- `removed A` and the path
 abbrev pub removed_text : List ℕ → List ℕ

@@ -12,6 +12,7 @@ use Rattle.run_model.specs.Types.{Value, Null, Int, Text, Operand, Constant, Var
 use Rattle.run_model.specs.Types.{Sql, Reply, Act, Ended, Asked, Entry}
 use Rattle.run_model.specs.Core.{Binding, lookup, bind, Cursor, Process, Diverged, Core, with_process}
 use Rattle.run_model.specs.Database.{Question, Lists, Answer, Gives, Diverges, Base}
+pub use Rattle.run_model.specs.Database.{asked_act}
 use Rattle.run_model.specs.State.{State, Stepped}
 
 -- ---- operands
@@ -176,9 +177,6 @@ abbrev pub ends_at : ℕ → Core → List Act
 ends_at number c = end_acts (slice_get c.processes number)
 
 -- ---- steps
-
-abbrev pub asked_act : ℕ → Lists → Act
-asked_act statement lists = Asked statement lists.tables lists.reads lists.made
 
 module _ {Db : Type 0} where
   abbrev pub kept_by : ℕ → Db → Effect → Stepped Db

@@ -4,32 +4,26 @@
 -- `are_tables` have none, since what several packages are joined to may have more.
 use Rattle.std.specs.Prelude.{ℕ, List, [], ◌∷◌, length, map, Bool, true, false, not, ◌&&◌, ◌==◌}
 use Rattle.std.specs.Prelude.{nat_lt, nat_le}
-use Rattle.std.specs.Prelude.{Option, Some, None, IsTrue, bytes_eq, find, slice_get}
+use Rattle.std.specs.Prelude.{Option, Some, None, IsTrue, bytes_eq, find}
 use Rattle.std.specs.Option.{is_some}
-use Rattle.std.specs.List.{list_all, zip}
-use Rattle.ldv_value.specs.Limits.{file_limit, text_limit, max_steps, max_files, max_tables}
-use Rattle.ldv_value.specs.Limits.{max_columns, max_params}
+use Rattle.std.specs.List.{list_all}
+use Rattle.ldv_value.specs.Limits.{file_limit, text_limit, max_steps, max_files, max_tables, max_params}
 use Rattle.ldv_value.specs.Names.{path_test}
 use Rattle.ldv_value.specs.Sorted.{is_strictly_sorted, text_precedes}
 use Rattle.script_parse.specs.Script.{script_of}
 use Rattle.sql_model.specs.declared.reply.Reply.TheVariants.{Rows, Changed, Refused}
 use Rattle.sql_model.specs.declared.reply.SqlRefusal.{SqlRefusal}
 use Rattle.sql_model.specs.declared.reply.SqlRefusal.TheVariants as refusals
-use Rattle.sql_model.specs.declared.table.Column.{Column}
-use Rattle.sql_model.specs.declared.table.Schema.{Schema}
-use Rattle.sql_model.specs.Keys.{repeats, has_two_of_a_key}
 use Rattle.sql_model.specs.SqlNames.{sql_name_test}
-use Rattle.run_model.specs.Types.{Value, Null, Int, Text, Reply, Event, Mode, Included, Excluded}
-use Rattle.run_model.specs.Types.{Entry, Log, Package, PackedFile, PackedRow, PackedTable}
+use Rattle.sql_model.specs.Tables.{schema_test, is_row, is_short, numbers_test, are_keys_unique}
+use Rattle.run_model.specs.Types.{Reply, Event, Mode, Included, Excluded}
+use Rattle.run_model.specs.Types.{Entry, Log, Package, PackedFile, PackedTable}
 use Rattle.run_model.specs.ValidTrace.{trace_test, asked_count}
 
 -- ---- orders
 
 abbrev pub packed_file_precedes : PackedFile → PackedFile → Bool
 packed_file_precedes a b = text_precedes a.path b.path
-
-abbrev pub packed_row_precedes : PackedRow → PackedRow → Bool
-packed_row_precedes a b = nat_lt a.number b.number
 
 abbrev pub packed_table_precedes : PackedTable → PackedTable → Bool
 packed_table_precedes a b = text_precedes a.name b.name
@@ -64,55 +58,22 @@ are_files files = list_all file_rule files && is_strictly_sorted packed_file_pre
 
 -- the same, and they are few enough
 abbrev pub files_rule : List PackedFile → Bool
-files_rule files =
-    nat_le (length files) max_files && list_all file_rule files
-    && is_strictly_sorted packed_file_precedes files
+files_rule files = nat_le (length files) max_files && are_files files
 
 -- ---- tables
 
-abbrev pub has_same_name : Column → Column → Bool
-has_same_name a b = bytes_eq a.name b.name
+-- the rows are numbered below next and fit the columns, and no text is too long
+abbrev pub rows_rule : PackedTable → Bool
+rows_rule table =
+    numbers_test (λ row. row.number) table.next table.rows
+    && list_all (λ row. is_row table.schema.columns row.values) table.rows
+    && list_all (λ row. list_all is_short row.values) table.rows
 
--- 1 to max_columns columns with names, none twice
-abbrev pub columns_rule : List Column → Bool
-columns_rule columns =
-    nat_le 1 (length columns) && nat_le (length columns) max_columns
-    && list_all (λ column. sql_name_test column.name) columns && not (repeats has_same_name columns)
-
-abbrev pub is_not_null : Option Column → Bool
-is_not_null None = false
-is_not_null (Some column) = column.not_null
-
--- the places of a key are places of columns that are NOT NULL, none twice
-abbrev pub key_rule : Schema → Bool
-key_rule schema =
-    list_all (λ place. is_not_null (slice_get schema.columns place)) schema.key
-    && not (repeats (λ a b. a == b) schema.key)
-
--- no text is too long
-abbrev pub is_short : Value → Bool
-is_short Null = true
-is_short (Int z) = true
-is_short (Text text) = is_short_text text
-
--- a value has its column's kind, and is there where the column is NOT NULL
-abbrev pub value_rule : Column → Value → Bool
-value_rule column Null = not column.not_null
-value_rule column (Int z) = not column.text
-value_rule column (Text text) = column.text && is_short_text text
-
-abbrev pub values_rule : List Column → List Value → Bool
-values_rule columns values = list_all (λ pair. value_rule pair.0 pair.1) (zip columns values)
-
--- row numbers are below next
-abbrev pub row_rule : PackedTable → PackedRow → Bool
-row_rule table row = nat_lt row.number table.next && values_rule table.schema.columns row.values
-
--- rows are strictly increasing by number
+-- a table by the rules of sql_model, and no two rows have the same key
 abbrev pub table_rule : PackedTable → Bool
 table_rule table =
-    sql_name_test table.name && columns_rule table.schema.columns && key_rule table.schema
-    && list_all (row_rule table) table.rows && is_strictly_sorted packed_row_precedes table.rows
+    sql_name_test table.name && schema_test table.schema && rows_rule table
+    && are_keys_unique table.schema.key (map (λ row. row.values) table.rows)
 
 -- strictly increasing by name, however many they are
 abbrev pub are_tables : List PackedTable → Bool
@@ -120,17 +81,7 @@ are_tables tables = list_all table_rule tables && is_strictly_sorted packed_tabl
 
 -- the same, and they are few enough
 abbrev pub tables_rule : List PackedTable → Bool
-tables_rule tables =
-    nat_le (length tables) max_tables && list_all table_rule tables
-    && is_strictly_sorted packed_table_precedes tables
-
--- ---- keys: no two rows of a table with a key have the same
-
-abbrev pub is_keyed : PackedTable → Bool
-is_keyed table = not (has_two_of_a_key table.schema.key (map (λ row. row.values) table.rows))
-
-abbrev pub keys_rule : List PackedTable → Bool
-keys_rule tables = list_all is_keyed tables
+tables_rule tables = nat_le (length tables) max_tables && are_tables tables
 
 -- ---- logs: strictly increasing by process, whose name begins with 0, none empty
 
@@ -211,7 +162,7 @@ whole_rule p =
     && reasons_rule (asked_count p.events) p.tables
 
 abbrev pub rules : Package → Bool
-rules p = parts_rule p && whole_rule p && keys_rule p.tables && script_rule p.start p.files
+rules p = parts_rule p && whole_rule p && script_rule p.start p.files
 
 abbrev pub ValidPackage : Package → Type 0
 ValidPackage p = IsTrue (rules p)

@@ -10,17 +10,22 @@
 //! It promises to the layers above:
 //! - `never_stuck_law`: over any database, a run that hasn't ended has a process that may run
 //!   (`specs/RunLaw.antt`);
+//! - `Database` and `Tracer`: what a run asks and tells, so that the code that runs is proved once, over every
+//!   database and every tracer; `NullTracer` keeps nothing, and `ListTracer` all events;
 //! - `outcome_text`: the text of an outcome (`specs/OutcomeText.antt`).
 #![tactic(auto)]
 
+mod database;
 mod event;
 mod law;
 mod name;
 mod outcome;
 mod package;
 mod text;
+mod tracer;
 mod world;
 
+pub use database::{Asker, Database, Stop};
 pub use event::{Act, Event, Events};
 pub use law::never_stuck_law;
 pub use name::ProcName;
@@ -30,4 +35,5 @@ pub use package::{
     PackedTable, PackedTables,
 };
 pub use text::outcome_text;
+pub use tracer::{ListTracer, NullTracer, Tracer};
 pub use world::World;

@@ -5,7 +5,7 @@ use ldv_value::{Bytes, List, Utf8};
 use sql_model::Replies;
 
 /// The outcome of an ended run: its processes, in the order of their names, and the touched paths,
-/// rising.
+/// sorted.
 #[derive(Drop)]
 pub struct Outcome {
     pub processes: ProcOutcomes,

@@ -20,11 +20,11 @@ pub struct Package {
     pub seed: u64,
     /// The number of steps of the recorded run, 1 to 10,000,000.
     pub steps: u32,
-    /// Rising by path.
+    /// Sorted by path.
     pub files: PackedFiles,
-    /// Rising by name.
+    /// Sorted by name.
     pub tables: PackedTables,
-    /// Rising by process name.
+    /// Sorted by process name.
     pub logs: Logs,
     pub events: Events,
 }

@@ -2,7 +2,7 @@
 
 ghost use Rattle.std.specs.Prelude.{◌≡◌, ◌++◌, ◌∷◌, [], codes, length, IfOk, OnOk};
 ghost use Rattle.std.specs.List.{flat_map};
-ghost use Rattle.std.specs.Fmt.{decimal, signed_decimal};
+ghost use Rattle.std.specs.Fmt.{decimal};
 ghost use Rattle.run_model.specs.OutcomeText.{line, utf8_text, value_text, values_text, row_text, rows_text};
 ghost use Rattle.run_model.specs.OutcomeText.{key_text, refusal_text, reply_text, parts_text, name_text};
 ghost use Rattle.run_model.specs.OutcomeText.{head_text, process_text, file_text, removed_text, content_text};
@@ -10,7 +10,7 @@ ghost use Rattle.run_model.specs.OutcomeText.{path_text, outcome_text_of};
 
 use crate::name::ProcName;
 use crate::outcome::{Outcome, PathOutcome, ProcOutcome};
-use ldv_value::{Bytes, RowList, Utf8, Value, Values};
+use ldv_value::{Bytes, RowList, Utf8, Value, Values, append_number, append_signed};
 use sql_model::{Replies, Reply, SqlRefusal};
 use std::alloc::{AllocError, Global};
 
@@ -20,27 +20,13 @@ pub fn outcome_text(alloc: Global, outcome: &Outcome) -> Result<Bytes, AllocErro
 {
     let mut text = Bytes::new(alloc);
     text.extend(b"outcome ")?;
-    append_number(&mut text, outcome.processes.len() as u64)?;
+    append_number(outcome.processes.len() as u64, &mut text)?;
     text.extend(b" ")?;
-    append_number(&mut text, outcome.paths.len() as u64)?;
+    append_number(outcome.paths.len() as u64, &mut text)?;
     text.extend(b"\n")?;
     append_processes(&mut text, outcome.processes.items())?;
     append_paths(&mut text, outcome.paths.items())?;
     Ok(text)
-}
-
-fn append_number(to: &mut Bytes, number: u64) -> Result<(), AllocError>
-    ensures { OnOk result (to.new ≡ to.old ++ decimal number) }
-{
-    let text = number.to_string(to.allocator())?;
-    to.extend(text.as_bytes())
-}
-
-fn append_signed(to: &mut Bytes, number: i64) -> Result<(), AllocError>
-    ensures { OnOk result (to.new ≡ to.old ++ signed_decimal number) }
-{
-    let text = number.to_string(to.allocator())?;
-    to.extend(text.as_bytes())
 }
 
 fn append_line(to: &mut Bytes, bytes: &[u8]) -> Result<(), AllocError>
@@ -55,7 +41,7 @@ fn append_counted(to: &mut Bytes, word: &[u8], number: u64) -> Result<(), AllocE
     ensures { OnOk result (to.new ≡ to.old ++ line (word.now ++ decimal number)) }
 {
     to.extend(word)?;
-    append_number(to, number)?;
+    append_number(number, to)?;
     to.extend(b"\n")
 }
 
@@ -66,7 +52,7 @@ fn append_value(to: &mut Bytes, value: &Value) -> Result<(), AllocError>
         Value::Null => to.extend(b"null\n"),
         Value::Int(number) => {
             to.extend(b"int ")?;
-            append_signed(to, *number)?;
+            append_signed(*number, to)?;
             to.extend(b"\n")
         }
         Value::Text(text) => append_text_value(to, text),
@@ -154,7 +140,7 @@ fn append_parts(to: &mut Bytes, parts: &[u32]) -> Result<(), AllocError>
 {
     for part in parts {
         to.extend(b".")?;
-        append_number(to, *part as u64)?;
+        append_number(*part as u64, to)?;
     }
     Ok(())
 }
@@ -177,7 +163,7 @@ fn append_joined(to: &mut Bytes, parts: &[u32]) -> Result<(), AllocError>
 fn append_parts_from(to: &mut Bytes, first: u32, rest: &[u32]) -> Result<(), AllocError>
     ensures { OnOk result (to.new ≡ to.old ++ decimal first ++ parts_text rest.now) }
 {
-    append_number(to, first as u64)?;
+    append_number(first as u64, to)?;
     append_parts(to, rest)
 }
 
@@ -195,9 +181,9 @@ fn append_head(to: &mut Bytes, process: &ProcOutcome) -> Result<(), AllocError>
     to.extend(b"process ")?;
     append_name(to, &process.name)?;
     to.extend(b" ")?;
-    append_number(to, process.status as u64)?;
+    append_number(process.status as u64, to)?;
     to.extend(b" ")?;
-    append_number(to, process.printed.len() as u64)?;
+    append_number(process.printed.len() as u64, to)?;
     append_counted(to, b" ", process.replies.len() as u64)
 }
 
@@ -230,7 +216,7 @@ fn append_file(to: &mut Bytes, path: &Utf8, bytes: &Bytes) -> Result<(), AllocEr
     ensures { OnOk result (to.new ≡ to.old ++ file_text path.now bytes.now) }
 {
     to.extend(b"file ")?;
-    append_number(to, path.len() as u64)?;
+    append_number(path.len() as u64, to)?;
     append_counted(to, b" ", bytes.len() as u64)?;
     append_line(to, path.as_str().as_bytes())?;
     append_line(to, bytes.as_slice())

@@ -4,7 +4,7 @@ use ldv_value::{Files, Words};
 use sql_model::Tables;
 
 /// What a run starts from: the path of the first script and its arguments, the scheduler's seed, the
-/// files, rising by path, and the tables, rising by name.
+/// files, sorted by path, and the tables, sorted by name.
 #[derive(Drop)]
 pub struct World {
     pub start: Words,

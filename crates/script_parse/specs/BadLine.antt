@@ -2,7 +2,8 @@
 use Rattle.std.specs.Prelude.{◌≡◌, ◌⊎◌, ℕ, ◌+◌, ◌≤◌, List, [], ◌∷◌, ◌++◌, length, IsUtf8, Some}
 use Rattle.script_parse.specs.declared.script.Instr.{Instr}
 use Rattle.script_parse.specs.declared.token.Token.{Token}
-use Rattle.script_parse.specs.Grammar.{Kind, Names, AreLines, AreTokens, HasForm, IsKind, IsLine, IsName, place_of, tokens_for}
+use Rattle.script_parse.specs.Grammar.{Kind, Names, AreLines, AreTokens, HasForm, IsKind, IsLine, IsName}
+use Rattle.script_parse.specs.Grammar.{place_of, tokens_for}
 
 -- any label at any place: what a line is, apart from the other lines
 abbrev pub Anywhere : List ℕ → ℕ → Type 0

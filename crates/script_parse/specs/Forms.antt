@@ -1,5 +1,6 @@
 -- From the tokens of a line to what the line says.
-use Rattle.std.specs.Prelude.{ℕ, ◌+◌, List, [], ◌∷◌, length, take, drop, Bool, false, not, nat_le, if◌then◌else◌, Option, Some, None, position, codes}
+use Rattle.std.specs.Prelude.{ℕ, ◌+◌, List, [], ◌∷◌, length, take, drop, Bool, false, not, nat_le}
+use Rattle.std.specs.Prelude.{if◌then◌else◌, Option, Some, None, position, codes}
 use Rattle.ldv_value.specs.Limits.{max_operands}
 use Rattle.ldv_value.specs.declared.value.Value.TheVariants as value
 use Rattle.ldv_value.specs.declared.value.Cmp.{Cmp}
@@ -12,7 +13,10 @@ use Rattle.script_parse.specs.declared.script.Instr.TheVariants as instr
 use Rattle.script_parse.specs.declared.token.Token.{Token}
 use Rattle.script_parse.specs.declared.token.Token.TheVariants.{Word, Number, Quoted}
 use Rattle.script_parse.specs.declared.keyword.Keyword.{Keyword}
-use Rattle.script_parse.specs.declared.keyword.Keyword.TheVariants.{Let, Cut, Goto, If, Print, Exit, Open, ReadLine, Write, Copy, Close, Remove, Exists, Spawn, Wait, Sql, Fetch, Count, Status}
+use Rattle.script_parse.specs.declared.keyword.Keyword.TheVariants.{Let, Cut, Goto, If, Print, Exit, Open}
+use Rattle.script_parse.specs.declared.keyword.Keyword.TheVariants.{ReadLine, Write, Copy, Close, Remove}
+use Rattle.script_parse.specs.declared.keyword.Keyword.TheVariants.{Exists, Spawn, Wait, Sql, Fetch, Count}
+use Rattle.script_parse.specs.declared.keyword.Keyword.TheVariants.{Status}
 use Rattle.script_parse.specs.declared.keyword.Sign.{Sign}
 use Rattle.script_parse.specs.declared.keyword.Sign.TheVariants.{Plus, Minus, Times, Join}
 use Rattle.script_parse.specs.declared.line.Line.{Line}

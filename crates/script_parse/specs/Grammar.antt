@@ -1,6 +1,7 @@
 -- The grammar of scripts, as a relation between bytes and instructions. It says how each thing is written,
 -- from the instructions to the bytes; no place in it says how they are read.
-use Rattle.std.specs.Prelude.{◌≡◌, ◌≢◌, ◌⊎◌, ℕ, ◌+◌, ◌^◌, ◌<◌, ◌≤◌, List, [], ◌∷◌, ◌++◌, length, map, IsTrue, IsUtf8, ℤ, pos, neg_ℤ, codes, Option, Some, None}
+use Rattle.std.specs.Prelude.{◌≡◌, ◌≢◌, ◌⊎◌, ℕ, ◌+◌, ◌^◌, ◌<◌, ◌≤◌, List, [], ◌∷◌, ◌++◌, length, map, IsTrue}
+use Rattle.std.specs.Prelude.{IsUtf8, ℤ, pos, neg_ℤ, codes, Option, Some, None}
 use Rattle.std.specs.List.{AllZip, AllByRecursion}
 use Prim.Native.String.{String}
 use Rattle.ldv_value.specs.Limits.{text_limit, max_operands}
@@ -10,7 +11,10 @@ use Rattle.script_parse.specs.declared.script.Operand.TheVariants.{Constant, Var
 use Rattle.script_parse.specs.declared.script.CalcOp.{CalcOp}
 use Rattle.script_parse.specs.declared.script.CalcOp.TheVariants.{Add, Subtract, Multiply}
 use Rattle.script_parse.specs.declared.script.Instr.{Instr}
-use Rattle.script_parse.specs.declared.script.Instr.TheVariants.{Let, Calc, Glue, ToInt, Cut, Jump, JumpIf, Print, Exit, OpenPath, ReadLine, WriteLine, CopyRest, Close, Remove, Exists, Spawn, Wait, Sql, Fetch, Count, Status}
+use Rattle.script_parse.specs.declared.script.Instr.TheVariants.{Let, Calc, Glue, ToInt, Cut, Jump, JumpIf}
+use Rattle.script_parse.specs.declared.script.Instr.TheVariants.{Print, Exit, OpenPath, ReadLine, WriteLine}
+use Rattle.script_parse.specs.declared.script.Instr.TheVariants.{CopyRest, Close, Remove, Exists, Spawn, Wait}
+use Rattle.script_parse.specs.declared.script.Instr.TheVariants.{Sql, Fetch, Count, Status}
 use Rattle.script_parse.specs.declared.token.Token.{Token}
 use Rattle.script_parse.specs.declared.token.Token.TheVariants.{Word, Number, Quoted}
 use Rattle.script_parse.specs.Keywords.{comparison_text, mode_text}

@@ -5,7 +5,10 @@ use Rattle.ldv_value.specs.declared.value.Cmp.TheVariants.{Eq, Ne, Lt, Le, Gt, G
 use Rattle.ldv_value.specs.declared.file.OpenMode.{OpenMode}
 use Rattle.ldv_value.specs.declared.file.OpenMode.TheVariants as mode
 use Rattle.script_parse.specs.declared.keyword.Keyword.{Keyword}
-use Rattle.script_parse.specs.declared.keyword.Keyword.TheVariants.{Let, Cut, Goto, If, Print, Exit, Open, ReadLine, Write, Copy, Close, Remove, Exists, Spawn, Wait, Sql, Fetch, Count, Status}
+use Rattle.script_parse.specs.declared.keyword.Keyword.TheVariants.{Let, Cut, Goto, If, Print, Exit, Open}
+use Rattle.script_parse.specs.declared.keyword.Keyword.TheVariants.{ReadLine, Write, Copy, Close, Remove}
+use Rattle.script_parse.specs.declared.keyword.Keyword.TheVariants.{Exists, Spawn, Wait, Sql, Fetch, Count}
+use Rattle.script_parse.specs.declared.keyword.Keyword.TheVariants.{Status}
 use Rattle.script_parse.specs.declared.keyword.Sign.{Sign}
 use Rattle.script_parse.specs.declared.keyword.Sign.TheVariants.{Plus, Minus, Times, Join}
 use Rattle.script_parse.specs.Names.{is_text}

@@ -1,5 +1,6 @@
 -- The lines of a script, and what each says.
-use Rattle.std.specs.Prelude.{ℕ, ◌+◌, List, [], ◌∷◌, Bool, false, not, ◌&&◌, ◌==◌, if◌then◌else◌, Option, Some, None, find}
+use Rattle.std.specs.Prelude.{ℕ, ◌+◌, List, [], ◌∷◌, Bool, false, not, ◌&&◌, ◌==◌, if◌then◌else◌, Option}
+use Rattle.std.specs.Prelude.{Some, None, find}
 use Rattle.std.specs.Str.{is_utf8}
 use Rattle.script_parse.specs.declared.token.Token.{Token}
 use Rattle.script_parse.specs.declared.line.Line.{Line}

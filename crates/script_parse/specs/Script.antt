@@ -1,5 +1,6 @@
 -- A script as a function of its bytes: the lines, what each says, the places of labels.
-use Rattle.std.specs.Prelude.{◌≡◌, ℕ, ◌+◌, ◌++◌, List, [], ◌∷◌, Bool, false, ◌==◌, if◌then◌else◌, Option, Some, None, is_some, option_to_list, Result, Ok, Err}
+use Rattle.std.specs.Prelude.{◌≡◌, ℕ, ◌+◌, ◌++◌, List, [], ◌∷◌, Bool, false, ◌==◌, if◌then◌else◌, Option}
+use Rattle.std.specs.Prelude.{Some, None, is_some, option_to_list, Result, Ok, Err}
 use Rattle.script_parse.specs.declared.script.Instr.{Instr}
 use Rattle.script_parse.specs.declared.script.Instr.TheVariants as instr
 use Rattle.script_parse.specs.declared.line.Line.{Line as Said}

@@ -4,7 +4,8 @@ ghost use Rattle.std.specs.Prelude.{◌≡◌};
 ghost use Rattle.std.specs.Option.{option_map};
 ghost use Rattle.std.specs.Str.{is_utf8};
 ghost use Rattle.script_parse.specs.Gives.{Gives};
-ghost use Rattle.script_parse.specs.Lines.{before_colon, label_in, worded, form_of, first_shown, is_comment, line_of};
+ghost use Rattle.script_parse.specs.Lines.{before_colon, label_in, worded, form_of, first_shown, is_comment};
+ghost use Rattle.script_parse.specs.Lines.{line_of};
 
 use crate::forms::instruction;
 use crate::keyword::find_keyword;

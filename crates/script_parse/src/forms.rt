@@ -2,7 +2,11 @@
 
 ghost use Rattle.std.specs.Prelude.{◌≡◌, ◌<◌, IfSome, length, position, codes};
 ghost use Rattle.script_parse.specs.Gives.{Gives, GivesBy};
-ghost use Rattle.script_parse.specs.Forms.{is_word, sign_in, comparison_in, mode_in, signed, let_value, let_of, cut_of, goto_of, if_of, print_of, exit_of, write_of, copy_of, close_of, exists_of, wait_of, sql_of, count_of, status_of, last_label, else_of, open_of, readline_of, remove_of, spawn_of, fetch_of, with_else, instruction_of};
+ghost use Rattle.script_parse.specs.Forms.{is_word, sign_in, comparison_in, mode_in, signed, let_value};
+ghost use Rattle.script_parse.specs.Forms.{let_of, cut_of, goto_of, if_of, print_of, exit_of, write_of};
+ghost use Rattle.script_parse.specs.Forms.{copy_of, close_of, exists_of, wait_of, sql_of, count_of};
+ghost use Rattle.script_parse.specs.Forms.{status_of, last_label, else_of, open_of, readline_of, remove_of};
+ghost use Rattle.script_parse.specs.Forms.{spawn_of, fetch_of, with_else, instruction_of};
 
 use crate::keyword::{Keyword, Sign, find_comparison, find_mode, find_sign};
 use crate::line::Line;

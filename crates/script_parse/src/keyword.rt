@@ -2,7 +2,8 @@
 
 ghost use Rattle.std.specs.Prelude.{◌≡◌, find};
 ghost use Rattle.script_parse.specs.Names.{is_text};
-ghost use Rattle.script_parse.specs.Keywords.{keyword_text, sign_text, comparison_text, mode_text, keyword_of, sign_of, comparison_of, mode_of};
+ghost use Rattle.script_parse.specs.Keywords.{keyword_text, sign_text, comparison_text, mode_text};
+ghost use Rattle.script_parse.specs.Keywords.{keyword_of, sign_of, comparison_of, mode_of};
 
 use ldv_value::{Cmp, OpenMode};
 

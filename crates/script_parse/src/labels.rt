@@ -51,7 +51,8 @@ fn add_label(
 ) -> Result<(), AllocError>
     ensures { OnOk result ((name : List ℕ)
         → get_by_text labels.new name
-        ≡ option_or (get_by_text labels.old name) (definition_of (labels_in entry.now.number place entry.now.line) name)) }
+        ≡ option_or (get_by_text labels.old name) (definition_of (labels_in entry.now.number place
+        entry.now.line) name)) }
 {
     match &entry.line {
         None => Ok(()),

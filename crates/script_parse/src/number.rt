@@ -1,7 +1,8 @@
 //! Numbers as scripts write them.
 
 ghost use Rattle.std.specs.Prelude.{◌≡◌, ◌≤◌, ◌^◌, ◌∷◌, []};
-ghost use Rattle.script_parse.specs.Number.{is_digit, magnitude_from, magnitude_of, natural_of, negative_of, number_of};
+ghost use Rattle.script_parse.specs.Number.{is_digit, magnitude_from, magnitude_of, natural_of, negative_of};
+ghost use Rattle.script_parse.specs.Number.{number_of};
 
 /// The greatest magnitude of an `i64`.
 const MAGNITUDE_LIMIT: u64 = 1 << 63;

@@ -3,7 +3,8 @@
 ghost use Rattle.std.specs.Prelude.{◌≡◌, codes};
 ghost use Rattle.script_parse.specs.Gives.{Gives};
 ghost use Rattle.script_parse.specs.Names.{is_reserved, name_test};
-ghost use Rattle.script_parse.specs.Forms.{each, is_word, name_in, name_of, word_operand, operand_of, operands_of, operands_from_one, names_from_one};
+ghost use Rattle.script_parse.specs.Forms.{each, is_word, name_in, name_of, word_operand, operand_of};
+ghost use Rattle.script_parse.specs.Forms.{operands_of, operands_from_one, names_from_one};
 
 use crate::line_error::LineError;
 use crate::script::{Operand, Operands};

@@ -6,7 +6,8 @@ ghost use Rattle.script_parse.specs.declared.script.Instr.{Instr};
 ghost use Rattle.script_parse.specs.BadLine.{IsFirstBadLine};
 ghost use Rattle.script_parse.specs.Gives.{Gives};
 ghost use Rattle.script_parse.specs.Grammar.{IsScript};
-ghost use Rattle.script_parse.specs.Script.{script_of, first_bad_line, resolve, is_first, with_place, instructions_of, first_bad, Answers, IfLine, look_up};
+ghost use Rattle.script_parse.specs.Script.{script_of, first_bad_line, resolve, is_first, with_place};
+ghost use Rattle.script_parse.specs.Script.{instructions_of, first_bad, Answers, IfLine, look_up};
 
 use crate::labels::{Labels, labels};
 use crate::line::{Entries, Entry, Line};
@@ -77,7 +78,8 @@ fn resolved(alloc: Global, entries: Entries) -> Result<Instrs, ScriptStop>
 
 // The instructions of lines, where none is bad.
 fn instructions(alloc: Global, labels: &Labels, entries: Entries) -> Result<Instrs, ScriptStop>
-    ensures { Answers result (instructions_of (get_by_text labels.now) entries) (first_bad (get_by_text labels.now) entries) }
+    ensures { Answers result (instructions_of (get_by_text labels.now) entries) (first_bad
+        (get_by_text labels.now) entries) }
 {
     let mut instructions = Instrs::new(alloc);
     for entry in entries.into_vec() {

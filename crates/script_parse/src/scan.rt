@@ -2,7 +2,8 @@
 
 ghost use Rattle.std.specs.Prelude.{◌≡◌, ◌++◌, OnErr, OnOk, option_to_list};
 ghost use Rattle.script_parse.specs.Gives.{Gives};
-ghost use Rattle.script_parse.specs.Tokens.{is_blank, escape_of, step_between, step_in_word, step_in_text, step_escaped, step_closed, step, finish, tokens_of};
+ghost use Rattle.script_parse.specs.Tokens.{is_blank, escape_of, step_between, step_in_word, step_in_text};
+ghost use Rattle.script_parse.specs.Tokens.{step_escaped, step_closed, step, finish, tokens_of};
 
 use crate::line_error::LineError;
 use crate::token::{Token, Tokens, text_token, word_token};

@@ -1,6 +1,7 @@
 //! From the bytes of a script to its lines.
 
-ghost use Rattle.std.specs.Prelude.{◌≡◌, ◌⊎◌, ◌++◌, ◌∷◌, [], ◌+◌, ◌<◌, ◌≤◌, ◌^◌, ◌==◌, length, position, IfOk, OnOk};
+ghost use Rattle.std.specs.Prelude.{◌≡◌, ◌⊎◌, ◌++◌, ◌∷◌, [], ◌+◌, ◌<◌, ◌≤◌, ◌^◌, ◌==◌, length, position};
+ghost use Rattle.std.specs.Prelude.{IfOk, OnOk};
 ghost use Rattle.script_parse.specs.Grammar.{EndsInReturn};
 ghost use Rattle.script_parse.specs.Lines.{lines_of, line_of};
 ghost use Rattle.script_parse.specs.Script.{entry_of, entries_from, entries_of};

@@ -1,5 +1,5 @@
 -- Sets of names, step by step.
-use Rattle.std.proofs.Common.{◌≡◌, ℕ, List, sym, ap, ◌∙◌, cond, inl, inr}
+use Rattle.std.proofs.Common.{◌≡◌, ℕ, List, true, refl, sym, ap, ◌∙◌, cond, inl, inr}
 use Rattle.std.specs.Prelude.{Some, is_some, ◌||◌, String, string_bytes, string_cmp, bytes_eq}
 use Rattle.std.specs.declared.alloc.Global.{Global}
 use Rattle.std.specs.BTreeMap.{BTreeMap, get_by_text, UpdatesBy}
@@ -7,6 +7,7 @@ use Rattle.std.specs.Cmp.Lexicographic.{slice_cmp}
 use Rattle.std.specs.Ordering.{nat_cmp}
 use Rattle.std.proofs.lemmas.Bool.{cases_Bool}
 use Rattle.std.proofs.lemmas.Map.Text.{btree_map_updates_text}
+use Rattle.std.proofs.lemmas.Slice.Eq.{bytes_eq-Decides}
 use Rattle.sql_model.specs.Scope.{same_text}
 use Rattle.slicer.specs.Marks.{has_name}
 use Rattle.slicer.proofs.Booleans.{or_true, or_false}
@@ -21,3 +22,13 @@ add_name m n key name is updates q =
       | inl hit ↦ ap is_some new ∙ rw hit (sym (or_true (has_name m q)))
       | inr miss ↦ ap is_some new ∙ rw miss (sym (or_false (has_name m q)))
     ]
+
+-- a name that the set has
+pub known_name : (m : BTreeMap (String Global) (Unit {0})) (name : List ℕ) → has_name m name ≡ true → (q : List ℕ) → has_name m q ≡ (has_name m q || same_text name q)
+known_name m name known q = elim (cases_Bool (same_text name q)) [
+  | inl hit ↦
+      let same : name ≡ q = (bytes_eq-Decides name q).0 hit in
+      let there : has_name m q ≡ true = ap (has_name m) (sym same) ∙ known in
+      rw there refl
+  | inr miss ↦ rw miss (sym (or_false (has_name m q)))
+]

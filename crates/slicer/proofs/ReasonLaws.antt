@@ -1,21 +1,20 @@
 -- The map of reasons, step by step.
-use Rattle.std.proofs.Common.{◌≡◌, ℕ, List, ◌∷◌, refl, sym, ap, ◌∙◌, Bool, true, false, arith, inl, inr}
-use Rattle.std.specs.Prelude.{Option, Some, None, is_some, ◌&&◌, ◌==◌, nat_lt, string_bytes, string_cmp}
+use Rattle.std.proofs.Common.{◌≡◌, ℕ, List, [], ◌∷◌, refl, sym, ap, ◌∙◌, cond, true, false, arith, inl, inr}
+use Rattle.std.specs.Prelude.{Option, Some, None, is_some, ◌==◌, nat_lt, String, bytes_eq}
+use Rattle.std.specs.List.{filter_map}
 use Rattle.std.specs.Option.{option_map}
-use Rattle.std.specs.declared.cmp.Ordering.{Ordering}
-use Rattle.std.specs.declared.cmp.Ordering.TheVariants.{Less, Equal, Greater}
-use Rattle.std.specs.BTreeMap.{BTreeMap, get, get_by, is_at, Updates}
-use Rattle.std.specs.Cmp.Lexicographic.{slice_cmp}
-use Rattle.std.specs.Ordering.{nat_cmp, is_eq, ordering_then}
+use Rattle.std.specs.declared.alloc.Global.{Global}
+use Rattle.std.specs.BTreeMap.{BTreeMap, get, get_by_text, is_at, Updates}
+use Rattle.std.specs.Map.{lookup}
+use Rattle.std.specs.Ordering.{nat_cmp, is_eq}
 use Rattle.std.proofs.lemmas.Bool.{cases_Bool, false≢true}
 use Rattle.std.proofs.lemmas.Bool.Decides.{nat_tests, Decides-eqb}
-use Rattle.std.proofs.lemmas.Map.Text.{is_eq-slice_cmp}
 use Rattle.std.proofs.lemmas.Slice.Eq.{bytes_eq-Decides}
-use Rattle.sql_model.specs.declared.need.Need.{Need}
 use Rattle.sql_model.specs.Scope.{same_text}
+use Rattle.run_model.specs.Types.{Need, TableRow}
 use Rattle.run_model.specs.Slice.{Reason, is_read, reason_in, reason_or}
 use Rattle.slicer.specs.declared.reasons.Why.{Why}
-use Rattle.slicer.specs.Marks.{Key, key_cmp, reason_from, reason_at, reason_of_read}
+use Rattle.slicer.specs.Marks.{reason_from, row_reason, reason_among, reason_at, reason_of_row, reason_of_read, row_because}
 
 pub none_of : {A : Type 0} (o : Option A) → is_some o ≡ false → o ≡ None
 none_of None h = refl
@@ -30,16 +29,12 @@ reason_or_assoc None b c = refl
 reason_or_assoc (Some r) b c = refl
 
 -- a list of reads is its first and the others
-pub reason_step : (statement : ℕ) (need : Need) (needs : List Need) (q : Key) → reason_in statement (string_bytes q.0) q.1 (need ∷ needs) ≡ reason_or (reason_of_read statement need q) (reason_in statement (string_bytes q.0) q.1 needs)
-reason_step statement need needs q = elim (cases_Bool (is_read (string_bytes q.0) q.1 need)) [
+pub reason_step : (statement : ℕ) (need : Need) (needs : List Need) (table : List ℕ) (row : ℕ)
+    → reason_in statement table row (need ∷ needs) ≡ reason_or (reason_of_read statement need table row) (reason_in statement table row needs)
+reason_step statement need needs table row = elim (cases_Bool (is_read table row need)) [
   | inl hit ↦ rw hit refl
   | inr miss ↦ rw miss refl
 ]
-
-both_equal : (a b : Ordering) → is_eq (ordering_then a b) ≡ (is_eq a && is_eq b)
-both_equal Less b = refl
-both_equal Equal b = refl
-both_equal Greater b = refl
 
 number_equal : (x y : ℕ) → is_eq (nat_cmp x y) ≡ (x == y)
 number_equal x y = elim (cases_Bool (nat_lt x y)) [
@@ -50,51 +45,29 @@ number_equal x y = elim (cases_Bool (nat_lt x y)) [
   ]
 ]
 
--- keys are equal where texts and numbers are
-key_equal : (x y : Key) → is_eq (key_cmp x y) ≡ (same_text (string_bytes x.0) (string_bytes y.0) && (x.1 == y.1))
-key_equal x y =
-    both_equal (string_cmp x.0 y.0) (nat_cmp x.1 y.1)
-    ∙ (λ j. is_eq-slice_cmp (string_bytes x.0) (string_bytes y.0) j && number_equal x.1 y.1 j)
+-- ---- the rows of a table
 
--- the map is asked at a text and a number
-abbrev found_at : BTreeMap Key Why → List ℕ → ℕ → Option Why
-found_at m text number = get_by (λ (k : Key). ordering_then (slice_cmp nat_cmp text (string_bytes k.0)) (nat_cmp number k.1)) m
-
-and_first : (a b : Bool) → (a && b) ≡ true → a ≡ true
-and_first true b both = refl
-and_first false b both = both
-
-and_second : (a b : Bool) → (a && b) ≡ true → b ≡ true
-and_second true b both = both
-and_second false b both = cc
-
-module _ (m n : BTreeMap Key Why) (key : Key) (statement : ℕ) (need : Need) (text : string_bytes key.0 ≡ need.member.table) (number : key.1 ≡ need.member.row) where
-  read_is : (q : Key) → is_eq (key_cmp key q) ≡ is_read (string_bytes q.0) q.1 need
-  read_is q = key_equal key q ∙ (λ j. same_text (text j) (string_bytes q.0) && (number j == q.1))
-
-  same_place : (q : Key) → is_read (string_bytes q.0) q.1 need ≡ true → get key_cmp m q ≡ get key_cmp m key
-  same_place q hit =
-      let at_text : need.member.table ≡ string_bytes q.0 = (bytes_eq-Decides need.member.table (string_bytes q.0)).0 (and_first (same_text need.member.table (string_bytes q.0)) (need.member.row == q.1) hit) in
-      let at_number : need.member.row ≡ q.1 = (Decides-eqb need.member.row q.1).0 (and_second (same_text need.member.table (string_bytes q.0)) (need.member.row == q.1) hit) in
-      sym (λ j. found_at m ((text ∙ at_text) j) ((number ∙ at_number) j))
+module _ (m n : BTreeMap ℕ Why) (row : ℕ) (why : Why) where
+  same_row : (q : ℕ) → (row == q) ≡ true → get nat_cmp m q ≡ get nat_cmp m row
+  same_row q hit = ap (get nat_cmp m) (sym ((Decides-eqb row q).0 hit))
 
   -- a row that wasn't needed yet
-  pub put_reason : get key_cmp m key ≡ None → Updates key_cmp m n key (Some (record { statement = statement; rule = need.rule })) → (q : Key) → reason_at n q ≡ reason_or (reason_at m q) (reason_of_read statement need q)
-  put_reason absent updates q = elim (cases_Bool (is_read (string_bytes q.0) q.1 need)) [
+  pub put_row : get nat_cmp m row ≡ None → Updates nat_cmp m n row (Some why) → (q : ℕ) → row_reason n q ≡ reason_or (row_reason m q) (reason_of_row row why q)
+  put_row absent updates q = elim (cases_Bool (row == q)) [
     | inl hit ↦
-        let at : is_at (key_cmp key) q ≡ true = read_is q ∙ hit in
-        let none : get key_cmp m q ≡ None = same_place q hit ∙ absent in
+        let at : is_at (nat_cmp row) q ≡ true = number_equal row q ∙ hit in
+        let none : get nat_cmp m q ≡ None = same_row q hit ∙ absent in
         ap (option_map reason_from) (updates.0 q) ∙ rw (at, none, hit) refl
     | inr miss ↦
-        let at : is_at (key_cmp key) q ≡ false = read_is q ∙ miss in
-        ap (option_map reason_from) (updates.0 q) ∙ rw (at, miss) (sym (or_none (reason_at m q)))
+        let at : is_at (nat_cmp row) q ≡ false = number_equal row q ∙ miss in
+        ap (option_map reason_from) (updates.0 q) ∙ rw (at, miss) (sym (or_none (row_reason m q)))
   ]
 
   -- a row that was needed before
-  pub kept_reason : is_some (get key_cmp m key) ≡ true → (q : Key) → reason_at m q ≡ reason_or (reason_at m q) (reason_of_read statement need q)
-  kept_reason there q = elim (cases_Bool (is_read (string_bytes q.0) q.1 need)) [
-    | inl hit ↦ kept (reason_at m q) (reason_of_read statement need q) (some_mapped (get key_cmp m q) (ap is_some (same_place q hit) ∙ there))
-    | inr miss ↦ rw miss (sym (or_none (reason_at m q)))
+  pub kept_row : is_some (get nat_cmp m row) ≡ true → (q : ℕ) → row_reason m q ≡ reason_or (row_reason m q) (reason_of_row row why q)
+  kept_row there q = elim (cases_Bool (row == q)) [
+    | inl hit ↦ kept (row_reason m q) (reason_of_row row why q) (some_mapped (get nat_cmp m q) (ap is_some (same_row q hit) ∙ there))
+    | inr miss ↦ rw miss (sym (or_none (row_reason m q)))
   ]
     where
       some_mapped : (o : Option Why) → is_some o ≡ true → is_some (option_map reason_from o) ≡ true
@@ -104,3 +77,27 @@ module _ (m n : BTreeMap Key Why) (key : Key) (statement : ℕ) (need : Need) (t
       kept : (a b : Option Reason) → is_some a ≡ true → a ≡ reason_or a b
       kept None b some = cc
       kept (Some r) b some = refl
+
+pub none_empty : (m : BTreeMap ℕ Why) → m.entries ≡ [] → (q : ℕ) → row_reason m q ≡ None
+none_empty m empty q = ap (λ (entries : List (ℕ × Why)). option_map reason_from (lookup (is_at (nat_cmp q)) entries)) empty
+
+-- ---- the tables
+
+-- the rows of a table that a read is of, before and after it
+pub read_step : (m n : BTreeMap (String Global) (BTreeMap ℕ Why)) (rows : BTreeMap ℕ Why) (statement : ℕ) (need : Need)
+    → ((table : List ℕ) → get_by_text n table ≡ cond (bytes_eq need.member.table table) (Some rows) (get_by_text m table))
+    → ((row : ℕ) → row_reason rows row ≡ reason_or (reason_at m need.member.table row) (reason_of_row need.member.row (record { statement = statement; rule = need.rule }) row))
+    → (table : List ℕ) (row : ℕ) → reason_at n table row ≡ reason_or (reason_at m table row) (reason_of_read statement need table row)
+read_step m n rows statement need updates steps table row = elim (cases_Bool (same_text need.member.table table)) [
+  | inl hit ↦
+      let same : need.member.table ≡ table = (bytes_eq-Decides need.member.table table).0 hit in
+      let step : row_reason rows row ≡ reason_or (reason_at m table row) (reason_of_row need.member.row (record { statement = statement; rule = need.rule }) row) =
+      steps row ∙ ap (λ (t : List ℕ). reason_or (reason_at m t row) (reason_of_row need.member.row (record { statement = statement; rule = need.rule }) row)) same in
+      ap (λ (o : Option (BTreeMap ℕ Why)). reason_among o row) (updates table) ∙ rw hit step
+  | inr miss ↦ ap (λ (o : Option (BTreeMap ℕ Why)). reason_among o row) (updates table) ∙ rw miss (sym (or_none (reason_at m table row)))
+]
+
+-- without a reason no row is packed
+pub none_packed : (reason : ℕ → Option Reason) → ((row : ℕ) → reason row ≡ None) → (rows : List TableRow) → [] ≡ filter_map (row_because reason) rows
+none_packed reason none [] = refl
+none_packed reason none (row ∷ rows) = rw (none row.number) (none_packed reason none rows)

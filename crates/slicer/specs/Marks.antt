@@ -1,15 +1,21 @@
 -- What the maps of `src/` mean.
-use Rattle.std.specs.Prelude.{ℕ, List, Bool, Option, is_some, if◌then◌else◌, Some, None, String, string_bytes, string_cmp}
+use Rattle.std.specs.Prelude.{ℕ, List, map, filter, Bool, ◌==◌, Option, is_some, option_and_then}
+use Rattle.std.specs.Prelude.{if◌then◌else◌, Some, None, String}
+use Rattle.std.specs.List.{filter_map}
 use Rattle.std.specs.Option.{option_map}
 use Rattle.std.specs.declared.alloc.Global.{Global}
-use Rattle.std.specs.declared.cmp.Ordering.{Ordering}
 use Rattle.std.specs.BTreeMap.{BTreeMap, get, get_by_text}
-use Rattle.std.specs.Ordering.{nat_cmp, ordering_then}
+use Rattle.std.specs.Ordering.{nat_cmp}
 use Rattle.sql_model.specs.declared.need.Need.{Need}
+use Rattle.sql_model.specs.declared.table.Table.{Table}
+use Rattle.sql_model.specs.declared.table.TableRow.{TableRow}
 use Rattle.ldv_value.specs.declared.file.File.{File}
 use Rattle.run_model.specs.declared.event.Act.{Act}
 use Rattle.run_model.specs.declared.package.PackedFile.{PackedFile}
-use Rattle.run_model.specs.Slice.{Reason, is_read, whole_path, present_path, FileNeed, Whole, Present, packed_as}
+use Rattle.run_model.specs.declared.package.PackedRow.{PackedRow}
+use Rattle.run_model.specs.declared.package.PackedTable.{PackedTable}
+use Rattle.run_model.specs.Slice.{Reason, is_read, whole_path, present_path, FileNeed, Whole, Present}
+use Rattle.run_model.specs.Slice.{packed_as, packed_because}
 use Rattle.slicer.specs.declared.reasons.Why.{Why}
 
 -- ---- names
@@ -19,20 +25,41 @@ has_name names name = is_some (get_by_text names name)
 
 -- ---- reasons by table and row
 
-abbrev pub Key : Type 0
-Key = String Global × ℕ
-
-abbrev pub key_cmp : Key → Key → Ordering
-key_cmp x y = ordering_then (string_cmp x.0 y.0) (nat_cmp x.1 y.1)
-
 abbrev pub reason_from : Why → Reason
 reason_from why = record { statement = why.statement; rule = why.rule }
 
-abbrev pub reason_at : BTreeMap Key Why → Key → Option Reason
-reason_at reasons key = option_map reason_from (get key_cmp reasons key)
+abbrev pub row_reason : BTreeMap ℕ Why → ℕ → Option Reason
+row_reason rows row = option_map reason_from (get nat_cmp rows row)
 
-abbrev pub reason_of_read : ℕ → Need → Key → Option Reason
-reason_of_read statement need key = if is_read (string_bytes key.0) key.1 need then Some (record { statement = statement; rule = need.rule }) else None
+abbrev pub reason_among : Option (BTreeMap ℕ Why) → ℕ → Option Reason
+reason_among rows row = option_and_then (λ rows. row_reason rows row) rows
+
+abbrev pub reason_at : BTreeMap (String Global) (BTreeMap ℕ Why) → List ℕ → ℕ → Option Reason
+reason_at reasons table row = reason_among (get_by_text reasons table) row
+
+abbrev pub reason_of_row : ℕ → Why → ℕ → Option Reason
+reason_of_row needed why row = if needed == row then Some (reason_from why) else None
+
+abbrev pub reason_of_read : ℕ → Need → List ℕ → ℕ → Option Reason
+reason_of_read statement need table row = if is_read table row need
+    then Some (record { statement = statement; rule = need.rule }) else None
+
+-- ---- tables and rows by a map's reasons and names
+
+abbrev pub row_because : (ℕ → Option Reason) → TableRow → Option PackedRow
+row_because reason row = option_map (packed_because row) (reason row.number)
+
+abbrev pub table_because : (List ℕ → ℕ → Option Reason) → Table → PackedTable
+table_because reason table = record {
+  name = table.name;
+  schema = table.schema;
+  next = table.next;
+  rows = filter_map (row_because (reason table.name)) table.rows;
+}
+
+abbrev pub tables_because : (List ℕ → ℕ → Option Reason) → (List ℕ → Bool) → List Table → List PackedTable
+tables_because reason is_named tables =
+    map (table_because reason) (filter (λ table. is_named table.name) tables)
 
 -- ---- files
 
@@ -43,5 +70,7 @@ path_by whole act = if whole then whole_path act else present_path act
 abbrev pub need_as : Bool → Bool → Option FileNeed
 need_as whole present = if whole then Some Whole else (if present then Some Present else None)
 
-abbrev pub packed_by : BTreeMap (String Global) (Unit {0}) → BTreeMap (String Global) (Unit {0}) → File → Option PackedFile
-packed_by whole present file = option_map (packed_as file) (need_as (has_name whole file.path) (has_name present file.path))
+abbrev pub packed_by : BTreeMap (String Global) (Unit {0}) → BTreeMap (String Global) (Unit {0}) → File
+    → Option PackedFile
+packed_by whole present file =
+    option_map (packed_as file) (need_as (has_name whole file.path) (has_name present file.path))

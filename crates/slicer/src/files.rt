@@ -1,10 +1,12 @@
 //! Needed files.
 
-ghost use Rattle.std.specs.Prelude.{◌≡◌, ◌||◌, ◌&&◌, ◌++◌, [], not, List, ℕ, OnOk, IfOk, Option, Some, None, if◌then◌else◌};
+ghost use Rattle.std.specs.Prelude.{◌≡◌, ◌||◌, ◌&&◌, ◌++◌, [], not, List, ℕ, OnOk, IfOk, Option, Some, None};
+ghost use Rattle.std.specs.Prelude.{if◌then◌else◌};
 ghost use Rattle.std.specs.List.{filter_map, cons_option};
 ghost use Rattle.std.specs.Option.{option_map};
 ghost use Rattle.slicer.specs.Marks.{has_name, path_by, need_as, packed_by};
-ghost use Rattle.run_model.specs.Slice.{is_path, whole_path, present_path, changed_path, names_initial, packed_as, files_needed};
+ghost use Rattle.run_model.specs.Slice.{is_path, whole_path, present_path, changed_path, names_initial};
+ghost use Rattle.run_model.specs.Slice.{packed_as, files_needed};
 
 use crate::names::{NameSet, add, has};
 use ldv_value::{File, Utf8};
@@ -70,7 +72,8 @@ fn add_unchanged(
     changed: &NameSet,
     path: &Utf8,
 ) -> Result<(), AllocError>
-    ensures { OnOk result ((q : List ℕ) → has_name names.new q ≡ (has_name names.old q || (not (has_name changed.now q) && is_path q (Some path.now)))) }
+    ensures { OnOk result ((q : List ℕ) → has_name names.new q
+        ≡ (has_name names.old q || (not (has_name changed.now q) && is_path q (Some path.now)))) }
 {
     if has(changed, path) {
         return Ok(());
@@ -84,7 +87,9 @@ fn note_needed(
     changed: &NameSet,
     path: Option<&Utf8>,
 ) -> Result<(), AllocError>
-    ensures { OnOk result ((q : List ℕ) → has_name names.new q ≡ (has_name names.old q || (not (has_name changed.now q) && is_path q (option_map (λ p. p.now) path.entry)))) }
+    ensures { OnOk result ((q : List ℕ) → has_name names.new q
+        ≡ (has_name names.old q || (not (has_name changed.now q)
+        && is_path q (option_map (λ p. p.now) path.entry)))) }
 {
     match path {
         None => Ok(()),
@@ -93,7 +98,8 @@ fn note_needed(
 }
 
 fn note_changed(alloc: Global, changed: &mut NameSet, path: Option<&Utf8>) -> Result<(), AllocError>
-    ensures { OnOk result ((q : List ℕ) → has_name changed.new q ≡ (has_name changed.old q || is_path q (option_map (λ p. p.now) path.entry))) }
+    ensures { OnOk result ((q : List ℕ) → has_name changed.new q
+        ≡ (has_name changed.old q || is_path q (option_map (λ p. p.now) path.entry))) }
 {
     match path {
         None => Ok(()),
@@ -103,7 +109,8 @@ fn note_changed(alloc: Global, changed: &mut NameSet, path: Option<&Utf8>) -> Re
 
 // The paths that events need whole, or present, before an earlier event changes them.
 fn named_initially(alloc: Global, events: &[Event], whole: bool) -> Result<NameSet, AllocError>
-    ensures { IfOk result (λ names. (q : List ℕ) → has_name names q ≡ names_initial (path_by whole) q events.now) }
+    ensures { IfOk result (λ names. (q : List ℕ) → has_name names q
+        ≡ names_initial (path_by whole) q events.now) }
 {
     let mut names = NameSet::new(alloc);
     let mut changed = NameSet::new(alloc);
@@ -160,7 +167,7 @@ fn pack_files(
     Ok(packed)
 }
 
-/// The needed ones of initial files. `AllocError` means want of memory alone.
+/// The initial files that the run needed. `AllocError` means out of memory only.
 pub(crate) fn needed_files(
     alloc: Global,
     events: &[Event],

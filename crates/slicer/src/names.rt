@@ -21,17 +21,22 @@ pub(crate) fn has(names: &NameSet, name: &Utf8) -> bool
     names.contains_key(name.as_str())
 }
 
-/// Puts a name into the set.
+/// Puts a name into the set. It is copied where the set hasn't got it.
 pub(crate) fn add(alloc: Global, names: &mut NameSet, name: &Utf8) -> Result<(), AllocError>
-    ensures { OnOk result ((q : List ℕ) → has_name names.new q ≡ (has_name names.old q || same_text name.now q)) }
+    ensures { OnOk result ((q : List ℕ) → has_name names.new q
+        ≡ (has_name names.old q || same_text name.now q)) }
 {
+    if has(names, name) {
+        return Ok(());
+    }
     let key = String::from_str(alloc, name.as_str())?;
     names.insert(key, ())?;
     Ok(())
 }
 
 fn add_all(alloc: Global, names: &mut NameSet, more: &[Utf8]) -> Result<(), AllocError>
-    ensures { OnOk result ((q : List ℕ) → has_name names.new q ≡ (has_name names.old q || list_any (λ name. same_text name q) more.now)) }
+    ensures { OnOk result ((q : List ℕ) → has_name names.new q
+        ≡ (has_name names.old q || list_any (λ name. same_text name q) more.now)) }
 {
     for name in more {
         add(alloc, names, name)?;
@@ -41,7 +46,8 @@ fn add_all(alloc: Global, names: &mut NameSet, more: &[Utf8]) -> Result<(), Allo
 
 // Adds the tables of a statement.
 fn add_tables(alloc: Global, names: &mut NameSet, act: &Act) -> Result<(), AllocError>
-    ensures { OnOk result ((q : List ℕ) → has_name names.new q ≡ (has_name names.old q || names_table q act.now)) }
+    ensures { OnOk result ((q : List ℕ) → has_name names.new q
+        ≡ (has_name names.old q || names_table q act.now)) }
 {
     match act {
         Act::Asked {

@@ -19,7 +19,7 @@ pub struct Sliced {
     pub tables: PackedTables,
 }
 
-/// What events need of the world that they began in. `AllocError` means want of memory alone.
+/// What events need of the world that they began in. `AllocError` means out of memory only.
 pub fn slice(alloc: Global, events: &Events, world: &World) -> Result<Sliced, AllocError>
     ensures files { IfOk result (λ sliced. sliced.files ≡ files_needed events.now world.now.files) }
     ensures tables { IfOk result (λ sliced. sliced.tables ≡ tables_needed events.now world.now.tables) }

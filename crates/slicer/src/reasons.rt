@@ -1,11 +1,10 @@
 //! The first statement that needs each row.
 
-ghost use Rattle.std.specs.Prelude.{◌≡◌, OnOk, IfOk, List, ℕ, string_bytes};
-ghost use Rattle.std.specs.Option.{option_map};
-ghost use Rattle.slicer.specs.Marks.{Key, reason_at, reason_from, reason_of_read};
+ghost use Rattle.std.specs.Prelude.{◌≡◌, OnOk, IfOk, List, ℕ, None};
+ghost use Rattle.std.specs.BTreeMap.{get_by_text};
+ghost use Rattle.slicer.specs.Marks.{reason_at, reason_of_read, reason_of_row, row_reason};
 ghost use Rattle.run_model.specs.Slice.{reason_or, reason_in, act_reason, first_reason};
 
-use ldv_value::Utf8;
 use run_model::{Act, Event};
 use sql_model::{Need, Rule};
 use std::alloc::{AllocError, Global};
@@ -18,8 +17,48 @@ pub(crate) struct Why {
     pub(crate) rule: Rule,
 }
 
-/// The first reason for each row, by table and number.
-pub(crate) type Reasons = BTreeMap<(String, u32), Why>;
+/// The first reason for each row of a table, by number.
+pub(crate) type RowReasons = BTreeMap<u32, Why>;
+
+/// The first reason for each row, by table and number. A table's name is copied once.
+pub(crate) type Reasons = BTreeMap<String, RowReasons>;
+
+// Notes a row of a table, if it isn't there.
+fn note_row(rows: &mut RowReasons, row: u32, why: Why) -> Result<(), AllocError>
+    ensures { OnOk result ((q : ℕ) → row_reason rows.new q
+        ≡ reason_or (row_reason rows.old q) (reason_of_row row why q)) }
+{
+    if rows.contains_key(&row) {
+        return Ok(());
+    }
+    rows.insert(row, why)?;
+    Ok(())
+}
+
+// Notes a row of a table of which none is there.
+fn note_table(
+    alloc: Global,
+    reasons: &mut Reasons,
+    statement: u32,
+    need: &Need,
+) -> Result<(), AllocError>
+    requires { get_by_text reasons.old need.now.member.table ≡ None }
+    ensures { OnOk result ((table : List ℕ) (row : ℕ) → reason_at reasons.new table row
+        ≡ reason_or (reason_at reasons.old table row) (reason_of_read statement need.now table row)) }
+{
+    let key = String::from_str(alloc, need.member.table.as_str())?;
+    let mut rows = RowReasons::new(alloc);
+    note_row(
+        &mut rows,
+        need.member.row,
+        Why {
+            statement,
+            rule: need.rule,
+        },
+    )?;
+    reasons.insert(key, rows)?;
+    Ok(())
+}
 
 // Notes a row that a statement needs, if no earlier one needs it.
 fn note_read(
@@ -28,23 +67,20 @@ fn note_read(
     statement: u32,
     need: &Need,
 ) -> Result<(), AllocError>
-    ensures { OnOk result ((q : Key) → reason_at reasons.new q ≡ reason_or (reason_at reasons.old q) (reason_of_read statement need.now q)) }
+    ensures { OnOk result ((table : List ℕ) (row : ℕ) → reason_at reasons.new table row
+        ≡ reason_or (reason_at reasons.old table row) (reason_of_read statement need.now table row)) }
 {
-    let key = (
-        String::from_str(alloc, need.member.table.as_str())?,
-        need.member.row,
-    );
-    if reasons.contains_key(&key) {
-        return Ok(());
+    match reasons.get_mut(need.member.table.as_str()) {
+        Some(rows) => note_row(
+            rows,
+            need.member.row,
+            Why {
+                statement,
+                rule: need.rule,
+            },
+        ),
+        None => note_table(alloc, reasons, statement, need),
     }
-    reasons.insert(
-        key,
-        Why {
-            statement,
-            rule: need.rule,
-        },
-    )?;
-    Ok(())
 }
 
 fn note_reads(
@@ -53,7 +89,8 @@ fn note_reads(
     statement: u32,
     needs: &[Need],
 ) -> Result<(), AllocError>
-    ensures { OnOk result ((q : Key) → reason_at reasons.new q ≡ reason_or (reason_at reasons.old q) (reason_in statement (string_bytes q.0) q.1 needs.now)) }
+    ensures { OnOk result ((table : List ℕ) (row : ℕ) → reason_at reasons.new table row
+        ≡ reason_or (reason_at reasons.old table row) (reason_in statement table row needs.now)) }
 {
     for need in needs {
         note_read(alloc, reasons, statement, need)?;
@@ -62,7 +99,8 @@ fn note_reads(
 }
 
 fn note_act(alloc: Global, reasons: &mut Reasons, act: &Act) -> Result<(), AllocError>
-    ensures { OnOk result ((q : Key) → reason_at reasons.new q ≡ reason_or (reason_at reasons.old q) (act_reason (string_bytes q.0) q.1 act.now)) }
+    ensures { OnOk result ((table : List ℕ) (row : ℕ) → reason_at reasons.new table row
+        ≡ reason_or (reason_at reasons.old table row) (act_reason table row act.now)) }
 {
     match act {
         Act::Asked {
@@ -77,7 +115,8 @@ fn note_act(alloc: Global, reasons: &mut Reasons, act: &Act) -> Result<(), Alloc
 
 /// The first reason for each row that statements need.
 pub(crate) fn reasons_in(alloc: Global, events: &[Event]) -> Result<Reasons, AllocError>
-    ensures { IfOk result (λ reasons. (q : Key) → reason_at reasons q ≡ first_reason (string_bytes q.0) q.1 events.now) }
+    ensures { IfOk result (λ reasons. (table : List ℕ) (row : ℕ) → reason_at reasons table row
+        ≡ first_reason table row events.now) }
 {
     let mut reasons = Reasons::new(alloc);
     for event in events {

@@ -1,35 +1,28 @@
 //! Needed tables, with their needed rows.
 
-ghost use Rattle.std.specs.Prelude.{◌≡◌, ◌++◌, ◌∷◌, [], List, ℕ, OnOk, IfOk, string_bytes, if◌then◌else◌};
-ghost use Rattle.std.specs.List.{cons_option};
+ghost use Rattle.std.specs.Prelude.{◌≡◌, ◌++◌, ◌∷◌, [], OnOk, IfOk, if◌then◌else◌};
+ghost use Rattle.std.specs.List.{cons_option, filter_map};
 ghost use Rattle.std.specs.Option.{option_map};
-ghost use Rattle.slicer.specs.Marks.{Key, has_name, reason_at, reason_from};
-ghost use Rattle.run_model.specs.Slice.{first_reason, packed_because, rows_needed, is_table_needed, packed_table, tables_needed};
+ghost use Rattle.slicer.specs.Marks.{has_name, reason_at, reason_from, row_reason, row_because};
+ghost use Rattle.slicer.specs.Marks.{table_because, tables_because};
+ghost use Rattle.run_model.specs.Slice.{packed_because, tables_needed};
 
 use crate::names::{NameSet, has, tables_named};
-use crate::reasons::{Reasons, Why, reasons_in};
-use ldv_value::{CopyItem, Utf8};
+use crate::reasons::{Reasons, RowReasons, Why, reasons_in};
+use ldv_value::CopyItem;
 use run_model::{Event, PackedRow, PackedRows, PackedTable, PackedTables};
 use sql_model::{Table, TableRow};
 use std::alloc::{AllocError, Global};
 
-// The first reason for a row. The events are those of the reasons.
-fn find_reason(
-    alloc: Global,
-    _events: &[Event],
-    reasons: &Reasons,
-    table: &Utf8,
-    row: u32,
-) -> Result<Option<Why>, AllocError>
-    requires reasons { (q : Key) → reason_at reasons.now q ≡ first_reason (string_bytes q.0) q.1 _events.now }
-    ensures { IfOk result (λ found. option_map reason_from found ≡ first_reason table.now row _events.now) }
+fn find_reason(reasons: &RowReasons, row: u32) -> Option<Why>
+    ensures { option_map reason_from result ≡ row_reason reasons.now row }
 {
-    let key = (String::from_str(alloc, table.as_str())?, row);
-    Ok(reasons.get(&key).copied())
+    reasons.get(&row).copied()
 }
 
 fn pack_because(row: &TableRow, why: Option<Why>) -> Result<Option<PackedRow>, AllocError>
-    ensures { IfOk result (λ packed. packed ≡ option_map (packed_because row.now) (option_map reason_from why)) }
+    ensures { IfOk result (λ packed. packed ≡ option_map (packed_because row.now) (option_map reason_from
+        why)) }
 {
     match why {
         None => Ok(None),
@@ -53,54 +46,54 @@ fn push_row(to: &mut PackedRows, row: Option<PackedRow>) -> Result<(), AllocErro
 
 fn pack_rows(
     alloc: Global,
-    events: &[Event],
-    reasons: &Reasons,
-    table: &Utf8,
+    reasons: &RowReasons,
     rows: &[TableRow],
 ) -> Result<PackedRows, AllocError>
-    requires reasons { (q : Key) → reason_at reasons.now q ≡ first_reason (string_bytes q.0) q.1 events.now }
-    ensures { IfOk result (λ packed. packed ≡ rows_needed events.now table.now rows.now) }
+    ensures { IfOk result (λ packed. packed ≡ filter_map (row_because (row_reason reasons.now)) rows.now) }
 {
     let mut packed = PackedRows::new(alloc);
     for row in rows {
-        let why = find_reason(alloc, events, reasons, table, row.number)?;
+        let why = find_reason(reasons, row.number);
         push_row(&mut packed, pack_because(row, why)?)?;
     }
     Ok(packed)
 }
 
-fn pack_table(
-    alloc: Global,
-    events: &[Event],
-    reasons: &Reasons,
-    table: &Table,
-) -> Result<PackedTable, AllocError>
-    requires reasons { (q : Key) → reason_at reasons.now q ≡ first_reason (string_bytes q.0) q.1 events.now }
-    ensures { IfOk result (λ packed. packed ≡ packed_table events.now table.now) }
+// The needed rows of a table, which is looked up once.
+fn needed_rows(alloc: Global, reasons: &Reasons, table: &Table) -> Result<PackedRows, AllocError>
+    ensures { IfOk result (λ packed. packed ≡ filter_map (row_because (reason_at reasons.now table.now.name))
+        table.now.rows) }
+{
+    match reasons.get(table.name.as_str()) {
+        None => Ok(PackedRows::new(alloc)),
+        Some(rows) => pack_rows(alloc, rows, table.rows.items()),
+    }
+}
+
+fn pack_table(alloc: Global, reasons: &Reasons, table: &Table) -> Result<PackedTable, AllocError>
+    ensures { IfOk result (λ packed. packed ≡ table_because (reason_at reasons.now) table.now) }
 {
     Ok(PackedTable {
         name: table.name.copy()?,
         schema: table.schema.copy_item(alloc)?,
         next: table.next,
-        rows: pack_rows(alloc, events, reasons, &table.name, table.rows.items())?,
+        rows: needed_rows(alloc, reasons, table)?,
     })
 }
 
-// Appends a table, if statements name it.
+// Appends a table, if it is among the named.
 fn push_named(
     alloc: Global,
     to: &mut PackedTables,
-    events: &[Event],
     names: &NameSet,
     reasons: &Reasons,
     table: &Table,
 ) -> Result<(), AllocError>
-    requires reasons { (q : Key) → reason_at reasons.now q ≡ first_reason (string_bytes q.0) q.1 events.now }
-    requires named { (q : List ℕ) → has_name names.now q ≡ is_table_needed events.now q }
-    ensures { OnOk result (to.new ≡ (if is_table_needed events.now table.now.name then to.old ++ packed_table events.now table.now ∷ [] else to.old)) }
+    ensures { OnOk result (to.new ≡ (if has_name names.now table.now.name then to.old
+        ++ table_because (reason_at reasons.now) table.now ∷ [] else to.old)) }
 {
     if has(names, &table.name) {
-        to.push(pack_table(alloc, events, reasons, table)?)
+        to.push(pack_table(alloc, reasons, table)?)
     } else {
         Ok(())
     }
@@ -108,23 +101,21 @@ fn push_named(
 
 fn pack_tables(
     alloc: Global,
-    events: &[Event],
     names: &NameSet,
     reasons: &Reasons,
     tables: &[Table],
 ) -> Result<PackedTables, AllocError>
-    requires reasons { (q : Key) → reason_at reasons.now q ≡ first_reason (string_bytes q.0) q.1 events.now }
-    requires named { (q : List ℕ) → has_name names.now q ≡ is_table_needed events.now q }
-    ensures { IfOk result (λ packed. packed ≡ tables_needed events.now tables.now) }
+    ensures { IfOk result (λ packed. packed ≡ tables_because (reason_at reasons.now) (has_name names.now)
+        tables.now) }
 {
     let mut packed = PackedTables::new(alloc);
     for table in tables {
-        push_named(alloc, &mut packed, events, names, reasons, table)?;
+        push_named(alloc, &mut packed, names, reasons, table)?;
     }
     Ok(packed)
 }
 
-/// The needed ones of initial tables. `AllocError` means want of memory alone.
+/// The initial tables that the run needed. `AllocError` means out of memory only.
 pub(crate) fn needed_tables(
     alloc: Global,
     events: &[Event],
@@ -134,5 +125,5 @@ pub(crate) fn needed_tables(
 {
     let names = tables_named(alloc, events)?;
     let reasons = reasons_in(alloc, events)?;
-    pack_tables(alloc, events, &names, &reasons, tables)
+    pack_tables(alloc, &names, &reasons, tables)
 }

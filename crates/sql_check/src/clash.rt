@@ -4,7 +4,9 @@ ghost use Rattle.std.specs.Prelude.{◌≡◌, ◌&&◌, IfOk, Some, option_to_l
 ghost use Rattle.std.specs.List.{list_all, list_any};
 ghost use Rattle.ldv_value.specs.declared.value.Value.TheVariants.{Int};
 ghost use Rattle.sql_model.specs.Kinds.{is_condition};
-ghost use Rattle.sql_model.specs.Refusals.{is_pick, is_having, counts, counts_joined, conditions_fit, is_limit, query_clashes, takes, set_fits, pick_fits, update_clashes, clashes};
+ghost use Rattle.sql_model.specs.Refusals.{is_pick, is_having, counts, counts_joined, conditions_fit};
+ghost use Rattle.sql_model.specs.Refusals.{is_limit, query_clashes, takes, set_fits, pick_fits};
+ghost use Rattle.sql_model.specs.Refusals.{update_clashes, clashes};
 
 use crate::aggregate::counts;
 use crate::duplicate::has_duplicate_column;

@@ -1,8 +1,12 @@
 //! The kinds of expressions.
 
-ghost use Rattle.std.specs.Prelude.{◌≡◌, ◌&&◌, option_and_then, option_map, find, if◌then◌else◌, not, None, true, false};
-ghost use Rattle.sql_model.specs.declared.kind.Kind.TheVariants.{Int as IntKind, Text as TextKind, Truth as TruthKind};
-ghost use Rattle.sql_model.specs.Kinds.{kind, row_kind, group_kind, kind_of_value, kind_of_column, is_number, is_logical, comparable, kind_if, kind_both, folded_kind, counted_kind};
+ghost use Rattle.std.specs.Prelude.{◌≡◌, ◌&&◌, option_and_then, option_map, find, if◌then◌else◌, not, None};
+ghost use Rattle.std.specs.Prelude.{true, false};
+ghost use Rattle.sql_model.specs.declared.kind.Kind.TheVariants.{Int as IntKind, Text as TextKind};
+ghost use Rattle.sql_model.specs.declared.kind.Kind.TheVariants.{Truth as TruthKind};
+ghost use Rattle.sql_model.specs.Kinds.{kind, row_kind, group_kind, kind_of_value, kind_of_column, is_number};
+ghost use Rattle.sql_model.specs.Kinds.{is_logical, comparable, kind_if, kind_both, folded_kind};
+ghost use Rattle.sql_model.specs.Kinds.{counted_kind};
 ghost use Rattle.sql_model.specs.Scope.{is_meant};
 
 use crate::scope::Entry;

@@ -3,7 +3,8 @@
 ghost use Rattle.std.specs.Prelude.{◌≡◌, IfOk, option_and_then, map};
 ghost use Rattle.sql_model.specs.declared.kind.Kind.TheVariants.{Int, Text};
 ghost use Rattle.sql_model.specs.Kinds.{kind_of_column};
-ghost use Rattle.sql_model.specs.Refusals.{kind_of_item, kinds_of_items, item_kinds, kinds_in_scope, core_kinds, union_kind, union_kinds, kinds_after, query_kinds};
+ghost use Rattle.sql_model.specs.Refusals.{kind_of_item, kinds_of_items, item_kinds, kinds_in_scope};
+ghost use Rattle.sql_model.specs.Refusals.{core_kinds, union_kind, union_kinds, kinds_after, query_kinds};
 
 use crate::clash::conditions_fit;
 use crate::kinds::{group_kind, is_logical, kind_of_column};

@@ -2,7 +2,8 @@
 
 ghost use Rattle.std.specs.Prelude.{◌≡◌, ◌++◌, IfOk, OnOk, find, option_to_list, zip};
 ghost use Rattle.std.specs.List.{list_all};
-ghost use Rattle.sql_model.specs.Refusals.{takes_value, row_fits, columns_named, target_columns, insert_clashes};
+ghost use Rattle.sql_model.specs.Refusals.{takes_value, row_fits, columns_named, target_columns};
+ghost use Rattle.sql_model.specs.Refusals.{insert_clashes};
 ghost use Rattle.sql_model.specs.Scope.{is_column};
 
 use crate::clash::takes;

@@ -1,6 +1,7 @@
 -- The expressions of SQL, as a relation between tokens and trees. It says how each form is written; no place
 -- in it says how texts are read.
-use Rattle.std.specs.Prelude.{◌≡◌, ◌⊎◌, ℕ, ◌+◌, ◌≤◌, max, List, [], ◌∷◌, ◌++◌, IsTrue, codes, Some, None, true, false}
+use Rattle.std.specs.Prelude.{◌≡◌, ◌⊎◌, ℕ, ◌+◌, ◌≤◌, max, List, [], ◌∷◌, ◌++◌, IsTrue, codes, Some, None}
+use Rattle.std.specs.Prelude.{true, false}
 use Prim.Native.String.{String}
 use Rattle.ldv_value.specs.declared.value.Value.{Value}
 use Rattle.ldv_value.specs.declared.value.Value.TheVariants as value
@@ -52,20 +53,28 @@ IsConstant (Given u) v = v ≡ u
 
 abbrev pub IsColumn : List Token → ColumnName → Type 0
 IsColumn ts c = ((ts ≡ Word c.name ∷ []) × (c.table ≡ None) × IsName c.name)
-    ⊎ ((source : List ℕ) × (ts ≡ Word source ∷ word "." ∷ Word c.name ∷ []) × (c.table ≡ Some source) × IsName source × IsName c.name)
+    ⊎ ((source : List ℕ) × (ts ≡ Word source ∷ word "." ∷ Word c.name ∷ []) × (c.table ≡ Some source)
+    × IsName source × IsName c.name)
 
 -- Tokens are an expression of this level and depth.
 pub data IsExpr : ℕ → ℕ → List Token → Expr → Type 0 where
   AConstant : (t : Token) (v : Value) → IsConstant t v → IsExpr 8 1 (t ∷ []) (expr.Constant v)
   AColumn : (ts : List Token) (c : ColumnName) → IsColumn ts c → IsExpr 8 1 ts (expr.Column c)
   CountAll : IsExpr 8 1 (word "count" ∷ word "(" ∷ word "*" ∷ word ")" ∷ []) (expr.Aggregate Count None)
-  AFold : (f : Fold) (level depth : ℕ) (ts : List Token) (e : Expr) → IsExpr level depth ts e → IsExpr 8 (depth + 1) (fold_word f ∷ word "(" ∷ ts ++ word ")" ∷ []) (expr.Aggregate f (Some e))
-  InBrackets : (level depth : ℕ) (ts : List Token) (e : Expr) → IsExpr level depth ts e → IsExpr 8 (depth + 1) (word "(" ∷ ts ++ word ")" ∷ []) e
-  AMinus : (level depth : ℕ) (ts : List Token) (e : Expr) → 7 ≤ level → IsExpr level depth ts e → IsExpr 7 (depth + 1) (word "-" ∷ ts) (expr.Negate e)
-  ANot : (level depth : ℕ) (ts : List Token) (e : Expr) → 3 ≤ level → IsExpr level depth ts e → IsExpr 3 (depth + 1) (word "not" ∷ ts) (expr.Not e)
-  ANull : (level depth : ℕ) (ts : List Token) (e : Expr) → 5 ≤ level → IsExpr level depth ts e → IsExpr 4 (depth + 1) (ts ++ word "is" ∷ word "null" ∷ []) (expr.IsNull e false)
-  ANotNull : (level depth : ℕ) (ts : List Token) (e : Expr) → 5 ≤ level → IsExpr level depth ts e → IsExpr 4 (depth + 1) (ts ++ word "is" ∷ word "not" ∷ word "null" ∷ []) (expr.IsNull e true)
-  APair : (op : Operator) (t : Token) (l m : ℕ) (xs : List Token) (a : Expr) (k n : ℕ) (ys : List Token) (b : Expr) → Writes op t
+  AFold : (f : Fold) (level depth : ℕ) (ts : List Token) (e : Expr) → IsExpr level depth ts e
+      → IsExpr 8 (depth + 1) (fold_word f ∷ word "(" ∷ ts ++ word ")" ∷ []) (expr.Aggregate f (Some e))
+  InBrackets : (level depth : ℕ) (ts : List Token) (e : Expr) → IsExpr level depth ts e
+      → IsExpr 8 (depth + 1) (word "(" ∷ ts ++ word ")" ∷ []) e
+  AMinus : (level depth : ℕ) (ts : List Token) (e : Expr) → 7 ≤ level → IsExpr level depth ts e
+      → IsExpr 7 (depth + 1) (word "-" ∷ ts) (expr.Negate e)
+  ANot : (level depth : ℕ) (ts : List Token) (e : Expr) → 3 ≤ level → IsExpr level depth ts e
+      → IsExpr 3 (depth + 1) (word "not" ∷ ts) (expr.Not e)
+  ANull : (level depth : ℕ) (ts : List Token) (e : Expr) → 5 ≤ level → IsExpr level depth ts e
+      → IsExpr 4 (depth + 1) (ts ++ word "is" ∷ word "null" ∷ []) (expr.IsNull e false)
+  ANotNull : (level depth : ℕ) (ts : List Token) (e : Expr) → 5 ≤ level → IsExpr level depth ts e
+      → IsExpr 4 (depth + 1) (ts ++ word "is" ∷ word "not" ∷ word "null" ∷ []) (expr.IsNull e true)
+  APair : (op : Operator) (t : Token) (l m : ℕ) (xs : List Token) (a : Expr) (k n : ℕ) (ys : List Token)
+      (b : Expr) → Writes op t
       → operator_left op ≤ l → IsExpr l m xs a → right_of op ≤ k → IsExpr k n ys b
       → IsExpr (operator_level op) (max m n + 1) (xs ++ t ∷ ys) (expr.Both op a b)
 

@@ -1,6 +1,8 @@
 -- The statements of SQL, as relations between trees and tokens, form by form. No place in it says how tokens
 -- are read.
-use Rattle.std.specs.Prelude.{◌≡◌, ◌≢◌, ◌⊎◌, ℕ, ◌≤◌, ℤ, pos, List, [], ◌∷◌, ◌++◌, length, map, Bool, true, false, Option, Some, None, option_to_list}
+use Rattle.std.specs.Prelude.{◌≡◌, ◌≢◌, ◌⊎◌, ℕ, ◌≤◌, ℤ, pos, List, [], ◌∷◌, ◌++◌, length, map, Bool, true}
+use Rattle.std.specs.Prelude.{false, Option, Some, None, option_to_list}
+use Rattle.ldv_value.specs.Limits.{max_depth, max_sources}
 use Prim.Native.String.{String}
 use Rattle.ldv_value.specs.declared.value.Value.{Value}
 use Rattle.ldv_value.specs.declared.value.Value.TheVariants as value
@@ -28,11 +30,12 @@ use Rattle.sql_model.specs.GrammarOfTokens.{Spells}
 
 -- a form, and then another one
 abbrev pub Then : (List Token → Type 0) → (List Token → Type 0) → List Token → Type 0
-Then First Second ts = (front : List Token) × (back : List Token) × (ts ≡ front ++ back) × First front × Second back
+Then First Second ts = (front : List Token) × (back : List Token) × (ts ≡ front ++ back) × First front
+    × Second back
 
 -- a word or symbol, and then a form
-abbrev pub Behind : String → (List Token → Type 0) → List Token → Type 0
-Behind s Form ts = (more : List Token) × (ts ≡ word s ∷ more) × Form more
+abbrev pub After : String → (List Token → Type 0) → List Token → Type 0
+After s Form ts = (more : List Token) × (ts ≡ word s ∷ more) × Form more
 
 -- a word or symbol alone
 abbrev pub Only : String → List Token → Type 0
@@ -43,9 +46,9 @@ abbrev pub Flag : String → Bool → List Token → Type 0
 Flag s true ts = Only s ts
 Flag s false ts = ts ≡ []
 
--- a word with a form behind it, or nothing
+-- a word with a form after it, or nothing
 abbrev pub Optionally : {A : Type 0} → String → (A → List Token → Type 0) → Option A → List Token → Type 0
-Optionally s Form (Some x) ts = Behind s (Form x) ts
+Optionally s Form (Some x) ts = After s (Form x) ts
 Optionally s Form None ts = ts ≡ []
 
 -- one form after another
@@ -53,10 +56,11 @@ abbrev pub Repeated : {A : Type 0} → (A → List Token → Type 0) → List A 
 Repeated Form [] ts = ts ≡ []
 Repeated Form (x ∷ xs) ts = Then (Form x) (Repeated Form xs) ts
 
--- a form, and any number of further ones, each behind a word or symbol
-abbrev pub Separated : {A : Type 0} → String → (A → List Token → Type 0) → (A → List Token → Type 0) → List A → List Token → Type 0
+-- a form, and any number of further ones, each after a word or symbol
+abbrev pub Separated : {A : Type 0} → String → (A → List Token → Type 0) → (A → List Token → Type 0) → List A
+    → List Token → Type 0
 Separated s First Form [] ts = ⊥
-Separated s First Form (x ∷ xs) ts = Then (First x) (Repeated (λ y. Behind s (Form y)) xs) ts
+Separated s First Form (x ∷ xs) ts = Then (First x) (Repeated (λ y. After s (Form y)) xs) ts
 
 -- one form at least, and commas between
 abbrev pub Listed : {A : Type 0} → (A → List Token → Type 0) → List A → List Token → Type 0
@@ -69,7 +73,7 @@ Named name ts = (ts ≡ Word name ∷ []) × IsName name
 
 -- an expression has a depth of at most 64
 abbrev pub IsExpression : Expr → List Token → Type 0
-IsExpression e ts = (level : ℕ) × (depth : ℕ) × (depth ≤ 64) × IsExpr level depth ts e
+IsExpression e ts = (level : ℕ) × (depth : ℕ) × (depth ≤ max_depth) × IsExpr level depth ts e
 
 -- CORES
 
@@ -83,7 +87,8 @@ AreItems (Some items) ts = Listed IsItem items ts
 
 -- the second name of a source, with AS or without; without one the source has its table's name
 abbrev pub IsSecondName : FromItem → List Token → Type 0
-IsSecondName source ts = ((ts ≡ []) × (source.name ≡ source.table)) ⊎ Named source.name ts ⊎ Behind "as" (Named source.name) ts
+IsSecondName source ts = ((ts ≡ []) × (source.name ≡ source.table)) ⊎ Named source.name ts
+    ⊎ After "as" (Named source.name) ts
 
 abbrev pub IsSource : FromItem → List Token → Type 0
 IsSource source ts = Then (Named source.table) (IsSecondName source) ts
@@ -93,11 +98,12 @@ abbrev pub Joined : Type 0
 Joined = FromItem × Option Expr
 
 abbrev pub IsConditioned : FromItem → Expr → List Token → Type 0
-IsConditioned source pick ts = Then (IsSource source) (Behind "on" (IsExpression pick)) ts
+IsConditioned source pick ts = Then (IsSource source) (After "on" (IsExpression pick)) ts
 
 abbrev pub IsJoinedBy : FromItem → Option Expr → List Token → Type 0
-IsJoinedBy source None ts = Behind "," (IsSource source) ts
-IsJoinedBy source (Some pick) ts = Behind "join" (IsConditioned source pick) ts ⊎ Behind "inner" (Behind "join" (IsConditioned source pick)) ts
+IsJoinedBy source None ts = After "," (IsSource source) ts
+IsJoinedBy source (Some pick) ts = After "join" (IsConditioned source pick) ts
+    ⊎ After "inner" (After "join" (IsConditioned source pick)) ts
 
 abbrev pub IsJoined : Joined → List Token → Type 0
 IsJoined joined ts = IsJoinedBy joined.0 joined.1 ts
@@ -105,15 +111,16 @@ IsJoined joined ts = IsJoinedBy joined.0 joined.1 ts
 abbrev pub source_of : Joined → FromItem
 source_of joined = joined.0
 
--- the conditions behind ON, in the order of the text
+-- the conditions after ON, in the order of the text
 abbrev pub conditions : List Joined → List Expr
 conditions [] = []
 conditions (joined ∷ more) = option_to_list joined.1 ++ conditions more
 
--- a core has at most 8 sources
+-- a core has at most max_sources sources
 abbrev pub AreSources : List FromItem → List Expr → List Token → Type 0
-AreSources from picks ts = (first : FromItem) × (more : List Joined) × Then (IsSource first) (Repeated IsJoined more) ts
-    × (from ≡ first ∷ map source_of more) × (picks ≡ conditions more) × (length from ≤ 8)
+AreSources from picks ts = (first : FromItem) × (more : List Joined)
+    × Then (IsSource first) (Repeated IsJoined more) ts
+    × (from ≡ first ∷ map source_of more) × (picks ≡ conditions more) × (length from ≤ max_sources)
 
 -- GROUP BY and columns, or nothing
 abbrev pub IsColumnAt : ColumnName → List Token → Type 0
@@ -121,22 +128,26 @@ IsColumnAt column ts = IsColumn ts column
 
 abbrev pub IsGroup : List ColumnName → List Token → Type 0
 IsGroup [] ts = ts ≡ []
-IsGroup (column ∷ columns) ts = Behind "group" (Behind "by" (Listed IsColumnAt (column ∷ columns))) ts
+IsGroup (column ∷ columns) ts = After "group" (After "by" (Listed IsColumnAt (column ∷ columns))) ts
 
--- What stands behind the sources. The conditions of a core are those behind ON and the one behind WHERE.
+-- What stands after the sources. The conditions of a core are those after ON and the one after WHERE.
 abbrev pub IsCoreEnd : Core → Option Expr → List Token → Type 0
-IsCoreEnd core pick ts = Then (Optionally "where" IsExpression pick) (Then (IsGroup core.group) (Optionally "having" IsExpression core.having)) ts
+IsCoreEnd core pick ts =
+    Then (Optionally "where" IsExpression pick) (Then (IsGroup core.group) (Optionally "having" IsExpression
+    core.having)) ts
 
 abbrev pub IsCoreRest : Core → List Token → Type 0
 IsCoreRest core ts = (picks : List Expr) × (pick : Option Expr) × (core.picks ≡ picks ++ option_to_list pick)
     × Then (AreSources core.from picks) (IsCoreEnd core pick) ts
 
 abbrev pub IsCore : Core → List Token → Type 0
-IsCore core ts = Behind "select" (Then (Flag "distinct" core.distinct) (Then (AreItems core.items) (Behind "from" (IsCoreRest core)))) ts
+IsCore core ts =
+    After "select" (Then (Flag "distinct" core.distinct) (Then (AreItems core.items) (After "from"
+    (IsCoreRest core)))) ts
 
 -- QUERIES
 
--- the first core, and a further one behind UNION
+-- the first core, and a further one after UNION
 abbrev pub IsFirstCore : Core → List Token → Type 0
 IsFirstCore core ts = (core.joined_all ≡ false) × IsCore core ts
 
@@ -161,36 +172,42 @@ IsOrder order ts = Then (IsKey order.key) (IsDirection order.descending) ts
 -- ORDER BY, or nothing
 abbrev pub AreOrders : List Order → List Token → Type 0
 AreOrders [] ts = ts ≡ []
-AreOrders (order ∷ orders) ts = Behind "order" (Behind "by" (Listed IsOrder (order ∷ orders))) ts
+AreOrders (order ∷ orders) ts = After "order" (After "by" (Listed IsOrder (order ∷ orders))) ts
 
 -- a number, or the value of a parameter
 abbrev pub IsBound : Value → List Token → Type 0
 IsBound v ts = ((z : ℤ) × (ts ≡ Number z ∷ []) × (v ≡ value.Int z)) ⊎ (ts ≡ Given v ∷ [])
 
 abbrev pub IsQuery : Query → List Token → Type 0
-IsQuery query ts = Then (AreCores query.cores) (Then (AreOrders query.order) (Optionally "limit" IsBound query.limit)) ts
+IsQuery query ts =
+    Then (AreCores query.cores) (Then (AreOrders query.order) (Optionally "limit" IsBound query.limit)) ts
 
 -- CHANGES
 
 -- the columns of an INSERT in parentheses, or nothing
 abbrev pub AreColumns : Option (List (List ℕ)) → List Token → Type 0
 AreColumns None ts = ts ≡ []
-AreColumns (Some names) ts = Behind "(" (Then (Listed Named names) (Only ")")) ts
+AreColumns (Some names) ts = After "(" (Then (Listed Named names) (Only ")")) ts
 
 abbrev pub IsTuple : List Expr → List Token → Type 0
-IsTuple tuple ts = Behind "(" (Then (Listed IsExpression tuple) (Only ")")) ts
+IsTuple tuple ts = After "(" (Then (Listed IsExpression tuple) (Only ")")) ts
 
 abbrev pub IsInsert : Insert → List Token → Type 0
-IsInsert insert ts = Behind "insert" (Behind "into" (Then (Named insert.table) (Then (AreColumns insert.columns) (Behind "values" (Listed IsTuple insert.rows))))) ts
+IsInsert insert ts =
+    After "insert" (After "into" (Then (Named insert.table) (Then (AreColumns insert.columns) (After "values"
+    (Listed IsTuple insert.rows))))) ts
 
 abbrev pub IsSet : Set → List Token → Type 0
-IsSet set ts = Then (Named set.column) (Behind "=" (IsExpression set.expr)) ts
+IsSet set ts = Then (Named set.column) (After "=" (IsExpression set.expr)) ts
 
 abbrev pub IsUpdate : Update → List Token → Type 0
-IsUpdate update ts = Behind "update" (Then (Named update.table) (Behind "set" (Then (Listed IsSet update.sets) (Optionally "where" IsExpression update.pick)))) ts
+IsUpdate update ts =
+    After "update" (Then (Named update.table) (After "set" (Then (Listed IsSet update.sets)
+    (Optionally "where" IsExpression update.pick)))) ts
 
 abbrev pub IsDelete : Delete → List Token → Type 0
-IsDelete delete ts = Behind "delete" (Behind "from" (Then (Named delete.table) (Optionally "where" IsExpression delete.pick))) ts
+IsDelete delete ts =
+    After "delete" (After "from" (Then (Named delete.table) (Optionally "where" IsExpression delete.pick))) ts
 
 -- STATEMENTS
 
@@ -200,7 +217,7 @@ IsStatement (statement.Insert insert) ts = IsInsert insert ts
 IsStatement (statement.Update update) ts = IsUpdate update ts
 IsStatement (statement.Delete delete) ts = IsDelete delete ts
 
--- a `;` may stand behind a statement
+-- a `;` may stand after a statement
 abbrev pub IsEnd : List Token → Type 0
 IsEnd ts = (ts ≡ []) ⊎ Only ";" ts
 
@@ -213,11 +230,14 @@ IsWhole s ts = Then (IsStatement s) IsEnd ts
 -- that of the first one, and so on, as many of both.
 abbrev pub IsGiven : List Value → List Token → List Token → Type 0
 IsGiven params [] given = (params ≡ []) × (given ≡ [])
-IsGiven params (t ∷ ts) given = ((t ≡ word "?") × ((v : Value) × (more : List Value) × (rest : List Token) × (params ≡ v ∷ more) × (given ≡ Given v ∷ rest) × IsGiven more ts rest))
+IsGiven params (t ∷ ts) given =
+    ((t ≡ word "?") × ((v : Value) × (more : List Value) × (rest : List Token) × (params ≡ v ∷ more)
+    × (given ≡ Given v ∷ rest) × IsGiven more ts rest))
     ⊎ ((t ≢ word "?") × ((rest : List Token) × (given ≡ t ∷ rest) × IsGiven params ts rest))
 
 -- TEXTS
 
 -- A text with its parameters reads as a statement.
 abbrev pub Reads : List ℕ → List Value → Statement → Type 0
-Reads text params s = (ts : List Token) × (given : List Token) × Spells text ts × IsGiven params ts given × IsWhole s given
+Reads text params s = (ts : List Token) × (given : List Token) × Spells text ts × IsGiven params ts given
+    × IsWhole s given

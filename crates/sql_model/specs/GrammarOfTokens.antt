@@ -1,7 +1,9 @@
 -- How the tokens of SQL are written, as a relation between bytes and tokens. No place in it says how bytes
 -- are read.
-use Rattle.std.specs.Prelude.{◌≡◌, ◌≢◌, ◌⊎◌, ℕ, ◌+◌, ◌-◌, ◌*◌, ◌≤◌, Bool, ◌||◌, ◌==◌, if◌then◌else◌, List, [], ◌∷◌, ◌++◌, length, map, IsTrue, codes, pos}
+use Rattle.std.specs.Prelude.{◌≡◌, ◌≢◌, ◌⊎◌, ℕ, ◌+◌, ◌-◌, ◌*◌, ◌≤◌, Bool, ◌||◌, ◌==◌, if◌then◌else◌, List, []}
+use Rattle.std.specs.Prelude.{◌∷◌, ◌++◌, length, map, IsTrue, codes, pos}
 use Rattle.std.specs.List.{AllByRecursion}
+use Rattle.ldv_value.specs.Limits.{text_limit}
 use Rattle.sql_model.specs.declared.token.Token.{Token}
 use Rattle.sql_model.specs.declared.token.Token.TheVariants.{Word, Number, Quoted, Given}
 use Rattle.sql_model.specs.TextBytes.{is_blank, is_digit, is_letter, folded}
@@ -24,9 +26,10 @@ is_quote b = b == 39
 -- a letter or `_`, and then letters, digits and `_`: 63 bytes at most
 abbrev pub IsWord : List ℕ → Type 0
 IsWord [] = ⊥
-IsWord (b ∷ bs) = IsTrue (is_letter b) × AllByRecursion (λ c. IsTrue (is_inside c)) bs × (length (b ∷ bs) ≤ 63)
+IsWord (b ∷ bs) = IsTrue (is_letter b) × AllByRecursion (λ c. IsTrue (is_inside c)) bs
+    × (length (b ∷ bs) ≤ 63)
 
--- digits, and the number that they spell behind those of another one
+-- digits, and the number that they spell after those of another one
 abbrev pub AreDigits : List ℕ → Type 0
 AreDigits ds = (ds ≢ []) × AllByRecursion (λ d. IsTrue (is_digit d)) ds
 
@@ -41,7 +44,8 @@ doubled (b ∷ bs) = if is_quote b then 39 ∷ 39 ∷ doubled bs else b ∷ doub
 
 abbrev pub symbols : List (List ℕ)
 symbols =
-    codes "?" ∷ codes "*" ∷ codes "+" ∷ codes "-" ∷ codes "=" ∷ codes "<>" ∷ codes "!=" ∷ codes "<" ∷ codes "<="
+    codes "?" ∷ codes "*" ∷ codes "+" ∷ codes "-" ∷ codes "=" ∷ codes "<>" ∷ codes "!=" ∷ codes "<"
+    ∷ codes "<="
     ∷ codes ">" ∷ codes ">=" ∷ codes "(" ∷ codes ")" ∷ codes "," ∷ codes "." ∷ codes ";" ∷ []
 
 abbrev pub IsOneOf : List (List ℕ) → List ℕ → Type 0
@@ -51,20 +55,23 @@ IsOneOf (s ∷ ss) x = (x ≡ s) ⊎ IsOneOf ss x
 abbrev pub IsSymbol : List ℕ → Type 0
 IsSymbol = IsOneOf symbols
 
--- behind a symbol stands no byte that makes it a longer one
+-- after a symbol stands no byte that makes it a longer one
 abbrev pub IsWhole : List ℕ → List ℕ → Type 0
 IsWhole piece [] = Unit {0}
 IsWhole piece (b ∷ bs) = ¬ IsSymbol (piece ++ b ∷ [])
 
--- The bytes of a piece are a token, where the bytes of the rest stand directly behind it. Behind a word or a
+-- The bytes of a piece are a token, where the bytes of the rest stand directly after it. After a word or a
 -- number stands no letter, digit or `_`: two of them in a row need a blank.
 abbrev pub IsToken : List ℕ → List ℕ → Token → Type 0
-IsToken piece rest (Word w) = (IsWord piece × (w ≡ map folded piece) × BeginsNot is_inside rest) ⊎ (IsSymbol piece × (w ≡ piece) × IsWhole piece rest)
-IsToken piece rest (Number z) = AreDigits piece × (z ≡ pos (digits_from 0 piece)) × (digits_from 0 piece ≤ 9223372036854775807) × BeginsNot is_inside rest
-IsToken piece rest (Quoted text) = (piece ≡ 39 ∷ doubled text ++ 39 ∷ []) × (length text ≤ 65536) × BeginsNot is_quote rest
+IsToken piece rest (Word w) = (IsWord piece × (w ≡ map folded piece) × BeginsNot is_inside rest)
+    ⊎ (IsSymbol piece × (w ≡ piece) × IsWhole piece rest)
+IsToken piece rest (Number z) = AreDigits piece × (z ≡ pos (digits_from 0 piece))
+    × (digits_from 0 piece ≤ 9223372036854775807) × BeginsNot is_inside rest
+IsToken piece rest (Quoted text) = (piece ≡ 39 ∷ doubled text ++ 39 ∷ []) × (length text ≤ text_limit)
+    × BeginsNot is_quote rest
 IsToken piece rest (Given v) = ⊥
 
--- Bytes spell these tokens: blanks may stand before and behind each.
+-- Bytes spell these tokens: blanks may stand before and after each.
 abbrev pub Spells : List ℕ → List Token → Type 0
 Spells bytes [] = AreBlanks bytes
 Spells bytes (t ∷ ts) = (front : List ℕ) × (piece : List ℕ) × (rest : List ℕ)

@@ -6,14 +6,11 @@ use Rattle.ldv_value.specs.Names.{word_test}
 -- the words of the language, which name no table and no column
 abbrev pub reserved : List (List ℕ)
 reserved =
-    codes "all" ∷ codes "and" ∷ codes "as" ∷ codes "asc" ∷ codes "by" ∷ codes "count" ∷ codes "delete" ∷ codes
-    "desc"
-    ∷ codes "distinct" ∷ codes "from" ∷ codes "group" ∷ codes "having" ∷ codes "inner" ∷ codes "insert" ∷
-    codes "into"
-    ∷ codes "is" ∷ codes "join" ∷ codes "limit" ∷ codes "max" ∷ codes "min" ∷ codes "not" ∷ codes "null" ∷
-    codes "on"
-    ∷ codes "or" ∷ codes "order" ∷ codes "select" ∷ codes "set" ∷ codes "sum" ∷ codes "union" ∷ codes "update"
-    ∷ codes "values" ∷ codes "where" ∷ []
+    codes "all" ∷ codes "and" ∷ codes "as" ∷ codes "asc" ∷ codes "by" ∷ codes "count" ∷ codes "delete"
+    ∷ codes "desc" ∷ codes "distinct" ∷ codes "from" ∷ codes "group" ∷ codes "having" ∷ codes "inner"
+    ∷ codes "insert" ∷ codes "into" ∷ codes "is" ∷ codes "join" ∷ codes "limit" ∷ codes "max"
+    ∷ codes "min" ∷ codes "not" ∷ codes "null" ∷ codes "on" ∷ codes "or" ∷ codes "order" ∷ codes "select"
+    ∷ codes "set" ∷ codes "sum" ∷ codes "union" ∷ codes "update" ∷ codes "values" ∷ codes "where" ∷ []
 
 abbrev pub is_reserved : List ℕ → Bool
 is_reserved text = list_any (bytes_eq text) reserved

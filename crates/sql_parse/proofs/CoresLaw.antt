@@ -7,32 +7,32 @@ use Rattle.sql_model.specs.declared.statement.Core.{Core}
 use Rattle.sql_model.specs.declared.statement.Item.{Item}
 use Rattle.sql_parse.specs.declared.state.Sources.{Sources}
 use Rattle.sql_model.specs.declared.token.Token.{Token}
-use Rattle.sql_model.specs.GrammarOfStatements.{Then, Behind, Flag, Optionally, Listed, IsExpression, AreItems, IsColumnAt, IsGroup, IsCore, IsFirstCore, IsUnited, AreCores}
+use Rattle.sql_model.specs.GrammarOfStatements.{Then, After, Flag, Optionally, Listed, IsExpression, AreItems, IsColumnAt, IsGroup, IsCore, IsFirstCore, IsUnited, AreCores}
 use Rattle.sql_parse.specs.Queries.{reads_group, core_end, core_rest, reads_core, reads_cores}
 use Rattle.sql_parse.specs.Reader.{starts, passed}
-use Rattle.sql_parse.proofs.Follows.{ends_lack, Follows, follows_behind, follows_nothing, follows_optional, follows_then}
-use Rattle.sql_parse.proofs.Laws.{Law, state_law, nothing_law, behind_law, then_law, made_law, either_law, optional_law, flag_law}
-use Rattle.sql_parse.proofs.PartsLaw.{comma, expr_law, column_law, column_filled, items_law, items_apart, listed_law, behind_filled}
+use Rattle.sql_parse.proofs.Follows.{ends_lack, Follows, follows_after, follows_nothing, follows_optional, follows_then}
+use Rattle.sql_parse.proofs.Laws.{Law, state_law, nothing_law, after_law, then_law, made_law, either_law, optional_law, flag_law}
+use Rattle.sql_parse.proofs.PartsLaw.{comma, expr_law, column_law, column_filled, items_law, items_apart, listed_law, after_filled}
 use Rattle.sql_parse.proofs.RepeatLaws.{separated_law}
-use Rattle.sql_parse.proofs.SourcesLaw.{behind_sources, SourcesForm, sources_law}
+use Rattle.sql_parse.proofs.SourcesLaw.{after_sources, SourcesForm, sources_law}
 
--- what may stand behind the cores, behind one of them, and behind the parts of one
-abbrev pub behind_cores : List (List ℕ)
-behind_cores = codes "order" ∷ codes "limit" ∷ codes ";" ∷ []
+-- what may stand after the cores, after one of them, and after the parts of one
+abbrev pub after_cores : List (List ℕ)
+after_cores = codes "order" ∷ codes "limit" ∷ codes ";" ∷ []
 
-abbrev pub behind_core : List (List ℕ)
-behind_core = codes "union" ∷ behind_cores
+abbrev pub after_core : List (List ℕ)
+after_core = codes "union" ∷ after_cores
 
-abbrev behind_group : List (List ℕ)
-behind_group = codes "having" ∷ behind_core
+abbrev after_group : List (List ℕ)
+after_group = codes "having" ∷ after_core
 
-abbrev behind_where : List (List ℕ)
-behind_where = codes "group" ∷ behind_group
+abbrev after_where : List (List ℕ)
+after_where = codes "group" ∷ after_group
 
 -- ---- GROUP BY
 
 abbrev GroupForm : List ColumnName → List Token → Type 0
-GroupForm g ts = Behind "group" (λ ts. Behind "by" (λ ts. Listed IsColumnAt g ts) ts) ts ⊎ ((g ≡ []) × (ts ≡ []))
+GroupForm g ts = After "group" (λ ts. After "by" (λ ts. Listed IsColumnAt g ts) ts) ts ⊎ ((g ≡ []) × (ts ≡ []))
 
 group_to : (g : List ColumnName) (ts : List Token) → GroupForm g ts → IsGroup g ts
 group_to [] ts (inl (more, e, (after, by, list))) = absurd list
@@ -43,14 +43,14 @@ group_from : (g : List ColumnName) (ts : List Token) → IsGroup g ts → GroupF
 group_from [] ts e = inr (refl, e)
 group_from (c ∷ cs) ts form = inl form
 
-group_law : Law IsGroup behind_group reads_group
+group_law : Law IsGroup after_group reads_group
 group_law =
-    state_law GroupForm IsGroup behind_group reads_group
-    (either_law "group" (behind_law "by" (listed_law behind_group (column_law (comma ∷ behind_group) refl) column_filled refl refl)) (nothing_law [] behind_group)
-    (λ g front rest form e. ap (λ (l : List Token). starts (codes "group") (l ++ rest)) form.1 ∙ ends_lack (codes "group") behind_group rest refl e))
+    state_law GroupForm IsGroup after_group reads_group
+    (either_law "group" (after_law "by" (listed_law after_group (column_law (comma ∷ after_group) refl) column_filled refl refl)) (nothing_law [] after_group)
+    (λ g front rest form e. ap (λ (l : List Token). starts (codes "group") (l ++ rest)) form.1 ∙ ends_lack (codes "group") after_group rest refl e))
     group_to group_from
 
--- ---- what stands behind the sources
+-- ---- what stands after the sources
 
 abbrev ends_core : Bool → Bool → Option (List Item) → Sources → Option Expr → List ColumnName → Option Expr → Core
 ends_core all distinct items sources w g h = record { joined_all = all; distinct = distinct; items = items; from = sources.from; picks = sources.picks ++ option_to_list w; group = g; having = h }
@@ -64,24 +64,24 @@ GroupedForm core make ts = (g : List ColumnName) × Then (IsGroup g) (λ ts. Hav
 abbrev EndForm : Bool → Bool → Option (List Item) → Sources → Core → List Token → Type 0
 EndForm all distinct items sources core ts = (w : Option Expr) × Then (λ ts. Optionally "where" IsExpression w ts) (λ ts. GroupedForm core (ends_core all distinct items sources w) ts) ts
 
-follows_having : (core : Core) (make : Option Expr → Core) → Follows (HavingForm core make) behind_core behind_group
-follows_having core make ts rest form h = follows_optional IsExpression "having" behind_core behind_group form.0 refl refl ts rest form.2 h
+follows_having : (core : Core) (make : Option Expr → Core) → Follows (HavingForm core make) after_core after_group
+follows_having core make ts rest form h = follows_optional IsExpression "having" after_core after_group form.0 refl refl ts rest form.2 h
 
-follows_group : (g : List ColumnName) → Follows (IsGroup g) behind_group behind_where
-follows_group [] = follows_nothing behind_group behind_where refl
-follows_group (c ∷ cs) = follows_behind "group" behind_group behind_where refl
+follows_group : (g : List ColumnName) → Follows (IsGroup g) after_group after_where
+follows_group [] = follows_nothing after_group after_where refl
+follows_group (c ∷ cs) = follows_after "group" after_group after_where refl
 
-follows_grouped : (core : Core) (make : List ColumnName → Option Expr → Core) → Follows (GroupedForm core make) behind_core behind_where
-follows_grouped core make ts rest form h = follows_then behind_core behind_group behind_where (follows_group form.0) (follows_having core (make form.0)) ts rest form.1 h
+follows_grouped : (core : Core) (make : List ColumnName → Option Expr → Core) → Follows (GroupedForm core make) after_core after_where
+follows_grouped core make ts rest form h = follows_then after_core after_group after_where (follows_group form.0) (follows_having core (make form.0)) ts rest form.1 h
 
-follows_end : (all distinct : Bool) (items : Option (List Item)) (sources : Sources) (core : Core) → Follows (EndForm all distinct items sources core) behind_core behind_sources
+follows_end : (all distinct : Bool) (items : Option (List Item)) (sources : Sources) (core : Core) → Follows (EndForm all distinct items sources core) after_core after_sources
 follows_end all distinct items sources core ts rest form h =
-    follows_then behind_core behind_where behind_sources (follows_optional IsExpression "where" behind_where behind_sources form.0 refl refl) (follows_grouped core (ends_core all distinct items sources form.0)) ts rest form.1 h
+    follows_then after_core after_where after_sources (follows_optional IsExpression "where" after_where after_sources form.0 refl refl) (follows_grouped core (ends_core all distinct items sources form.0)) ts rest form.1 h
 
-end_law : (all distinct : Bool) (items : Option (List Item)) (sources : Sources) → Law (EndForm all distinct items sources) behind_core (core_end all distinct items sources)
+end_law : (all distinct : Bool) (items : Option (List Item)) (sources : Sources) → Law (EndForm all distinct items sources) after_core (core_end all distinct items sources)
 end_law all distinct items sources =
-    then_law (optional_law "where" (expr_law behind_where refl refl) refl)
-    (λ w. then_law group_law (λ g. made_law (λ h. ends_core all distinct items sources w g h) (optional_law "having" (expr_law behind_core refl refl) refl)) (λ g core. follows_having core (ends_core all distinct items sources w g)))
+    then_law (optional_law "where" (expr_law after_where refl refl) refl)
+    (λ w. then_law group_law (λ g. made_law (λ h. ends_core all distinct items sources w g h) (optional_law "having" (expr_law after_core refl refl) refl)) (λ g core. follows_having core (ends_core all distinct items sources w g)))
     (λ w core. follows_grouped core (ends_core all distinct items sources w))
 
 -- ---- one core
@@ -90,15 +90,15 @@ abbrev FromForm : Bool → Bool → Option (List Item) → Core → List Token �
 FromForm all distinct items core ts = (s : Sources) × Then (SourcesForm s) (λ ts. EndForm all distinct items s core ts) ts
 
 abbrev RestForm : Bool → Bool → Core → List Token → Type 0
-RestForm all distinct core ts = (i : Option (List Item)) × Then (AreItems i) (λ ts. Behind "from" (λ ts. FromForm all distinct i core ts) ts) ts
+RestForm all distinct core ts = (i : Option (List Item)) × Then (AreItems i) (λ ts. After "from" (λ ts. FromForm all distinct i core ts) ts) ts
 
-rest_law : (all distinct : Bool) → Law (RestForm all distinct) behind_core (core_rest all distinct)
+rest_law : (all distinct : Bool) → Law (RestForm all distinct) after_core (core_rest all distinct)
 rest_law all distinct =
-    then_law items_law (λ i. behind_law "from" (then_law sources_law (λ s. end_law all distinct i s) (λ s core. follows_end all distinct i s core)))
-    (λ i core. follows_behind "from" behind_core (codes "from" ∷ []) refl)
+    then_law items_law (λ i. after_law "from" (then_law sources_law (λ s. end_law all distinct i s) (λ s core. follows_end all distinct i s core)))
+    (λ i core. follows_after "from" after_core (codes "from" ∷ []) refl)
 
 abbrev CoreForm : Bool → Core → List Token → Type 0
-CoreForm all core ts = Behind "select" (λ ts. (d : Bool) × Then (Flag "distinct" d) (λ ts. RestForm all d core ts) ts) ts
+CoreForm all core ts = After "select" (λ ts. (d : Bool) × Then (Flag "distinct" d) (λ ts. RestForm all d core ts) ts) ts
 
 rest_apart : (all : Bool) (core : Core) (front rest : List Token) → RestForm all false core front → starts (codes "distinct") (front ++ rest) ≡ false
 rest_apart all core front rest (i, (one, back, e, items, others)) =
@@ -118,10 +118,10 @@ core_from all core ts (joined, (more, e, (f1, b1, e1, flag, (f2, b2, e2, items, 
     ap (λ (b : Bool). record core { joined_all = b }) joined ∙ ap (λ (l : List Expr). record core { joined_all = all; picks = l }) is in
     (more, e, (core.distinct, (f1, b1, e1, flag, (core.items, (f2, b2, e2, items, (m3, e3, (record { from = core.from; picks = picks }, (f4, b4, e4, sources, (w, (f5, b5, e5, pick, (core.group, (f6, b6, e6, group, (core.having, made, having)))))))))))))
 
-core_law : (all : Bool) → Law (IsCoreOf all) behind_core (reads_core all)
+core_law : (all : Bool) → Law (IsCoreOf all) after_core (reads_core all)
 core_law all =
-    state_law (CoreForm all) (IsCoreOf all) behind_core (reads_core all)
-    (behind_law "select" (flag_law "distinct" (λ d. rest_law all d) (λ core front rest form h. rest_apart all core front rest form)))
+    state_law (CoreForm all) (IsCoreOf all) after_core (reads_core all)
+    (after_law "select" (flag_law "distinct" (λ d. rest_law all d) (λ core front rest form h. rest_apart all core front rest form)))
     (core_to all) (core_from all)
 
 -- ---- all of them
@@ -141,16 +141,16 @@ united_from core ts (front, back, e, flag, form) = (core.joined_all, (front, bac
 core_apart : (core : Core) (front rest : List Token) → IsCoreOf false core front → starts (codes "all") (front ++ rest) ≡ false
 core_apart core front rest (joined, (more, e, form)) = ap (λ (l : List Token). starts (codes "all") (l ++ rest)) e
 
-united_law : Law IsUnited behind_core reads_united
+united_law : Law IsUnited after_core reads_united
 united_law =
-    state_law UnitedForm IsUnited behind_core reads_united (flag_law "all" (λ b. core_law b) (λ core front rest form h. core_apart core front rest form))
+    state_law UnitedForm IsUnited after_core reads_united (flag_law "all" (λ b. core_law b) (λ core front rest form h. core_apart core front rest form))
     united_to united_from
 
 core_filled : (core : Core) (ts : List Token) → IsFirstCore core ts → 1 ≤ length ts
-core_filled core ts (joined, form) = behind_filled "select" ts form
+core_filled core ts (joined, form) = after_filled "select" ts form
 
-pub cores_law : Law AreCores behind_cores reads_cores
-cores_law = separated_law "union" behind_cores (core_law false) united_law core_filled refl refl refl
+pub cores_law : Law AreCores after_cores reads_cores
+cores_law = separated_law "union" after_cores (core_law false) united_law core_filled refl refl refl
 
 -- the first word of the cores is SELECT
 pub cores_start : (cores : List Core) (front rest : List Token) → AreCores cores front → starts (codes "select") (front ++ rest) ≡ true

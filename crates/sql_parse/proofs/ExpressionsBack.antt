@@ -23,7 +23,7 @@ use Rattle.sql_parse.specs.declared.state.Infix.{Infix}
 use Rattle.sql_parse.specs.declared.state.Infix.TheVariants.{Both, IsNull}
 use Rattle.sql_model.specs.declared.token.Token.{Token}
 use Rattle.sql_model.specs.declared.token.Token.TheVariants.{Word, Number, Quoted, Given}
-use Rattle.sql_parse.specs.Columns.{column_behind}
+use Rattle.sql_parse.specs.Columns.{column_after}
 use Rattle.sql_parse.specs.Expressions.{word_opening, opening, inside_level, closed, pair, operand_at, operand, joined, goes_on, joins_more, within, reads_expr}
 use Rattle.ldv_value.specs.Options.{◌>>=◌, only_if}
 use Rattle.sql_model.specs.Grammar.{word, fold_word, GoesNotOn, GoesOnWith, Writes, IsName, IsConstant, IsColumn, IsExpr}
@@ -35,7 +35,7 @@ use Rattle.ldv_value.proofs.Options.{same-some}
 use Rattle.sql_parse.proofs.Repeat.{after, repeat_suc}
 use Rattle.sql_parse.proofs.Within.{within_suc}
 
--- ---- what stands behind an expression
+-- ---- what stands after an expression
 
 -- Tokens with which no expression goes on that is read to this least level: they begin with no dot and with
 -- no joint of that level or a higher one.
@@ -218,7 +218,7 @@ name_isnt w v named isnt = false_from_ne_true (pointwise nat_eq w v) (λ h.
 name_no_star : (w : List ℕ) (rest : List Token) → IsName w → starts (codes "*") (Word w ∷ rest) ≡ false
 name_no_star w rest named = name_isnt w (codes "*") named refl
 
-name_opens : (least : ℕ) (w : List ℕ) (ts : List Token) → IsName w → word_opening least w ts ≡ (column_behind w ts >>= λ c. Some (Leaf (expr.Column c.0), c.1))
+name_opens : (least : ℕ) (w : List ℕ) (ts : List Token) → IsName w → word_opening least w ts ≡ (column_after w ts >>= λ c. Some (Leaf (expr.Column c.0), c.1))
 name_opens least w ts named =
     if_false _ _ _ (name_isnt w (codes "not") named refl)
     ∙ if_false _ _ _ (name_isnt w (codes "-") named refl)
@@ -228,7 +228,7 @@ name_opens least w ts named =
     ∙ if_false _ _ _ (name_isnt w (codes "sum") named refl)
     ∙ if_false _ _ _ (name_isnt w (codes "min") named refl)
     ∙ if_false _ _ _ (name_isnt w (codes "max") named refl)
-    ∙ ap (λ b. only_if b (Some w) >>= λ n. column_behind n ts >>= λ c. Some (Leaf (expr.Column c.0), c.1)) named
+    ∙ ap (λ b. only_if b (Some w) >>= λ n. column_after n ts >>= λ c. Some (Leaf (expr.Column c.0), c.1)) named
 
 -- a name alone is a column
 alone_opens : (c : ColumnName) → c.table ≡ None → IsName c.name → OpensLeaf (Word c.name ∷ []) (expr.Column c)
@@ -342,7 +342,7 @@ form_readable w level depth ts e inside is = record {
       (form_operand w level depth ts e m least rest inside is (omega (arith, shallow)) low ends);
 }
 
--- ---- joints behind an expression
+-- ---- joints after an expression
 
 joint_steps : (m least : ℕ) (j : Infix) (d made : ParsedExpr) (ts rest : List Token) → joins least d.level ts ≡ Some j → d.depth ≤ m → joined (within m) j d (tail ts) ≡ Some (made, rest)
     → joins_more (within m) m least d ts ≡ Some ((made, true), rest)
@@ -352,16 +352,16 @@ joint_steps m least j d made ts rest joining shallow h =
     ∙ ap (λ o. o >>= λ r. Some ((r.0, true), r.1)) h
 
 -- one joint more
-one_more : (m least level depth : ℕ) (ts : List Token) (a : Expr) (behind : List Token) (i n : ℕ) (e : Expr) (rest : List Token) → Reached m least level depth ts a behind → depth < n
-    → joins_more (within m) m least (deep level depth a) behind ≡ Some ((deep i n e, true), rest) → Reached m least i n ts e rest
-one_more m least level depth ts a behind i n e rest left deeper h = record {
+one_more : (m least level depth : ℕ) (ts : List Token) (a : Expr) (after_word : List Token) (i n : ℕ) (e : Expr) (rest : List Token) → Reached m least level depth ts a after_word → depth < n
+    → joins_more (within m) m least (deep level depth a) after_word ≡ Some ((deep i n e, true), rest) → Reached m least i n ts e rest
+one_more m least level depth ts a after_word i n e rest left deeper h = record {
   joints = suc left.joints;
   few = let few : left.joints < depth = left.few in omega arith;
   made = λ k.
       let turns : suc left.joints + k ≡ left.joints + suc k = omega arith in
       ap (λ t. joined_up m least t ts) turns
       ∙ left.made (suc k)
-      ∙ repeat_suc (joins_more (within m) m least) k (deep level depth a) behind
+      ∙ repeat_suc (joins_more (within m) m least) k (deep level depth a) after_word
       ∙ ap (after (joins_more (within m) m least) k) h;
 }
 
@@ -376,16 +376,16 @@ joint_readable j t level depth front a back n e writes left is deeper joins_as =
   some_level = some_joint_level j;
   no_star = λ rest. ap (starts (codes "*")) (append_assoc front (t ∷ back) rest) ∙ is.no_star (t ∷ (back ++ rest));
   reaches = λ m least rest shallow low ends.
-      let behind : List Token = t ∷ (back ++ rest) in
-      let reads : joint_of behind ≡ Some j = joint_read j t (back ++ rest) writes in
+      let after_word : List Token = t ∷ (back ++ rest) in
+      let reads : joint_of after_word ≡ Some j = joint_read j t (back ++ rest) writes in
       let weak : level_of j ≤ left_of j = level_left j in
-      let there : Reached m least level depth (front ++ behind) a behind =
-      is.reaches m least behind (omega (arith, shallow, deeper)) (omega (arith, low, weak, left)) (joint_ends j behind (suc level) reads (omega (arith, weak, left))) in
-      let joining : joins least level behind ≡ Some j = joins_some least level j behind reads low left in
-      let step : joins_more (within m) m least (deep level depth a) behind ≡ Some ((deep (level_of j) n e, true), rest) =
-      joint_steps m least j (deep level depth a) (deep (level_of j) n e) behind rest joining (omega (arith, shallow, deeper)) (joins_as m rest shallow ends) in
+      let there : Reached m least level depth (front ++ after_word) a after_word =
+      is.reaches m least after_word (omega (arith, shallow, deeper)) (omega (arith, low, weak, left)) (joint_ends j after_word (suc level) reads (omega (arith, weak, left))) in
+      let joining : joins least level after_word ≡ Some j = joins_some least level j after_word reads low left in
+      let step : joins_more (within m) m least (deep level depth a) after_word ≡ Some ((deep (level_of j) n e, true), rest) =
+      joint_steps m least j (deep level depth a) (deep (level_of j) n e) after_word rest joining (omega (arith, shallow, deeper)) (joins_as m rest shallow ends) in
       subst (λ (l : List Token). Reached m least (level_of j) n l e rest) (sym (append_assoc front (t ∷ back) rest))
-      (one_more m least level depth (front ++ behind) a behind (level_of j) n e rest there deeper step);
+      (one_more m least level depth (front ++ after_word) a after_word (level_of j) n e rest there deeper step);
 }
 
 pair_readable : (op : Operator) (t : Token) (l m : ℕ) (xs : List Token) (a : Expr) (k n : ℕ) (ys : List Token) (b : Expr) → Writes op t

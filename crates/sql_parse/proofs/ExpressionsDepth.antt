@@ -15,7 +15,7 @@ use Rattle.sql_parse.specs.Expressions.{opening, inside_level, closed, null_test
 use Rattle.ldv_value.specs.Options.{◌>>=◌}
 use Rattle.sql_model.specs.Levels.{right_of}
 use Rattle.sql_parse.specs.Operators.{joins}
-use Rattle.sql_parse.specs.Reader.{starts, passed, behind, tail, repeat}
+use Rattle.sql_parse.specs.Reader.{starts, passed, after_word, tail, repeat}
 use Rattle.ldv_value.proofs.Options.{bind-some, only_if-some, same-some}
 use Rattle.sql_parse.proofs.Repeat.{after, repeat_none, repeat_suc}
 use Rattle.sql_parse.proofs.Within.{within_none, within_suc}
@@ -24,19 +24,19 @@ use Rattle.sql_parse.proofs.Within.{within_none, within_suc}
 depth_is : (d : ParsedExpr) (ts : List Token) (q : ParsedExpr × List Token) → Some (d, ts) ≡ Some q → q.0.depth ≡ d.depth
 depth_is d ts q h = sym (ap (λ (p : ParsedExpr × List Token). p.0.depth) (same-some _ _ h))
 
-behind_depth : (w : List ℕ) (d : ParsedExpr) (ts : List Token) (q : ParsedExpr × List Token) → (behind w ts >>= λ rest. Some (d, rest)) ≡ Some q → q.0.depth ≡ d.depth
-behind_depth w d ts q h =
-    let b : (x : List Token) × (behind w ts ≡ Some x) × (Some (d, x) ≡ Some q) = bind-some (behind w ts) (λ rest. Some (d, rest)) q h in
+after_depth : (w : List ℕ) (d : ParsedExpr) (ts : List Token) (q : ParsedExpr × List Token) → (after_word w ts >>= λ rest. Some (d, rest)) ≡ Some q → q.0.depth ≡ d.depth
+after_depth w d ts q h =
+    let b : (x : List Token) × (after_word w ts ≡ Some x) × (Some (d, x) ≡ Some q) = bind-some (after_word w ts) (λ rest. Some (d, rest)) q h in
     depth_is d b.0 q b.2
 
 closed_depth : (w : Prefix) (d : ParsedExpr) (ts : List Token) (q : ParsedExpr × List Token) → closed w d ts ≡ Some q → q.0.depth ≡ d.depth + 1
 closed_depth Not d ts q h = depth_is (record { expr = expr.Not d.expr; depth = d.depth + 1; level = 3 }) ts q h
 closed_depth Minus d ts q h = depth_is (record { expr = expr.Negate d.expr; depth = d.depth + 1; level = 7 }) ts q h
-closed_depth Bracket d ts q h = behind_depth (codes ")") (record { expr = d.expr; depth = d.depth + 1; level = 8 }) ts q h
-closed_depth (FoldOf f) d ts q h = behind_depth (codes ")") (record { expr = expr.Aggregate f (Some d.expr); depth = d.depth + 1; level = 8 }) ts q h
+closed_depth Bracket d ts q h = after_depth (codes ")") (record { expr = d.expr; depth = d.depth + 1; level = 8 }) ts q h
+closed_depth (FoldOf f) d ts q h = after_depth (codes ")") (record { expr = expr.Aggregate f (Some d.expr); depth = d.depth + 1; level = 8 }) ts q h
 
 null_depth : (d : ParsedExpr) (ts : List Token) (q : ParsedExpr × List Token) → null_test d ts ≡ Some q → q.0.depth ≡ d.depth + 1
-null_depth d ts q h = behind_depth (codes "null") (record { expr = expr.IsNull d.expr (starts (codes "not") ts); depth = d.depth + 1; level = 4 }) (passed (codes "not") ts) q h
+null_depth d ts q h = after_depth (codes "null") (record { expr = expr.IsNull d.expr (starts (codes "not") ts); depth = d.depth + 1; level = 4 }) (passed (codes "not") ts) q h
 
 module _ (limit : ℕ) (read : ℕ → List Token → Option (ParsedExpr × List Token)) (shallow : (l : ℕ) (ts : List Token) (q : ParsedExpr × List Token) → read l ts ≡ Some q → q.0.depth ≤ limit) where
   operand_at_depth : (o : Opening) (ts : List Token) (q : ParsedExpr × List Token) → operand_at read o ts ≡ Some q → q.0.depth ≤ suc limit

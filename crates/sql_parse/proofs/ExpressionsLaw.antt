@@ -27,10 +27,10 @@ use Rattle.ldv_value.specs.declared.value.Cmp.{Cmp}
 use Rattle.sql_model.specs.declared.token.Token.{Token}
 use Rattle.sql_model.specs.declared.token.Token.TheVariants.{Word, Number, Quoted, Given}
 use Rattle.sql_parse.specs.Expressions.{leaf, negation, fold_opening, count_inside, count_opening, column_opening, word_opening, opening, inside_level, closed, null_test, pair, operand_at, operand, joined, joined_within, goes_on, joins_more, within, reads_expr}
-use Rattle.sql_parse.specs.Columns.{column_behind}
+use Rattle.sql_parse.specs.Columns.{column_after}
 use Rattle.ldv_value.specs.Options.{◌>>=◌, only_if}
 use Rattle.sql_model.specs.Grammar.{word, fold_word, Writes, IsName, IsConstant, IsColumn, IsExpr}
-use Rattle.sql_parse.specs.Reader.{starts, tail, behind, name_in, reads_name, repeat}
+use Rattle.sql_parse.specs.Reader.{starts, tail, after_word, name_in, reads_name, repeat}
 use Rattle.sql_parse.proofs.Repeat.{after, repeat_none, repeat_suc}
 use Rattle.sql_parse.proofs.ExpressionsDepth.{within_depth}
 use Rattle.sql_parse.proofs.Within.{within_none, within_suc}
@@ -46,8 +46,8 @@ starts_is w (Number z ∷ ts) h = cc
 starts_is w (Quoted t ∷ ts) h = cc
 starts_is w (Given v ∷ ts) h = cc
 
-pub behind_is : (w : List ℕ) (ts rest : List Token) → behind w ts ≡ Some rest → ts ≡ Word w ∷ rest
-behind_is w ts rest h =
+pub after_is : (w : List ℕ) (ts rest : List Token) → after_word w ts ≡ Some rest → ts ≡ Word w ∷ rest
+after_is w ts rest h =
     let both : (starts w ts ≡ true) × (Some (tail ts) ≡ Some rest) = only_if-some (starts w ts) (Some (tail ts)) rest h in
     starts_is w ts both.0 ∙ ap (λ r. Word w ∷ r) (same-some _ _ both.1)
 
@@ -77,13 +77,13 @@ closed_sound Minus d made inside ts rest least is h =
     let same : (record { expr = expr.Negate d.expr; depth = d.depth + 1; level = 7 }, ts) ≡ (made, rest) = same-some _ _ h in
     ([], ap (λ p. p.1) same, subst (λ (m : ParsedExpr). Closes Minus inside m []) (ap (λ p. p.0) same) (subst (λ (l : List Token). IsExpr 7 (d.depth + 1) (word "-" ∷ l) (expr.Negate d.expr)) (sym (append-nil inside)) (IsExpr.AMinus d.level d.depth inside d.expr least is), refl))
 closed_sound Bracket d made inside ts rest least is h =
-    let b : (x : List Token) × (behind (codes ")") ts ≡ Some x) × (Some (record { expr = d.expr; depth = d.depth + 1; level = 8 }, x) ≡ Some (made, rest)) = bind-some (behind (codes ")") ts) _ (made, rest) h in
+    let b : (x : List Token) × (after_word (codes ")") ts ≡ Some x) × (Some (record { expr = d.expr; depth = d.depth + 1; level = 8 }, x) ≡ Some (made, rest)) = bind-some (after_word (codes ")") ts) _ (made, rest) h in
     let same : (record { expr = d.expr; depth = d.depth + 1; level = 8 }, b.0) ≡ (made, rest) = same-some _ _ b.2 in
-    (word ")" ∷ [], behind_is (codes ")") ts b.0 b.1 ∙ ap (λ r. word ")" ∷ r) (ap (λ p. p.1) same), subst (λ (m : ParsedExpr). Closes Bracket inside m (word ")" ∷ [])) (ap (λ p. p.0) same) (IsExpr.InBrackets d.level d.depth inside d.expr is, refl))
+    (word ")" ∷ [], after_is (codes ")") ts b.0 b.1 ∙ ap (λ r. word ")" ∷ r) (ap (λ p. p.1) same), subst (λ (m : ParsedExpr). Closes Bracket inside m (word ")" ∷ [])) (ap (λ p. p.0) same) (IsExpr.InBrackets d.level d.depth inside d.expr is, refl))
 closed_sound (FoldOf f) d made inside ts rest least is h =
-    let b : (x : List Token) × (behind (codes ")") ts ≡ Some x) × (Some (record { expr = expr.Aggregate f (Some d.expr); depth = d.depth + 1; level = 8 }, x) ≡ Some (made, rest)) = bind-some (behind (codes ")") ts) _ (made, rest) h in
+    let b : (x : List Token) × (after_word (codes ")") ts ≡ Some x) × (Some (record { expr = expr.Aggregate f (Some d.expr); depth = d.depth + 1; level = 8 }, x) ≡ Some (made, rest)) = bind-some (after_word (codes ")") ts) _ (made, rest) h in
     let same : (record { expr = expr.Aggregate f (Some d.expr); depth = d.depth + 1; level = 8 }, b.0) ≡ (made, rest) = same-some _ _ b.2 in
-    (word ")" ∷ [], behind_is (codes ")") ts b.0 b.1 ∙ ap (λ r. word ")" ∷ r) (ap (λ p. p.1) same), subst (λ (m : ParsedExpr). Closes (FoldOf f) inside m (word ")" ∷ [])) (ap (λ p. p.0) same) (IsExpr.AFold f d.level d.depth inside d.expr is, refl))
+    (word ")" ∷ [], after_is (codes ")") ts b.0 b.1 ∙ ap (λ r. word ")" ∷ r) (ap (λ p. p.1) same), subst (λ (m : ParsedExpr). Closes (FoldOf f) inside m (word ")" ∷ [])) (ap (λ p. p.0) same) (IsExpr.AFold f d.level d.depth inside d.expr is, refl))
 
 -- ---- how an operand begins
 
@@ -105,17 +105,17 @@ not_sound least ts p h =
 
 fold_sound : (least : ℕ) (f : Fold) (ts : List Token) (p : Opening × List Token) → least ≤ 7 → fold_opening f ts ≡ Some p → Opened least (fold_word f ∷ ts) p
 fold_sound least f ts p le h =
-    let b : (x : List Token) × (behind (codes "(") ts ≡ Some x) × (Some (Nested (FoldOf f), x) ≡ Some p) = bind-some (behind (codes "(") ts) (λ x. Some (Nested (FoldOf f), x)) p h in
-    around_sound least (FoldOf f) (fold_word f ∷ ts) b.0 p (ap (λ l. fold_word f ∷ l) (behind_is (codes "(") ts b.0 b.1)) (omega (arith, le)) b.2
+    let b : (x : List Token) × (after_word (codes "(") ts ≡ Some x) × (Some (Nested (FoldOf f), x) ≡ Some p) = bind-some (after_word (codes "(") ts) (λ x. Some (Nested (FoldOf f), x)) p h in
+    around_sound least (FoldOf f) (fold_word f ∷ ts) b.0 p (ap (λ l. fold_word f ∷ l) (after_is (codes "(") ts b.0 b.1)) (omega (arith, le)) b.2
 
 count_sound : (least : ℕ) (ts : List Token) (p : Opening × List Token) → least ≤ 7 → count_opening ts ≡ Some p → Opened least (word "count" ∷ ts) p
 count_sound least ts p le h =
-    let b : (x : List Token) × (behind (codes "(") ts ≡ Some x) × (count_inside x ≡ Some p) = bind-some (behind (codes "(") ts) count_inside p h in
-    let begun : ts ≡ word "(" ∷ b.0 = behind_is (codes "(") ts b.0 b.1 in
-    elim (if-some (starts (codes "*") b.0) (behind (codes ")") (tail b.0) >>= λ x. Some (Leaf (expr.Aggregate fold.Count None), x)) (Some (Nested (FoldOf fold.Count), b.0)) p b.2) [
+    let b : (x : List Token) × (after_word (codes "(") ts ≡ Some x) × (count_inside x ≡ Some p) = bind-some (after_word (codes "(") ts) count_inside p h in
+    let begun : ts ≡ word "(" ∷ b.0 = after_is (codes "(") ts b.0 b.1 in
+    elim (if-some (starts (codes "*") b.0) (after_word (codes ")") (tail b.0) >>= λ x. Some (Leaf (expr.Aggregate fold.Count None), x)) (Some (Nested (FoldOf fold.Count), b.0)) p b.2) [
       | inl star ↦
-          let c : (x : List Token) × (behind (codes ")") (tail b.0) ≡ Some x) × (Some (Leaf (expr.Aggregate fold.Count None), x) ≡ Some p) = bind-some (behind (codes ")") (tail b.0)) (λ x. Some (Leaf (expr.Aggregate fold.Count None), x)) p star.1 in
-          let all : b.0 ≡ word "*" ∷ word ")" ∷ c.0 = starts_is (codes "*") b.0 star.0 ∙ ap (λ l. word "*" ∷ l) (behind_is (codes ")") (tail b.0) c.0 c.1) in
+          let c : (x : List Token) × (after_word (codes ")") (tail b.0) ≡ Some x) × (Some (Leaf (expr.Aggregate fold.Count None), x) ≡ Some p) = bind-some (after_word (codes ")") (tail b.0)) (λ x. Some (Leaf (expr.Aggregate fold.Count None), x)) p star.1 in
+          let all : b.0 ≡ word "*" ∷ word ")" ∷ c.0 = starts_is (codes "*") b.0 star.0 ∙ ap (λ l. word "*" ∷ l) (after_is (codes ")") (tail b.0) c.0 c.1) in
           subst (Opened least (word "count" ∷ ts)) (same-some _ _ c.2) (word "count" ∷ word "(" ∷ word "*" ∷ word ")" ∷ [], ap (λ l. word "count" ∷ l) (begun ∙ ap (λ l. word "(" ∷ l) all), IsExpr.CountAll)
       | inr more ↦ around_sound least (FoldOf fold.Count) (word "count" ∷ ts) b.0 p (ap (λ l. word "count" ∷ l) begun) (omega (arith, le)) more
     ]
@@ -130,7 +130,7 @@ name_sound (Number z ∷ ts) r h = cc
 name_sound (Quoted t ∷ ts) r h = cc
 name_sound (Given v ∷ ts) r h = cc
 
-column_sound : (n : List ℕ) (ts : List Token) (p : ColumnName × List Token) → IsName n → column_behind n ts ≡ Some p → (front : List Token) × (Word n ∷ ts ≡ front ++ p.1) × IsColumn front p.0
+column_sound : (n : List ℕ) (ts : List Token) (p : ColumnName × List Token) → IsName n → column_after n ts ≡ Some p → (front : List Token) × (Word n ∷ ts ≡ front ++ p.1) × IsColumn front p.0
 column_sound n ts p named h =
     elim (if-some (starts (codes ".") ts) (reads_name (tail ts) >>= λ r. Some (record { table = Some n; name = r.0 }, r.1)) (Some (record { table = None; name = n }, ts)) p h) [
       | inl dot ↦
@@ -147,10 +147,10 @@ at_word least w v ts p is opened = subst (λ (u : List ℕ). Opened least (Word 
 
 column_opened : (least : ℕ) (w : List ℕ) (ts : List Token) (p : Opening × List Token) → column_opening w ts ≡ Some p → Opened least (Word w ∷ ts) p
 column_opened least w ts p h =
-    let b : (n : List ℕ) × (name_in w ≡ Some n) × ((column_behind n ts >>= λ c. Some (Leaf (expr.Column c.0), c.1)) ≡ Some p) = bind-some (name_in w) (λ n. column_behind n ts >>= λ c. Some (Leaf (expr.Column c.0), c.1)) p h in
+    let b : (n : List ℕ) × (name_in w ≡ Some n) × ((column_after n ts >>= λ c. Some (Leaf (expr.Column c.0), c.1)) ≡ Some p) = bind-some (name_in w) (λ n. column_after n ts >>= λ c. Some (Leaf (expr.Column c.0), c.1)) p h in
     let c : (sql_name_test w ≡ true) × (Some w ≡ Some b.0) = only_if-some (sql_name_test w) (Some w) b.0 b.1 in
     let same : w ≡ b.0 = same-some _ _ c.1 in
-    let d : (q : ColumnName × List Token) × (column_behind b.0 ts ≡ Some q) × (Some (Leaf (expr.Column q.0), q.1) ≡ Some p) = bind-some (column_behind b.0 ts) (λ c. Some (Leaf (expr.Column c.0), c.1)) p b.2 in
+    let d : (q : ColumnName × List Token) × (column_after b.0 ts ≡ Some q) × (Some (Leaf (expr.Column q.0), q.1) ≡ Some p) = bind-some (column_after b.0 ts) (λ c. Some (Leaf (expr.Column c.0), c.1)) p b.2 in
     let made : (front : List Token) × (Word b.0 ∷ ts ≡ front ++ d.0.1) × IsColumn front d.0.0 = column_sound b.0 ts d.0 (subst IsName same c.0) d.1 in
     subst (Opened least (Word w ∷ ts)) (same-some _ _ d.2) (made.0, ap (λ u. Word u ∷ ts) same ∙ made.1, IsExpr.AColumn made.0 d.0.0 made.2)
 
@@ -286,20 +286,20 @@ Joined j t front ts q = (back : List Token) × (ts ≡ back ++ q.1) × IsExpr q.
 null_sound : (d : ParsedExpr) (t : Token) (front ts : List Token) (q : ParsedExpr × List Token) → IsExpr d.level d.depth front d.expr → 5 ≤ d.level → t ≡ word "is" → null_test d ts ≡ Some q → Joined IsNull t front ts q
 null_sound d t front ts q is left writes h = elim (cases_Bool (starts (codes "not") ts)) [
   | inl negated ↦
-      let h1 : (behind (codes "null") (tail ts) >>= λ rest. Some (record { expr = expr.IsNull d.expr true; depth = d.depth + 1; level = 4 }, rest)) ≡ Some q = rw negated at h in
-      let b : (x : List Token) × (behind (codes "null") (tail ts) ≡ Some x) × (Some (record { expr = expr.IsNull d.expr true; depth = d.depth + 1; level = 4 }, x) ≡ Some q) = bind-some (behind (codes "null") (tail ts)) _ q h1 in
+      let h1 : (after_word (codes "null") (tail ts) >>= λ rest. Some (record { expr = expr.IsNull d.expr true; depth = d.depth + 1; level = 4 }, rest)) ≡ Some q = rw negated at h in
+      let b : (x : List Token) × (after_word (codes "null") (tail ts) ≡ Some x) × (Some (record { expr = expr.IsNull d.expr true; depth = d.depth + 1; level = 4 }, x) ≡ Some q) = bind-some (after_word (codes "null") (tail ts)) _ q h1 in
       subst (Joined IsNull t front ts) (same-some _ _ b.2) (
         word "not" ∷ word "null" ∷ [],
-        starts_is (codes "not") ts negated ∙ ap (λ l. word "not" ∷ l) (behind_is (codes "null") (tail ts) b.0 b.1),
+        starts_is (codes "not") ts negated ∙ ap (λ l. word "not" ∷ l) (after_is (codes "null") (tail ts) b.0 b.1),
         subst (λ (u : Token). IsExpr 4 (d.depth + 1) (front ++ u ∷ word "not" ∷ word "null" ∷ []) (expr.IsNull d.expr true)) (sym writes) (IsExpr.ANotNull d.level d.depth front d.expr left is),
         refl,
       )
   | inr plain ↦
-      let h1 : (behind (codes "null") ts >>= λ rest. Some (record { expr = expr.IsNull d.expr false; depth = d.depth + 1; level = 4 }, rest)) ≡ Some q = rw plain at h in
-      let b : (x : List Token) × (behind (codes "null") ts ≡ Some x) × (Some (record { expr = expr.IsNull d.expr false; depth = d.depth + 1; level = 4 }, x) ≡ Some q) = bind-some (behind (codes "null") ts) _ q h1 in
+      let h1 : (after_word (codes "null") ts >>= λ rest. Some (record { expr = expr.IsNull d.expr false; depth = d.depth + 1; level = 4 }, rest)) ≡ Some q = rw plain at h in
+      let b : (x : List Token) × (after_word (codes "null") ts ≡ Some x) × (Some (record { expr = expr.IsNull d.expr false; depth = d.depth + 1; level = 4 }, x) ≡ Some q) = bind-some (after_word (codes "null") ts) _ q h1 in
       subst (Joined IsNull t front ts) (same-some _ _ b.2) (
         word "null" ∷ [],
-        behind_is (codes "null") ts b.0 b.1,
+        after_is (codes "null") ts b.0 b.1,
         subst (λ (u : Token). IsExpr 4 (d.depth + 1) (front ++ u ∷ word "null" ∷ []) (expr.IsNull d.expr false)) (sym writes) (IsExpr.ANull d.level d.depth front d.expr left is),
         refl,
       )

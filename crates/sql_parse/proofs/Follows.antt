@@ -1,4 +1,4 @@
--- What may stand behind a form.
+-- What may stand after a form.
 use Rattle.std.proofs.Common.{◌≡◌, ℕ, List, [], ◌∷◌, ◌++◌, refl, ap, ◌∙◌, not, Bool, true, false, Some, None, append_assoc}
 use Rattle.std.specs.Prelude.{Option, ◌||◌, ◌&&◌, nat_eq, codes}
 use Prim.Native.String.{String}
@@ -8,10 +8,10 @@ use Rattle.std.proofs.lemmas.Slice.Eq.{bytes_eq-Decides}
 use Rattle.sql_model.specs.SqlNames.{sql_name_test}
 use Rattle.sql_model.specs.declared.token.Token.{Token}
 use Rattle.sql_model.specs.declared.token.Token.TheVariants.{Word, Number, Quoted, Given}
-use Rattle.sql_model.specs.GrammarOfStatements.{Then, Behind, Optionally, Repeated}
+use Rattle.sql_model.specs.GrammarOfStatements.{Then, After, Optionally, Repeated}
 use Rattle.sql_parse.specs.Queries.{names}
 use Rattle.ldv_value.specs.Options.{only_if}
-use Rattle.sql_parse.specs.Reader.{starts, passed, behind}
+use Rattle.sql_parse.specs.Reader.{starts, passed, after_word}
 use Rattle.sql_parse.proofs.Choices.{or_go, and_true}
 use Rattle.sql_parse.proofs.ExpressionsLaw.{text_is}
 
@@ -70,12 +70,12 @@ ends_unnamed ws (Given v ∷ ts) l h = refl
 
 -- ---- a form, and what then stands there
 
--- with one of the first words behind the form, it begins with one of the second ones, as does the form
+-- with one of the first words after the form, it begins with one of the second ones, as does the form
 abbrev pub Follows : (List Token → Type 0) → List (List ℕ) → List (List ℕ) → Type 0
 Follows Form ws vs = (ts rest : List Token) → Form ts → ends_by ws rest ≡ true → ends_by vs (ts ++ rest) ≡ true
 
-pub follows_behind : {Form : List Token → Type 0} (s : String) (ws vs : List (List ℕ)) → among vs (codes s) ≡ true → Follows (Behind s Form) ws vs
-follows_behind s ws vs is ts rest (more, e, form) h = ap (λ (l : List Token). ends_by vs (l ++ rest)) e ∙ is
+pub follows_after : {Form : List Token → Type 0} (s : String) (ws vs : List (List ℕ)) → among vs (codes s) ≡ true → Follows (After s Form) ws vs
+follows_after s ws vs is ts rest (more, e, form) h = ap (λ (l : List Token). ends_by vs (l ++ rest)) e ∙ is
 
 pub follows_nothing : (ws vs : List (List ℕ)) → all_words (among vs) ws ≡ true → Follows (λ ts. ts ≡ []) ws vs
 follows_nothing ws vs less ts rest e h = ap (λ (l : List Token). ends_by vs (l ++ rest)) e ∙ ends_more ws vs rest less h
@@ -83,7 +83,7 @@ follows_nothing ws vs less ts rest e h = ap (λ (l : List Token). ends_by vs (l 
 pub follows_optional : {A : Type 0} (Form : A → List Token → Type 0) (s : String) (ws vs : List (List ℕ)) (o : Option A) → among vs (codes s) ≡ true → all_words (among vs) ws ≡ true
     → Follows (Optionally s Form o) ws vs
 follows_optional Form s ws vs None is less = follows_nothing ws vs less
-follows_optional Form s ws vs (Some x) is less = follows_behind s ws vs is
+follows_optional Form s ws vs (Some x) is less = follows_after s ws vs is
 
 pub follows_then : {First Second : List Token → Type 0} (ws us vs : List (List ℕ)) → Follows First us vs → Follows Second ws us → Follows (Then First Second) ws vs
 follows_then ws us vs one two ts rest (front, back, e, first, second) h =
@@ -100,8 +100,8 @@ follows_repeated Form ws vs (x ∷ xs) less begins ts rest (front, back, e, firs
 pub starts_self : (w : List ℕ) (ts : List Token) → starts w (Word w ∷ ts) ≡ true
 starts_self w ts = self_text w
 
-pub behind_self : (w : List ℕ) (ts : List Token) → behind w (Word w ∷ ts) ≡ Some ts
-behind_self w ts = ap (λ b. only_if b (Some ts)) (self_text w)
+pub after_self : (w : List ℕ) (ts : List Token) → after_word w (Word w ∷ ts) ≡ Some ts
+after_self w ts = ap (λ b. only_if b (Some ts)) (self_text w)
 
 pub passed_self : (w : List ℕ) (ts : List Token) → passed w (Word w ∷ ts) ≡ ts
 passed_self w ts = rw (self_text w) refl

@@ -7,15 +7,15 @@ use Rattle.sql_model.specs.declared.token.Token.TheVariants.{Word, Number, Quote
 use Rattle.ldv_value.specs.Options.{◌>>=◌, only_if}
 use Rattle.sql_model.specs.SqlNames.{sql_name_test}
 use Rattle.sql_model.specs.Grammar.{word, IsName}
-use Rattle.sql_model.specs.GrammarOfStatements.{Then, Behind, Flag, Optionally, Named}
-use Rattle.sql_parse.specs.Reader.{starts, tail, passed, behind, reads_token, name_of, reads_name}
+use Rattle.sql_model.specs.GrammarOfStatements.{Then, After, Flag, Optionally, Named}
+use Rattle.sql_parse.specs.Reader.{starts, tail, passed, after_word, reads_token, name_of, reads_name}
 use Rattle.sql_parse.proofs.Choices.{choose}
-use Rattle.sql_parse.proofs.ExpressionsLaw.{starts_is, behind_is}
-use Rattle.sql_parse.proofs.Follows.{all_words, among, ends_by, lacks, ends_lack, ends_more, Follows, starts_self, behind_self}
+use Rattle.sql_parse.proofs.ExpressionsLaw.{starts_is, after_is}
+use Rattle.sql_parse.proofs.Follows.{all_words, among, ends_by, lacks, ends_lack, ends_more, Follows, starts_self, after_self}
 use Rattle.ldv_value.proofs.Options.{bind-some, only_if-some, same-some}
 
 -- What is read from the front of tokens has the form, and what has the form is read from the front, where
--- what stands behind it is nothing or begins with one of the words.
+-- what stands after it is nothing or begins with one of the words.
 pub record Law {X : Type 0} (Form : X → List Token → Type 0) (ws : List (List ℕ)) (read : List Token → Option (X × List Token)) : Type 0 where
   pub sound : (ts : List Token) (x : X) (rest : List Token) → read ts ≡ Some (x, rest) → (front : List Token) × (ts ≡ front ++ rest) × Form x front
   pub complete : (front rest : List Token) (x : X) → Form x front → ends_by ws rest ≡ true → read (front ++ rest) ≡ Some (x, rest)
@@ -33,7 +33,7 @@ state_law F G ws read law to from = record {
   complete = λ front rest x form e. law.complete front rest x (from x front form) e;
 }
 
--- with fewer words behind it
+-- with fewer words after it
 pub fewer_law : {X : Type 0} {F : X → List Token → Type 0} {read : List Token → Option (X × List Token)} (ws vs : List (List ℕ)) → Law F vs read → all_words (among vs) ws ≡ true → Law F ws read
 fewer_law ws vs law less = record {
   sound = law.sound;
@@ -75,15 +75,15 @@ token_law {X = X} f ws = record {
         taken (λ z front. (t : Token) × (front ≡ t ∷ []) × (f t ≡ Some z)) (t ∷ ts) (p.0, ts) (x, rest) p.2 (t ∷ [], refl, (t, refl, p.1))
 
 -- a word, and then a form
-pub behind_law : {X : Type 0} {Form : X → List Token → Type 0} {ws : List (List ℕ)} {next : List Token → Option (X × List Token)} (s : String) → Law Form ws next
-    → Law (λ x ts. Behind s (Form x) ts) ws (λ ts. behind (codes s) ts >>= λ rest. next rest)
-behind_law {X = X} {next = next} s law = record {
+pub after_law : {X : Type 0} {Form : X → List Token → Type 0} {ws : List (List ℕ)} {next : List Token → Option (X × List Token)} (s : String) → Law Form ws next
+    → Law (λ x ts. After s (Form x) ts) ws (λ ts. after_word (codes s) ts >>= λ rest. next rest)
+after_law {X = X} {next = next} s law = record {
   sound = λ ts x rest h.
-      let p : (more : List Token) × (behind (codes s) ts ≡ Some more) × (next more ≡ Some (x, rest)) = bind-some (behind (codes s) ts) (λ rest. next rest) (x, rest) h in
+      let p : (more : List Token) × (after_word (codes s) ts ≡ Some more) × (next more ≡ Some (x, rest)) = bind-some (after_word (codes s) ts) (λ rest. next rest) (x, rest) h in
       let q = law.sound p.0 x rest p.2 in
-      (word s ∷ q.0, behind_is (codes s) ts p.0 p.1 ∙ ap (λ l. word s ∷ l) q.1, (q.0, refl, q.2));
+      (word s ∷ q.0, after_is (codes s) ts p.0 p.1 ∙ ap (λ l. word s ∷ l) q.1, (q.0, refl, q.2));
   complete = λ front rest x form e.
-      ap (λ l. behind (codes s) (l ++ rest) >>= λ rest. next rest) form.1 ∙ ap (λ o. o >>= λ rest. next rest) (behind_self (codes s) (form.0 ++ rest)) ∙ law.complete form.0 rest x form.2 e;
+      ap (λ l. after_word (codes s) (l ++ rest) >>= λ rest. next rest) form.1 ∙ ap (λ o. o >>= λ rest. next rest) (after_self (codes s) (form.0 ++ rest)) ∙ law.complete form.0 rest x form.2 e;
 }
 
 -- a form, and then one that it says
@@ -114,10 +114,10 @@ made_law {A = A} {X = X} {Form = Form} {read = read} f law = record {
   complete = λ front rest x form e. ap (λ o. o >>= λ r. Some (f r.0, r.1)) (law.complete front rest form.0 form.2 e) ∙ ap (λ y. Some (y, rest)) (sym form.1);
 }
 
--- a form behind a word, or another one where the word doesn't stand there
+-- a form after a word, or another one where the word doesn't stand there
 pub either_law : {X : Type 0} {One Two : X → List Token → Type 0} {ws : List (List ℕ)} {next other : List Token → Option (X × List Token)} (s : String) → Law One ws next → Law Two ws other
     → ((x : X) (front rest : List Token) → Two x front → ends_by ws rest ≡ true → starts (codes s) (front ++ rest) ≡ false)
-    → Law (λ x ts. Behind s (One x) ts ⊎ Two x ts) ws (λ ts. if starts (codes s) ts then next (tail ts) else other ts)
+    → Law (λ x ts. After s (One x) ts ⊎ Two x ts) ws (λ ts. if starts (codes s) ts then next (tail ts) else other ts)
 either_law {X = X} {One = One} {Two = Two} {ws = ws} {next = next} {other = other} s one two apart = record {
   sound = λ ts x rest h. choose (starts (codes s) ts) (next (tail ts)) (other ts) (x, rest) h
       (λ is made. let q = one.sound (tail ts) x rest made in (word s ∷ q.0, starts_is (codes s) ts is ∙ ap (λ l. word s ∷ l) q.1, inl (q.0, refl, q.2)))
@@ -125,26 +125,26 @@ either_law {X = X} {One = One} {Two = Two} {ws = ws} {next = next} {other = othe
   complete = either_complete;
 }
   where
-    either_complete : (front rest : List Token) (x : X) → Behind s (One x) front ⊎ Two x front → ends_by ws rest ≡ true → (if starts (codes s) (front ++ rest) then next (tail (front ++ rest)) else other (front ++ rest)) ≡ Some (x, rest)
+    either_complete : (front rest : List Token) (x : X) → After s (One x) front ⊎ Two x front → ends_by ws rest ≡ true → (if starts (codes s) (front ++ rest) then next (tail (front ++ rest)) else other (front ++ rest)) ≡ Some (x, rest)
     either_complete front rest x (inl (more, e, form)) ends =
         ap (λ l. if starts (codes s) (l ++ rest) then next (tail (l ++ rest)) else other (l ++ rest)) e
         ∙ ap (λ b. if b then next (more ++ rest) else other (word s ∷ more ++ rest)) (starts_self (codes s) (more ++ rest)) ∙ one.complete more rest x form ends
     either_complete front rest x (inr form) ends =
         ap (λ b. if b then next (tail (front ++ rest)) else other (front ++ rest)) (apart x front rest form ends) ∙ two.complete front rest x form ends
 
--- a form behind a word, or nothing
+-- a form after a word, or nothing
 pub optional_law : {A : Type 0} {Form : A → List Token → Type 0} {ws : List (List ℕ)} {read : List Token → Option (A × List Token)} (s : String) → Law Form ws read → lacks (codes s) ws ≡ true
     → Law (λ o ts. Optionally s Form o ts) ws (λ ts. if starts (codes s) ts then (read (tail ts) >>= λ r. Some (Some r.0, r.1)) else Some (None, ts))
 optional_law {A = A} {Form = Form} {ws = ws} {read = read} s law lack =
-    state_law (λ o ts. Behind s (λ ts. (a : A) × (o ≡ Some a) × Form a ts) ts ⊎ ((o ≡ None) × (ts ≡ []))) (λ o ts. Optionally s Form o ts) ws (λ ts. if starts (codes s) ts then (read (tail ts) >>= λ r. Some (Some r.0, r.1)) else Some (None, ts))
+    state_law (λ o ts. After s (λ ts. (a : A) × (o ≡ Some a) × Form a ts) ts ⊎ ((o ≡ None) × (ts ≡ []))) (λ o ts. Optionally s Form o ts) ws (λ ts. if starts (codes s) ts then (read (tail ts) >>= λ r. Some (Some r.0, r.1)) else Some (None, ts))
     (either_law s (made_law (λ a. Some a) law) (nothing_law None ws) (λ o front rest form e. ap (λ l. starts (codes s) (l ++ rest)) form.1 ∙ ends_lack (codes s) ws rest lack e))
     to from
   where
-    to : (o : Option A) (ts : List Token) → (Behind s (λ ts. (a : A) × (o ≡ Some a) × Form a ts) ts ⊎ ((o ≡ None) × (ts ≡ []))) → Optionally s Form o ts
+    to : (o : Option A) (ts : List Token) → (After s (λ ts. (a : A) × (o ≡ Some a) × Form a ts) ts ⊎ ((o ≡ None) × (ts ≡ []))) → Optionally s Form o ts
     to o ts (inl (more, e, (a, is, form))) = subst (λ p. Optionally s Form p ts) (sym is) (more, e, form)
     to o ts (inr (is, e)) = subst (λ p. Optionally s Form p ts) (sym is) e
 
-    from : (o : Option A) (ts : List Token) → Optionally s Form o ts → (Behind s (λ ts. (a : A) × (o ≡ Some a) × Form a ts) ts ⊎ ((o ≡ None) × (ts ≡ [])))
+    from : (o : Option A) (ts : List Token) → Optionally s Form o ts → (After s (λ ts. (a : A) × (o ≡ Some a) × Form a ts) ts ⊎ ((o ≡ None) × (ts ≡ [])))
     from (Some a) ts (more, e, form) = inl (more, e, (a, refl, form))
     from None ts e = inr (refl, e)
 

@@ -14,21 +14,21 @@ use Rattle.sql_model.specs.declared.statement.Item.{Item}
 use Rattle.sql_model.specs.SqlNames.{sql_name_test}
 use Rattle.sql_model.specs.declared.token.Token.{Token}
 use Rattle.sql_model.specs.declared.token.Token.TheVariants.{Word, Number, Quoted, Given}
-use Rattle.sql_parse.specs.Columns.{column_behind, reads_column}
+use Rattle.sql_parse.specs.Columns.{column_after, reads_column}
 use Rattle.sql_parse.specs.Expressions.{reads_expr}
 use Rattle.ldv_value.specs.Options.{◌>>=◌}
 use Rattle.sql_model.specs.Grammar.{word, fold_word, IsName, IsConstant, IsColumn, IsExpr}
-use Rattle.sql_model.specs.GrammarOfStatements.{Then, Behind, Only, Optionally, Listed, Named, IsExpression, IsColumnAt, IsItem, AreItems, AreColumns, IsTuple}
+use Rattle.sql_model.specs.GrammarOfStatements.{Then, After, Only, Optionally, Listed, Named, IsExpression, IsColumnAt, IsItem, AreItems, AreColumns, IsTuple}
 use Rattle.sql_parse.specs.Operators.{joint_in, joint_of}
 use Rattle.sql_parse.specs.Parts.{listed, reads_tuple}
 use Rattle.sql_parse.specs.Queries.{reads_item, reads_items}
-use Rattle.sql_parse.specs.Reader.{starts, behind}
+use Rattle.sql_parse.specs.Reader.{starts, after_word}
 use Rattle.sql_parse.specs.Texts.{reads_columns}
 use Rattle.sql_parse.proofs.Choices.{or_left}
 use Rattle.sql_parse.proofs.ExpressionsBack.{goes_not_on, expression_back}
 use Rattle.sql_parse.proofs.ExpressionsLaw.{expression_sound, text_is}
-use Rattle.sql_parse.proofs.Follows.{among, among_all, all_words, ends_by, lacks, ends_lack, follows_behind, follows_optional}
-use Rattle.sql_parse.proofs.Laws.{Law, state_law, nothing_law, behind_law, then_law, made_law, either_law, optional_law, name_law, named_law}
+use Rattle.sql_parse.proofs.Follows.{among, among_all, all_words, ends_by, lacks, ends_lack, follows_after, follows_optional}
+use Rattle.sql_parse.proofs.Laws.{Law, state_law, nothing_law, after_law, then_law, made_law, either_law, optional_law, name_law, named_law}
 use Rattle.sql_parse.proofs.RepeatLaws.{separated_law}
 
 -- ---- expressions
@@ -136,8 +136,8 @@ then_filled ts some (front, back, e, first, second) = omega (arith, ap length e,
 pub named_filled : (x : List ℕ) (ts : List Token) → Named x ts → 1 ≤ length ts
 named_filled x ts h = omega (arith, ap length h.0)
 
-pub behind_filled : {Form : List Token → Type 0} (s : String) (ts : List Token) → Behind s Form ts → 1 ≤ length ts
-behind_filled s ts (more, e, form) = omega (arith, ap length e)
+pub after_filled : {Form : List Token → Type 0} (s : String) (ts : List Token) → After s Form ts → 1 ≤ length ts
+after_filled s ts (more, e, form) = omega (arith, ap length e)
 
 -- ---- lists
 
@@ -148,34 +148,34 @@ pub listed_law : {X : Type 0} {Form : X → List Token → Type 0} {read : List 
     → lacks comma ws ≡ true → all_words (among (comma ∷ ws)) ws ≡ true → Law (λ xs ts. Listed Form xs ts) ws (λ ts. listed read ts)
 listed_law ws law some lack less = separated_law "," ws law law some lack less refl
 
--- a form with a closing parenthesis behind it
+-- a form with a closing parenthesis after it
 pub inside_law : {A X : Type 0} {Form : A → List Token → Type 0} {read : List Token → Option (A × List Token)} (ws : List (List ℕ)) (f : A → X) → Law Form (codes ")" ∷ []) read
-    → Law (λ x ts. (a : A) × Then (Form a) (λ ts. Behind ")" (λ ts. (x ≡ f a) × (ts ≡ [])) ts) ts) ws (λ ts. read ts >>= λ r. behind (codes ")") r.1 >>= λ rest. Some (f r.0, rest))
-inside_law ws f law = then_law law (λ a. behind_law ")" (nothing_law (f a) ws)) (λ a x. follows_behind ")" ws (codes ")" ∷ []) refl)
+    → Law (λ x ts. (a : A) × Then (Form a) (λ ts. After ")" (λ ts. (x ≡ f a) × (ts ≡ [])) ts) ts) ws (λ ts. read ts >>= λ r. after_word (codes ")") r.1 >>= λ rest. Some (f r.0, rest))
+inside_law ws f law = then_law law (λ a. after_law ")" (nothing_law (f a) ws)) (λ a x. follows_after ")" ws (codes ")" ∷ []) refl)
 
-only_close : {X : Type 0} (x y : X) (ts : List Token) → Behind ")" (λ ts. (x ≡ y) × (ts ≡ [])) ts → (x ≡ y) × Only ")" ts
+only_close : {X : Type 0} (x y : X) (ts : List Token) → After ")" (λ ts. (x ≡ y) × (ts ≡ [])) ts → (x ≡ y) × Only ")" ts
 only_close x y ts (more, e, (same, none)) = (same, e ∙ ap (λ (l : List Token). word ")" ∷ l) none)
 
 pub exprs_law : (ws : List (List ℕ)) → all_words no_joint (comma ∷ ws) ≡ true → lacks (codes ".") (comma ∷ ws) ≡ true → lacks comma ws ≡ true → all_words (among (comma ∷ ws)) ws ≡ true
     → Law (λ es ts. Listed IsExpression es ts) ws (λ ts. listed reads_expr ts)
 exprs_law ws joints dots lack less = listed_law ws (expr_law (comma ∷ ws) joints dots) expr_filled lack less
 
-tuple_to : (es : List Expr) (ts : List Token) → Behind "(" (λ ts. (a : List Expr) × Then (λ ts. Listed IsExpression a ts) (λ ts. Behind ")" (λ ts. (es ≡ a) × (ts ≡ [])) ts) ts) ts → IsTuple es ts
+tuple_to : (es : List Expr) (ts : List Token) → After "(" (λ ts. (a : List Expr) × Then (λ ts. Listed IsExpression a ts) (λ ts. After ")" (λ ts. (es ≡ a) × (ts ≡ [])) ts) ts) ts → IsTuple es ts
 tuple_to es ts (more, e, (a, (front, back, is, list, close))) =
     let p = only_close es a back close in
     (more, e, (front, back, is, subst (λ (l : List Expr). Listed IsExpression l front) (sym p.0) list, p.1))
 
-tuple_from : (es : List Expr) (ts : List Token) → IsTuple es ts → Behind "(" (λ ts. (a : List Expr) × Then (λ ts. Listed IsExpression a ts) (λ ts. Behind ")" (λ ts. (es ≡ a) × (ts ≡ [])) ts) ts) ts
+tuple_from : (es : List Expr) (ts : List Token) → IsTuple es ts → After "(" (λ ts. (a : List Expr) × Then (λ ts. Listed IsExpression a ts) (λ ts. After ")" (λ ts. (es ≡ a) × (ts ≡ [])) ts) ts) ts
 tuple_from es ts (more, e, (front, back, is, list, close)) = (more, e, (es, (front, back, is, list, ([], close, (refl, refl)))))
 
 pub tuple_law : (ws : List (List ℕ)) → Law IsTuple ws reads_tuple
 tuple_law ws =
-    state_law (λ es ts. Behind "(" (λ ts. (a : List Expr) × Then (λ ts. Listed IsExpression a ts) (λ ts. Behind ")" (λ ts. (es ≡ a) × (ts ≡ [])) ts) ts) ts) IsTuple ws reads_tuple
-    (behind_law "(" (inside_law ws (λ es. es) (exprs_law (codes ")" ∷ []) refl refl refl refl))) tuple_to tuple_from
+    state_law (λ es ts. After "(" (λ ts. (a : List Expr) × Then (λ ts. Listed IsExpression a ts) (λ ts. After ")" (λ ts. (es ≡ a) × (ts ≡ [])) ts) ts) ts) IsTuple ws reads_tuple
+    (after_law "(" (inside_law ws (λ es. es) (exprs_law (codes ")" ∷ []) refl refl refl refl))) tuple_to tuple_from
 
 -- the columns of an INSERT
 abbrev ColumnsForm : Option (List (List ℕ)) → List Token → Type 0
-ColumnsForm o ts = Behind "(" (λ ts. (a : List (List ℕ)) × Then (λ ts. Listed Named a ts) (λ ts. Behind ")" (λ ts. (o ≡ Some a) × (ts ≡ [])) ts) ts) ts ⊎ ((o ≡ None) × (ts ≡ []))
+ColumnsForm o ts = After "(" (λ ts. (a : List (List ℕ)) × Then (λ ts. Listed Named a ts) (λ ts. After ")" (λ ts. (o ≡ Some a) × (ts ≡ [])) ts) ts) ts ⊎ ((o ≡ None) × (ts ≡ []))
 
 columns_to : (o : Option (List (List ℕ))) (ts : List Token) → ColumnsForm o ts → AreColumns o ts
 columns_to o ts (inl (more, e, (a, (front, back, is, list, close)))) =
@@ -196,16 +196,16 @@ columns_law ws lack =
 
 -- ---- columns
 
-abbrev BehindForm : List ℕ → ColumnName → List Token → Type 0
-BehindForm n c ts = Behind "." (λ ts. (m : List ℕ) × (c ≡ record { table = Some n; name = m }) × Named m ts) ts ⊎ ((c ≡ record { table = None; name = n }) × (ts ≡ []))
+abbrev AfterForm : List ℕ → ColumnName → List Token → Type 0
+AfterForm n c ts = After "." (λ ts. (m : List ℕ) × (c ≡ record { table = Some n; name = m }) × Named m ts) ts ⊎ ((c ≡ record { table = None; name = n }) × (ts ≡ []))
 
-behind_column_law : (n : List ℕ) (ws : List (List ℕ)) → lacks (codes ".") ws ≡ true → Law (BehindForm n) ws (λ ts. column_behind n ts)
-behind_column_law n ws lack =
+after_column_law : (n : List ℕ) (ws : List (List ℕ)) → lacks (codes ".") ws ≡ true → Law (AfterForm n) ws (λ ts. column_after n ts)
+after_column_law n ws lack =
     either_law "." (made_law (λ (m : List ℕ). record { table = Some n; name = m }) (name_law ws)) (nothing_law (record { table = None; name = n }) ws)
     (λ c front rest form e. ap (λ (l : List Token). starts (codes ".") (l ++ rest)) form.1 ∙ ends_lack (codes ".") ws rest lack e)
 
 abbrev ColumnForm : ColumnName → List Token → Type 0
-ColumnForm c ts = (n : List ℕ) × Then (Named n) (BehindForm n c) ts
+ColumnForm c ts = (n : List ℕ) × Then (Named n) (AfterForm n c) ts
 
 column_to : (c : ColumnName) (ts : List Token) → ColumnForm c ts → IsColumnAt c ts
 column_to c ts (n, (front, back, e, (is, named), inl (more, dot, (m, made, (only, also))))) =
@@ -220,7 +220,7 @@ column_from c ts (inr (source, e, some, named, also)) =
     (source, (Word source ∷ [], word "." ∷ Word c.name ∷ [], e, (refl, named), inl (Word c.name ∷ [], refl, (c.name, ap (λ (t : Option (List ℕ)). record c { table = t }) some, (refl, also)))))
 
 pub column_law : (ws : List (List ℕ)) → lacks (codes ".") ws ≡ true → Law IsColumnAt ws reads_column
-column_law ws lack = state_law ColumnForm IsColumnAt ws reads_column (named_law (λ n. behind_column_law n ws lack)) column_to column_from
+column_law ws lack = state_law ColumnForm IsColumnAt ws reads_column (named_law (λ n. after_column_law n ws lack)) column_to column_from
 
 pub column_filled : (c : ColumnName) (ts : List Token) → IsColumnAt c ts → 1 ≤ length ts
 column_filled c ts (inl (e, none, named)) = omega (arith, ap length e)
@@ -255,7 +255,7 @@ listed_apart v (i ∷ items) front rest not (first, others, e, (expr, alias, is,
     ∙ ap (starts v) (append_assoc expr (alias ++ others) rest) ∙ expr_apart v i.expr expr ((alias ++ others) ++ rest) not form
 
 abbrev ItemsForm : Option (List Item) → List Token → Type 0
-ItemsForm o ts = Behind "*" (λ ts. (o ≡ None) × (ts ≡ [])) ts ⊎ ((a : List Item) × (o ≡ Some a) × Listed IsItem a ts)
+ItemsForm o ts = After "*" (λ ts. (o ≡ None) × (ts ≡ [])) ts ⊎ ((a : List Item) × (o ≡ Some a) × Listed IsItem a ts)
 
 items_to : (o : Option (List Item)) (ts : List Token) → ItemsForm o ts → AreItems o ts
 items_to o ts (inl (more, e, (is, none))) = subst (λ (p : Option (List Item)). AreItems p ts) (sym is) (e ∙ ap (λ (l : List Token). word "*" ∷ l) none)

@@ -12,28 +12,28 @@ use Rattle.sql_model.specs.declared.token.Token.{Token}
 use Rattle.sql_model.specs.declared.token.Token.TheVariants.{Word, Number, Quoted, Given}
 use Rattle.ldv_value.specs.Options.{◌>>=◌, only_if}
 use Rattle.sql_model.specs.Grammar.{word, IsName}
-use Rattle.sql_model.specs.GrammarOfStatements.{Then, Behind, Optionally, Listed, AreCores, IsKey, IsDirection, IsOrder, AreOrders, IsBound, IsQuery}
+use Rattle.sql_model.specs.GrammarOfStatements.{Then, After, Optionally, Listed, AreCores, IsKey, IsDirection, IsOrder, AreOrders, IsBound, IsQuery}
 use Rattle.sql_parse.specs.Queries.{place_of, key_of, reads_key, directed, reads_order, reads_orders, bound_of, reads_bound, reads_limit, reads_query}
 use Rattle.sql_parse.specs.Reader.{starts, tail, passed, name_in}
 use Rattle.sql_parse.proofs.ExpressionsLaw.{starts_is}
-use Rattle.sql_parse.proofs.Follows.{ends_by, ends_lack, Follows, follows_behind, follows_nothing, follows_optional, follows_then}
-use Rattle.sql_parse.proofs.Laws.{Law, state_law, same_law, nothing_law, token_law, token_read, behind_law, then_law, made_law, either_law, name_is}
+use Rattle.sql_parse.proofs.Follows.{ends_by, ends_lack, Follows, follows_after, follows_nothing, follows_optional, follows_then}
+use Rattle.sql_parse.proofs.Laws.{Law, state_law, same_law, nothing_law, token_law, token_read, after_law, then_law, made_law, either_law, name_is}
 use Rattle.ldv_value.proofs.Options.{bind-some, same-some}
 use Rattle.sql_parse.proofs.PartsLaw.{comma, listed_law, then_filled}
-use Rattle.sql_parse.proofs.CoresLaw.{behind_cores, cores_law, cores_start}
+use Rattle.sql_parse.proofs.CoresLaw.{after_cores, cores_law, cores_start}
 
--- what may stand behind a statement, and behind ORDER BY
-abbrev pub behind_all : List (List ℕ)
-behind_all = codes ";" ∷ []
+-- what may stand after a statement, and after ORDER BY
+abbrev pub after_all : List (List ℕ)
+after_all = codes ";" ∷ []
 
-abbrev behind_orders : List (List ℕ)
-behind_orders = codes "limit" ∷ behind_all
+abbrev after_orders : List (List ℕ)
+after_orders = codes "limit" ∷ after_all
 
-abbrev behind_order : List (List ℕ)
-behind_order = comma ∷ behind_orders
+abbrev after_order : List (List ℕ)
+after_order = comma ∷ after_orders
 
-abbrev behind_key : List (List ℕ)
-behind_key = codes "asc" ∷ codes "desc" ∷ behind_order
+abbrev after_key : List (List ℕ)
+after_key = codes "asc" ∷ codes "desc" ∷ after_order
 
 -- ---- the key of an order
 
@@ -87,11 +87,11 @@ direction_read ts = elim (cases_Bool (starts (codes "asc") ts)) [
   ]
 ]
 
-direction_back : (d : Bool) (front rest : List Token) → IsDirection d front → ends_by behind_order rest ≡ true → (starts (codes "desc") (front ++ rest) ≡ d) × (directed (front ++ rest) ≡ rest)
+direction_back : (d : Bool) (front rest : List Token) → IsDirection d front → ends_by after_order rest ≡ true → (starts (codes "desc") (front ++ rest) ≡ d) × (directed (front ++ rest) ≡ rest)
 direction_back true front rest e ends = (ap (λ (l : List Token). starts (codes "desc") (l ++ rest)) e, ap (λ (l : List Token). directed (l ++ rest)) e)
 direction_back false front rest (inl e) ends =
-    let no_asc : starts (codes "asc") rest ≡ false = ends_lack (codes "asc") behind_order rest refl ends in
-    let no_desc : starts (codes "desc") rest ≡ false = ends_lack (codes "desc") behind_order rest refl ends in
+    let no_asc : starts (codes "asc") rest ≡ false = ends_lack (codes "asc") after_order rest refl ends in
+    let no_desc : starts (codes "desc") rest ≡ false = ends_lack (codes "desc") after_order rest refl ends in
     (ap (λ (l : List Token). starts (codes "desc") (l ++ rest)) e ∙ no_desc, ap (λ (l : List Token). directed (l ++ rest)) e ∙ undirected rest no_asc no_desc)
 direction_back false front rest (inr e) ends = (ap (λ (l : List Token). starts (codes "desc") (l ++ rest)) e, ap (λ (l : List Token). directed (l ++ rest)) e)
 
@@ -101,7 +101,7 @@ DirectedForm k o ts = (o.key ≡ k) × IsDirection o.descending ts
 abbrev directs : OrderKey → List Token → Option (Order × List Token)
 directs k ts = Some (record { key = k; descending = starts (codes "desc") ts }, directed ts)
 
-direction_law : (k : OrderKey) → Law (DirectedForm k) behind_order (directs k)
+direction_law : (k : OrderKey) → Law (DirectedForm k) after_order (directs k)
 direction_law k = record {
   sound = λ ts o rest h.
       let same : (record { key = k; descending = starts (codes "desc") ts }, directed ts) ≡ (o, rest) = same-some _ _ h in
@@ -113,10 +113,10 @@ direction_law k = record {
       ∙ ap (λ (j : OrderKey). Some (record { key = j; descending = o.descending }, rest)) (sym form.0);
 }
 
-follows_direction : (d : Bool) → Follows (IsDirection d) behind_order behind_key
-follows_direction true ts rest e h = ap (λ (l : List Token). ends_by behind_key (l ++ rest)) e
-follows_direction false ts rest (inl e) h = follows_nothing behind_order behind_key refl ts rest e h
-follows_direction false ts rest (inr e) h = ap (λ (l : List Token). ends_by behind_key (l ++ rest)) e
+follows_direction : (d : Bool) → Follows (IsDirection d) after_order after_key
+follows_direction true ts rest e h = ap (λ (l : List Token). ends_by after_key (l ++ rest)) e
+follows_direction false ts rest (inl e) h = follows_nothing after_order after_key refl ts rest e h
+follows_direction false ts rest (inr e) h = ap (λ (l : List Token). ends_by after_key (l ++ rest)) e
 
 -- ---- ORDER BY
 
@@ -129,16 +129,16 @@ order_to o ts (k, (front, back, e, key, (same, direction))) = (front, back, e, s
 order_from : (o : Order) (ts : List Token) → IsOrder o ts → OrderForm o ts
 order_from o ts (front, back, e, key, direction) = (o.key, (front, back, e, key, (refl, direction)))
 
-order_law : Law IsOrder behind_order reads_order
+order_law : Law IsOrder after_order reads_order
 order_law =
-    state_law OrderForm IsOrder behind_order reads_order
-    (then_law (key_law behind_key) (λ k. direction_law k) (λ k o ts rest form h. follows_direction o.descending ts rest form.1 h)) order_to order_from
+    state_law OrderForm IsOrder after_order reads_order
+    (then_law (key_law after_key) (λ k. direction_law k) (λ k o ts rest form h. follows_direction o.descending ts rest form.1 h)) order_to order_from
 
 order_filled : (o : Order) (ts : List Token) → IsOrder o ts → 1 ≤ length ts
 order_filled o ts h = then_filled ts (key_filled o.key) h
 
 abbrev OrdersForm : List Order → List Token → Type 0
-OrdersForm os ts = Behind "order" (λ ts. Behind "by" (λ ts. Listed IsOrder os ts) ts) ts ⊎ ((os ≡ []) × (ts ≡ []))
+OrdersForm os ts = After "order" (λ ts. After "by" (λ ts. Listed IsOrder os ts) ts) ts ⊎ ((os ≡ []) × (ts ≡ []))
 
 orders_to : (os : List Order) (ts : List Token) → OrdersForm os ts → AreOrders os ts
 orders_to [] ts (inl (more, e, (after, by, list))) = absurd list
@@ -149,11 +149,11 @@ orders_from : (os : List Order) (ts : List Token) → AreOrders os ts → Orders
 orders_from [] ts e = inr (refl, e)
 orders_from (o ∷ os) ts form = inl form
 
-orders_law : Law AreOrders behind_orders reads_orders
+orders_law : Law AreOrders after_orders reads_orders
 orders_law =
-    state_law OrdersForm AreOrders behind_orders reads_orders
-    (either_law "order" (behind_law "by" (listed_law behind_orders order_law order_filled refl refl)) (nothing_law [] behind_orders)
-    (λ os front rest form e. ap (λ (l : List Token). starts (codes "order") (l ++ rest)) form.1 ∙ ends_lack (codes "order") behind_orders rest refl e))
+    state_law OrdersForm AreOrders after_orders reads_orders
+    (either_law "order" (after_law "by" (listed_law after_orders order_law order_filled refl refl)) (nothing_law [] after_orders)
+    (λ os front rest form e. ap (λ (l : List Token). starts (codes "order") (l ++ rest)) form.1 ∙ ends_lack (codes "order") after_orders rest refl e))
     orders_to orders_from
 
 -- ---- LIMIT
@@ -174,8 +174,8 @@ bound_from : (v : Value) (ts : List Token) → IsBound v ts → TokenForm v ts
 bound_from v ts (inl (z, e, is)) = (Number z, e, ap (λ (x : Value). Some x) (sym is))
 bound_from v ts (inr e) = (Given v, e, refl)
 
-bound_law : Law IsBound behind_all (token_read bound_of)
-bound_law = state_law TokenForm IsBound behind_all (token_read bound_of) (token_law bound_of behind_all) bound_to bound_from
+bound_law : Law IsBound after_all (token_read bound_of)
+bound_law = state_law TokenForm IsBound after_all (token_read bound_of) (token_law bound_of after_all) bound_to bound_from
 
 abbrev some_bound : List Token → Option (Option Value × List Token)
 some_bound ts = token_read bound_of ts >>= λ r. Some (Some r.0, r.1)
@@ -188,7 +188,7 @@ bound_same (Quoted t ∷ ts) = refl
 bound_same (Given v ∷ ts) = refl
 
 abbrev LimitForm : Option Value → List Token → Type 0
-LimitForm o ts = Behind "limit" (λ ts. (v : Value) × (o ≡ Some v) × IsBound v ts) ts ⊎ ((o ≡ None) × (ts ≡ []))
+LimitForm o ts = After "limit" (λ ts. (v : Value) × (o ≡ Some v) × IsBound v ts) ts ⊎ ((o ≡ None) × (ts ≡ []))
 
 limit_to : (o : Option Value) (ts : List Token) → LimitForm o ts → Optionally "limit" IsBound o ts
 limit_to o ts (inl (more, e, (v, is, form))) = subst (λ (p : Option Value). Optionally "limit" IsBound p ts) (sym is) (more, e, form)
@@ -198,11 +198,11 @@ limit_from : (o : Option Value) (ts : List Token) → Optionally "limit" IsBound
 limit_from (Some v) ts (more, e, form) = inl (more, e, (v, refl, form))
 limit_from None ts e = inr (refl, e)
 
-limit_law : Law (λ o ts. Optionally "limit" IsBound o ts) behind_all reads_limit
+limit_law : Law (λ o ts. Optionally "limit" IsBound o ts) after_all reads_limit
 limit_law =
-    state_law LimitForm (λ o ts. Optionally "limit" IsBound o ts) behind_all reads_limit
-    (either_law "limit" (same_law some_bound reads_bound bound_same (made_law (λ (v : Value). Some v) bound_law)) (nothing_law None behind_all)
-    (λ o front rest form e. ap (λ (l : List Token). starts (codes "limit") (l ++ rest)) form.1 ∙ ends_lack (codes "limit") behind_all rest refl e))
+    state_law LimitForm (λ o ts. Optionally "limit" IsBound o ts) after_all reads_limit
+    (either_law "limit" (same_law some_bound reads_bound bound_same (made_law (λ (v : Value). Some v) bound_law)) (nothing_law None after_all)
+    (λ o front rest form e. ap (λ (l : List Token). starts (codes "limit") (l ++ rest)) form.1 ∙ ends_lack (codes "limit") after_all rest refl e))
     limit_to limit_from
 
 -- ---- queries
@@ -222,19 +222,19 @@ query_to q ts (c, (f1, b1, e1, cores, (o, (f2, b2, e2, orders, (l, made, limit))
 query_from : (q : Query) (ts : List Token) → IsQuery q ts → QueryForm q ts
 query_from q ts (f1, b1, e1, cores, (f2, b2, e2, orders, limit)) = (q.cores, (f1, b1, e1, cores, (q.order, (f2, b2, e2, orders, (q.limit, refl, limit)))))
 
-follows_limited : (c : List Core) (o : List Order) (q : Query) → Follows (LimitedForm c o q) behind_all behind_orders
-follows_limited c o q ts rest form h = follows_optional IsBound "limit" behind_all behind_orders form.0 refl refl ts rest form.2 h
+follows_limited : (c : List Core) (o : List Order) (q : Query) → Follows (LimitedForm c o q) after_all after_orders
+follows_limited c o q ts rest form h = follows_optional IsBound "limit" after_all after_orders form.0 refl refl ts rest form.2 h
 
-follows_orders : (o : List Order) → Follows (AreOrders o) behind_orders behind_cores
-follows_orders [] = follows_nothing behind_orders behind_cores refl
-follows_orders (o ∷ os) = follows_behind "order" behind_orders behind_cores refl
+follows_orders : (o : List Order) → Follows (AreOrders o) after_orders after_cores
+follows_orders [] = follows_nothing after_orders after_cores refl
+follows_orders (o ∷ os) = follows_after "order" after_orders after_cores refl
 
-follows_ordered : (c : List Core) (q : Query) → Follows (OrderedForm c q) behind_all behind_cores
-follows_ordered c q ts rest form h = follows_then behind_all behind_orders behind_cores (follows_orders form.0) (follows_limited c form.0 q) ts rest form.1 h
+follows_ordered : (c : List Core) (q : Query) → Follows (OrderedForm c q) after_all after_cores
+follows_ordered c q ts rest form h = follows_then after_all after_orders after_cores (follows_orders form.0) (follows_limited c form.0 q) ts rest form.1 h
 
-pub query_law : Law IsQuery behind_all reads_query
+pub query_law : Law IsQuery after_all reads_query
 query_law =
-    state_law QueryForm IsQuery behind_all reads_query
+    state_law QueryForm IsQuery after_all reads_query
     (then_law cores_law (λ c. then_law orders_law (λ o. made_law (λ (l : Option Value). record { cores = c; order = o; limit = l }) limit_law) (λ o q. follows_limited c o q)) (λ c q. follows_ordered c q))
     query_to query_from
 

@@ -6,7 +6,7 @@ use Rattle.std.proofs.lemmas.List.{length-append}
 use Rattle.sql_model.specs.declared.token.Token.{Token}
 use Rattle.ldv_value.specs.Options.{◌>>=◌}
 use Rattle.sql_model.specs.Grammar.{word}
-use Rattle.sql_model.specs.GrammarOfStatements.{Behind, Repeated, Separated}
+use Rattle.sql_model.specs.GrammarOfStatements.{After, Repeated, Separated}
 use Rattle.sql_parse.specs.Reader.{starts, tail, repeat}
 use Rattle.sql_parse.proofs.Choices.{choose}
 use Rattle.sql_parse.proofs.ExpressionsLaw.{starts_is}
@@ -76,13 +76,13 @@ put_all : {X : Type 0} (xs ys : List X) → added put_last xs ys ≡ xs ++ ys
 put_all xs [] = sym (append-nil xs)
 put_all xs (y ∷ ys) = put_all (xs ++ y ∷ []) ys ∙ append_assoc xs (y ∷ []) ys
 
--- one more, behind a word or symbol
+-- one more, after a word or symbol
 abbrev pub more_of : {X : Type 0} → String → (List Token → Option (X × List Token)) → List X → List Token → Option ((List X × Bool) × List Token)
 more_of s read made ts = if starts (codes s) ts then (read (tail ts) >>= λ r. Some ((made ++ r.0 ∷ [], true), r.1)) else Some ((made, false), ts)
 
 more_law : {X : Type 0} {Form : X → List Token → Type 0} {read : List Token → Option (X × List Token)} (s : String) (ws : List (List ℕ)) → Law Form (codes s ∷ ws) read → lacks (codes s) ws ≡ true
     → all_words (among (codes s ∷ ws)) ws ≡ true → among (codes s ∷ ws) (codes s) ≡ true
-    → StepLaw put_last (λ x ts. Behind s (Form x) ts) ws (codes s ∷ ws) (more_of s read)
+    → StepLaw put_last (λ x ts. After s (Form x) ts) ws (codes s ∷ ws) (more_of s read)
 more_law {X = X} {Form = Form} {read = read} s ws law lack less self = record {
   makes = λ a ts r h. choose (starts (codes s) ts) (read (tail ts) >>= λ r. Some ((a ++ r.0 ∷ [], true), r.1)) (Some ((a, false), ts)) r h (λ is made. went a ts r is made) (λ is made. stopped a ts r made);
   goes = λ a x front rest form ends.
@@ -95,18 +95,18 @@ more_law {X = X} {Form = Form} {read = read} s ws law lack less self = record {
 }
   where
     went : (a : List X) (ts : List Token) (r : (List X × Bool) × List Token) → starts (codes s) ts ≡ true → (read (tail ts) >>= λ r. Some ((a ++ r.0 ∷ [], true), r.1)) ≡ Some r
-        → Steps put_last (λ x ts. Behind s (Form x) ts) a ts r
+        → Steps put_last (λ x ts. After s (Form x) ts) a ts r
     went a ts r is made =
         let p : (q : X × List Token) × (read (tail ts) ≡ Some q) × (Some ((a ++ q.0 ∷ [], true), q.1) ≡ Some r) = bind-some (read (tail ts)) (λ r. Some ((a ++ r.0 ∷ [], true), r.1)) r made in
         let q = law.sound (tail ts) p.0.0 p.0.1 p.1 in
-        subst (Steps put_last (λ x ts. Behind s (Form x) ts) a ts) (same-some _ _ p.2)
+        subst (Steps put_last (λ x ts. After s (Form x) ts) a ts) (same-some _ _ p.2)
         (inl (refl, (p.0.0, word s ∷ q.0, starts_is (codes s) ts is ∙ ap (λ l. word s ∷ l) q.1, (q.0, refl, q.2), refl)))
 
-    stopped : (a : List X) (ts : List Token) (r : (List X × Bool) × List Token) → Some ((a, false), ts) ≡ Some r → Steps put_last (λ x ts. Behind s (Form x) ts) a ts r
-    stopped a ts r made = subst (Steps put_last (λ x ts. Behind s (Form x) ts) a ts) (same-some _ _ made) (inr (refl, refl, refl))
+    stopped : (a : List X) (ts : List Token) (r : (List X × Bool) × List Token) → Some ((a, false), ts) ≡ Some r → Steps put_last (λ x ts. After s (Form x) ts) a ts r
+    stopped a ts r made = subst (Steps put_last (λ x ts. After s (Form x) ts) a ts) (same-some _ _ made) (inr (refl, refl, refl))
 
--- as many forms behind words have as many tokens at least
-repeated_length : {X : Type 0} (Form : X → List Token → Type 0) (s : String) (xs : List X) (ts : List Token) → Repeated (λ y. Behind s (Form y)) xs ts → length xs ≤ length ts
+-- as many forms after words have as many tokens at least
+repeated_length : {X : Type 0} (Form : X → List Token → Type 0) (s : String) (xs : List X) (ts : List Token) → Repeated (λ y. After s (Form y)) xs ts → length xs ≤ length ts
 repeated_length Form s [] ts h = omega arith
 repeated_length Form s (x ∷ xs) ts (front, back, e, (more, is, form), others) =
     omega (arith, ap length e, length-append front back, ap length is, repeated_length Form s xs back others)
@@ -120,8 +120,8 @@ separated_law {X = X} {First = First} {Form = Form} {first = first} {read = read
       let p : (r : X × List Token) × (first ts ≡ Some r) × (repeat (more_of s read) (length ts) (r.0 ∷ []) r.1 ≡ Some (xs, rest)) =
       bind-some (first ts) (λ r. repeat (more_of s read) (length ts) (r.0 ∷ []) r.1) (xs, rest) h in
       let q = one.sound ts p.0.0 p.0.1 p.1 in
-      let m : Made put_last (λ x ts. Behind s (Form x) ts) (length ts) (p.0.0 ∷ []) p.0.1 (xs, rest) =
-      repeat_sound put_last (λ x ts. Behind s (Form x) ts) ws (codes s ∷ ws) (more_of s read) (more_law s ws law lack less self) (length ts) (p.0.0 ∷ []) p.0.1 (xs, rest) p.2 in
+      let m : Made put_last (λ x ts. After s (Form x) ts) (length ts) (p.0.0 ∷ []) p.0.1 (xs, rest) =
+      repeat_sound put_last (λ x ts. After s (Form x) ts) ws (codes s ∷ ws) (more_of s read) (more_law s ws law lack less self) (length ts) (p.0.0 ∷ []) p.0.1 (xs, rest) p.2 in
       let all : xs ≡ p.0.0 ∷ m.0 = m.4 ∙ put_all (p.0.0 ∷ []) m.0 in
       (q.0 ++ m.1, q.1 ∙ ap (λ l. q.0 ++ l) m.2 ∙ sym (append_assoc q.0 m.1 rest), subst (λ ys. Separated s First Form ys (q.0 ++ m.1)) (sym all) (q.0, m.1, refl, q.2, m.3));
   complete = separated_complete;
@@ -132,10 +132,10 @@ separated_law {X = X} {First = First} {Form = Form} {first = first} {read = read
     separated_complete front rest [] form ends = absurd form
     separated_complete front rest (x ∷ xs) (begin, back, e, is, others) ends =
         let step = more_law s ws law lack less self in
-        let follow : ends_by (codes s ∷ ws) (back ++ rest) ≡ true = follows_repeated (λ (y : X) (l : List Token). Behind s (Form y) l) ws (codes s ∷ ws) xs less step.begins back rest others ends in
+        let follow : ends_by (codes s ∷ ws) (back ++ rest) ≡ true = follows_repeated (λ (y : X) (l : List Token). After s (Form y) l) ws (codes s ∷ ws) xs less step.begins back rest others ends in
         let enough : length xs < length (front ++ rest) =
         omega (arith, ap length e, length-append front rest, length-append begin back, some x begin is, repeated_length Form s xs back others) in
         let read_first : first (front ++ rest) ≡ Some (x, back ++ rest) = ap (λ l. first (l ++ rest)) e ∙ ap first (append_assoc begin back rest) ∙ one.complete begin (back ++ rest) x is follow in
         ap (λ o. o >>= λ r. repeat (more_of s read) (length (front ++ rest)) (r.0 ∷ []) r.1) read_first
-        ∙ repeat_complete put_last (λ x ts. Behind s (Form x) ts) ws (codes s ∷ ws) (more_of s read) step xs (length (front ++ rest)) (x ∷ []) back rest others enough ends
+        ∙ repeat_complete put_last (λ x ts. After s (Form x) ts) ws (codes s ∷ ws) (more_of s read) step xs (length (front ++ rest)) (x ∷ []) back rest others enough ends
         ∙ ap (λ l. Some (l, rest)) (put_all (x ∷ []) xs)

@@ -16,7 +16,7 @@ use Rattle.sql_model.specs.declared.token.Token.{Token}
 use Rattle.sql_model.specs.declared.token.Token.TheVariants.{Word, Number, Quoted, Given}
 use Rattle.ldv_value.specs.Options.{◌>>=◌, only_if}
 use Rattle.sql_model.specs.Grammar.{word}
-use Rattle.sql_model.specs.GrammarOfStatements.{Then, Behind, Optionally, Listed, Named, IsExpression, AreColumns, IsTuple, IsSet, IsStatement, IsEnd, IsWhole, IsGiven, Reads}
+use Rattle.sql_model.specs.GrammarOfStatements.{Then, After, Optionally, Listed, Named, IsExpression, AreColumns, IsTuple, IsSet, IsStatement, IsEnd, IsWhole, IsGiven, Reads}
 use Rattle.sql_parse.specs.Parts.{reads_optional}
 use Rattle.sql_parse.specs.Queries.{reads_query}
 use Rattle.sql_parse.specs.Reader.{is_word, starts, tail}
@@ -24,11 +24,11 @@ use Rattle.sql_parse.specs.Texts.{reads_insert, reads_set, reads_update, reads_d
 use Rattle.sql_parse.specs.Tokens.{tokens_of}
 use Rattle.sql_parse.proofs.Choices.{choose}
 use Rattle.sql_parse.proofs.ExpressionsLaw.{starts_is, text_is}
-use Rattle.sql_parse.proofs.Follows.{ends_by, Follows, follows_behind, follows_optional}
-use Rattle.sql_parse.proofs.Laws.{Law, state_law, behind_law, then_law, made_law, optional_law, named_law}
+use Rattle.sql_parse.proofs.Follows.{ends_by, Follows, follows_after, follows_optional}
+use Rattle.sql_parse.proofs.Laws.{Law, state_law, after_law, then_law, made_law, optional_law, named_law}
 use Rattle.ldv_value.proofs.Options.{bind-some, only_if-some, same-some}
-use Rattle.sql_parse.proofs.PartsLaw.{comma, expr_law, listed_law, columns_law, tuple_law, behind_filled, named_filled, then_filled}
-use Rattle.sql_parse.proofs.QueriesLaw.{behind_all, query_law, query_start}
+use Rattle.sql_parse.proofs.PartsLaw.{comma, expr_law, listed_law, columns_law, tuple_law, after_filled, named_filled, then_filled}
+use Rattle.sql_parse.proofs.QueriesLaw.{after_all, query_law, query_start}
 use Rattle.sql_parse.proofs.TokensRead.{tokens_complete}
 use Rattle.sql_parse.proofs.TokensSound.{tokens_sound}
 
@@ -38,14 +38,14 @@ abbrev RowsForm : List ℕ → Option (List (List ℕ)) → Insert → List Toke
 RowsForm t c i ts = (r : List (List Expr)) × (i ≡ record { table = t; columns = c; rows = r }) × Listed IsTuple r ts
 
 abbrev ValuesForm : List ℕ → Insert → List Token → Type 0
-ValuesForm t i ts = (c : Option (List (List ℕ))) × Then (AreColumns c) (λ ts. Behind "values" (λ ts. RowsForm t c i ts) ts) ts
+ValuesForm t i ts = (c : Option (List (List ℕ))) × Then (AreColumns c) (λ ts. After "values" (λ ts. RowsForm t c i ts) ts) ts
 
 abbrev InsertForm : Insert → List Token → Type 0
-InsertForm i ts = Behind "into" (λ ts. (t : List ℕ) × Then (Named t) (λ ts. ValuesForm t i ts) ts) ts
+InsertForm i ts = After "into" (λ ts. (t : List ℕ) × Then (Named t) (λ ts. ValuesForm t i ts) ts) ts
 
--- what stands behind the word INSERT
+-- what stands after the word INSERT
 abbrev InsertRest : Insert → List Token → Type 0
-InsertRest i ts = Behind "into" (Then (Named i.table) (Then (AreColumns i.columns) (Behind "values" (Listed IsTuple i.rows)))) ts
+InsertRest i ts = After "into" (Then (Named i.table) (Then (AreColumns i.columns) (After "values" (Listed IsTuple i.rows)))) ts
 
 insert_to : (i : Insert) (ts : List Token) → InsertForm i ts → InsertRest i ts
 insert_to i ts (more, e, (t, (f1, b1, e1, named, (c, (f2, b2, e2, columns, (m3, e3, (r, made, list))))))) =
@@ -56,23 +56,23 @@ insert_from i ts (more, e, (f1, b1, e1, named, (f2, b2, e2, columns, (m3, e3, li
     (more, e, (i.table, (f1, b1, e1, named, (i.columns, (f2, b2, e2, columns, (m3, e3, (i.rows, refl, list)))))))
 
 tuple_filled : (t : List Expr) (ts : List Token) → IsTuple t ts → 1 ≤ length ts
-tuple_filled t ts form = behind_filled "(" ts form
+tuple_filled t ts form = after_filled "(" ts form
 
-insert_law : Law InsertRest behind_all reads_insert
+insert_law : Law InsertRest after_all reads_insert
 insert_law =
-    state_law InsertForm InsertRest behind_all reads_insert
-    (behind_law "into" (named_law (λ t. then_law (columns_law (codes "values" ∷ []) refl)
-    (λ c. behind_law "values" (made_law (λ (r : List (List Expr)). record { table = t; columns = c; rows = r }) (listed_law behind_all (tuple_law (comma ∷ behind_all)) tuple_filled refl refl)))
-    (λ c i. follows_behind "values" behind_all (codes "values" ∷ []) refl))))
+    state_law InsertForm InsertRest after_all reads_insert
+    (after_law "into" (named_law (λ t. then_law (columns_law (codes "values" ∷ []) refl)
+    (λ c. after_law "values" (made_law (λ (r : List (List Expr)). record { table = t; columns = c; rows = r }) (listed_law after_all (tuple_law (comma ∷ after_all)) tuple_filled refl refl)))
+    (λ c i. follows_after "values" after_all (codes "values" ∷ []) refl))))
     insert_to insert_from
 
 -- ---- UPDATE
 
-abbrev behind_sets : List (List ℕ)
-behind_sets = codes "where" ∷ behind_all
+abbrev after_sets : List (List ℕ)
+after_sets = codes "where" ∷ after_all
 
 abbrev SetForm : Set → List Token → Type 0
-SetForm s ts = (n : List ℕ) × Then (Named n) (λ ts. Behind "=" (λ ts. (e : Expr) × (s ≡ record { column = n; expr = e }) × IsExpression e ts) ts) ts
+SetForm s ts = (n : List ℕ) × Then (Named n) (λ ts. After "=" (λ ts. (e : Expr) × (s ≡ record { column = n; expr = e }) × IsExpression e ts) ts) ts
 
 set_to : (s : Set) (ts : List Token) → SetForm s ts → IsSet s ts
 set_to s ts (n, (front, back, e, named, (more, is, (x, made, expr)))) = subst (λ (r : Set). IsSet r ts) (sym made) (front, back, e, named, (more, is, expr))
@@ -80,16 +80,16 @@ set_to s ts (n, (front, back, e, named, (more, is, (x, made, expr)))) = subst (�
 set_from : (s : Set) (ts : List Token) → IsSet s ts → SetForm s ts
 set_from s ts (front, back, e, named, (more, is, expr)) = (s.column, (front, back, e, named, (more, is, (s.expr, refl, expr))))
 
-set_law : Law IsSet (comma ∷ behind_sets) reads_set
+set_law : Law IsSet (comma ∷ after_sets) reads_set
 set_law =
-    state_law SetForm IsSet (comma ∷ behind_sets) reads_set
-    (named_law (λ n. behind_law "=" (made_law (λ (e : Expr). record { column = n; expr = e }) (expr_law (comma ∷ behind_sets) refl refl)))) set_to set_from
+    state_law SetForm IsSet (comma ∷ after_sets) reads_set
+    (named_law (λ n. after_law "=" (made_law (λ (e : Expr). record { column = n; expr = e }) (expr_law (comma ∷ after_sets) refl refl)))) set_to set_from
 
 set_filled : (s : Set) (ts : List Token) → IsSet s ts → 1 ≤ length ts
 set_filled s ts form = then_filled ts (named_filled s.column) form
 
-where_law : Law (λ o ts. Optionally "where" IsExpression o ts) behind_all (reads_optional (codes "where"))
-where_law = optional_law "where" (expr_law behind_all refl refl) refl
+where_law : Law (λ o ts. Optionally "where" IsExpression o ts) after_all (reads_optional (codes "where"))
+where_law = optional_law "where" (expr_law after_all refl refl) refl
 
 abbrev PickForm : List ℕ → List Set → Update → List Token → Type 0
 PickForm t s u ts = (w : Option Expr) × (u ≡ record { table = t; sets = s; pick = w }) × Optionally "where" IsExpression w ts
@@ -98,10 +98,10 @@ abbrev SetsForm : List ℕ → Update → List Token → Type 0
 SetsForm t u ts = (s : List Set) × Then (Listed IsSet s) (λ ts. PickForm t s u ts) ts
 
 abbrev UpdateForm : Update → List Token → Type 0
-UpdateForm u ts = (t : List ℕ) × Then (Named t) (λ ts. Behind "set" (λ ts. SetsForm t u ts) ts) ts
+UpdateForm u ts = (t : List ℕ) × Then (Named t) (λ ts. After "set" (λ ts. SetsForm t u ts) ts) ts
 
 abbrev UpdateRest : Update → List Token → Type 0
-UpdateRest u ts = Then (Named u.table) (Behind "set" (Then (Listed IsSet u.sets) (Optionally "where" IsExpression u.pick))) ts
+UpdateRest u ts = Then (Named u.table) (After "set" (Then (Listed IsSet u.sets) (Optionally "where" IsExpression u.pick))) ts
 
 update_to : (u : Update) (ts : List Token) → UpdateForm u ts → UpdateRest u ts
 update_to u ts (t, (f1, b1, e1, named, (more, e, (s, (f2, b2, e2, sets, (w, made, pick)))))) =
@@ -110,23 +110,23 @@ update_to u ts (t, (f1, b1, e1, named, (more, e, (s, (f2, b2, e2, sets, (w, made
 update_from : (u : Update) (ts : List Token) → UpdateRest u ts → UpdateForm u ts
 update_from u ts (f1, b1, e1, named, (more, e, (f2, b2, e2, sets, pick))) = (u.table, (f1, b1, e1, named, (more, e, (u.sets, (f2, b2, e2, sets, (u.pick, refl, pick))))))
 
-follows_pick : (t : List ℕ) (s : List Set) (u : Update) → Follows (PickForm t s u) behind_all behind_sets
-follows_pick t s u ts rest form h = follows_optional IsExpression "where" behind_all behind_sets form.0 refl refl ts rest form.2 h
+follows_pick : (t : List ℕ) (s : List Set) (u : Update) → Follows (PickForm t s u) after_all after_sets
+follows_pick t s u ts rest form h = follows_optional IsExpression "where" after_all after_sets form.0 refl refl ts rest form.2 h
 
-update_law : Law UpdateRest behind_all reads_update
+update_law : Law UpdateRest after_all reads_update
 update_law =
-    state_law UpdateForm UpdateRest behind_all reads_update
-    (named_law (λ t. behind_law "set" (then_law (listed_law behind_sets set_law set_filled refl refl)
+    state_law UpdateForm UpdateRest after_all reads_update
+    (named_law (λ t. after_law "set" (then_law (listed_law after_sets set_law set_filled refl refl)
     (λ s. made_law (λ (w : Option Expr). record { table = t; sets = s; pick = w }) where_law) (λ s u. follows_pick t s u))))
     update_to update_from
 
 -- ---- DELETE
 
 abbrev DeleteForm : Delete → List Token → Type 0
-DeleteForm d ts = Behind "from" (λ ts. (t : List ℕ) × Then (Named t) (λ ts. (w : Option Expr) × (d ≡ record { table = t; pick = w }) × Optionally "where" IsExpression w ts) ts) ts
+DeleteForm d ts = After "from" (λ ts. (t : List ℕ) × Then (Named t) (λ ts. (w : Option Expr) × (d ≡ record { table = t; pick = w }) × Optionally "where" IsExpression w ts) ts) ts
 
 abbrev DeleteRest : Delete → List Token → Type 0
-DeleteRest d ts = Behind "from" (Then (Named d.table) (Optionally "where" IsExpression d.pick)) ts
+DeleteRest d ts = After "from" (Then (Named d.table) (Optionally "where" IsExpression d.pick)) ts
 
 delete_to : (d : Delete) (ts : List Token) → DeleteForm d ts → DeleteRest d ts
 delete_to d ts (more, e, (t, (f1, b1, e1, named, (w, made, pick)))) = subst (λ (x : Delete). DeleteRest x ts) (sym made) (more, e, (f1, b1, e1, named, pick))
@@ -134,10 +134,10 @@ delete_to d ts (more, e, (t, (f1, b1, e1, named, (w, made, pick)))) = subst (λ 
 delete_from : (d : Delete) (ts : List Token) → DeleteRest d ts → DeleteForm d ts
 delete_from d ts (more, e, (f1, b1, e1, named, pick)) = (more, e, (d.table, (f1, b1, e1, named, (d.pick, refl, pick))))
 
-delete_law : Law DeleteRest behind_all reads_delete
+delete_law : Law DeleteRest after_all reads_delete
 delete_law =
-    state_law DeleteForm DeleteRest behind_all reads_delete
-    (behind_law "from" (named_law (λ t. made_law (λ (w : Option Expr). record { table = t; pick = w }) where_law))) delete_to delete_from
+    state_law DeleteForm DeleteRest after_all reads_delete
+    (after_law "from" (named_law (λ t. made_law (λ (w : Option Expr). record { table = t; pick = w }) where_law))) delete_to delete_from
 
 -- ---- statements
 
@@ -148,7 +148,7 @@ abbrev made_of : {A : Type 0} → (A → Statement) → A × List Token → Opti
 made_of make r = Some (make r.0, r.1)
 
 -- a statement that one of the three words begins
-changed : {A : Type 0} {Form : A → List Token → Type 0} {read : List Token → Option (A × List Token)} (w : List ℕ) (make : A → Statement) (ts : List Token) (s : Statement) (rest : List Token) → Law Form behind_all read
+changed : {A : Type 0} {Form : A → List Token → Type 0} {read : List Token → Option (A × List Token)} (w : List ℕ) (make : A → Statement) (ts : List Token) (s : Statement) (rest : List Token) → Law Form after_all read
     → ((a : A) (more : List Token) → Form a more → IsStatement (make a) (Word w ∷ more)) → starts w ts ≡ true
     → (read (tail ts) >>= λ r. made_of make r) ≡ Some (s, rest) → StatementRead ts s rest
 changed {A = A} {read = read} w make ts s rest law form is h =
@@ -175,7 +175,7 @@ change_read ts =
     else if starts (codes "delete") ts then (reads_delete (tail ts) >>= λ r. Some (statement.Delete r.0, r.1))
     else None
 
-statement_complete : (s : Statement) (front rest : List Token) → IsStatement s front → ends_by behind_all rest ≡ true → reads_statement (front ++ rest) ≡ Some (s, rest)
+statement_complete : (s : Statement) (front rest : List Token) → IsStatement s front → ends_by after_all rest ≡ true → reads_statement (front ++ rest) ≡ Some (s, rest)
 statement_complete (statement.Query q) front rest form ends =
     ap (λ b. if b then (reads_query (front ++ rest) >>= λ r. Some (statement.Query r.0, r.1)) else change_read (front ++ rest)) (query_start q front rest form)
     ∙ ap (λ (o : Option (Query × List Token)). o >>= λ r. Some (statement.Query r.0, r.1)) (query_law.complete front rest q form ends)
@@ -202,9 +202,9 @@ end_sound ts h = elim (cases_Bool (starts (codes ";") ts)) [
       inl (empty_is ts h2)
 ]
 
-end_complete : (ts : List Token) → IsEnd ts → (is_end ts ≡ true) × (ends_by behind_all ts ≡ true)
-end_complete ts (inl e) = (ap is_end e, ap (ends_by behind_all) e)
-end_complete ts (inr e) = (ap is_end e, ap (ends_by behind_all) e)
+end_complete : (ts : List Token) → IsEnd ts → (is_end ts ≡ true) × (ends_by after_all ts ≡ true)
+end_complete ts (inl e) = (ap is_end e, ap (ends_by after_all) e)
+end_complete ts (inr e) = (ap is_end e, ap (ends_by after_all) e)
 
 whole_sound : (ts : List Token) (s : Statement) → whole_statement ts ≡ Some s → IsWhole s ts
 whole_sound ts s h =

@@ -207,7 +207,7 @@ token_run (Quoted text) piece rest u (e, short, ends) =
     ∙ text_run text [] rest ends ∙ ap (λ o. put o rest) (text_of-string text (doubled_utf8 text inner) short)
 token_run (Given v) piece rest u is = absurd is
 
--- ---- what stands behind a token is UTF-8
+-- ---- what stands after a token is UTF-8
 
 inside_bytes : (piece : List ℕ) → AreInside piece → AllByRecursion (λ b. b < 128) piece
 inside_bytes [] h = tt
@@ -221,21 +221,21 @@ blank_bytes : (piece : List ℕ) → AreBlanks piece → AllByRecursion (λ b. b
 blank_bytes [] h = tt
 blank_bytes (b ∷ piece) h = (omega (arith, blank_low b h.0), blank_bytes piece h.1)
 
-behind_token : (t : Token) (piece rest : List ℕ) → IsUtf8 (piece ++ rest) → IsToken piece rest t → IsUtf8 rest
-behind_token (Word w) [] rest u (inl (is, e, ends)) = absurd is
-behind_token (Word w) (b ∷ piece) rest u (inl (is, e, ends)) = utf8-rest (b ∷ piece) rest (omega (arith, (letter_range b is.0).1), inside_bytes piece is.1) u
-behind_token (Word w) piece rest u (inr (is, e, whole)) = utf8-rest piece rest (symbol_low piece is) u
-behind_token (Number z) piece rest u (are, e, fits, ends) = utf8-rest piece rest (digit_bytes piece are.1) u
-behind_token (Quoted text) piece rest u (e, short, ends) =
+after_token : (t : Token) (piece rest : List ℕ) → IsUtf8 (piece ++ rest) → IsToken piece rest t → IsUtf8 rest
+after_token (Word w) [] rest u (inl (is, e, ends)) = absurd is
+after_token (Word w) (b ∷ piece) rest u (inl (is, e, ends)) = utf8-rest (b ∷ piece) rest (omega (arith, (letter_range b is.0).1), inside_bytes piece is.1) u
+after_token (Word w) piece rest u (inr (is, e, whole)) = utf8-rest piece rest (symbol_low piece is) u
+after_token (Number z) piece rest u (are, e, fits, ends) = utf8-rest piece rest (digit_bytes piece are.1) u
+after_token (Quoted text) piece rest u (e, short, ends) =
     let u2 : IsUtf8 (39 ∷ doubled text ++ 39 ∷ rest) = subst IsUtf8 (ap (λ (l : List ℕ). l ++ rest) e ∙ ap (λ (l : List ℕ). 39 ∷ l) (append_assoc (doubled text) (39 ∷ []) rest)) u in
     utf8-tail 39 rest (omega arith) (utf8-cut (doubled text) 39 rest (omega arith) (utf8-tail 39 (doubled text ++ 39 ∷ rest) (omega arith) u2)).1
-behind_token (Given v) piece rest u is = absurd is
+after_token (Given v) piece rest u is = absurd is
 
 -- ---- all of them
 
 pub tokens_complete : (ts : List Token) (bytes : List ℕ) → IsUtf8 bytes → Spells bytes ts → tokens_of bytes ≡ Some ts
 tokens_complete [] bytes u h = blanks_only bytes h
 tokens_complete (t ∷ ts) bytes u (front, piece, rest, e, blanks, is, more) =
-    let behind : IsUtf8 (piece ++ rest) = utf8-rest front (piece ++ rest) (blank_bytes front blanks) (subst IsUtf8 e u) in
-    ap (λ (l : List ℕ). tokens_from l Between) e ∙ blanks_run front (piece ++ rest) blanks ∙ token_run t piece rest behind is
-    ∙ ap (before (t ∷ [])) (tokens_complete ts rest (behind_token t piece rest behind is) more)
+    let after_word : IsUtf8 (piece ++ rest) = utf8-rest front (piece ++ rest) (blank_bytes front blanks) (subst IsUtf8 e u) in
+    ap (λ (l : List ℕ). tokens_from l Between) e ∙ blanks_run front (piece ++ rest) blanks ∙ token_run t piece rest after_word is
+    ∙ ap (before (t ∷ [])) (tokens_complete ts rest (after_token t piece rest after_word is) more)

@@ -185,34 +185,34 @@ starts b bs ts p h means =
 
 -- ---- a token ends here, or goes on
 
--- what is behind the token that ends here
-abbrev Behind : List ℕ → Type 0
-Behind bs = (ts : List Token) → tokens_from bs Between ≡ Some ts → Spells bs ts
+-- what is after the token that ends here
+abbrev After : List ℕ → Type 0
+After bs = (ts : List Token) → tokens_from bs Between ≡ Some ts → Spells bs ts
 
-word_ends : (w bs : List ℕ) (ts : List Token) → BeginsNot is_inside bs → Behind bs → tokens_from bs (InWord w) ≡ Some ts → WordMeans w bs ts
-word_ends w bs ts ends behind h =
+word_ends : (w bs : List ℕ) (ts : List Token) → BeginsNot is_inside bs → After bs → tokens_from bs (InWord w) ≡ Some ts → WordMeans w bs ts
+word_ends w bs ts ends after_word h =
     let p = put_some (word_token w) bs ts (sym (word_closes w bs ends) ∙ h) in
-    ([], bs, p.0, p.2, refl, tt, ends, ap word_token (append-nil w) ∙ p.1, p.3, behind p.2 p.4)
+    ([], bs, p.0, p.2, refl, tt, ends, ap word_token (append-nil w) ∙ p.1, p.3, after_word p.2 p.4)
 
-number_ends : (n : ℕ) (bs : List ℕ) (ts : List Token) → BeginsNot is_inside bs → Behind bs → tokens_from bs (InNumber n) ≡ Some ts → NumberMeans n bs ts
-number_ends n bs ts ends behind h m same =
+number_ends : (n : ℕ) (bs : List ℕ) (ts : List Token) → BeginsNot is_inside bs → After bs → tokens_from bs (InNumber n) ≡ Some ts → NumberMeans n bs ts
+number_ends n bs ts ends after_word h m same =
     let p = put_some (number_token n) bs ts (sym (number_closes n bs ends) ∙ h) in
-    ([], bs, p.0, p.2, refl, tt, ends, ap number_token (sym same) ∙ p.1, p.3, behind p.2 p.4)
+    ([], bs, p.0, p.2, refl, tt, ends, ap number_token (sym same) ∙ p.1, p.3, after_word p.2 p.4)
 
-quote_ends : (t bs : List ℕ) (ts : List Token) → BeginsNot is_quote bs → Behind bs → tokens_from bs (AfterQuote t) ≡ Some ts → QuoteMeans t bs ts
-quote_ends t bs ts ends behind h =
+quote_ends : (t bs : List ℕ) (ts : List Token) → BeginsNot is_quote bs → After bs → tokens_from bs (AfterQuote t) ≡ Some ts → QuoteMeans t bs ts
+quote_ends t bs ts ends after_word h =
     let p = put_some (text_token t) bs ts (sym (quote_closes t bs ends) ∙ h) in
-    inl (ends, (p.0, p.2, p.1, p.3, behind p.2 p.4))
+    inl (ends, (p.0, p.2, p.1, p.3, after_word p.2 p.4))
 
-symbol_ends : (a : ℕ) (bs : List ℕ) (ts : List Token) → BeginsNot (is_pair a) bs → Behind bs → tokens_from bs (InSymbol a) ≡ Some ts → SymbolMeans a bs ts
-symbol_ends a bs ts ends behind h =
+symbol_ends : (a : ℕ) (bs : List ℕ) (ts : List Token) → BeginsNot (is_pair a) bs → After bs → tokens_from bs (InSymbol a) ≡ Some ts → SymbolMeans a bs ts
+symbol_ends a bs ts ends after_word h =
     let p = put_some (short_symbol a) bs ts (sym (symbol_closes a bs ends) ∙ h) in
-    inl (ends, (p.0, p.2, p.1, p.3, behind p.2 p.4))
+    inl (ends, (p.0, p.2, p.1, p.3, after_word p.2 p.4))
 
-ended_ends : (k : Token) (bs : List ℕ) (ts : List Token) → Behind bs → tokens_from bs (Ended k) ≡ Some ts → EndedMeans k bs ts
-ended_ends k bs ts behind h =
+ended_ends : (k : Token) (bs : List ℕ) (ts : List Token) → After bs → tokens_from bs (Ended k) ≡ Some ts → EndedMeans k bs ts
+ended_ends k bs ts after_word h =
     let p = put_some (Some k) bs ts (sym (ended_closes k bs) ∙ h) in
-    (p.2, p.3 ∙ ap (λ (t : Token). t ∷ p.2) (sym (same-some k p.0 p.1)), behind p.2 p.4)
+    (p.2, p.3 ∙ ap (λ (t : Token). t ∷ p.2) (sym (same-some k p.0 p.1)), after_word p.2 p.4)
 
 word_more : (w : List ℕ) (b : ℕ) (bs : List ℕ) (ts : List Token) → IsTrue (is_inside b) → WordMeans (w ++ folded b ∷ []) bs ts → WordMeans w (b ∷ bs) ts
 word_more w b bs ts inside (piece, rest, k, more, e, all, ends, is, are, spells) =
@@ -242,7 +242,7 @@ text_quoted t bs ts (inr (after, from, (text, rest, k, more, e, ends, is, are, s
 abbrev Sound : List ℕ → Type 0
 Sound bs = (place : LexState) (ts : List Token) → tokens_from bs place ≡ Some ts → Means place bs ts
 
-between_sound : (b : ℕ) (bs : List ℕ) → Sound bs → Behind (b ∷ bs)
+between_sound : (b : ℕ) (bs : List ℕ) → Sound bs → After (b ∷ bs)
 between_sound b bs ih ts h =
     let p : (q : LexState) × (start b ≡ Some q) × (tokens_from bs q ≡ Some ts) = bind-some (start b) (λ q. tokens_from bs q) ts (sym (start_goes b bs) ∙ h) in
     starts b bs ts p.0 p.1 (ih p.0 ts p.2)
@@ -282,15 +282,15 @@ more_sound b bs ih (InSymbol a) ts h = elim (cases_Bool (is_pair a b)) [
 ]
 more_sound b bs ih (Ended k) ts h = ended_ends k (b ∷ bs) ts (between_sound b bs ih) h
 
-behind_nothing : Behind []
-behind_nothing ts h = subst (Spells []) (same-some [] ts h) tt
+after_nothing : After []
+after_nothing ts h = subst (Spells []) (same-some [] ts h) tt
 
 pub tokens_sound : (bs : List ℕ) → Sound bs
-tokens_sound [] Between ts h = behind_nothing ts h
-tokens_sound [] (InWord w) ts h = word_ends w [] ts tt behind_nothing h
-tokens_sound [] (InNumber n) ts h = number_ends n [] ts tt behind_nothing h
+tokens_sound [] Between ts h = after_nothing ts h
+tokens_sound [] (InWord w) ts h = word_ends w [] ts tt after_nothing h
+tokens_sound [] (InNumber n) ts h = number_ends n [] ts tt after_nothing h
 tokens_sound [] (InText t) ts h = let none : None ≡ Some ts = h in absurd cc
-tokens_sound [] (AfterQuote t) ts h = quote_ends t [] ts tt behind_nothing h
-tokens_sound [] (InSymbol a) ts h = symbol_ends a [] ts tt behind_nothing h
-tokens_sound [] (Ended k) ts h = ended_ends k [] ts behind_nothing h
+tokens_sound [] (AfterQuote t) ts h = quote_ends t [] ts tt after_nothing h
+tokens_sound [] (InSymbol a) ts h = symbol_ends a [] ts tt after_nothing h
+tokens_sound [] (Ended k) ts h = ended_ends k [] ts after_nothing h
 tokens_sound (b ∷ bs) place ts h = more_sound b bs (tokens_sound bs) place ts h

@@ -2,8 +2,10 @@
 --
 -- An expression is read within a limit of its depth and to a least level (`Operators`). What is inside a
 -- form has one level of depth less.
-use Rattle.std.specs.Prelude.{ℕ, zero, suc, ◌+◌, max, List, Bool, true, false, nat_le, if◌then◌else◌, Option, Some, None, codes, nat_eq}
+use Rattle.std.specs.Prelude.{ℕ, zero, suc, ◌+◌, max, List, Bool, true, false, nat_le, if◌then◌else◌, Option}
+use Rattle.std.specs.Prelude.{Some, None, codes, nat_eq}
 use Rattle.std.specs.Cmp.Lexicographic.{pointwise}
+use Rattle.ldv_value.specs.Limits.{max_depth}
 use Rattle.ldv_value.specs.declared.value.Value.TheVariants as value
 use Rattle.sql_model.specs.declared.expr.Expr.{Expr}
 use Rattle.sql_model.specs.declared.expr.Expr.TheVariants as expr
@@ -19,11 +21,11 @@ use Rattle.sql_parse.specs.declared.state.Infix.{Infix}
 use Rattle.sql_parse.specs.declared.state.Infix.TheVariants.{Both, IsNull}
 use Rattle.sql_model.specs.declared.token.Token.{Token}
 use Rattle.sql_model.specs.declared.token.Token.TheVariants.{Word, Number, Quoted, Given}
-use Rattle.sql_parse.specs.Columns.{column_behind}
+use Rattle.sql_parse.specs.Columns.{column_after}
 use Rattle.ldv_value.specs.Options.{◌>>=◌, only_if}
 use Rattle.sql_model.specs.Levels.{operator_level, right_of}
 use Rattle.sql_parse.specs.Operators.{joins}
-use Rattle.sql_parse.specs.Reader.{starts, tail, passed, behind, reads_token, name_in, repeat}
+use Rattle.sql_parse.specs.Reader.{starts, tail, passed, after_word, reads_token, name_in, repeat}
 
 -- HOW AN OPERAND BEGINS
 
@@ -35,19 +37,20 @@ abbrev pub negation : ℕ → Option Opening
 negation least = only_if (nat_le least 3) (Some (Nested Not))
 
 abbrev pub fold_opening : Fold → List Token → Option (Opening × List Token)
-fold_opening f ts = behind (codes "(") ts >>= λ ts. Some (Nested (FoldOf f), ts)
+fold_opening f ts = after_word (codes "(") ts >>= λ ts. Some (Nested (FoldOf f), ts)
 
 -- after `COUNT (`: COUNT(*) is whole
 abbrev pub count_inside : List Token → Option (Opening × List Token)
 count_inside ts =
-    if starts (codes "*") ts then (behind (codes ")") (tail ts) >>= λ ts. Some (Leaf (expr.Aggregate fold.Count None), ts))
+    if starts (codes "*") ts then (after_word (codes ")") (tail ts)
+    >>= λ ts. Some (Leaf (expr.Aggregate fold.Count None), ts))
     else Some (Nested (FoldOf fold.Count), ts)
 
 abbrev pub count_opening : List Token → Option (Opening × List Token)
-count_opening ts = behind (codes "(") ts >>= λ ts. count_inside ts
+count_opening ts = after_word (codes "(") ts >>= λ ts. count_inside ts
 
 abbrev pub column_opening : List ℕ → List Token → Option (Opening × List Token)
-column_opening w ts = name_in w >>= λ n. column_behind n ts >>= λ c. Some (Leaf (expr.Column c.0), c.1)
+column_opening w ts = name_in w >>= λ n. column_after n ts >>= λ c. Some (Leaf (expr.Column c.0), c.1)
 
 abbrev pub word_opening : ℕ → List ℕ → List Token → Option (Opening × List Token)
 word_opening least w ts =
@@ -86,17 +89,24 @@ whole e = record { expr = e; depth = 1; level = 8 }
 abbrev pub closed : Prefix → ParsedExpr → List Token → Option (ParsedExpr × List Token)
 closed Not d ts = Some (record { expr = expr.Not d.expr; depth = d.depth + 1; level = 3 }, ts)
 closed Minus d ts = Some (record { expr = expr.Negate d.expr; depth = d.depth + 1; level = 7 }, ts)
-closed Bracket d ts = behind (codes ")") ts >>= λ ts. Some (record { expr = d.expr; depth = d.depth + 1; level = 8 }, ts)
-closed (FoldOf f) d ts = behind (codes ")") ts >>= λ ts. Some (record { expr = expr.Aggregate f (Some d.expr); depth = d.depth + 1; level = 8 }, ts)
+closed Bracket d ts = after_word (codes ")") ts
+    >>= λ ts. Some (record { expr = d.expr; depth = d.depth + 1; level = 8 }, ts)
+closed (FoldOf f) d ts = after_word (codes ")") ts
+    >>= λ ts. Some (record { expr = expr.Aggregate f (Some d.expr); depth = d.depth + 1; level = 8 }, ts)
 
 -- WHAT FOLLOWS AN OPERAND
 
 -- after IS
+abbrev pub null_tested : ParsedExpr → Bool → ParsedExpr
+null_tested d negated = record { expr = expr.IsNull d.expr negated; depth = d.depth + 1; level = 4 }
+
 abbrev pub null_test : ParsedExpr → List Token → Option (ParsedExpr × List Token)
-null_test d ts = behind (codes "null") (passed (codes "not") ts) >>= λ rest. Some (record { expr = expr.IsNull d.expr (starts (codes "not") ts); depth = d.depth + 1; level = 4 }, rest)
+null_test d ts = after_word (codes "null") (passed (codes "not") ts)
+    >>= λ rest. Some (null_tested d (starts (codes "not") ts), rest)
 
 abbrev pub pair : Operator → ParsedExpr → ParsedExpr → ParsedExpr
-pair op a b = record { expr = expr.Both op a.expr b.expr; depth = max a.depth b.depth + 1; level = operator_level op }
+pair op a b =
+    record { expr = expr.Both op a.expr b.expr; depth = max a.depth b.depth + 1; level = operator_level op }
 
 -- Read gives an expression of at least a level, and limit is the most depth of an operand.
 module _ (read : ℕ → List Token → Option (ParsedExpr × List Token)) where
@@ -126,8 +136,9 @@ module _ (read : ℕ → List Token → Option (ParsedExpr × List Token)) where
 -- an expression of at least a level, within a depth
 unfoldable pub within : ℕ → ℕ → List Token → Option (ParsedExpr × List Token)
 within zero least ts = None
-within (suc n) least ts = operand (within n) least ts >>= λ r. repeat (joins_more (within n) n least) (suc n) r.0 r.1
+within (suc n) least ts = operand (within n) least ts
+    >>= λ r. repeat (joins_more (within n) n least) (suc n) r.0 r.1
 
 -- an expression has a depth of at most 64
 abbrev pub reads_expr : List Token → Option (Expr × List Token)
-reads_expr ts = within 64 1 ts >>= λ r. Some (r.0.expr, r.1)
+reads_expr ts = within max_depth 1 ts >>= λ r. Some (r.0.expr, r.1)

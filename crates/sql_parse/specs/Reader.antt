@@ -1,5 +1,6 @@
 -- Reading from the front of tokens.
-use Rattle.std.specs.Prelude.{ℕ, zero, suc, List, [], ◌∷◌, Bool, false, if◌then◌else◌, Option, Some, None, nat_eq}
+use Rattle.std.specs.Prelude.{ℕ, zero, suc, List, [], ◌∷◌, Bool, false, if◌then◌else◌, Option, Some, None}
+use Rattle.std.specs.Prelude.{nat_eq}
 use Rattle.std.specs.Cmp.Lexicographic.{pointwise}
 use Rattle.sql_model.specs.SqlNames.{sql_name_test}
 use Rattle.sql_model.specs.declared.token.Token.{Token}
@@ -27,8 +28,8 @@ abbrev pub passed : List ℕ → List Token → List Token
 passed text ts = if starts text ts then tail ts else ts
 
 -- what follows this first one
-abbrev pub behind : List ℕ → List Token → Option (List Token)
-behind text ts = only_if (starts text ts) (Some (tail ts))
+abbrev pub after_word : List ℕ → List Token → Option (List Token)
+after_word text ts = only_if (starts text ts) (Some (tail ts))
 
 abbrev pub reads_token : List Token → Option (Token × List Token)
 reads_token [] = None
@@ -48,6 +49,8 @@ abbrev pub reads_name : List Token → Option (List ℕ × List Token)
 reads_name ts = reads_token ts >>= λ t. name_of t.0 >>= λ n. Some (n, t.1)
 
 -- Step by step, at most so many times: each step says whether another one follows it.
-unfoldable pub repeat : {A : Type 0} → (A → List Token → Option ((A × Bool) × List Token)) → ℕ → A → List Token → Option (A × List Token)
+unfoldable pub repeat : {A : Type 0} → (A → List Token → Option ((A × Bool) × List Token)) → ℕ → A
+    → List Token → Option (A × List Token)
 repeat step zero made ts = None
-repeat step (suc k) made ts = step made ts >>= λ r. if r.0.1 then repeat step k r.0.0 r.1 else Some (r.0.0, r.1)
+repeat step (suc k) made ts = step made ts >>= λ r. if r.0.1 then repeat step k r.0.0 r.1
+    else Some (r.0.0, r.1)

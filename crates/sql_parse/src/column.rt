@@ -1,7 +1,7 @@
 //! Names of columns.
 
 ghost use Rattle.sql_parse.specs.Gives.{Reads};
-ghost use Rattle.sql_parse.specs.Columns.{column_behind, reads_column};
+ghost use Rattle.sql_parse.specs.Columns.{column_after, reads_column};
 
 use crate::reader::Reader;
 use crate::stop::ParseStop;
@@ -14,16 +14,16 @@ pub(crate) fn column(alloc: Global, reader: &mut Reader) -> Result<ColumnName, P
     ensures { Reads result reader.new (reads_column reader.old) }
 {
     let name = reader.name(alloc)?;
-    column_behind(alloc, reader, name)
+    column_after(alloc, reader, name)
 }
 
 /// The column that begins with a name, which is its own or that of its source.
-pub(crate) fn column_behind(
+pub(crate) fn column_after(
     alloc: Global,
     reader: &mut Reader,
     name: Utf8,
 ) -> Result<ColumnName, ParseStop>
-    ensures { Reads result reader.new (column_behind name reader.old) }
+    ensures { Reads result reader.new (column_after name reader.old) }
 {
     if reader.starts(".") {
         reader.skip();

@@ -1,8 +1,10 @@
 //! The expression at the front of tokens.
 
 ghost use Rattle.std.specs.Prelude.{◌≡◌, ◌≤◌, ◌<◌, ◌+◌, ◌-◌, IfOk, Some};
+ghost use Rattle.ldv_value.specs.Limits.{max_depth};
 ghost use Rattle.sql_parse.specs.Gives.{Gives, Reads};
-ghost use Rattle.sql_parse.specs.Expressions.{whole, closed, null_test, pair, operand_at, operand, joined, joined_within, goes_on, joins_more, within, reads_expr};
+ghost use Rattle.sql_parse.specs.Expressions.{whole, closed, null_test, pair, operand_at, operand, joined};
+ghost use Rattle.sql_parse.specs.Expressions.{joined_within, goes_on, joins_more, within, reads_expr};
 ghost use Rattle.sql_parse.specs.Reader.{repeat};
 
 use crate::opening::{inside_level, read_opening};
@@ -10,18 +12,16 @@ use crate::operator::{joins, operator_level, right_of};
 use crate::reader::Reader;
 use crate::state::{Infix, Opening, ParsedExpr, Prefix};
 use crate::stop::ParseStop;
+use ldv_value::MAX_DEPTH;
 use sql_model::{Expr, Operator};
 use sqlite_items::Boxed;
 use std::alloc::Global;
-
-/// The most depth of an expression.
-const DEPTH_LIMIT: usize = 64;
 
 /// An expression.
 pub(crate) fn expression(alloc: Global, reader: &mut Reader) -> Result<Expr, ParseStop>
     ensures { Reads result reader.new (reads_expr reader.old) }
 {
-    let deep = within(alloc, reader, DEPTH_LIMIT, 1)?;
+    let deep = within(alloc, reader, MAX_DEPTH, 1)?;
     let ParsedExpr {
         expr,
         depth: _,
@@ -39,7 +39,7 @@ fn within(
     limit: usize,
     least: u8,
 ) -> Result<ParsedExpr, ParseStop>
-    requires { limit ≤ 64 }
+    requires { limit ≤ max_depth }
     ensures read { Reads result reader.new (within limit least reader.old) }
     ensures depth { IfOk result (λ deep. deep.depth ≤ limit) }
 {
@@ -59,7 +59,7 @@ fn operand(
     limit: usize,
     least: u8,
 ) -> Result<ParsedExpr, ParseStop>
-    requires { limit < 64 }
+    requires { limit < max_depth }
     ensures read { Reads result reader.new (operand (within limit) least reader.old) }
     ensures depth { IfOk result (λ deep. deep.depth ≤ limit + 1) }
 {
@@ -87,9 +87,10 @@ fn chain(
     first: ParsedExpr,
 ) -> Result<ParsedExpr, ParseStop>
     requires some { 0 < limit }
-    requires most { limit ≤ 64 }
+    requires most { limit ≤ max_depth }
     requires depth { first.depth ≤ limit }
-    ensures read { Reads result reader.new (repeat (joins_more (within (limit - 1)) (limit - 1) least) limit first reader.old) }
+    ensures read { Reads result reader.new (repeat (joins_more (within (limit - 1)) (limit - 1) least) limit
+        first reader.old) }
     ensures depth { IfOk result (λ deep. deep.depth ≤ limit) }
 {
     let mut left = first;
@@ -113,7 +114,7 @@ fn joins_more(
     least: u8,
     left: ParsedExpr,
 ) -> Result<(ParsedExpr, bool), ParseStop>
-    requires most { limit < 64 }
+    requires most { limit < max_depth }
     requires depth { left.depth ≤ limit + 1 }
     ensures read { Reads result reader.new (joins_more (within limit) limit least left reader.old) }
     ensures depth { IfOk result (λ r. r.0.depth ≤ limit + 1) }
@@ -138,7 +139,7 @@ fn joined_within(
     joint: Infix,
     left: ParsedExpr,
 ) -> Result<ParsedExpr, ParseStop>
-    requires { limit < 64 }
+    requires { limit < max_depth }
     ensures read { Reads result reader.new (joined_within (within limit) limit joint left reader.old) }
     ensures depth { IfOk result (λ deep. deep.depth ≤ limit + 1) }
 {
@@ -161,7 +162,7 @@ fn closed(
     wrap: Prefix,
     inside: ParsedExpr,
 ) -> Result<ParsedExpr, ParseStop>
-    requires { inside.depth ≤ 64 }
+    requires { inside.depth ≤ max_depth }
     ensures read { Reads result reader.new (closed wrap inside reader.old) }
     ensures depth { IfOk result (λ deep. deep.depth ≡ inside.depth + 1) }
 {
@@ -210,7 +211,7 @@ fn closed(
 
 // What follows IS.
 fn null_test(alloc: Global, reader: &mut Reader, left: ParsedExpr) -> Result<ParsedExpr, ParseStop>
-    requires { left.depth ≤ 64 }
+    requires { left.depth ≤ max_depth }
     ensures read { Reads result reader.new (null_test left reader.old) }
     ensures depth { IfOk result (λ deep. deep.depth ≡ left.depth + 1) }
 {
@@ -236,8 +237,8 @@ fn pair(
     left: ParsedExpr,
     right: ParsedExpr,
 ) -> Result<ParsedExpr, ParseStop>
-    requires left { left.depth ≤ 64 }
-    requires right { right.depth ≤ 64 }
+    requires left { left.depth ≤ max_depth }
+    requires right { right.depth ≤ max_depth }
     ensures { Gives result (Some (pair operator left right)) }
 {
     let depth = left.depth.max(right.depth) + 1;

@@ -2,9 +2,10 @@
 
 ghost use Rattle.std.specs.Prelude.{◌≡◌};
 ghost use Rattle.sql_parse.specs.Gives.{Gives, Reads};
-ghost use Rattle.sql_parse.specs.Expressions.{negation, fold_opening, count_inside, count_opening, column_opening, word_opening, opens, opening, inside_level};
+ghost use Rattle.sql_parse.specs.Expressions.{negation, fold_opening, count_inside, count_opening};
+ghost use Rattle.sql_parse.specs.Expressions.{column_opening, word_opening, opens, opening, inside_level};
 
-use crate::column::column_behind;
+use crate::column::column_after;
 use crate::reader::{Reader, name_in};
 use crate::state::{Opening, Prefix};
 use crate::stop::ParseStop;
@@ -104,7 +105,7 @@ fn column_opening(alloc: Global, reader: &mut Reader, word: Utf8) -> Result<Open
     ensures { Reads result reader.new (column_opening word reader.old) }
 {
     let name = name_in(word)?;
-    let column = column_behind(alloc, reader, name)?;
+    let column = column_after(alloc, reader, name)?;
     Ok(Opening::Leaf(Expr::Column(column)))
 }
 

@@ -2,7 +2,8 @@
 
 ghost use Rattle.std.specs.Prelude.{◌≡◌};
 ghost use Rattle.sql_model.specs.Levels.{operator_level, operator_left, right_of};
-ghost use Rattle.sql_parse.specs.Operators.{comparison_of, compared, joint_in, joint_of, level_of, left_of, may_join, joins};
+ghost use Rattle.sql_parse.specs.Operators.{comparison_of, compared, joint_in, joint_of, level_of, left_of};
+ghost use Rattle.sql_parse.specs.Operators.{may_join, joins};
 
 use crate::reader::Reader;
 use crate::state::Infix;

@@ -2,7 +2,9 @@
 
 ghost use Rattle.std.specs.Prelude.{◌≡◌, codes};
 ghost use Rattle.sql_parse.specs.Gives.{Gives, Reads};
-ghost use Rattle.sql_parse.specs.Queries.{another_core, reads_cores, place_of, key_of, reads_key, directed, reads_order, reads_orders, bound_of, reads_bound, reads_limit, reads_query};
+ghost use Rattle.sql_parse.specs.Queries.{another_core, reads_cores, place_of, key_of, reads_key, directed};
+ghost use Rattle.sql_parse.specs.Queries.{reads_order, reads_orders, bound_of, reads_bound, reads_limit};
+ghost use Rattle.sql_parse.specs.Queries.{reads_query};
 ghost use Rattle.sql_parse.specs.Reader.{repeat, starts};
 
 use crate::part::{Part, listed};

@@ -2,7 +2,8 @@
 
 ghost use Rattle.std.specs.Prelude.{◌≡◌, ◌∷◌, [], length, MatchOption};
 ghost use Rattle.sql_parse.specs.Gives.{Gives, Reads, Passes};
-ghost use Rattle.sql_parse.specs.Reader.{is_word, starts, tail, passed, behind, reads_token, name_in, name_of, reads_name};
+ghost use Rattle.sql_parse.specs.Reader.{is_word, starts, tail, passed, after_word, reads_token, name_in};
+ghost use Rattle.sql_parse.specs.Reader.{name_of, reads_name};
 
 use crate::stop::ParseStop;
 use crate::token::Tokens;
@@ -87,7 +88,7 @@ impl Reader {
 
     /// Goes past the next token, which must be this word or symbol.
     pub fn expect(&mut self, text: &str) -> Result<(), ParseStop>
-        ensures { Passes result self.new (behind text.now self.old) }
+        ensures { Passes result self.new (after_word text.now self.old) }
     {
         if self.pass(text) {
             Ok(())

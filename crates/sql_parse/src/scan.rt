@@ -3,7 +3,10 @@
 ghost use Rattle.std.specs.Prelude.{◌≡◌, ◌-◌, ◌++◌, OnOk, IsTrue, option_to_list};
 ghost use Rattle.sql_parse.specs.Gives.{Gives};
 ghost use Rattle.sql_model.specs.TextBytes.{is_blank, is_digit, is_upper, is_letter, folded};
-ghost use Rattle.sql_parse.specs.Tokens.{is_whole_symbol, begins_symbol, is_pair, short_symbol, longer, start, ends, step_between, step_in_word, step_in_number, step_in_text, step_behind_quote, step_in_symbol, step, finish, tokens_of};
+ghost use Rattle.sql_parse.specs.Tokens.{is_whole_symbol, begins_symbol, is_pair, short_symbol, longer};
+ghost use Rattle.sql_parse.specs.Tokens.{start, ends, step_between, step_in_word, step_in_number};
+ghost use Rattle.sql_parse.specs.Tokens.{step_in_text, step_after_quote, step_in_symbol, step, finish};
+ghost use Rattle.sql_parse.specs.Tokens.{tokens_of};
 
 use crate::state::LexState;
 use crate::stop::ParseStop;
@@ -46,7 +49,7 @@ fn step(alloc: Global, place: LexState, b: u8) -> Result<(LexState, Option<Token
         LexState::InWord(word) => in_word(alloc, word, b),
         LexState::InNumber(number) => in_number(alloc, number, b),
         LexState::InText(text) => in_text(text, b),
-        LexState::AfterQuote(text) => behind_quote(alloc, text, b),
+        LexState::AfterQuote(text) => after_quote(alloc, text, b),
         LexState::InSymbol(first) => in_symbol(alloc, first, b),
         LexState::Ended(token) => ends(alloc, token, b),
     }
@@ -101,12 +104,12 @@ fn in_text(mut text: Bytes, b: u8) -> Result<(LexState, Option<Token>), ParseSto
     Ok((LexState::InText(text), None))
 }
 
-fn behind_quote(
+fn after_quote(
     alloc: Global,
     mut text: Bytes,
     b: u8,
 ) -> Result<(LexState, Option<Token>), ParseStop>
-    ensures { Gives result (step_behind_quote text b) }
+    ensures { Gives result (step_after_quote text b) }
 {
     if b == b'\'' {
         text.push(b)?;

@@ -2,7 +2,8 @@
 
 ghost use Rattle.std.specs.Prelude.{◌≡◌, ◌++◌, OnOk, option_to_list};
 ghost use Rattle.sql_parse.specs.Gives.{Reads};
-ghost use Rattle.sql_parse.specs.Queries.{reads_alias, reads_item, reads_items, reads_group, core_end, core_rest, reads_core};
+ghost use Rattle.sql_parse.specs.Queries.{reads_alias, reads_item, reads_items, reads_group, core_end};
+ghost use Rattle.sql_parse.specs.Queries.{core_rest, reads_core};
 
 use crate::expression::expression;
 use crate::part::{Part, listed, optional};
@@ -10,12 +11,9 @@ use crate::reader::Reader;
 use crate::source::all_sources;
 use crate::state::Sources;
 use crate::stop::ParseStop;
-use ldv_value::Utf8;
+use ldv_value::{MAX_SOURCES, Utf8};
 use sql_model::{ColumnName, ColumnNames, Core, Expr, Exprs, Item, Items};
 use std::alloc::{AllocError, Global};
-
-/// The most sources of a core.
-const SOURCE_LIMIT: usize = 8;
 
 /// Parses a core; `joined_all`: it follows UNION ALL.
 pub(crate) fn core(alloc: Global, reader: &mut Reader, joined_all: bool) -> Result<Core, ParseStop>
@@ -36,7 +34,7 @@ fn core_rest(
 {
     let items = items(alloc, reader)?;
     reader.expect("from")?;
-    let sources = all_sources(alloc, reader, SOURCE_LIMIT)?;
+    let sources = all_sources(alloc, reader, MAX_SOURCES)?;
     core_end(alloc, reader, joined_all, distinct, items, sources)
 }
 

@@ -2,7 +2,8 @@
 
 ghost use Rattle.std.specs.Prelude.{◌≡◌};
 ghost use Rattle.sql_parse.specs.Gives.{Reads};
-ghost use Rattle.sql_parse.specs.Queries.{is_name, names, second_name, reads_source, plain_source, joined_source, another_source, reads_sources};
+ghost use Rattle.sql_parse.specs.Queries.{is_name, names, second_name, reads_source, plain_source};
+ghost use Rattle.sql_parse.specs.Queries.{joined_source, another_source, reads_sources};
 ghost use Rattle.sql_parse.specs.Reader.{repeat};
 
 use crate::expression::expression;

@@ -3,6 +3,7 @@ pub mod Each
 pub mod Found
 pub mod JsonText
 pub mod Lookups
+pub mod Numbering
+pub mod ReadDocuments
 pub mod Readings
-pub mod Rises
 pub mod WorldFiles

@@ -1,12 +1,11 @@
 -- Members by their names, beside the map that holds them.
-use Rattle.std.proofs.Common.{◌≡◌, ℕ, List, [], ◌∷◌, Bool, true, false, ◌||◌, map, Option, Some, None, option_map, String, BTreeMap, Global, string_bytes, bytes_eq, cond, refl, sym, ap, ◌∙◌}
+use Rattle.std.proofs.Common.{◌≡◌, ℕ, List, [], ◌∷◌, Bool, true, false, ◌||◌, map, Option, None, option_map, String, BTreeMap, Global, string_bytes, bytes_eq, cond, refl, sym, ap, ◌∙◌}
 use Rattle.std.proofs.lemmas.Map.Text.{btree_map_updates_text}
-use Rattle.std.specs.BTreeMap.{UpdatesBy, get_by, get_by_text}
+use Rattle.std.specs.BTreeMap.{UpdatesBy, get_by_text}
 use Rattle.std.specs.String.{string_cmp}
 use Rattle.std.specs.List.{list_any}
 use Rattle.std.specs.Ordering.{nat_cmp}
 use Rattle.std.specs.Cmp.Lexicographic.{slice_cmp}
-use Rattle.serde_json.specs.Data.{Data}
 use Rattle.serde_json.specs.Find.{get_member}
 use Rattle.serde_json.specs.View.{view, members_view}
 use Rattle.serde_json.specs.declared.value.Value.{Value}

@@ -1,12 +1,10 @@
 -- What a document with a reading meets: no fault of it holds.
-use Rattle.std.proofs.Common.{◌≡◌, ℕ, List, Bool, true, false, if◌then◌else◌, Option, Some, None, Result, Ok, Err, refl}
-use Rattle.serde_json.specs.Data.{Data}
+use Rattle.std.proofs.Common.{◌≡◌, Bool, true, false, if◌then◌else◌, Option, Some, None, Result, Ok, Err, refl}
 use Rattle.run_model.specs.declared.world.World.{World}
 use Rattle.world_json.specs.declared.document.Document.{Document}
 use Rattle.world_json.specs.declared.fault.WorldFault.{WorldFault}
-use Rattle.world_json.specs.Shape.{document_of}
 use Rattle.world_json.specs.Faults.{is_named, is_within, is_typed, is_filled, is_keyed}
-use Rattle.world_json.specs.Reading.{world_as, start_fault, ending, reading_of, shaped, parsed, json_of, world_reading}
+use Rattle.world_json.specs.Reading.{world_as, start_fault, ending, reading_of}
 
 -- no fault of a document holds, and the world is its world
 pub record IsWorldOf (doc : Document) (world : World) : Type 0 where
@@ -35,15 +33,3 @@ document_passes doc world is =
     let keyed = passed (is_keyed doc) _ _ world filled.1 in
     let ends = ended doc (start_fault doc) world keyed.1 in
     record { named = named.0; within = within.0; typed = typed.0; filled = filled.0; keyed = keyed.0; started = ends.0; world_is = ends.1 }
-
-shaped_passes : (o : Option Document) (world : World) → shaped o ≡ Ok world → (doc : Document) × IsWorldOf doc world
-shaped_passes None world is = cc
-shaped_passes (Some doc) world is = (doc, document_passes doc world is)
-
-parsed_passes : (o : Option Data) (world : World) → parsed o ≡ Ok world → (doc : Document) × IsWorldOf doc world
-parsed_passes None world is = cc
-parsed_passes (Some d) world is = shaped_passes (document_of d) world is
-
--- a world that is read has a document without a fault behind it
-pub world_passes : (bytes : List ℕ) (world : World) → world_reading bytes ≡ Ok world → (doc : Document) × IsWorldOf doc world
-world_passes bytes world is = parsed_passes (json_of bytes) world is

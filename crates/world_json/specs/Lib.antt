@@ -1,4 +1,5 @@
+pub mod Numbers
 pub mod Shape
 pub mod Faults
 pub mod Reading
-pub mod Rising
+pub mod SortedWorld

@@ -1,24 +1,26 @@
 -- The world that a document is, or the first fault by which it is none.
-use Rattle.std.specs.Prelude.{◌≡◌, ℕ, ◌+◌, List, [], ◌∷◌, map, Bool, if◌then◌else◌, Option, Some, None, Result, Ok, Err}
+use Rattle.std.specs.Prelude.{◌≡◌, ℕ, ◌+◌, List, [], ◌∷◌, map, if◌then◌else◌, Option, Some, None}
+use Rattle.std.specs.Prelude.{Result, Ok, Err}
 use Rattle.std.specs.Str.{is_utf8}
 use Rattle.serde_json.specs.Data.{Data}
 use Rattle.serde_json.specs.Read.{read}
 use Rattle.ldv_value.specs.declared.file.File.{File}
-use Rattle.ldv_value.specs.declared.value.Value.{Value}
 use Rattle.script_parse.specs.Script.{script_of, first_bad_line}
 use Rattle.script_parse.specs.declared.script.Instr.{Instr}
-use Rattle.sql_model.specs.declared.table.Schema.{Schema}
+use Rattle.ldv_value.specs.declared.value.Value.{Value}
 use Rattle.sql_model.specs.declared.table.Table.{Table}
 use Rattle.sql_model.specs.declared.table.TableRow.{TableRow}
 use Rattle.run_model.specs.declared.world.World.{World}
 use Rattle.world_json.specs.declared.document.Document.{Document}
 use Rattle.world_json.specs.declared.document.Draft.{Draft}
 use Rattle.world_json.specs.declared.fault.WorldFault.{WorldFault}
-use Rattle.world_json.specs.declared.fault.WorldFault.TheVariants.{NotJson, Shape, Name, Limit, RowType, NotNull, Key, NoStart, BadScript}
+use Rattle.world_json.specs.declared.fault.WorldFault.TheVariants.{NotJson, Shape, Name, Limit, RowType}
+use Rattle.world_json.specs.declared.fault.WorldFault.TheVariants.{NotNull, Key, NoStart, BadScript}
 use Rattle.world_json.specs.declared.fault.WorldStop.{WorldStop}
 use Rattle.world_json.specs.declared.fault.WorldStop.TheVariants.{Fault, NoMemory}
 use Rattle.world_json.specs.Shape.{document_of}
-use Rattle.world_json.specs.Faults.{is_named, is_within, is_typed, is_filled, is_keyed, key_places, start_file}
+use Rattle.world_json.specs.Faults.{is_named, is_within, is_typed, is_filled, is_keyed, key_places}
+use Rattle.world_json.specs.Faults.{start_file}
 
 -- ---- the world of a document without a fault
 
@@ -30,13 +32,14 @@ numbered_from n (row ∷ rows) = record { number = n; values = row } ∷ numbere
 abbrev pub table_as : Draft → Table
 table_as draft = record {
   name = draft.name;
-  schema = record { columns = draft.columns; key = key_places draft.columns draft.key };
+  schema = record { columns = draft.columns; key = key_places draft };
   rows = numbered_from 0 draft.rows;
   next = draft.next;
 }
 
 abbrev pub world_as : Document → World
-world_as doc = record { start = doc.start; seed = doc.seed; files = doc.files; tables = map table_as doc.tables }
+world_as doc =
+    record { start = doc.start; seed = doc.seed; files = doc.files; tables = map table_as doc.tables }
 
 -- ---- the faults in their order, each over the whole document
 
@@ -84,7 +87,7 @@ parsed (Some d) = shaped (document_of d)
 abbrev pub world_reading : List ℕ → Result World WorldFault
 world_reading bytes = parsed (json_of bytes)
 
--- a stop that names the fault of a reading; want of memory names none
+-- a stop that names the fault of a reading; out of memory names none
 abbrev pub IsFaultOf : Result World WorldFault → WorldStop → Type 0
 IsFaultOf reading (Fault fault) = reading ≡ Err fault
 IsFaultOf reading NoMemory = Unit {0}

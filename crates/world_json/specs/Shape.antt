@@ -1,9 +1,11 @@
 -- The shape of a document: which members it has, of which types. `None` is the fault Shape.
-use Rattle.std.specs.Prelude.{ℕ, List, [], ◌∷◌, length, map, ◌==◌, Bool, true, false, not, ◌&&◌, if◌then◌else◌, Option, Some, None, option_map, option_and_then, codes, bytes_eq}
+use Rattle.std.specs.Prelude.{ℕ, List, [], ◌∷◌, length, ◌==◌, Bool, true, false, ◌&&◌, if◌then◌else◌}
+use Rattle.std.specs.Prelude.{Option, Some, None, option_map, codes, bytes_eq}
 use Rattle.std.specs.List.{list_any, list_all}
 use Rattle.std.specs.Result.{result_ok}
 use Rattle.hex.specs.Hex.{decode_of}
-use Rattle.serde_json.specs.Data.{Data, null, boolean, number, string, array, object, Items, no_items, item, Members, no_members, member}
+use Rattle.serde_json.specs.Data.{Data, null, boolean, number, string, array, object}
+use Rattle.serde_json.specs.Data.{Items, no_items, item, Members, no_members, member}
 use Rattle.serde_json.specs.Find.{get_member, as_str, as_number, as_array, as_object, as_u64, as_i64}
 use Rattle.ldv_value.specs.declared.file.File.{File}
 use Rattle.ldv_value.specs.declared.value.Value.{Value}
@@ -32,7 +34,7 @@ each f (item d ds) = do
 abbrev pub array_of : {X : Type 0} → (Data → Option X) → Data → Option (List X)
 array_of f d = as_array d >>= each f
 
--- the members, each by f of its name and its value; their names rise
+-- the members, each by f of its name and its value, in the order of their names
 abbrev pub each_member : {X : Type 0} → (List ℕ → Data → Option X) → Members → Option (List X)
 each_member f no_members = Some []
 each_member f (member k d ms) = do
@@ -73,7 +75,7 @@ hex_of d = as_str d >>= hex_text
 abbrev pub content_in : Members → Option (List ℕ)
 content_in ms = if only (codes "hex" ∷ []) ms then required hex_of (get_member (codes "hex") ms) else None
 
--- a text is its bytes, or they stand in the one member `hex`
+-- a text is its bytes, or the one member `hex` has them
 abbrev pub content_of : Data → Option (List ℕ)
 content_of null = None
 content_of (boolean b) = None
@@ -119,7 +121,8 @@ abbrev pub column_of : Data → Option Column
 column_of d = array_of as_str d >>= column_from
 
 abbrev pub draft_of : List ℕ → List Column → List (List ℕ) → List (List Value) → ℕ → Draft
-draft_of name columns key rows next = record { name = name; columns = columns; key = key; rows = rows; next = next }
+draft_of name columns key rows next =
+    record { name = name; columns = columns; key = key; rows = rows; next = next }
 
 -- each row has one value for each column
 abbrev pub is_width : ℕ → List (List Value) → Bool
@@ -140,7 +143,8 @@ table_members = codes "columns" ∷ codes "key" ∷ codes "rows" ∷ codes "next
 abbrev pub table_in : List ℕ → Members → Option Draft
 table_in name ms =
     if only table_members ms
-    then table_from name (get_member (codes "columns") ms) (get_member (codes "key") ms) (get_member (codes "rows") ms) (get_member (codes "next") ms)
+    then table_from name (get_member (codes "columns") ms) (get_member (codes "key") ms)
+    (get_member (codes "rows") ms) (get_member (codes "next") ms)
     else None
 
 abbrev pub table_of : List ℕ → Data → Option Draft
@@ -166,7 +170,8 @@ document_members = codes "start" ∷ codes "seed" ∷ codes "files" ∷ codes "t
 abbrev pub document_in : Members → Option Document
 document_in ms =
     if only document_members ms
-    then document_from (get_member (codes "start") ms) (get_member (codes "seed") ms) (get_member (codes "files") ms) (get_member (codes "tables") ms)
+    then document_from (get_member (codes "start") ms) (get_member (codes "seed") ms)
+    (get_member (codes "files") ms) (get_member (codes "tables") ms)
     else None
 
 abbrev pub document_of : Data → Option Document

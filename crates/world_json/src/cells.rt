@@ -1,12 +1,10 @@
 //! Texts, cells and columns of a document.
 
-ghost use Rattle.std.specs.Prelude.{◌≡◌, ◌≢◌, Some, None, IfOk, codes};
-ghost use Rattle.serde_json.specs.View.{view, number_view};
-ghost use Rattle.serde_json.specs.Find.{as_i64};
-ghost use Rattle.world_json.specs.Shape.{cell_of, column_of, column_from, kind_of, column_as};
+ghost use Rattle.std.specs.Prelude.{◌≡◌, ◌≢◌, Some, None, IfOk};
+ghost use Rattle.world_json.specs.Shape.{column_from, kind_of, column_as};
 
 use crate::shape::{FromItem, ShapeStop, read_array};
-use ldv_value::{List, Names, Utf8, Value, Values};
+use ldv_value::{List, Names, Utf8, Value};
 use serde_json::Value as Json;
 use sql_model::Column;
 use std::alloc::Global;
@@ -39,16 +37,6 @@ impl FromItem for Value {
             Json::String(text) => Ok(Value::Text(Utf8::of_string(text))),
             _ => Err(ShapeStop::Shape),
         }
-    }
-}
-
-impl FromItem for Values {
-    ghost use Rattle.world_json.specs.Shape.{array_of, cell_of};
-
-    ghost of_item = { array_of cell_of };
-
-    fn from_item(alloc: Global, value: Json) -> Result<Self, ShapeStop> {
-        read_array(alloc, value)
     }
 }
 

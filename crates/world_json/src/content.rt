@@ -1,6 +1,6 @@
 //! Files of a document.
 
-ghost use Rattle.std.specs.Prelude.{◌≡◌, Some, None, IfOk, codes, option_map};
+ghost use Rattle.std.specs.Prelude.{◌≡◌, Some, None, IfOk, option_map};
 ghost use Rattle.serde_json.specs.View.{view, members_view};
 ghost use Rattle.world_json.specs.Shape.{content_of, content_in, hex_of, hex_text, required, file_of};
 
@@ -27,7 +27,7 @@ impl FromMember for File {
     }
 }
 
-// A text is its bytes, or they stand in the one member `hex`.
+// A text is its bytes, or the one member `hex` has them.
 fn read_content(alloc: Global, value: Value) -> Result<Bytes, ShapeStop>
     ensures ok { IfOk result (λ bytes. content_of (view value) ≡ Some bytes) }
     ensures shape { result ≡ Err ShapeStop.Shape → content_of (view value) ≡ None }

@@ -1,10 +1,11 @@
 //! A document whose parts have their types, before any rule is tried.
 
-use ldv_value::{Files, List, Names, RowList, Utf8, Words};
+use crate::rows::NumberedRows;
+use ldv_value::{Files, List, Names, Utf8, Words};
 use sql_model::Columns;
 
-/// The parts of a document: the start words, the seed, the files rising by path and the tables rising
-/// by name.
+/// The parts of a document: the start words, the seed, the files sorted by path and the tables sorted by
+/// name.
 #[derive(Drop)]
 pub(crate) struct Document {
     pub start: Words,
@@ -19,7 +20,7 @@ pub(crate) struct Draft {
     pub name: Utf8,
     pub columns: Columns,
     pub key: Names,
-    pub rows: RowList,
+    pub rows: NumberedRows,
     pub next: u64,
 }
 

@@ -30,7 +30,7 @@ pub enum WorldFault {
 pub enum WorldStop {
     /// They are none: the first fault.
     Fault(WorldFault),
-    /// Want of memory.
+    /// Out of memory.
     NoMemory,
 }
 

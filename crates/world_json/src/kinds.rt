@@ -1,90 +1,91 @@
 //! The faults RowType and NotNull: a value that doesn't fit its column.
 
-ghost use Rattle.std.specs.Prelude.{◌≡◌};
-ghost use Rattle.std.specs.List.{list_all, zip};
-ghost use Rattle.world_json.specs.Faults.{is_typed, is_filled, is_kind, is_there, each_value};
+ghost use Rattle.std.specs.Prelude.{◌≡◌, Bool};
+ghost use Rattle.std.specs.List.{list_all};
+ghost use Rattle.sql_model.specs.Tables.{each_value, has_kind, allows};
+ghost use Rattle.sql_model.specs.declared.table.Column.{Column};
+ghost use Rattle.ldv_value.specs.declared.value.Value.{Value};
+ghost use Rattle.world_json.specs.Faults.{is_typed, is_filled, each_row_value};
 
 use crate::document::{Document, Draft, Drafts};
 use ldv_value::{Value, Values};
-use sql_model::{Column, Columns};
+use sql_model::{Column, Columns, TableRow};
 
-/// Whether no text stands in an INT column and no number in a TEXT column.
+/// Whether no text is in an INT column and no number in a TEXT column.
 pub(crate) fn meets_kinds(document: &Document) -> bool
     ensures { result ≡ is_typed document.now }
 {
-    document
-        .tables
-        .items()
-        .iter()
-        .all(|table| table_meets_kinds(table))
+    tables_pass::<KindTest>(&document.tables)
 }
 
-fn table_meets_kinds(table: &Draft) -> bool
-    ensures { result ≡ each_value is_kind table.now.columns table.now.rows }
-{
-    table
-        .rows
-        .items()
-        .iter()
-        .all(|row| row_meets_kinds(&table.columns, row))
-}
-
-fn row_meets_kinds(columns: &Columns, row: &Values) -> bool
-    ensures { result ≡ list_all (λ pair. is_kind pair.0 pair.1) (zip columns.now row.now) }
-{
-    columns
-        .items()
-        .iter()
-        .zip(row.items().iter())
-        .all(|(column, value)| has_kind(column, value))
-}
-
-fn has_kind(column: &Column, value: &Value) -> bool
-    ensures { result ≡ is_kind column.now value.now }
-{
-    match value {
-        Value::Null => true,
-        Value::Int(_) => !column.text,
-        Value::Text(_) => column.text,
-    }
-}
-
-/// Whether no NULL stands in a NOT NULL column.
+/// Whether no NULL is in a NOT NULL column.
 pub(crate) fn meets_not_null(document: &Document) -> bool
     ensures { result ≡ is_filled document.now }
 {
-    document
-        .tables
-        .items()
-        .iter()
-        .all(|table| table_meets_not_null(table))
+    tables_pass::<NotNullTest>(&document.tables)
 }
 
-fn table_meets_not_null(table: &Draft) -> bool
-    ensures { result ≡ each_value is_there table.now.columns table.now.rows }
+// A test of a column and the value in it.
+trait ValueTest {
+    ghost passes: { Column → Value → Bool };
+
+    fn passes(column: &Column, value: &Value) -> bool
+        ensures { result ≡ passes column.now value.now };
+}
+
+// The value has its column's kind.
+struct KindTest;
+
+impl ValueTest for KindTest {
+    ghost passes = { has_kind };
+
+    fn passes(column: &Column, value: &Value) -> bool {
+        match value {
+            Value::Null => true,
+            Value::Int(_) => !column.text,
+            Value::Text(_) => column.text,
+        }
+    }
+}
+
+// The value isn't NULL where its column is NOT NULL.
+struct NotNullTest;
+
+impl ValueTest for NotNullTest {
+    ghost passes = { allows };
+
+    fn passes(column: &Column, value: &Value) -> bool {
+        match value {
+            Value::Null => !column.not_null,
+            Value::Int(_) | Value::Text(_) => true,
+        }
+    }
+}
+
+fn tables_pass<T: ValueTest>(tables: &Drafts) -> bool
+    ensures { result ≡ list_all (each_row_value T.passes) tables.now }
 {
-    table
-        .rows
-        .items()
-        .iter()
-        .all(|row| row_meets_not_null(&table.columns, row))
+    tables.items().iter().all(|table| table_passes::<T>(table))
 }
 
-fn row_meets_not_null(columns: &Columns, row: &Values) -> bool
-    ensures { result ≡ list_all (λ pair. is_there pair.0 pair.1) (zip columns.now row.now) }
+fn table_passes<T: ValueTest>(table: &Draft) -> bool
+    ensures { result ≡ each_row_value T.passes table.now }
+{
+    rows_pass::<T>(&table.columns, table.rows.items())
+}
+
+fn rows_pass<T: ValueTest>(columns: &Columns, rows: &[TableRow]) -> bool
+    ensures { result ≡ list_all (λ row. each_value T.passes columns.now row.values) rows.now }
+{
+    rows.iter().all(|row| row_passes::<T>(columns, &row.values))
+}
+
+fn row_passes<T: ValueTest>(columns: &Columns, row: &Values) -> bool
+    ensures { result ≡ each_value T.passes columns.now row.now }
 {
     columns
         .items()
         .iter()
         .zip(row.items().iter())
-        .all(|(column, value)| has_value(column, value))
-}
-
-fn has_value(column: &Column, value: &Value) -> bool
-    ensures { result ≡ is_there column.now value.now }
-{
-    match value {
-        Value::Null => !column.not_null,
-        Value::Int(_) | Value::Text(_) => true,
-    }
+        .all(|(column, value)| T::passes(column, value))
 }

@@ -4,11 +4,12 @@
 //! let go on the way: bytes to a JSON value of `serde_json`, the value to a `Document` whose parts have
 //! their types, the document to a world. It promises to the layers above:
 //! - `world_of` gives the world of `specs/Reading.antt`, or its fault;
-//! - a fault is the first that holds, in the order of `WorldFault`, each tried over the whole document.
+//! - a fault is the first that holds, in the order of `WorldFault`, each tried over the whole document;
+//! - the files of a world are sorted by path, its tables by name (`specs/SortedWorld.antt`).
 //!
 //! The definitions: `specs/Shape.antt` has the members of a document and their types, `specs/Faults.antt`
-//! a test for each later fault, and `specs/Reading.antt` their order and the world. `docs/FORMATS.md` has
-//! the format in plain words.
+//! a test for each later fault, by the rules for tables of sql_model's `specs/Tables.antt`, and
+//! `specs/Reading.antt` their order and the world. `docs/FORMATS.md` has the format in plain words.
 #![tactic(auto)]
 
 mod cells;
@@ -22,6 +23,7 @@ mod members;
 mod names;
 mod parse;
 mod parts;
+mod rows;
 mod shape;
 mod start;
 mod world;

@@ -2,40 +2,37 @@
 
 ghost use Rattle.std.specs.Prelude.{◌≡◌, length, nat_le};
 ghost use Rattle.std.specs.List.{list_all};
-ghost use Rattle.world_json.specs.Faults.{is_within, are_files_within, are_words_within, is_table_within, is_value_short, is_next_right};
+ghost use Rattle.ldv_value.specs.Limits.{file_limit, text_limit};
+ghost use Rattle.sql_model.specs.Tables.{is_short};
+ghost use Rattle.world_json.specs.Faults.{is_within, are_files_within, are_words_within, is_table_within};
+ghost use Rattle.world_json.specs.Faults.{is_next_right};
 
 use crate::document::{Document, Draft, Drafts};
-use ldv_value::{FILE_LIMIT, Files, RowList, TEXT_LIMIT, Value, Values, Words};
+use crate::rows::NumberedRows;
+use ldv_value::{
+    FILE_LIMIT, Files, MAX_FILES, MAX_NEXT, MAX_ROWS, MAX_START_WORDS, MAX_TABLES, TEXT_LIMIT,
+    Value, Values, Words,
+};
+use sql_model::{TableRow, meets_column_count};
 
-// How many there may be at most.
-const FILES: usize = 65_536;
-
-const WORDS: usize = 256;
-
-const TABLES: usize = 256;
-
-const COLUMNS: usize = 64;
-
-const ROWS: usize = 1_000_000;
-
-/// Whether every limit is kept.
+/// Whether no limit is passed.
 pub(crate) fn meets_limits(document: &Document) -> bool
     ensures { result ≡ is_within document.now }
 {
     meets_file_limits(&document.files)
         && meets_word_limits(&document.start)
-        && document.tables.len() <= TABLES
+        && document.tables.len() <= MAX_TABLES
         && meets_table_limits(&document.tables)
 }
 
 fn meets_file_limits(files: &Files) -> bool
     ensures { result ≡ are_files_within files.now }
 {
-    files.len() <= FILES && are_files_short(files)
+    files.len() <= MAX_FILES && are_files_short(files)
 }
 
 fn are_files_short(files: &Files) -> bool
-    ensures { result ≡ list_all (λ file. nat_le (length file.content) 16777216) files.now }
+    ensures { result ≡ list_all (λ file. nat_le (length file.content) file_limit) files.now }
 {
     files
         .items()
@@ -46,11 +43,11 @@ fn are_files_short(files: &Files) -> bool
 fn meets_word_limits(words: &Words) -> bool
     ensures { result ≡ are_words_within words.now }
 {
-    words.len() <= WORDS && are_words_short(words)
+    words.len() <= MAX_START_WORDS && are_words_short(words)
 }
 
 fn are_words_short(words: &Words) -> bool
-    ensures { result ≡ list_all (λ word. nat_le (length word) 65536) words.now }
+    ensures { result ≡ list_all (λ word. nat_le (length word) text_limit) words.now }
 {
     words.items().iter().all(|word| word.len() <= TEXT_LIMIT)
 }
@@ -64,34 +61,39 @@ fn meets_table_limits(tables: &Drafts) -> bool
 fn meets_table_limit(table: &Draft) -> bool
     ensures { result ≡ is_table_within table.now }
 {
-    1 <= table.columns.len()
-        && table.columns.len() <= COLUMNS
-        && table.rows.len() <= ROWS
+    meets_column_count(&table.columns)
+        && table.rows.len() <= MAX_ROWS
         && are_rows_short(&table.rows)
-        && is_next_above(table)
+        && is_next_right(table)
 }
 
-// The next number is at least the number of rows, and at most 2^32 - 1.
-fn is_next_above(table: &Draft) -> bool
+// The next number is at least the number of rows, and at most `MAX_NEXT`.
+fn is_next_right(table: &Draft) -> bool
     ensures { result ≡ is_next_right table.now }
 {
-    table.rows.len() as u64 <= table.next && table.next <= u32::MAX as u64
+    table.rows.len() as u64 <= table.next && table.next <= MAX_NEXT as u64
 }
 
-fn are_rows_short(rows: &RowList) -> bool
-    ensures { result ≡ list_all (list_all is_value_short) rows.now }
+fn are_rows_short(rows: &NumberedRows) -> bool
+    ensures { result ≡ list_all (list_all is_short) rows.now }
 {
-    rows.items().iter().all(|row| are_values_short(row))
+    is_each_short(rows.items())
+}
+
+fn is_each_short(rows: &[TableRow]) -> bool
+    ensures { result ≡ list_all (λ row. list_all is_short row.values) rows.now }
+{
+    rows.iter().all(|row| are_values_short(&row.values))
 }
 
 fn are_values_short(row: &Values) -> bool
-    ensures { result ≡ list_all is_value_short row.now }
+    ensures { result ≡ list_all is_short row.now }
 {
     row.items().iter().all(|value| is_short(value))
 }
 
 fn is_short(value: &Value) -> bool
-    ensures { result ≡ is_value_short value.now }
+    ensures { result ≡ is_short value.now }
 {
     match value {
         Value::Null | Value::Int(_) => true,

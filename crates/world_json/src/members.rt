@@ -1,6 +1,6 @@
 //! Members of an object by their names.
 
-ghost use Rattle.std.specs.Prelude.{◌≡◌, ℕ, List, Some, None, IfOk, Bool, false, map, option_map, codes, bytes_eq};
+ghost use Rattle.std.specs.Prelude.{◌≡◌, ℕ, List, false, map, option_map, bytes_eq};
 ghost use Rattle.std.specs.List.{list_any};
 ghost use Rattle.serde_json.specs.Find.{get_member};
 ghost use Rattle.serde_json.specs.View.{view, members_view};
@@ -36,7 +36,8 @@ fn is_one_of(text: &str, names: &[&str]) -> bool
 pub(crate) fn take_member(members: &mut Map<String, Value>, name: &str) -> Option<Value>
     ensures value { option_map view result ≡ get_member name.now (members_view members.old.entries) }
     ensures others { (other : List ℕ) → bytes_eq name.now other ≡ false
-        → get_member other (members_view members.new.entries) ≡ get_member other (members_view members.old.entries) }
+        → get_member other (members_view members.new.entries)
+        ≡ get_member other (members_view members.old.entries) }
 {
     members.remove(name)
 }

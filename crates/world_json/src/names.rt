@@ -1,21 +1,21 @@
 //! The fault Name: a path, a table name, a column name or a key name outside its rule.
 
-ghost use Rattle.std.specs.Prelude.{◌≡◌, ℕ, List, IfOk, map, bytes_eq};
-ghost use Rattle.std.specs.List.{list_all, list_any};
+ghost use Rattle.std.specs.Prelude.{◌≡◌, ℕ, List, IfOk, map};
+ghost use Rattle.std.specs.List.{list_all};
 ghost use Rattle.std.specs.Cmp.Lexicographic.{slice_cmp};
 ghost use Rattle.std.specs.Ordering.{nat_cmp};
 ghost use Rattle.std.specs.BTreeSet.{contains_by};
-ghost use Rattle.sql_model.specs.SqlNames.{sql_name_test};
 ghost use Rattle.ldv_value.specs.Names.{path_test};
-ghost use Rattle.world_json.specs.Faults.{is_named, is_table_named, is_start_named, are_columns_named, is_key_named, is_column};
+ghost use Rattle.sql_model.specs.Scope.{has_column};
+ghost use Rattle.world_json.specs.Faults.{is_named, is_table_named, is_start_named, is_key_named};
 
 use crate::document::{Document, Draft, Drafts};
 use ldv_value::{Files, Names, Words, is_path};
-use sql_model::{Columns, has_twice, is_sql_name};
+use sql_model::{Columns, has_twice, is_sql_name, meets_column_names};
 use std::alloc::{AllocError, Global};
 use std::collections::BTreeSet;
 
-/// Whether every path and every name meets its rule. `AllocError` means want of memory alone.
+/// Whether every path and every name meets its rule. `AllocError` means out of memory only.
 pub(crate) fn meets_names(alloc: Global, document: &Document) -> Result<bool, AllocError>
     ensures { IfOk result (λ holds. holds ≡ is_named document.now) }
 {
@@ -67,36 +67,7 @@ fn meets_table_name(alloc: Global, table: &Draft) -> Result<bool, AllocError>
     meets_key_names(alloc, &table.columns, &table.key)
 }
 
-fn meets_column_names(alloc: Global, columns: &Columns) -> Result<bool, AllocError>
-    ensures { IfOk result (λ holds. holds ≡ are_columns_named columns.now) }
-{
-    if !are_sql_names(columns) {
-        return Ok(false);
-    }
-    let names = column_names(alloc, columns)?;
-    Ok(!has_twice(alloc, names)?)
-}
-
-fn are_sql_names(columns: &Columns) -> bool
-    ensures { result ≡ list_all (λ column. sql_name_test column.name) columns.now }
-{
-    columns
-        .items()
-        .iter()
-        .all(|column| is_sql_name(column.name.as_str()))
-}
-
-fn column_names<'a>(alloc: Global, columns: &'a Columns) -> Result<Vec<&'a str>, AllocError>
-    ensures { IfOk result (λ names. map (λ name. name.now) names.items ≡ map (λ column. column.name) columns.now) }
-{
-    let mut names = Vec::new(alloc);
-    for column in columns.items() {
-        names.push(column.name.as_str())?;
-    }
-    Ok(names)
-}
-
-// Every key name is a column's, and none stands twice.
+// Every name of the key is a column's, and no two are the same.
 fn meets_key_names(alloc: Global, columns: &Columns, key: &Names) -> Result<bool, AllocError>
     ensures { IfOk result (λ holds. holds ≡ is_key_named columns.now key.now) }
 {
@@ -110,7 +81,7 @@ fn meets_key_names(alloc: Global, columns: &Columns, key: &Names) -> Result<bool
 
 fn column_set<'a>(alloc: Global, columns: &'a Columns) -> Result<BTreeSet<&'a str>, AllocError>
     ensures { IfOk result (λ known. (name : List ℕ)
-        → contains_by (λ column. slice_cmp nat_cmp name column.now) known ≡ is_column columns.now name) }
+        → contains_by (λ column. slice_cmp nat_cmp name column.now) known ≡ has_column columns.now name) }
 {
     let mut known = BTreeSet::new(alloc);
     for column in columns.items() {
@@ -120,7 +91,8 @@ fn column_set<'a>(alloc: Global, columns: &'a Columns) -> Result<BTreeSet<&'a st
 }
 
 fn are_known(known: &BTreeSet<&str>, key: &Names) -> bool
-    ensures { result ≡ list_all (λ name. contains_by (λ column. slice_cmp nat_cmp name column.now) known.now) key.now }
+    ensures { result
+        ≡ list_all (λ name. contains_by (λ column. slice_cmp nat_cmp name column.now) known.now) key.now }
 {
     key.items().iter().all(|name| known.contains(name.as_str()))
 }
@@ -128,7 +100,7 @@ fn are_known(known: &BTreeSet<&str>, key: &Names) -> bool
 fn key_names<'a>(alloc: Global, key: &'a Names) -> Result<Vec<&'a str>, AllocError>
     ensures { IfOk result (λ names. map (λ name. name.now) names.items ≡ key.now) }
 {
-    let mut names = Vec::new(alloc);
+    let mut names = Vec::with_capacity(alloc, key.len())?;
     for name in key.items() {
         names.push(name.as_str())?;
     }

@@ -2,7 +2,7 @@
 
 ghost use Rattle.std.specs.Prelude.{◌≡◌, IfOk, None, Some};
 ghost use Rattle.serde_json.specs.View.{view};
-ghost use Rattle.world_json.specs.Reading.{json_of, world_reading};
+ghost use Rattle.world_json.specs.Reading.{json_of};
 
 use serde_json::{Category, Value};
 use std::alloc::Global;
@@ -12,7 +12,7 @@ use std::alloc::Global;
 pub(crate) enum JsonStop {
     /// The bytes are no JSON text.
     NotJson,
-    /// Want of memory.
+    /// Out of memory.
     NoMemory,
 }
 

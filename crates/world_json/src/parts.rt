@@ -1,16 +1,20 @@
 //! Tables and whole documents of a JSON value.
 
-ghost use Rattle.std.specs.Prelude.{◌≡◌, ℕ, List, Some, None, IfOk, length, codes, option_map, [], ◌^◌, ◌<◌};
-ghost use Rattle.serde_json.specs.Find.{get_member, as_str};
+ghost use Rattle.std.specs.Prelude.{◌≡◌, Some, None, IfOk, length, codes, option_map, [], ◌==◌};
+ghost use Rattle.std.specs.List.{list_all};
+ghost use Rattle.serde_json.specs.Find.{get_member};
 ghost use Rattle.serde_json.specs.View.{view, members_view};
-ghost use Rattle.world_json.specs.Shape.{array_of, object_of, required, optional, whole_of, cell_of, column_of, file_of, is_width, table_from, table_in, table_of, document_from, document_in, document_of};
+ghost use Rattle.world_json.specs.Shape.{array_of, object_of, required, optional, whole_of, file_of};
+ghost use Rattle.world_json.specs.Shape.{is_width, table_from, table_in, table_of};
+ghost use Rattle.world_json.specs.Shape.{document_from, document_in, document_of};
 
 use crate::document::{Document, Draft, Drafts};
 use crate::members::{has_only, take_member};
+use crate::rows::{NumberedRows, read_rows};
 use crate::shape::{FromItem, FromMember, ShapeStop, read_array, read_object};
-use ldv_value::{Files, List, Names, RowList, Utf8};
+use ldv_value::{Files, List, Names, Utf8};
 use serde_json::{Map, Value};
-use sql_model::Columns;
+use sql_model::{Columns, TableRow};
 use std::alloc::Global;
 
 // The members of a table.
@@ -32,7 +36,8 @@ struct DocumentParts {
 // An array that has to be there.
 fn read_required<X: FromItem>(alloc: Global, value: Option<Value>) -> Result<List<X>, ShapeStop>
     ensures ok { IfOk result (λ xs. required (array_of X.of_item) (option_map view value) ≡ Some xs) }
-    ensures shape { result ≡ Err ShapeStop.Shape → required (array_of X.of_item) (option_map view value) ≡ None }
+    ensures shape { result ≡ Err ShapeStop.Shape
+        → required (array_of X.of_item) (option_map view value) ≡ None }
 {
     match value {
         Some(array) => read_array(alloc, array),
@@ -43,7 +48,8 @@ fn read_required<X: FromItem>(alloc: Global, value: Option<Value>) -> Result<Lis
 // An array that is empty where it is missing.
 fn read_optional<X: FromItem>(alloc: Global, value: Option<Value>) -> Result<List<X>, ShapeStop>
     ensures ok { IfOk result (λ xs. optional (array_of X.of_item) [] (option_map view value) ≡ Some xs) }
-    ensures shape { result ≡ Err ShapeStop.Shape → optional (array_of X.of_item) [] (option_map view value) ≡ None }
+    ensures shape { result ≡ Err ShapeStop.Shape
+        → optional (array_of X.of_item) [] (option_map view value) ≡ None }
 {
     match value {
         Some(array) => read_array(alloc, array),
@@ -75,10 +81,16 @@ fn read_number(value: &Value) -> Result<u64, ShapeStop>
     }
 }
 
-fn has_width(rows: &RowList, width: usize) -> bool
+fn has_width(rows: &NumberedRows, width: usize) -> bool
     ensures { result ≡ is_width width rows.now }
 {
-    rows.items().iter().all(|row| row.len() == width)
+    have_width(rows.items(), width)
+}
+
+fn have_width(rows: &[TableRow], width: usize) -> bool
+    ensures { result ≡ list_all (λ row. length row.values == width) rows.now }
+{
+    rows.iter().all(|row| row.values.len() == width)
 }
 
 impl FromMember for Draft {
@@ -105,7 +117,8 @@ fn read_table(alloc: Global, name: Utf8, members: Map<String, Value>) -> Result<
 }
 
 fn table_parts(mut members: Map<String, Value>) -> TableParts
-    ensures columns { option_map view result.columns ≡ get_member (codes "columns") (members_view members.entries) }
+    ensures columns { option_map view result.columns
+        ≡ get_member (codes "columns") (members_view members.entries) }
     ensures key { option_map view result.key ≡ get_member (codes "key") (members_view members.entries) }
     ensures rows { option_map view result.rows ≡ get_member (codes "rows") (members_view members.entries) }
     ensures next { option_map view result.next ≡ get_member (codes "next") (members_view members.entries) }
@@ -123,9 +136,11 @@ fn table_parts(mut members: Map<String, Value>) -> TableParts
 }
 
 fn table_of_parts(alloc: Global, name: Utf8, parts: TableParts) -> Result<Draft, ShapeStop>
-    ensures ok { IfOk result (λ draft. table_from name (option_map view parts.columns) (option_map view parts.key) (option_map view parts.rows) (option_map view parts.next) ≡ Some draft) }
+    ensures ok { IfOk result (λ draft. table_from name (option_map view parts.columns)
+        (option_map view parts.key) (option_map view parts.rows) (option_map view parts.next) ≡ Some draft) }
     ensures shape { result ≡ Err ShapeStop.Shape
-        → table_from name (option_map view parts.columns) (option_map view parts.key) (option_map view parts.rows) (option_map view parts.next) ≡ None }
+        → table_from name (option_map view parts.columns) (option_map view parts.key)
+        (option_map view parts.rows) (option_map view parts.next) ≡ None }
 {
     let TableParts {
         columns,
@@ -135,7 +150,7 @@ fn table_of_parts(alloc: Global, name: Utf8, parts: TableParts) -> Result<Draft,
     } = parts;
     let columns: Columns = read_required(alloc, columns)?;
     let key: Names = read_optional(alloc, key)?;
-    let rows: RowList = read_optional(alloc, rows)?;
+    let rows = read_rows(alloc, rows)?;
     let next = read_whole(next, rows.len() as u64)?;
     if !has_width(&rows, columns.len()) {
         return Err(ShapeStop::Shape);
@@ -174,7 +189,8 @@ fn document_parts(mut members: Map<String, Value>) -> DocumentParts
     ensures start { option_map view result.start ≡ get_member (codes "start") (members_view members.entries) }
     ensures seed { option_map view result.seed ≡ get_member (codes "seed") (members_view members.entries) }
     ensures files { option_map view result.files ≡ get_member (codes "files") (members_view members.entries) }
-    ensures tables { option_map view result.tables ≡ get_member (codes "tables") (members_view members.entries) }
+    ensures tables { option_map view result.tables
+        ≡ get_member (codes "tables") (members_view members.entries) }
 {
     let start = take_member(&mut members, "start");
     let seed = take_member(&mut members, "seed");
@@ -189,9 +205,12 @@ fn document_parts(mut members: Map<String, Value>) -> DocumentParts
 }
 
 fn document_of_parts(alloc: Global, parts: DocumentParts) -> Result<Document, ShapeStop>
-    ensures ok { IfOk result (λ document. document_from (option_map view parts.start) (option_map view parts.seed) (option_map view parts.files) (option_map view parts.tables) ≡ Some document) }
+    ensures ok { IfOk result (λ document. document_from (option_map view parts.start)
+        (option_map view parts.seed) (option_map view parts.files) (option_map view parts.tables)
+        ≡ Some document) }
     ensures shape { result ≡ Err ShapeStop.Shape
-        → document_from (option_map view parts.start) (option_map view parts.seed) (option_map view parts.files) (option_map view parts.tables) ≡ None }
+        → document_from (option_map view parts.start) (option_map view parts.seed)
+        (option_map view parts.files) (option_map view parts.tables) ≡ None }
 {
     let DocumentParts {
         start,
@@ -213,7 +232,8 @@ fn document_of_parts(alloc: Global, parts: DocumentParts) -> Result<Document, Sh
 
 fn read_files(alloc: Global, value: Option<Value>) -> Result<Files, ShapeStop>
     ensures ok { IfOk result (λ files. required (object_of file_of) (option_map view value) ≡ Some files) }
-    ensures shape { result ≡ Err ShapeStop.Shape → required (object_of file_of) (option_map view value) ≡ None }
+    ensures shape { result ≡ Err ShapeStop.Shape
+        → required (object_of file_of) (option_map view value) ≡ None }
 {
     match value {
         Some(object) => read_object(alloc, object),
@@ -222,8 +242,10 @@ fn read_files(alloc: Global, value: Option<Value>) -> Result<Files, ShapeStop>
 }
 
 fn read_tables(alloc: Global, value: Option<Value>) -> Result<Drafts, ShapeStop>
-    ensures ok { IfOk result (λ tables. optional (object_of table_of) [] (option_map view value) ≡ Some tables) }
-    ensures shape { result ≡ Err ShapeStop.Shape → optional (object_of table_of) [] (option_map view value) ≡ None }
+    ensures ok { IfOk result (λ tables.
+        optional (object_of table_of) [] (option_map view value) ≡ Some tables) }
+    ensures shape { result ≡ Err ShapeStop.Shape
+        → optional (object_of table_of) [] (option_map view value) ≡ None }
 {
     match value {
         Some(object) => read_object(alloc, object),

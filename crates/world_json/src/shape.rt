@@ -1,12 +1,10 @@
 //! Arrays and objects of a document, read item by item and member by member. Each call takes its value
 //! and lets it go as it reads.
 
-ghost use Rattle.std.specs.Prelude.{◌≡◌, ◌&&◌, Option, Some, None, IfOk, List, ℕ, Bool, true, false, option_map, codes, bytes_eq, string_bytes};
-ghost use Rattle.std.specs.List.{list_any};
+ghost use Rattle.std.specs.Prelude.{◌≡◌, Option, Some, None, IfOk, List, ℕ};
 ghost use Rattle.serde_json.specs.Data.{Data};
-ghost use Rattle.serde_json.specs.Find.{get_member};
 ghost use Rattle.serde_json.specs.View.{view, items_view, members_view};
-ghost use Rattle.world_json.specs.Shape.{each, array_of, each_member, object_of, only, required, optional, whole_of};
+ghost use Rattle.world_json.specs.Shape.{each, array_of, each_member, object_of};
 
 use ldv_value::{List, Utf8};
 use serde_json::{Map, Value};
@@ -17,7 +15,7 @@ use std::alloc::{AllocError, AllocFailed, Global};
 pub(crate) enum ShapeStop {
     /// It has another shape.
     Shape,
-    /// Want of memory.
+    /// Out of memory.
     NoMemory,
 }
 
@@ -58,7 +56,7 @@ pub(crate) fn read_items<X: FromItem>(
     ensures ok { IfOk result (λ xs. each X.of_item (items_view items.items) ≡ Some xs) }
     ensures shape { result ≡ Err ShapeStop.Shape → each X.of_item (items_view items.items) ≡ None }
 {
-    let mut found = List::new(alloc);
+    let mut found = List::with_capacity(alloc, items.len())?;
     for value in items {
         match X::from_item(alloc, value) {
             Ok(item) => found.push(item)?,
@@ -85,9 +83,10 @@ pub(crate) fn read_members<X: FromMember>(
     members: Map<String, Value>,
 ) -> Result<List<X>, ShapeStop>
     ensures ok { IfOk result (λ xs. each_member X.of_member (members_view members.entries) ≡ Some xs) }
-    ensures shape { result ≡ Err ShapeStop.Shape → each_member X.of_member (members_view members.entries) ≡ None }
+    ensures shape { result ≡ Err ShapeStop.Shape
+        → each_member X.of_member (members_view members.entries) ≡ None }
 {
-    let mut found = List::new(alloc);
+    let mut found = List::with_capacity(alloc, members.len())?;
     for (name, value) in members {
         match X::from_member(alloc, Utf8::of_string(name), value) {
             Ok(member) => found.push(member)?,

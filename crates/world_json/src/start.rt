@@ -1,7 +1,9 @@
 //! The faults NoStart and BadScript: the file of the first start word.
 
-ghost use Rattle.std.specs.Prelude.{◌≡◌, ◌≤◌, ◌<◌, ◌^◌, IfOk, IfSome, List, length, find, bytes_eq, true};
+ghost use Rattle.std.specs.Prelude.{◌≡◌, ◌≤◌, ◌<◌, ◌^◌, IfOk, IfSome, length, true};
 ghost use Rattle.std.specs.Option.{option_map};
+ghost use Rattle.ldv_value.specs.FileState.{file_at};
+ghost use Rattle.ldv_value.specs.Limits.{file_limit};
 ghost use Rattle.script_parse.specs.Script.{script_of};
 ghost use Rattle.world_json.specs.Faults.{start_file, is_within, are_files_within};
 ghost use Rattle.world_json.specs.Reading.{start_fault, script_fault};
@@ -12,8 +14,7 @@ use ldv_value::{File, Files, Utf8};
 use script_parse::{ScriptStop, parse_script};
 use std::alloc::{AllocError, Global};
 
-/// The fault of the file of the first start word, if it has one. `AllocError` means want of memory
-/// alone.
+/// The fault of the file of the first start word, if it has one. `AllocError` means out of memory only.
 pub(crate) fn find_start_fault(
     alloc: Global,
     document: &Document,
@@ -41,7 +42,7 @@ fn find_script_fault(alloc: Global, bytes: &[u8]) -> Result<Option<WorldFault>, 
 fn find_start(document: &Document) -> Option<&File>
     requires { is_within document.now ≡ true }
     ensures file { option_map (λ file. file.now) result ≡ start_file document.now }
-    ensures short { IfSome result (λ file. length file.now.content ≤ 16777216) }
+    ensures short { IfSome result (λ file. length file.now.content ≤ file_limit) }
 {
     match document.start.get(0) {
         None => None,
@@ -49,16 +50,11 @@ fn find_start(document: &Document) -> Option<&File>
     }
 }
 
+#[tactic(auto, using(crate::proofs::Found::found_short))]
 fn find_short_file<'a>(files: &'a Files, path: &Utf8) -> Option<&'a File>
     requires { are_files_within files.now ≡ true }
-    ensures file { option_map (λ file. file.now) result ≡ find (λ file. bytes_eq path.now file.path) files.now }
-    ensures short { IfSome result (λ file. length file.now.content ≤ 16777216) }
+    ensures file { option_map (λ file. file.now) result ≡ file_at path.now files.now }
+    ensures short { IfSome result (λ file. length file.now.content ≤ file_limit) }
 {
-    find_file(files, path)
-}
-
-fn find_file<'a>(files: &'a Files, path: &Utf8) -> Option<&'a File>
-    ensures { option_map (λ file. file.now) result ≡ find (λ file. bytes_eq path.now file.path) files.now }
-{
-    files.items().iter().find(|file| path.is_same(&file.path))
+    files.find(path)
 }

@@ -1,15 +1,15 @@
 //! The world of a document.
 
-ghost use Rattle.std.specs.Prelude.{◌≡◌, ◌≤◌, IfOk, IfErr, Ok, Some, length, map, true};
+ghost use Rattle.std.specs.Prelude.{◌≡◌, IfOk, IfErr, Ok, Some, map, true};
 ghost use Rattle.std.specs.List.{list_all};
 ghost use Rattle.serde_json.specs.View.{view};
-ghost use Rattle.world_json.specs.Faults.{is_within, is_table_within, key_places};
-ghost use Rattle.world_json.specs.Rising.{is_rising};
-ghost use Rattle.world_json.specs.Reading.{world_reading, parsed, reading_of, world_as, table_as, numbered_from, IsFaultOf};
+ghost use Rattle.world_json.specs.Faults.{is_within, is_table_within};
+ghost use Rattle.world_json.specs.Reading.{world_reading, parsed, reading_of, world_as, table_as, IsFaultOf};
+ghost use Rattle.world_json.specs.SortedWorld.{is_sorted_world};
 
 use crate::document::{Document, Draft, Drafts};
 use crate::fault::{WorldFault, WorldStop};
-use crate::keys::{meets_keys, place_of_column};
+use crate::keys::{meets_keys, places_of_key};
 use crate::kinds::{meets_kinds, meets_not_null};
 use crate::limits::meets_limits;
 use crate::names::meets_names;
@@ -17,19 +17,19 @@ use crate::parse::{JsonStop, read_json};
 use crate::parts::read_document;
 use crate::shape::ShapeStop;
 use crate::start::find_start_fault;
-use ldv_value::{List, Names, Places, RowList};
+use ldv_value::List;
 use run_model::World;
 use serde_json::Value;
-use sql_model::{Columns, Schema, Table, TableRow, TableRows, Tables};
+use sql_model::{Schema, Table, Tables};
 use std::alloc::{AllocError, Global};
 
 /// The world that a document is. The faults are tried in the order of `WorldFault`, each over the whole
-/// document, and the first one that holds is the answer; want of memory may come in its place. The files
-/// rise by path, the tables by name.
+/// document, and the first one that holds is returned; out of memory may come in its place. The files are
+/// sorted by path, the tables by name.
 pub fn world_of(alloc: Global, bytes: &[u8]) -> Result<World, WorldStop>
     ensures world { IfOk result (λ world. world_reading bytes.now ≡ Ok world) }
     ensures fault { IfErr result (IsFaultOf (world_reading bytes.now)) }
-    ensures rising { IfOk result (λ world. is_rising world ≡ true) }
+    ensures sorted { IfOk result (λ world. is_sorted_world world ≡ true) }
 {
     match read_json(alloc, bytes) {
         Ok(value) => world_of_value(alloc, value),
@@ -97,7 +97,7 @@ fn to_tables(alloc: Global, drafts: Drafts) -> Result<Tables, AllocError>
     requires { list_all is_table_within drafts ≡ true }
     ensures { IfOk result (λ tables. tables ≡ map table_as drafts) }
 {
-    let mut tables = List::new(alloc);
+    let mut tables = List::with_capacity(alloc, drafts.len())?;
     for draft in drafts.into_vec() {
         tables.push(to_table(alloc, draft)?)?;
     }
@@ -115,8 +115,8 @@ fn to_table(alloc: Global, draft: Draft) -> Result<Table, AllocError>
         rows,
         next,
     } = draft;
-    let key = to_places(alloc, &columns, &key)?;
-    let rows = to_rows(alloc, rows)?;
+    let key = places_of_key(alloc, &columns, &key)?;
+    let rows = rows.into_rows();
     let next = next as u32;
     Ok(Table {
         name,
@@ -124,29 +124,4 @@ fn to_table(alloc: Global, draft: Draft) -> Result<Table, AllocError>
         rows,
         next,
     })
-}
-
-fn to_places(alloc: Global, columns: &Columns, key: &Names) -> Result<Places, AllocError>
-    requires { length columns.now ≤ 64 }
-    ensures { IfOk result (λ places. places ≡ key_places columns.now key.now) }
-{
-    let mut places = List::new(alloc);
-    for name in key.items() {
-        places.push(place_of_column(columns, name) as u32)?;
-    }
-    Ok(places)
-}
-
-// The rows, numbered from 0.
-fn to_rows(alloc: Global, rows: RowList) -> Result<TableRows, AllocError>
-    requires { length rows ≤ 1000000 }
-    ensures { IfOk result (λ numbered. numbered ≡ numbered_from 0 rows) }
-{
-    let mut numbered = List::new(alloc);
-    let mut number = 0u32;
-    for values in rows.into_vec() {
-        numbered.push(TableRow { number, values })?;
-        number += 1;
-    }
-    Ok(numbered)
 }

@@ -10,7 +10,7 @@ use Rattle.ldv_top.proofs.record.record_response.Goals as goal
 pub returns-in-Ok-clause-recorded : goal.returns-in-Ok-clause-recorded
 returns-in-Ok-clause-recorded c =
     let reading : world_reading c.args.input.now ≡ Ok c.in-Ok.world = ap world_reading (sym c.as_slice.ensures) ∙ c.in-Ok.ensures.world in
-    let ruled : IsTrue (world_rules c.in-Ok.world) = document_world c.args.input.now c.in-Ok.world reading c.in-Ok.ensures.rising in
-    let tables : tables_test c.in-Ok.world.tables ≡ true = document_tables c.args.input.now c.in-Ok.world reading ruled in
+    let ruled : IsTrue (world_rules c.in-Ok.world) = document_world c.args.input.now c.in-Ok.world reading in
+    let tables : tables_test c.in-Ok.world.tables ≡ true = document_tables c.args.input.now c.in-Ok.world reading in
     recorded_on c.record_world.result c.args.mode c.args.budget c.args.input.now c.in-Ok.world c.requires.short reading
     (c.headline_law.ensures.recorded c.args.mode c.args.budget c.args.input.now c.in-Ok.world c.requires.short c.requires.bounded reading ruled tables) c.record_world.ensures.typed

@@ -1,8 +1,7 @@
-use Rattle.std.proofs.Common.{◌≡◌, drop}
-use Rattle.std.specs.Prelude.{string_bytes}
+use Rattle.std.proofs.Common.{◌≡◌, List, ℕ, drop}
 use Rattle.run_model.specs.Slice.{reason_or, reason_in}
-use Rattle.slicer.specs.Marks.{Key, reason_at}
+use Rattle.slicer.specs.Marks.{reason_at}
 use Rattle.slicer.proofs.reasons.note_reads.Given as goal
 
 abbrev pub invariant-loop-need : goal.invariant-loop-need
-invariant-loop-need l = (q : Key) → reason_or (reason_at l.reasons q) (reason_in l.statement (string_bytes q.0) q.1 (drop l.need-index l.needs)) ≡ reason_or (reason_at l.fn.reasons q) (reason_in l.statement (string_bytes q.0) q.1 l.needs)
+invariant-loop-need l = (table : List ℕ) (row : ℕ) → reason_or (reason_at l.reasons table row) (reason_in l.statement table row (drop l.need-index l.needs)) ≡ reason_or (reason_at l.fn.reasons table row) (reason_in l.statement table row l.needs)

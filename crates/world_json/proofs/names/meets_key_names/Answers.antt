@@ -1,6 +1,6 @@
-use Rattle.std.proofs.Common.{ℕ, List, Bool, sym, ◌∙◌}
+use Rattle.std.proofs.Common.{ℕ, List, sym, ◌∙◌}
 use Rattle.std.specs.List.{list_all}
-use Rattle.world_json.proofs.Columns.{repeats_texts, second_decides}
+use Rattle.sql_model.proofs.RepeatedNames.{repeats_texts, second_decides}
 use Rattle.world_json.proofs.names.meets_key_names.Goals as goal
 
 pub returns : goal.returns

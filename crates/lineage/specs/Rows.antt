@@ -1,0 +1,45 @@
+-- How picked combinations and answers stand for lists of answer rows.
+--
+-- Values are equal, and a lineage stands for that of its row as a set. Where no lineage is kept, it stands for
+-- that of no row.
+use Rattle.std.specs.Prelude.{◌≡◌, ℕ, List, [], ◌∷◌, Bool, true, false}
+use Rattle.ldv_value.specs.declared.value.Value.{Value}
+use Rattle.lineage.specs.Lineage.{Lineage}
+use Rattle.lineage.specs.StandsFor.{StandsFor}
+use Rattle.lineage.specs.declared.answer.Answer.{Answer}
+use Rattle.lineage.specs.declared.answer.Pick.{Pick}
+use Rattle.sql_model.specs.Needs.{Versions}
+use Rattle.sql_model.specs.QueryAnswer.{Origin, AnswerRow, Combination, joined_values, combination_rows}
+use Rattle.sql_model.specs.declared.statement.FromItem.{FromItem}
+
+-- the lineage that is kept
+abbrev pub kept : Bool → List Origin → List Origin
+kept true origins = origins
+kept false origins = []
+
+-- the values and the lineage of a row
+pub record IsRow (names : List (List ℕ)) (versions : Versions) (keep : Bool) (values : List Value)
+    (lineage : Lineage)
+    (row : AnswerRow) : Type 0 where
+  pub same : values ≡ row.values
+  pub stands : StandsFor names versions lineage (kept keep row.lineage)
+
+-- one by one
+abbrev pub AnswersStandFor : List (List ℕ) → Versions → Bool → List Answer → List AnswerRow → Type 0
+AnswersStandFor names versions keep [] [] = Unit {0}
+AnswersStandFor names versions keep [] (row ∷ rows) = ⊥
+AnswersStandFor names versions keep (answer ∷ answers) [] = ⊥
+AnswersStandFor names versions keep (answer ∷ answers) (row ∷ rows) =
+    IsRow names versions keep answer.values answer.lineage row
+    × AnswersStandFor names versions keep answers rows
+
+abbrev pub PicksStandFor : List (List ℕ) → Versions → Bool → List Pick → List AnswerRow → Type 0
+PicksStandFor names versions keep [] [] = Unit {0}
+PicksStandFor names versions keep [] (row ∷ rows) = ⊥
+PicksStandFor names versions keep (pick ∷ picks) [] = ⊥
+PicksStandFor names versions keep (pick ∷ picks) (row ∷ rows) =
+    IsRow names versions keep pick.values pick.lineage row × PicksStandFor names versions keep picks rows
+
+-- a combination as a row: the values of the joined row, from the rows that it joins
+abbrev pub joined_row : List FromItem → Combination → AnswerRow
+joined_row from rows = record { values = joined_values rows; lineage = combination_rows from rows }

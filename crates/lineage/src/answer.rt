@@ -1,0 +1,25 @@
+//! Picked combinations and answer rows, each with its lineage.
+
+use crate::set::LineageSet;
+use ldv_value::{List, Values};
+
+/// A picked combination: the values of the joined row, in FROM order, and the rows that it joins. Where no
+/// lineage is kept, the lineage is empty.
+#[derive(Drop)]
+pub struct Pick {
+    pub values: Values,
+    pub lineage: LineageSet,
+}
+
+/// A row of an answer: its values, and the rows that it comes from. Where no lineage is kept, the lineage is
+/// empty.
+#[derive(Drop)]
+pub struct Answer {
+    pub values: Values,
+    pub lineage: LineageSet,
+}
+
+/// Picked combinations, in their order.
+pub type Picks = List<Pick>;
+/// Rows of an answer, in their order.
+pub type Answers = List<Answer>;

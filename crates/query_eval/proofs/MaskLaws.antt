@@ -1,0 +1,83 @@
+-- Rows may be left out for which a mask doesn't pass.
+use Rattle.std.proofs.Common.{◌≡◌, ◌==◌, ◌∙◌, sym, ap, subst, refl, ℕ, zero, suc, ◌+◌, Bool, true, false, ◌&&◌, ◌||◌, not, List, [], ◌∷◌, ◌++◌, map, length, inl, inr, arith, zero-add, add-zero}
+use Rattle.std.specs.Prelude.{Some}
+use Rattle.std.specs.List.{flat_map, list_all, AllByRecursion}
+use Rattle.std.proofs.lemmas.Bool.{cases_Bool}
+use Rattle.std.proofs.lemmas.Bool.Decides.{Decides-eqb}
+use Rattle.query_eval.specs.Checking.{core_at, IsChecked}
+use Rattle.query_eval.specs.Masking.{HaveWidths, values_of, passes, AreMasks, row_passes, kept_by, keeps_from, TablesAreWide}
+use Rattle.query_eval.specs.Sourcing.{all_kept, LeavesPicked}
+use Rattle.query_eval.specs.Types.{Checked, Core, FromItem, Int, Query, Table, TableRow, Value}
+use Rattle.query_eval.specs.declared.masking.Mask.{Mask}
+use Rattle.sql_model.specs.QueryAnswer.{Combination, combinations, meets_all, row_environment}
+use Rattle.sql_model.specs.Meaning.{is_true}
+use Rattle.ldv_value.specs.Order.{test_of}
+use Rattle.sql_model.specs.Scope.{catalog_of, value_at, rows_of, scope_of, table_at}
+
+-- ---- the rows of a combination have the widths of their tables
+
+abbrev length-is : ℕ → TableRow → Type 0
+length-is width row = length row.values ≡ width
+
+all-joined : (P : Combination → Type 0) (xs ys : List Combination) → AllByRecursion P xs → AllByRecursion P ys → AllByRecursion P (xs ++ ys)
+all-joined P [] ys a b = b
+all-joined P (x ∷ xs) ys a b = (a.0, all-joined P xs ys a.1 b)
+
+with-row : (width : ℕ) (widths : List ℕ) (row : TableRow) → length-is width row → (cs : List Combination) → AllByRecursion (HaveWidths widths) cs
+    → AllByRecursion (HaveWidths (width ∷ widths)) (map (λ others. row ∷ others) cs)
+with-row width widths row is [] all = tt
+with-row width widths row is (c ∷ cs) all = ((is, all.0), with-row width widths row is cs all.1)
+
+with-rows : (width : ℕ) (widths : List ℕ) (cs : List Combination) → AllByRecursion (HaveWidths widths) cs → (rows : List TableRow)
+    → AllByRecursion (length-is width) rows → AllByRecursion (HaveWidths (width ∷ widths)) (flat_map (λ row. map (λ others. row ∷ others) cs) rows)
+with-rows width widths cs all [] wide = tt
+with-rows width widths cs all (row ∷ rows) wide =
+    all-joined (HaveWidths (width ∷ widths)) (map (λ others. row ∷ others) cs) (flat_map (λ row. map (λ others. row ∷ others) cs) rows)
+    (with-row width widths row wide.0 cs all) (with-rows width widths cs all rows wide.1)
+
+all-wide : (from : List FromItem) (db : List Table) (widths : List ℕ) → TablesAreWide from db widths → AllByRecursion (HaveWidths widths) (combinations from db)
+all-wide [] db [] wide = (tt, tt)
+all-wide [] db (width ∷ widths) wide = absurd wide
+all-wide (item ∷ from) db [] wide = absurd wide
+all-wide (item ∷ from) db (width ∷ widths) wide =
+    with-rows width widths (combinations from db) (all-wide from db widths wide.1) (rows_of (table_at item.table db)) wide.0
+
+-- ---- each row is kept
+
+one-kept : (rows : Combination) (masks : List Mask) → AllByRecursion (λ mask. passes mask rows ≡ true) masks → (k : ℕ) (row : TableRow) → values_of rows k ≡ row.values
+    → kept_by masks k row ≡ true
+one-kept rows [] all k row is = refl
+one-kept rows (mask ∷ masks) all k row is = elim (cases_Bool (mask.source == k)) [
+  | inl here ↦
+      let source : mask.source ≡ k = (Decides-eqb mask.source k).0 here in
+      let passed : row_passes mask row ≡ true =
+      ap (λ (vs : List Value). is_true (test_of mask.op (value_at vs mask.column) (Int mask.constant))) (sym (ap (values_of rows) source ∙ is)) ∙ all.0 in
+      (λ j. (not (here j) || passed j) && one-kept rows masks all.1 k row is j)
+  | inr there ↦ (λ j. (not (there j) || row_passes mask row) && one-kept rows masks all.1 k row is j)
+]
+
+rest-kept : (rows : Combination) (masks : List Mask) → AllByRecursion (λ mask. passes mask rows ≡ true) masks → (k : ℕ) (widths : List ℕ) (left : Combination)
+    → ((i : ℕ) → values_of left i ≡ values_of rows (i + k)) → all_kept (keeps_from masks k widths) left ≡ true
+rest-kept rows masks all k [] left same = refl
+rest-kept rows masks all k (width ∷ widths) [] same = refl
+rest-kept rows masks all k (width ∷ widths) (row ∷ left) same =
+    λ j. one-kept rows masks all k row (sym (same 0 ∙ ap (values_of rows) (zero-add k))) j
+    && rest-kept rows masks all (suc k) widths left (λ i. same (suc i) ∙ ap (values_of rows) (suc-over i k)) j
+  where
+    suc-over : (i k : ℕ) → suc i + k ≡ i + suc k
+    suc-over i k = omega arith
+
+-- rows are left out alone that are in no picked combination
+pub masks-leave : (checked : Checked) (place : ℕ) (widths : List ℕ) (masks : List Mask) (query : Query) (core : Core) (db : List Table)
+    → AreMasks checked place widths masks
+    → IsChecked checked query (catalog_of db)
+    → core_at checked place ≡ Some core
+    → TablesAreWide core.from db widths
+    → LeavesPicked core db (keeps_from masks 0 widths)
+masks-leave checked place widths masks query core db are is got wide = each (combinations core.from db) (all-wide core.from db widths wide)
+  where
+    each : (cs : List Combination) → AllByRecursion (HaveWidths widths) cs
+        → AllByRecursion (λ rows. meets_all core.picks (row_environment (scope_of core.from (catalog_of db)) rows) ≡ true → all_kept (keeps_from masks 0 widths) rows ≡ true) cs
+    each [] all = tt
+    each (rows ∷ cs) all =
+        ((λ holds. rest-kept rows masks (are query (catalog_of db) core rows is got all.0 holds) 0 widths rows (λ i. ap (values_of rows) (sym (add-zero i)))), each cs all.1)

@@ -1,0 +1,99 @@
+-- Answers by their values.
+use Rattle.std.proofs.Common.{◌≡◌, ◌∙◌, sym, ap, subst, refl, ℕ, Bool, true, false, cond, List, [], ◌∷◌, ◌++◌, map, append_assoc, inl, inr, Option, Some, None}
+use Rattle.std.specs.Prelude.{filter, unwrap_or}
+use Rattle.std.proofs.lemmas.Bool.{cases_Bool}
+use Rattle.std.specs.BTreeMap as tree
+use Rattle.std.specs.BTreeMap.{BTreeMap, is_at}
+use Rattle.std.specs.FinMap.{empty}
+use Rattle.std.specs.Ordering.{is_eq}
+use Rattle.lineage.specs.Rows.{kept, AnswersStandFor}
+use Rattle.lineage.specs.StandsFor.{StandsFor}
+use Rattle.lineage.specs.declared.answer.Answer.{Answer}
+use Rattle.lineage.proofs.Origins.{stands-empty}
+use Rattle.lineage.proofs.RowLaws.{kept-union, answers-values}
+use Rattle.query_eval.proofs.Onces.{all_exact, tied}
+use Rattle.query_eval.proofs.Unions.{version-union}
+use Rattle.query_eval.specs.KeyOrders.{values_order}
+use Rattle.query_eval.specs.Merging.{united, own_values, with_values, merged, listed, answer_added}
+use Rattle.query_eval.specs.Types.{Value}
+use Rattle.sql_model.specs.Keys.{same_values}
+use Rattle.sql_model.specs.Needs.{Versions}
+use Rattle.sql_model.specs.QueryAnswer.{AnswerRow, answer_values, lineage_of, has_values, merged_row, distinct, merge}
+
+-- ---- a map of answers
+
+pub put_answer : (m t n : BTreeMap (List Value) (List Answer)) (answer : Answer) (answers : List Answer) → answers ≡ listed m answer.values
+    → ((v : List Value) → tree.get values_order t v ≡ cond (is_at (values_order answer.values) v) None (tree.get values_order m v))
+    → ((v : List Value) → tree.get values_order n v ≡ cond (is_at (values_order answer.values) v) (Some (answers ++ answer ∷ [])) (tree.get values_order t v))
+    → (v : List Value) → listed n v ≡ answer_added answer v (listed m v)
+put_answer m t n answer answers is others put v = elim (cases_Bool (is_eq (values_order answer.values v))) [
+  | inl hit ↦
+      let same : answer.values ≡ v = all_exact answer.values v (tied (values_order answer.values v) hit) in
+      ap (λ (o : Option (List Answer)). unwrap_or o []) (put v ∙ ap (λ b. cond b (Some (answers ++ answer ∷ [])) (tree.get values_order t v)) hit)
+      ∙ ap (λ l. l ++ answer ∷ []) (is ∙ ap (listed m) same)
+      ∙ ap (λ b. cond b (listed m v ++ answer ∷ []) (listed m v)) (sym hit)
+  | inr miss ↦
+      ap (λ (o : Option (List Answer)). unwrap_or o []) (put v ∙ ap (λ b. cond b (Some (answers ++ answer ∷ [])) (tree.get values_order t v)) miss ∙ others v ∙ ap (λ b. cond b None (tree.get values_order m v)) miss)
+      ∙ ap (λ b. cond b (listed m v ++ answer ∷ []) (listed m v)) (sym miss)
+]
+
+moved : (b : Bool) (answers more : List Answer) (answer : Answer) → cond b (answers ++ answer ∷ []) answers ++ more ≡ answers ++ cond b (answer ∷ more) more
+moved true answers more answer = append_assoc answers (answer ∷ []) more
+moved false answers more answer = refl
+
+-- an answer that is listed goes from those that are left to those that are there
+pub group_on : (m n : BTreeMap (List Value) (List Answer)) (answer : Answer) (rest : List Answer)
+    → ((v : List Value) → listed n v ≡ answer_added answer v (listed m v)) → (v : List Value)
+    → listed n v ++ filter (with_values v) rest ≡ listed m v ++ filter (with_values v) (answer ∷ rest)
+group_on m n answer rest added v =
+    ap (λ l. l ++ filter (with_values v) rest) (added v)
+    ∙ moved (is_eq (values_order answer.values v)) (listed m v) (filter (with_values v) rest) answer
+
+-- ---- merged answers stand for merged rows
+
+module _ (names : List (List ℕ)) (versions : Versions) (keep : Bool) where
+  kept-none : (k : Bool) → [] ≡ kept k []
+  kept-none true = refl
+  kept-none false = refl
+
+  -- the union stands for all lineages
+  pub united-stands : (answers : List Answer) (rows : List AnswerRow) → AnswersStandFor names versions keep answers rows
+      → StandsFor names versions (united answers) (kept keep (lineage_of rows))
+  united-stands [] [] stand = subst (StandsFor names versions empty) (kept-none keep) (stands-empty names versions)
+  united-stands [] (row ∷ rows) stand = absurd stand
+  united-stands (answer ∷ answers) [] stand = absurd stand
+  united-stands (answer ∷ answers) (row ∷ rows) stand =
+      kept-union names versions keep answer.lineage (united answers) (united (answer ∷ answers)) row.lineage (lineage_of rows)
+      (version-union answer.lineage (united answers)) stand.0.stands (united-stands answers rows stand.1)
+
+  filter-stands : (v : List Value) (answers : List Answer) (rows : List AnswerRow) → AnswersStandFor names versions keep answers rows
+      → AnswersStandFor names versions keep (filter (with_values v) answers) (filter (has_values v) rows)
+  filter-stands v [] [] stand = stand
+  filter-stands v [] (row ∷ rows) stand = absurd stand
+  filter-stands v (answer ∷ answers) [] stand = absurd stand
+  filter-stands v (answer ∷ answers) (row ∷ rows) stand =
+      let same : has_values v row ≡ with_values v answer = ap (λ (vs : List Value). same_values vs v) (sym stand.0.same) in
+      let rest = filter-stands v answers rows stand.1 in
+      elim (cases_Bool (with_values v answer)) [
+        | inl hit ↦ let there : has_values v row ≡ true = same ∙ hit in rw (hit, there) (stand.0, rest)
+        | inr miss ↦ let gone : has_values v row ≡ false = same ∙ miss in rw (miss, gone) rest
+      ]
+
+  under : (answers : List Answer) (rows : List AnswerRow) → AnswersStandFor names versions keep answers rows → (vs : List (List Value))
+      → AnswersStandFor names versions keep (map (merged answers) vs) (map (merged_row rows) vs)
+  under answers rows stand [] = tt
+  under answers rows stand (v ∷ vs) = (
+    record {
+      same = refl;
+      stands = united-stands (filter (with_values v) answers) (filter (has_values v) rows) (filter-stands v answers rows stand);
+    },
+    under answers rows stand vs,
+  )
+
+  pub merged_stand : (answers made : List Answer) (rows : List AnswerRow) → made ≡ map (merged answers) (distinct (map own_values answers))
+      → AnswersStandFor names versions keep answers rows → AnswersStandFor names versions keep made (merge rows)
+  merged_stand answers made rows is stand =
+      subst (λ (made : List Answer). AnswersStandFor names versions keep made (merge rows)) (sym is)
+      (subst (λ (vs : List (List Value)). AnswersStandFor names versions keep (map (merged answers) (distinct vs)) (merge rows))
+      (sym (answers-values names versions keep answers rows stand))
+      (under answers rows stand (distinct (map answer_values rows))))

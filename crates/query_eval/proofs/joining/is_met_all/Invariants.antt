@@ -1,0 +1,9 @@
+use Rattle.std.proofs.Common.{◌≡◌, List, drop}
+use Rattle.query_eval.specs.Joining.{meets}
+use Rattle.query_eval.specs.Placing.{AllPlaced}
+use Rattle.sql_model.specs.Scope.{InScope}
+use Rattle.query_eval.proofs.joining.is_met_all.Given as goal
+
+abbrev pub invariant-loop-cond : goal.invariant-loop-cond
+invariant-loop-cond l = (scope : List InScope) → AllPlaced scope l.conds
+    → AllPlaced scope (drop l.cond-index l.conds) × (meets scope (drop l.cond-index l.conds) l.values ≡ meets scope l.conds l.values)

@@ -1,0 +1,137 @@
+-- A FROM list from left to right: what its steps give.
+use Rattle.std.specs.Prelude.{◌≡◌, ℕ, ◌+◌, ◌<◌, ◌⊎◌, List, [], ◌∷◌, ◌++◌, map, filter, length, drop, Bool}
+use Rattle.std.specs.Prelude.{true, false, not, nat_lt, unwrap_or}
+use Rattle.std.specs.BTreeMap as tree
+use Rattle.std.specs.BTreeMap.{BTreeMap}
+use Rattle.std.specs.List.{flat_map, list_all, AllByRecursion}
+use Rattle.std.specs.Ordering.{is_eq}
+use Rattle.std.specs.Prelude.{cond}
+use Rattle.ldv_value.specs.Order.{order, test_of}
+use Rattle.ldv_value.specs.declared.value.Cmp.{Cmp}
+use Rattle.ldv_value.specs.declared.value.Cmp.TheVariants.{Eq, Ne, Lt, Le, Gt, Ge}
+use Rattle.query_eval.specs.Placing.{IsPlaced}
+use Rattle.query_eval.specs.Sourcing.{joined}
+use Rattle.query_eval.specs.Types.{ColumnName, Operator, Add, Subtract, Multiply, Compare, And, Or, Expr, Value}
+use Rattle.sql_model.specs.declared.expr.Expr.TheVariants.{Both, Column}
+use Rattle.query_eval.specs.declared.placed.Placed.{Placed}
+use Rattle.query_eval.specs.declared.probe.Probe.{Probe}
+use Rattle.query_eval.specs.declared.source.SourceRow.{SourceRow}
+use Rattle.sql_model.specs.Meaning.{is_true, truth}
+use Rattle.sql_model.specs.Scope.{InScope, environment, value_at}
+
+-- one row of each source, the first source turning slowest
+abbrev pub combos : List (List SourceRow) → List (List SourceRow)
+combos [] = [] ∷ []
+combos (rows ∷ rest) = flat_map (λ row. map (λ others. row ∷ others) (combos rest)) rows
+
+-- ---- conditions
+
+-- each condition is True over a joined row
+abbrev pub meets : List InScope → List Placed → List Value → Bool
+meets scope conds values = list_all (λ c. is_true (truth c.expr (environment scope values))) conds
+
+abbrev pub tests : List InScope → List Placed → List SourceRow → Bool
+tests scope conds rows = meets scope conds (joined rows)
+
+-- all columns are among the first n values
+abbrev pub is_ready : ℕ → Placed → Bool
+is_ready n placed = list_all (λ place. nat_lt place n) placed.places
+
+abbrev pub ready : ℕ → List Placed → List Placed
+ready n conds = filter (is_ready n) conds
+
+abbrev pub later : ℕ → List Placed → List Placed
+later n conds = filter (λ c. not (is_ready n c)) conds
+
+-- ---- prefixes
+
+-- each prefix with each combination of what is left
+abbrev pub products : List (List SourceRow) → List (List SourceRow) → List (List SourceRow)
+products ps tables = flat_map (λ p. map (λ others. p ++ others) (combos tables)) ps
+
+-- what remains to be had from prefixes
+abbrev pub remaining : List InScope → List Placed → List (List SourceRow) → List (List SourceRow)
+    → List (List SourceRow)
+remaining scope conds ps tables = filter (tests scope conds) (products ps tables)
+
+-- the rows after one prefix that meet the conditions
+abbrev pub extended : List InScope → List Placed → List SourceRow → List SourceRow → List (List SourceRow)
+extended scope conds p rows = filter (tests scope conds) (map (λ row. p ++ row ∷ []) rows)
+
+abbrev pub all_extended : List InScope → List Placed → List (List SourceRow) → List SourceRow
+    → List (List SourceRow)
+all_extended scope conds ps rows = flat_map (λ p. extended scope conds p rows) ps
+
+-- each has so many values
+abbrev pub EachHas : ℕ → List (List SourceRow) → Type 0
+EachHas n ps = AllByRecursion (λ p. length (joined p) ≡ n) ps
+
+-- ---- rows by the value of a column
+
+-- `=` is True
+abbrev pub equals : Value → Value → Bool
+equals a b = is_true (test_of Eq a b)
+
+-- the rows of which a column equals a value; NULL equals nothing
+abbrev pub with_value : ℕ → Value → List SourceRow → List SourceRow
+with_value place v rows = filter (λ row. equals v (value_at row.values place)) rows
+
+-- the condition is that a column of a row after n values equals a column before
+abbrev pub IsProbeOf : Placed → ℕ → Probe → Type 0
+IsProbeOf placed n probe = (scope : List InScope) → IsPlaced scope placed
+    → (p : List SourceRow) (row : SourceRow) → length (joined p) ≡ n
+    → equals (value_at (joined p) probe.from) (value_at row.values probe.place)
+    ≡ is_true (truth placed.expr (environment scope (joined (p ++ row ∷ []))))
+
+-- the condition at an index is one
+pub record HasProbe (conds : List Placed) (n index : ℕ) (probe : Probe) : Type 0 where
+  pub placed : Placed
+  pub at : drop index conds ≡ placed ∷ drop (index + 1) conds
+  pub is : IsProbeOf placed n probe
+
+-- each prefix with the rows that are looked up by it, for which the conditions are True
+abbrev pub looked_up : List InScope → List Placed → Probe → List (List SourceRow) → List SourceRow
+    → List (List SourceRow)
+looked_up scope conds probe ps rows =
+    flat_map (λ p. extended scope conds p (with_value probe.place (value_at (joined p) probe.from) rows)) ps
+
+abbrev pub is_equal_test : Cmp → Bool
+is_equal_test Eq = true
+is_equal_test Ne = false
+is_equal_test Lt = false
+is_equal_test Le = false
+is_equal_test Gt = false
+is_equal_test Ge = false
+
+abbrev pub is_equal_sign : Operator → Bool
+is_equal_sign (Compare test) = is_equal_test test
+is_equal_sign Add = false
+is_equal_sign Subtract = false
+is_equal_sign Multiply = false
+is_equal_sign And = false
+is_equal_sign Or = false
+
+abbrev pub IsColumn : Expr → Type 0
+IsColumn expr = (name : ColumnName) × (expr ≡ Column name)
+
+-- an equality of two columns
+abbrev pub IsEquality : Expr → Type 0
+IsEquality expr = (left : ColumnName) × (right : ColumnName)
+    × (expr ≡ Both (Compare Eq) (Column left) (Column right))
+
+-- the places of the two columns, where one is among the first n values and the other isn't
+abbrev pub IsBetween : ℕ → ℕ → ℕ → Probe → Type 0
+IsBetween a b n probe =
+    ((probe.from ≡ a) × (a < n) × (n + probe.place ≡ b)) ⊎ ((probe.from ≡ b) × (b < n) × (n + probe.place ≡ a))
+
+-- the rows that a map has under a value
+abbrev pub rows_listed : BTreeMap Value (List SourceRow) → Value → List SourceRow
+rows_listed map v = unwrap_or (tree.get order map v) []
+
+-- a row more under a value
+abbrev pub row_added : Value → SourceRow → Value → List SourceRow → List SourceRow
+row_added key row v rows = cond (is_eq (order key v)) (rows ++ row ∷ []) rows
+
+-- under each value just the rows of which the column equals it, in their order
+abbrev pub IsIndex : BTreeMap Value (List SourceRow) → ℕ → List SourceRow → Type 0
+IsIndex map place rows = (v : Value) → rows_listed map v ≡ with_value place v rows

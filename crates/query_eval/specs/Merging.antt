@@ -1,0 +1,47 @@
+-- How answers of the same values are merged.
+use Rattle.std.specs.Prelude.{List, [], ◌∷◌, ◌++◌, map, filter, Bool, not, cond, unwrap_or}
+use Rattle.std.specs.BTreeMap as tree
+use Rattle.std.specs.BTreeMap.{BTreeMap}
+use Rattle.std.specs.BTreeSet as treeset
+use Rattle.std.specs.BTreeSet.{BTreeSet}
+use Rattle.std.specs.FinMap.{empty, entries, from_entries}
+use Rattle.std.specs.Ordering.{is_eq}
+use Rattle.lineage.specs.Lineage.{Lineage}
+use Rattle.lineage.specs.declared.answer.Answer.{Answer}
+use Rattle.query_eval.specs.KeyOrders.{values_order}
+use Rattle.query_eval.specs.Types.{Value}
+use Rattle.sql_model.specs.Keys.{same_values}
+
+-- the union of two sets; a row that is in both has the version of the first
+abbrev pub union_of : Lineage → Lineage → Lineage
+union_of one other = from_entries (entries one ++ entries other)
+
+-- the union of the lineages of answers
+abbrev pub united : List Answer → Lineage
+united [] = empty
+united (answer ∷ answers) = union_of answer.lineage (united answers)
+
+abbrev pub own_values : Answer → List Value
+own_values answer = answer.values
+
+abbrev pub with_values : List Value → Answer → Bool
+with_values values answer = same_values answer.values values
+
+-- the answer of some values, from all answers of these
+abbrev pub merged : List Answer → List Value → Answer
+merged answers values = record { values = values; lineage = united (filter (with_values values) answers) }
+
+-- ---- steps
+
+-- those that a set doesn't have
+abbrev pub unseen : BTreeSet (List Value) → List (List Value) → List (List Value)
+unseen seen values = filter (λ value. not (treeset.contains values_order seen value)) values
+
+-- the answers that a map has under some values
+abbrev pub listed : BTreeMap (List Value) (List Answer) → List Value → List Answer
+listed map values = unwrap_or (tree.get values_order map values) []
+
+-- an answer more under its values
+abbrev pub answer_added : Answer → List Value → List Answer → List Answer
+answer_added answer values answers =
+    cond (is_eq (values_order answer.values values)) (answers ++ answer ∷ []) answers

@@ -1,0 +1,97 @@
+//! ORDER BY and LIMIT.
+
+ghost use Rattle.std.specs.Prelude.{◌≡◌, ◌≤◌, length, IfOk, Some};
+ghost use Rattle.query_eval.specs.Finishing.{IsQuery, IsFinished, IsLimited};
+ghost use Rattle.query_eval.specs.Types.{Int};
+ghost use Rattle.sql_model.specs.QueryAnswer.{limit_of};
+
+use crate::cores::{places_or, query_of};
+use crate::lineages::united;
+use crate::sort::{sort_columns, sorted};
+use ldv_value::{List, Value};
+use lineage::{Answers, LineageSet};
+use sql_model::Checked;
+use std::alloc::{AllocError, Global};
+
+/// The answers of a query, and the rows that those come from which LIMIT cuts.
+#[derive(Drop)]
+pub struct Finished {
+    pub answers: Answers,
+    pub cut: LineageSet,
+}
+
+/// The answers that ORDER BY and LIMIT make of those of a query's cores. The sort is stable. A row has one
+/// version in all lineages of the answers.
+pub fn finish(checked: &Checked, answers: Answers) -> Result<Finished, AllocError>
+    requires { IsQuery checked.now.statement }
+    ensures { IfOk result (IsFinished checked.now answers) }
+{
+    let alloc = answers.allocator();
+    let query = query_of(checked);
+    let none = List::new(alloc);
+    let places = places_or(checked, query.cores.len(), &none);
+    let columns = sort_columns(alloc, places.items(), query.order.items())?;
+    let answers = sorted(columns.as_slice(), answers)?;
+    limited(alloc, limit_of(&query.limit), answers)
+}
+
+// How many rows LIMIT keeps.
+fn limit_of(limit: &Option<Value>) -> Option<u64>
+    ensures { result ≡ limit_of limit.now }
+{
+    match limit {
+        None => None,
+        Some(value) => match value {
+            Value::Null => None,
+            Value::Int(number) => count_of(*number),
+            Value::Text(_) => None,
+        },
+    }
+}
+
+fn count_of(number: i64) -> Option<u64>
+    ensures { result ≡ limit_of (Some (Int number)) }
+{
+    if number < 0 {
+        None
+    } else {
+        Some(number as u64)
+    }
+}
+
+fn limited(alloc: Global, limit: Option<u64>, answers: Answers) -> Result<Finished, AllocError>
+    ensures { IfOk result (IsLimited limit answers) }
+{
+    match limit {
+        None => Ok(Finished {
+            answers,
+            cut: LineageSet::empty(alloc),
+        }),
+        Some(count) => cut_at(alloc, count, answers),
+    }
+}
+
+fn cut_at(alloc: Global, count: u64, answers: Answers) -> Result<Finished, AllocError>
+    ensures { IfOk result (IsLimited (Some count) answers) }
+{
+    if count >= answers.len() as u64 {
+        return Ok(Finished {
+            answers,
+            cut: LineageSet::empty(alloc),
+        });
+    }
+    cut_below(alloc, count as usize, answers)
+}
+
+fn cut_below(alloc: Global, count: usize, answers: Answers) -> Result<Finished, AllocError>
+    requires { count ≤ length answers }
+    ensures { IfOk result (IsLimited (Some count) answers) }
+{
+    let mut items = answers.into_vec();
+    let cut = united(alloc, &items[count..])?;
+    items.truncate(count);
+    Ok(Finished {
+        answers: List::of_vec(items),
+        cut,
+    })
+}

@@ -1,0 +1,430 @@
+//! The joined rows of FROM for which ON and WHERE are True.
+//!
+//! The sources are taken from left to right. Each condition is tested as soon as its columns are there. Where
+//! an equality ties a column of the next source to an earlier one, the rows are looked up by it; any choice of
+//! rows is right that leaves out only such as fail a condition.
+
+ghost use Rattle.std.specs.Prelude.{◌≡◌, ◌<◌, ◌++◌, ◌∷◌, [], ℕ, List as Items, filter, length, map, not};
+ghost use Rattle.std.specs.Prelude.{IfOk, OnOk};
+ghost use Rattle.std.specs.List.{remove};
+ghost use Rattle.query_eval.specs.Joining.{combos, meets, tests, is_ready, ready, later, remaining, extended};
+ghost use Rattle.query_eval.specs.Joining.{all_extended, EachHas, IsIndex, looked_up};
+ghost use Rattle.query_eval.specs.Placing.{IsPlaced, AllPlaced};
+ghost use Rattle.query_eval.specs.Sourcing.{joined, source_rows, AreWide, SourcesAreWide};
+ghost use Rattle.query_eval.specs.declared.source.SourceRow.{SourceRow as Given};
+ghost use Rattle.sql_model.specs.Meaning.{is_true, truth};
+ghost use Rattle.sql_model.specs.Scope.{InScope, environment};
+
+use crate::index::{Index, index_of, rows_for};
+use crate::placed::Placed;
+use crate::probe::{Found, Probe, probe_at};
+use crate::refs::Refs;
+use crate::source::{Source, SourceRow};
+use ldv_value::{CopyItem, List, Truth, Values};
+use sql_model::truth_of;
+use std::alloc::{AllocError, Global};
+
+/// One row of each source, or of the first ones.
+pub(crate) type Combination<'a> = Refs<'a, SourceRow>;
+/// Combinations, in their order.
+pub(crate) type Combinations<'a> = List<Refs<'a, SourceRow>>;
+
+fn is_certain(truth: Truth) -> bool
+    ensures { result ≡ is_true truth }
+{
+    match truth {
+        Truth::True => true,
+        Truth::False => false,
+        Truth::Unknown => false,
+    }
+}
+
+// Whether a condition is True over a row.
+fn is_met(alloc: Global, cond: &Placed, values: &Values) -> Result<bool, AllocError>
+    ensures { IfOk result (λ met. (scope : Items InScope) → IsPlaced scope cond.now
+        → met ≡ is_true (truth cond.now.expr (environment scope values.now))) }
+{
+    let truth = truth_of(alloc, &cond.expr, values, &cond.places)?;
+    Ok(is_certain(truth))
+}
+
+// Whether each condition is True over a row.
+fn is_met_all(alloc: Global, conds: &[Placed], values: &Values) -> Result<bool, AllocError>
+    ensures { IfOk result (λ met. (scope : Items InScope) → AllPlaced scope conds.now
+        → met ≡ meets scope conds.now values.now) }
+{
+    for cond in conds {
+        let met = is_met(alloc, cond, values)?;
+        if !met {
+            return Ok(false);
+        }
+    }
+    Ok(true)
+}
+
+// Appends copies of values.
+fn add_values(alloc: Global, values: &mut Values, more: &Values) -> Result<(), AllocError>
+    ensures { OnOk result (values.new ≡ values.old ++ more.now) }
+{
+    for value in more.items() {
+        values.push(value.copy_item(alloc)?)?;
+    }
+    Ok(())
+}
+
+/// The values of a joined row.
+pub(crate) fn joined_values(alloc: Global, rows: &[&SourceRow]) -> Result<Values, AllocError>
+    ensures { IfOk result (λ values. values ≡ joined (map (λ r. r.now) rows.now)) }
+{
+    let mut values = List::new(alloc);
+    for row in rows {
+        let row: &SourceRow = *row;
+        add_values(alloc, &mut values, &row.values)?;
+    }
+    Ok(values)
+}
+
+// Whether each condition is True over some rows, joined.
+fn is_combination_met(
+    alloc: Global,
+    conds: &[Placed],
+    rows: &Combination,
+) -> Result<bool, AllocError>
+    ensures { IfOk result (λ met. (scope : Items InScope) → AllPlaced scope conds.now
+        → met ≡ tests scope conds.now rows.now) }
+{
+    let values = joined_values(alloc, rows.items())?;
+    is_met_all(alloc, conds, &values)
+}
+
+// Whether each condition is True over some rows and one row more, joined.
+fn is_extension_met(
+    alloc: Global,
+    conds: &[Placed],
+    prefix: &Combination,
+    row: &SourceRow,
+) -> Result<bool, AllocError>
+    ensures { IfOk result (λ met. (scope : Items InScope) → AllPlaced scope conds.now
+        → met ≡ tests scope conds.now (prefix.now ++ row.now ∷ [])) }
+{
+    if conds.is_empty() {
+        return Ok(true);
+    }
+    if prefix.len() == 0 {
+        return is_met_all(alloc, conds, &row.values);
+    }
+    let mut values = joined_values(alloc, prefix.items())?;
+    add_values(alloc, &mut values, &row.values)?;
+    is_met_all(alloc, conds, &values)
+}
+
+// Adds what a prefix gives with one row.
+fn extend_one<'a>(
+    alloc: Global,
+    made: &mut Combinations<'a>,
+    prefix: &Combination<'a>,
+    row: &'a SourceRow,
+    conds: &[Placed],
+) -> Result<(), AllocError>
+    ensures { OnOk result ((scope : Items InScope) → AllPlaced scope conds.now → (rest : Items Given)
+        → made.new ++ extended scope conds.now prefix.now rest
+        ≡ made.old ++ extended scope conds.now prefix.now (row.now ∷ rest)) }
+{
+    let met = is_extension_met(alloc, conds, prefix, row)?;
+    if met {
+        made.push(prefix.extended(row)?)?;
+    }
+    Ok(())
+}
+
+// Adds what a prefix gives with each row of a source.
+fn extend_all<'a>(
+    alloc: Global,
+    made: &mut Combinations<'a>,
+    prefix: &Combination<'a>,
+    rows: &'a [SourceRow],
+    conds: &[Placed],
+) -> Result<(), AllocError>
+    ensures { OnOk result ((scope : Items InScope) → AllPlaced scope conds.now
+        → made.new ≡ made.old ++ extended scope conds.now prefix.now rows.now) }
+{
+    for row in rows {
+        extend_one(alloc, made, prefix, row, conds)?;
+    }
+    Ok(())
+}
+
+// Adds what a prefix gives with some rows.
+fn extend_by<'a>(
+    alloc: Global,
+    made: &mut Combinations<'a>,
+    prefix: &Combination<'a>,
+    rows: &[&'a SourceRow],
+    conds: &[Placed],
+) -> Result<(), AllocError>
+    ensures { OnOk result ((scope : Items InScope) → AllPlaced scope conds.now
+        → made.new ≡ made.old ++ extended scope conds.now prefix.now (map (λ r. r.now) rows.now)) }
+{
+    for row in rows {
+        extend_one(alloc, made, prefix, *row, conds)?;
+    }
+    Ok(())
+}
+
+// The next level by each row of the source.
+fn scan_level<'a>(
+    alloc: Global,
+    prefixes: &Combinations<'a>,
+    rows: &'a [SourceRow],
+    conds: &[Placed],
+) -> Result<Combinations<'a>, AllocError>
+    ensures { IfOk result (λ made. (scope : Items InScope) → AllPlaced scope conds.now
+        → made ≡ all_extended scope conds.now prefixes.now rows.now) }
+{
+    let mut made = List::new(alloc);
+    for prefix in prefixes.items() {
+        extend_all(alloc, &mut made, prefix, rows, conds)?;
+    }
+    Ok(made)
+}
+
+// Adds what a prefix gives with the rows that are looked up.
+fn extend_found<'a>(
+    alloc: Global,
+    made: &mut Combinations<'a>,
+    prefix: &Combination<'a>,
+    rows: &'a [SourceRow],
+    index: &Index<'a>,
+    probe: Probe,
+    conds: &[Placed],
+) -> Result<(), AllocError>
+    requires { IsIndex index.now.map probe.place rows.now }
+    ensures { OnOk result ((scope : Items InScope) → AllPlaced scope conds.now → (ps : Items (Items Given))
+        → made.new ++ looked_up scope conds.now probe ps rows.now
+        ≡ made.old ++ looked_up scope conds.now probe (prefix.now ∷ ps) rows.now) }
+{
+    match rows_for(index, rows, probe.place, prefix, probe.from as usize) {
+        None => Ok(()),
+        Some(found) => {
+            extend_by(alloc, made, prefix, found.items(), conds)?;
+            Ok(())
+        }
+    }
+}
+
+// The next level by an index.
+fn found_level<'a>(
+    alloc: Global,
+    prefixes: &Combinations<'a>,
+    rows: &'a [SourceRow],
+    index: &Index<'a>,
+    probe: Probe,
+    conds: &[Placed],
+) -> Result<Combinations<'a>, AllocError>
+    requires { IsIndex index.now.map probe.place rows.now }
+    ensures { IfOk result (λ made. (scope : Items InScope) → AllPlaced scope conds.now
+        → made ≡ looked_up scope conds.now probe prefixes.now rows.now) }
+{
+    let mut made = List::new(alloc);
+    for prefix in prefixes.items() {
+        extend_found(alloc, &mut made, prefix, rows, index, probe, conds)?;
+    }
+    Ok(made)
+}
+
+// The conditions without the one at an index.
+fn without(conds: List<Placed>, index: usize) -> List<Placed>
+    requires { index < length conds }
+    ensures { result ≡ remove conds index }
+{
+    let mut items = conds.into_vec();
+    let _cond = items.remove(index);
+    List::of_vec(items)
+}
+
+// The next level by an equality, which is then tested for no row.
+fn tied_level<'a>(
+    alloc: Global,
+    prefixes: &Combinations<'a>,
+    rows: &'a [SourceRow],
+    conds: List<Placed>,
+    found: Found,
+) -> Result<Combinations<'a>, AllocError>
+    requires { found.index < length conds }
+    ensures { IfOk result (λ made. (scope : Items InScope) → AllPlaced scope (remove conds found.index)
+        → made ≡ looked_up scope (remove conds found.index) found.probe prefixes.now rows.now) }
+{
+    let others = without(conds, found.index);
+    let index = index_of(alloc, rows, found.probe.place)?;
+    let made = found_level(alloc, prefixes, rows, &index, found.probe, others.items())?;
+    Ok(made)
+}
+
+// The next level: each prefix with each row of the source for which the conditions are True.
+fn next_level<'a>(
+    alloc: Global,
+    prefixes: &Combinations<'a>,
+    rows: &'a [SourceRow],
+    width: usize,
+    conds: List<Placed>,
+) -> Result<Combinations<'a>, AllocError>
+    ensures { IfOk result (λ made. (scope : Items InScope) → AllPlaced scope conds → EachHas width prefixes.now
+        → made ≡ all_extended scope conds prefixes.now rows.now) }
+{
+    match probe_at(conds.items(), width) {
+        None => {
+            let made = scan_level(alloc, prefixes, rows, conds.items())?;
+            Ok(made)
+        }
+        Some(found) => {
+            let made = tied_level(alloc, prefixes, rows, conds, found)?;
+            Ok(made)
+        }
+    }
+}
+
+// The conditions whose columns are among the first values, and the others.
+#[derive(Drop)]
+struct Parted {
+    ready: List<Placed>,
+    later: List<Placed>,
+}
+
+fn is_ready(cond: &Placed, width: usize) -> bool
+    ensures { result ≡ is_ready width cond.now }
+{
+    cond.places
+        .items()
+        .iter()
+        .all(|place| (*place as usize) < width)
+}
+
+fn part(alloc: Global, conds: List<Placed>, width: usize) -> Result<Parted, AllocError>
+    ensures ready { IfOk result (λ parted. parted.ready ≡ ready width conds) }
+    ensures later { IfOk result (λ parted. parted.later ≡ later width conds) }
+{
+    let mut ready = List::new(alloc);
+    let mut later = List::new(alloc);
+    for cond in conds.into_vec() {
+        if is_ready(&cond, width) {
+            ready.push(cond)?;
+        } else {
+            later.push(cond)?;
+        }
+    }
+    Ok(Parted { ready, later })
+}
+
+// The prefixes so far, the number of values of each, and the conditions that are left to be tested.
+#[derive(Drop)]
+struct Walk<'a> {
+    prefixes: Combinations<'a>,
+    width: usize,
+    left: List<Placed>,
+}
+
+// One source more. More than 2^64 - 1 values count as out of memory.
+fn step<'a>(alloc: Global, walk: Walk<'a>, source: &'a Source) -> Result<Walk<'a>, AllocError>
+    ensures { IfOk result (λ new. (scope : Items InScope) → AllPlaced scope walk.entry.left
+        → EachHas walk.entry.width walk.entry.prefixes
+        → AreWide source.now.width source.now.rows
+        → AllPlaced scope new.left × EachHas new.width new.prefixes
+        × ((rest : Items (Items Given)) → remaining scope new.left new.prefixes rest ≡ remaining scope walk.entry.left walk.entry.prefixes (source.now.rows ∷ rest))) }
+{
+    let Walk {
+        prefixes,
+        width,
+        left,
+    } = walk;
+    let Some(next) = width.checked_add(source.width) else {
+        return Err(AllocError);
+    };
+    let Parted { ready, later } = part(alloc, left, next)?;
+    let prefixes = next_level(alloc, &prefixes, source.rows.items(), width, ready)?;
+    Ok(Walk {
+        prefixes,
+        width: next,
+        left: later,
+    })
+}
+
+// Before the first source.
+fn start<'a>(alloc: Global, conds: List<Placed>) -> Result<Walk<'a>, AllocError>
+    ensures prefixes { IfOk result (λ walk. walk.prefixes ≡ [] ∷ []) }
+    ensures width { IfOk result (λ walk. walk.width ≡ 0) }
+    ensures left { IfOk result (λ walk. walk.left ≡ conds) }
+{
+    let mut prefixes = List::new(alloc);
+    prefixes.push(Refs::new(alloc))?;
+    Ok(Walk {
+        prefixes,
+        width: 0,
+        left: conds,
+    })
+}
+
+// After the last source: the prefixes that meet the conditions that are left.
+fn finish<'a>(alloc: Global, walk: Walk<'a>) -> Result<Combinations<'a>, AllocError>
+    ensures { IfOk result (λ rows. (scope : Items InScope) → AllPlaced scope walk.entry.left
+        → rows ≡ filter (tests scope walk.entry.left) walk.entry.prefixes) }
+{
+    let Walk {
+        prefixes,
+        width: _,
+        left,
+    } = walk;
+    if left.is_empty() {
+        return Ok(prefixes);
+    }
+    kept(alloc, prefixes, left.items())
+}
+
+// Adds a combination, if it meets the conditions.
+fn keep_one<'a>(
+    alloc: Global,
+    rows: &mut Combinations<'a>,
+    combination: Combination<'a>,
+    conds: &[Placed],
+) -> Result<(), AllocError>
+    ensures { OnOk result ((scope : Items InScope) → AllPlaced scope conds.now → (rest : Items (Items Given))
+        → rows.new ++ filter (tests scope conds.now) rest
+        ≡ rows.old ++ filter (tests scope conds.now) (combination.entry ∷ rest)) }
+{
+    let met = is_combination_met(alloc, conds, &combination)?;
+    if met {
+        rows.push(combination)?;
+    }
+    Ok(())
+}
+
+// The combinations that meet the conditions.
+fn kept<'a>(
+    alloc: Global,
+    combinations: Combinations<'a>,
+    conds: &[Placed],
+) -> Result<Combinations<'a>, AllocError>
+    ensures { IfOk result (λ rows. (scope : Items InScope) → AllPlaced scope conds.now
+        → rows ≡ filter (tests scope conds.now) combinations.entry) }
+{
+    let mut rows = List::new(alloc);
+    for combination in combinations.into_vec() {
+        keep_one(alloc, &mut rows, combination, conds)?;
+    }
+    Ok(rows)
+}
+
+/// The combinations of rows, one of each source, for which each condition is True.
+pub(crate) fn join<'a>(
+    alloc: Global,
+    sources: &'a [Source],
+    conds: List<Placed>,
+) -> Result<Combinations<'a>, AllocError>
+    ensures { IfOk result (λ rows. (scope : Items InScope) → AllPlaced scope conds → SourcesAreWide sources.now
+        → rows ≡ filter (tests scope conds) (combos (map source_rows sources.now))) }
+{
+    let mut walk = start(alloc, conds)?;
+    for source in sources {
+        walk = step(alloc, walk, source)?;
+    }
+    finish(alloc, walk)
+}

@@ -1,0 +1,113 @@
+//! Expressions with the places of their columns.
+
+ghost use Rattle.std.specs.Prelude.{◌≡◌, ◌++◌, List as Items, ℕ, map, drop, take, IfOk, OnOk};
+ghost use Rattle.query_eval.specs.Placing.{own_places, other_places, IsPlaced, AllPlaced, values_over};
+ghost use Rattle.sql_model.specs.Refusals.{names_of_items};
+ghost use Rattle.sql_model.specs.Scope.{InScope, places_in};
+
+use ldv_value::{CopyItem, List, Places, Value, Values};
+use sql_model::{Expr, Item, value_of};
+use std::alloc::{AllocError, Global};
+
+/// An expression, and the place in the joined row of each column that it names, left to right.
+#[derive(Drop)]
+pub struct Placed {
+    pub expr: Expr,
+    pub places: Places,
+}
+
+/// Appends the places that an expression takes of those from `at` on; afterwards `at` is after them.
+#[tactic(auto, using(crate::proofs::Names::own_forms))]
+pub(crate) fn take_places(
+    expr: &Expr,
+    places: &Places,
+    at: &mut usize,
+    own: &mut Places,
+) -> Result<(), AllocError>
+    ensures own { OnOk result (own.new ≡ own.old ++ own_places expr.now (drop at.old places.now)) }
+    ensures others { OnOk result (drop at.new places.now ≡ other_places expr.now (drop at.old places.now)) }
+{
+    match expr {
+        Expr::Constant(_) => Ok(()),
+        Expr::Column(_) => take_place(places, at, own),
+        Expr::Negate(inner) => take_places(inner.get(), places, at, own),
+        Expr::Not(inner) => take_places(inner.get(), places, at, own),
+        Expr::Both(_, left, right) => {
+            take_places(left.get(), places, at, own)?;
+            take_places(right.get(), places, at, own)
+        }
+        Expr::IsNull(inner, _) => take_places(inner.get(), places, at, own),
+        Expr::Aggregate(_, None) => Ok(()),
+        Expr::Aggregate(_, Some(inner)) => take_places(inner.get(), places, at, own),
+    }
+}
+
+// The next place.
+#[tactic(auto, using(crate::proofs::Names::next_forms))]
+fn take_place(places: &Places, at: &mut usize, own: &mut Places) -> Result<(), AllocError>
+    ensures own { OnOk result (own.new ≡ own.old ++ take 1 (drop at.old places.now)) }
+    ensures others { OnOk result (drop at.new places.now ≡ drop 1 (drop at.old places.now)) }
+{
+    match places.get(*at) {
+        None => Ok(()),
+        Some(place) => {
+            own.push(*place)?;
+            *at += 1;
+            Ok(())
+        }
+    }
+}
+
+/// An expression with the places that it takes of those from `at` on; afterwards `at` is after them.
+pub(crate) fn placed_at(
+    alloc: Global,
+    expr: &Expr,
+    places: &Places,
+    at: &mut usize,
+) -> Result<Placed, AllocError>
+    ensures expr { IfOk result (λ placed. placed.expr ≡ expr.now) }
+    ensures places { IfOk result (λ placed. placed.places ≡ own_places expr.now (drop at.old places.now)) }
+    ensures others { OnOk result (drop at.new places.now ≡ other_places expr.now (drop at.old places.now)) }
+{
+    let mut own = List::new(alloc);
+    take_places(expr, places, at, &mut own)?;
+    Ok(Placed {
+        expr: expr.copy_item(alloc)?,
+        places: own,
+    })
+}
+
+/// The items of a core with the places that they take, which come first.
+pub(crate) fn placed_items(
+    alloc: Global,
+    items: &[Item],
+    places: &Places,
+) -> Result<List<Placed>, AllocError>
+    ensures exprs { IfOk result (λ placed. map (λ p. p.expr) placed ≡ map (λ item. item.expr) items.now) }
+    ensures placed { IfOk result (λ placed. (scope : Items InScope) (others : Items ℕ)
+        → places.now ≡ places_in scope (names_of_items items.now) ++ others → AllPlaced scope placed) }
+{
+    let mut at = 0;
+    let mut made = List::new(alloc);
+    for item in items {
+        made.push(placed_at(alloc, &item.expr, places, &mut at)?)?;
+    }
+    Ok(made)
+}
+
+/// The values of expressions over a row.
+pub(crate) fn row_values(
+    alloc: Global,
+    exprs: &[Placed],
+    row: &Values,
+) -> Result<Values, AllocError>
+    ensures { IfOk result (λ values. (scope : Items InScope) → AllPlaced scope exprs.now
+        → values ≡ values_over scope row.now exprs.now) }
+{
+    let mut values = List::with_capacity(alloc, exprs.len())?;
+    for placed in exprs {
+        let value = value_of(alloc, &placed.expr, row, &placed.places)?;
+        values.push(value)?;
+    }
+    Ok(values)
+}

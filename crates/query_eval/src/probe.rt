@@ -1,0 +1,125 @@
+//! The equality by which the rows of the next source are looked up.
+
+ghost use Rattle.std.specs.Prelude.{◌≡◌, IfSome, true};
+ghost use Rattle.query_eval.specs.Joining.{IsBetween, IsColumn, IsEquality, IsProbeOf, HasProbe};
+ghost use Rattle.query_eval.specs.Joining.{is_equal_sign, is_equal_test};
+
+use crate::placed::Placed;
+use ldv_value::Cmp;
+use sql_model::{Expr, Operator};
+
+/// Two columns that are equal: one by its place in the joined row of the earlier sources, and one of the
+/// next source by its place there.
+#[derive(Clone, Copy)]
+pub struct Probe {
+    pub from: u32,
+    pub place: usize,
+}
+
+/// A probe, and the index of its condition.
+#[derive(Clone, Copy)]
+pub struct Found {
+    pub index: usize,
+    pub probe: Probe,
+}
+
+// Whether an expression is an equality of two columns.
+fn is_equality(expr: &Expr) -> bool
+    ensures { result ≡ true → IsEquality expr.now }
+{
+    match expr {
+        Expr::Both(operator, left, right) => {
+            if !is_equal_sign(*operator) {
+                return false;
+            }
+            if !is_column(left.get()) {
+                return false;
+            }
+            is_column(right.get())
+        }
+        _ => false,
+    }
+}
+
+fn is_equal_sign(operator: Operator) -> bool
+    ensures { result ≡ is_equal_sign operator }
+{
+    match operator {
+        Operator::Compare(test) => is_equal_test(test),
+        Operator::Add => false,
+        Operator::Subtract => false,
+        Operator::Multiply => false,
+        Operator::And => false,
+        Operator::Or => false,
+    }
+}
+
+fn is_equal_test(test: Cmp) -> bool
+    ensures { result ≡ is_equal_test test }
+{
+    match test {
+        Cmp::Eq => true,
+        Cmp::Ne => false,
+        Cmp::Lt => false,
+        Cmp::Le => false,
+        Cmp::Gt => false,
+        Cmp::Ge => false,
+    }
+}
+
+/// Whether an expression is a column.
+pub(crate) fn is_column(expr: &Expr) -> bool
+    ensures { result ≡ true → IsColumn expr.now }
+{
+    match expr {
+        Expr::Column(_) => true,
+        _ => false,
+    }
+}
+
+// One place among the first, and one among those that follow.
+fn probe_between(a: u32, b: u32, width: usize) -> Option<Probe>
+    ensures { IfSome result (IsBetween a b width) }
+{
+    if (a as usize) < width && width <= b as usize {
+        Some(Probe {
+            from: a,
+            place: b as usize - width,
+        })
+    } else if (b as usize) < width && width <= a as usize {
+        Some(Probe {
+            from: b,
+            place: a as usize - width,
+        })
+    } else {
+        None
+    }
+}
+
+// The probe of a condition, after so many values.
+fn probe_of(cond: &Placed, width: usize) -> Option<Probe>
+    ensures { IfSome result (IsProbeOf cond.now width) }
+{
+    if !is_equality(&cond.expr) {
+        return None;
+    }
+    let Some(a) = cond.places.get(0) else {
+        return None;
+    };
+    let Some(b) = cond.places.get(1) else {
+        return None;
+    };
+    probe_between(*a, *b, width)
+}
+
+/// The place of the first condition that is such an equality, after so many values.
+pub(crate) fn probe_at(conds: &[Placed], width: usize) -> Option<Found>
+    ensures { IfSome result (λ found. HasProbe conds.now width found.index found.probe) }
+{
+    for (index, cond) in conds.iter().enumerate() {
+        if let Some(probe) = probe_of(cond, width) {
+            return Some(Found { index, probe });
+        }
+    }
+    None
+}

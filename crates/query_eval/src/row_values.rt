@@ -1,0 +1,109 @@
+//! A row of values as the key of a map, without a copy.
+
+ghost use Rattle.std.specs.Prelude.{◌≡◌, [], Some, refl};
+ghost use Rattle.std.specs.Cmp.Lexicographic.{slice_cmp};
+ghost use Rattle.ldv_value.specs.Order.{order};
+ghost use Rattle.query_eval.specs.KeyOrders.{values_order, values_total};
+ghost use Rattle.std.specs.Cmp.{eq_by_cmp_equiv, partial_order_from_agreeing_total, partial_equiv_from_equiv};
+ghost use Rattle.std.specs.Cmp.Rules.{comparing};
+ghost use Rattle.std.specs.Ordering.{eq_by_cmp};
+ghost use Rattle.std.proofs.Common.{rules};
+
+use ldv_value::{Value, Values, compare};
+use std::cmp::Ordering;
+use std::marker::Model;
+
+/// The values of a row, in their order, value by value.
+#[derive(Drop)]
+pub(crate) struct RowValues<'a> {
+    values: &'a Values,
+}
+
+impl<'a> Model for RowValues<'a> {
+    ghost use Rattle.ldv_value.specs.declared.value.Value.{Value as Seen};
+    ghost use Rattle.std.specs.Prelude.{List as Items};
+
+    ghost Value = { Items Seen };
+
+    ghost view = { λ a. a.values.now };
+}
+
+impl<'a> RowValues<'a> {
+    /// Those of a row.
+    pub(crate) fn of(values: &'a Values) -> RowValues<'a>
+        ensures { result ≡ values.now }
+    {
+        RowValues { values }
+    }
+}
+
+impl<'a> PartialEq for RowValues<'a> {
+    ghost eq = { λ x y. eq_by_cmp values_order x y };
+
+    ghost laws = { partial_equiv_from_equiv (eq_by_cmp_equiv values_total) };
+
+    fn eq(&self, other: &RowValues<'a>) -> bool {
+        self.cmp(other).is_eq()
+    }
+}
+
+impl<'a> Eq for RowValues<'a> {
+    ghost laws = { eq_by_cmp_equiv values_total };
+}
+
+impl<'a> PartialOrd for RowValues<'a> {
+    ghost partial_cmp = { λ x y. Some (values_order x y) };
+
+    ghost laws = { partial_order_from_agreeing_total values_order values_total (λ x y. refl) (λ x y. refl) };
+
+    fn partial_cmp(&self, other: &RowValues<'a>) -> Option<Ordering> {
+        Some(self.cmp(other))
+    }
+}
+
+impl<'a> Ord for RowValues<'a> {
+    ghost cmp = { λ x y. values_order x y };
+
+    ghost total = { values_total };
+
+    ghost matches_partial_cmp = { Prim.search (comparing, rules) };
+
+    ghost matches_eq = { λ x y. refl };
+
+    fn cmp(&self, other: &RowValues<'a>) -> Ordering {
+        compare_values(self.values.items(), other.values.items())
+    }
+}
+
+fn compare_values(a: &[Value], b: &[Value]) -> Ordering
+    ensures { result ≡ slice_cmp order a.now b.now }
+{
+    let mut left = a;
+    let mut right = b;
+    loop {
+        match left {
+            [] => return compare_empty(right),
+            [first, rest @ ..] => match right {
+                [] => return Ordering::Greater,
+                [second, more @ ..] => {
+                    let between = compare(first, second);
+                    if between.is_ne() {
+                        return between;
+                    }
+                    left = rest;
+                    right = more;
+                }
+            },
+        }
+    }
+}
+
+// No values against some.
+fn compare_empty(values: &[Value]) -> Ordering
+    ensures { result ≡ slice_cmp order [] values.now }
+{
+    match values {
+        [] => Ordering::Equal,
+        [_first, ..] => Ordering::Less,
+    }
+}

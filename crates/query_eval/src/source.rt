@@ -1,0 +1,26 @@
+//! What a core reads: the rows of its sources.
+
+use ldv_value::{List, Values};
+
+/// A row of a table: its number, its version and its values.
+#[derive(Drop)]
+pub struct SourceRow {
+    pub number: u32,
+    pub version: u32,
+    pub values: Values,
+}
+
+/// A source of a core: the place of its table, from 0, among the names of all tables, the number of the
+/// table's columns, and the rows of the table in the order of their numbers. Rows that are in no picked
+/// combination may be left out.
+#[derive(Drop)]
+pub struct Source {
+    pub table: u32,
+    pub width: usize,
+    pub rows: SourceRows,
+}
+
+/// Rows of a table.
+pub type SourceRows = List<SourceRow>;
+/// The sources of a core, in FROM order.
+pub type Sources = List<Source>;

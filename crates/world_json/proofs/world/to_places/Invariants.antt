@@ -1,6 +1,0 @@
-use Rattle.std.proofs.Common.{◌≡◌, take}
-use Rattle.world_json.specs.Faults.{key_places}
-use Rattle.world_json.proofs.world.to_places.Given as goal
-
-abbrev pub invariant-loop-name : goal.invariant-loop-name
-invariant-loop-name l = l.places ≡ key_places l.columns (take l.name-index l.name-items)
