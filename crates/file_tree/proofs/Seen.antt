@@ -5,7 +5,7 @@ use Rattle.std.specs.declared.alloc.Global.{Global}
 use denote.Ref.{Bor}
 use Rattle.std.specs.declared.cmp.Ordering.{Ordering}
 use Rattle.std.specs.declared.cmp.Ordering.TheVariants.{Less, Equal, Greater}
-use Rattle.std.specs.Ordering.{is_lt, match_ordering, eq_by_cmp}
+use Rattle.std.specs.Ordering.{match_ordering, eq_by_cmp}
 use Rattle.std.specs.Cmp.Lexicographic.{nat_list_cmp_total}
 use Rattle.std.specs.Str.{bytes_eq as same_text}
 use Rattle.std.specs.BTreeMap.{BTreeMap, get_by_text}
@@ -21,15 +21,17 @@ use Rattle.std.specs.FinMap.Entries.{where_key, is_sorted-where_key, is_some-fin
 use Rattle.ldv_value.specs.declared.file.File.{File}
 use Rattle.ldv_value.specs.Limits.{file_limit}
 use Rattle.ldv_value.specs.Names.{path_test}
-use Rattle.ldv_value.specs.Sorted.{is_strictly_sorted, precedes_first, text_precedes}
+use Rattle.ldv_value.specs.Sorted.{is_strictly_sorted, precedes_first}
 use Rattle.ldv_value.specs.FileState.{path_cmp, IsFile, files_test, file_precedes, file_of, file_at, content_in, put_file, remove_file, add_path, FileState, content_at, is_there, IsFileState}
 use Rattle.ldv_value.proofs.Booleans.{and-first, and-second, or-parts, not-true, not-false, false≢true}
 use Rattle.ldv_value.proofs.Lists.{found-passes}
 use Rattle.ldv_value.proofs.SameBytes.{bytes_eq-true, bytes_eq-itself}
-use Rattle.ldv_value.proofs.FileLists.{content-put, touched-add, sorted-add, marks-sorted, eq_by_cmp-path, path-same, entries_of, content-find, entries-put, mark_of, marks_of, marks-add, files-from_entries, paths-from_marks, content-remove, files-sorted, paths-sorted, sorted-put, sorted-remove, same-files}
+use Rattle.ldv_value.proofs.FileLists.{content-put, touched-add, sorted-add, marks-sorted, eq_by_cmp-path, path-same, entries_of, content-find, entries-put, mark_of, marks_of, marks-add, files-from_entries, paths-from_marks, content-remove, files-sorted, paths-sorted, sorted-put, sorted-remove, same-files, marks-back, PathsSorted}
 use Rattle.ldv_value.proofs.FileLaws.{files-put, file-there}
 use Rattle.file_tree.specs.Views.{FileMap, PathSet, map_by_bytes, set_by_bytes, file_from, files_in, paths_in, files_from}
-use Rattle.file_tree.proofs.Views.{get_text, put_text, remove_text, has_mark, add_mark, remove_mark, listed_keys, entries-empty}
+use Rattle.file_tree.proofs.Views.{get_text, put_text, remove_text, has_mark, add_mark, remove_mark, listed_keys}
+use Rattle.ldv_value.proofs.SortedMaps.{entries-empty}
+use Rattle.ldv_value.proofs.Orderings.{is_lt-true}
 
 -- ---- the files of a map
 
@@ -38,7 +40,7 @@ entries_back [] = refl
 entries_back (e ∷ es) = ap (λ l. e ∷ l) (entries_back es)
 
 pub files_in-empty : files_in finmap.empty ≡ []
-files_in-empty = ap (map file_from) entries-empty
+files_in-empty = ap (map file_from) (entries-empty path_cmp)
 
 content-in : (m : FileMap) (q : List ℕ) → content_in (files_in m) q ≡ get m q
 content-in m q = content-find (files_in m) q ∙ ap (finmap.find path_cmp q) (entries_back (entries m)) ∙ sym (get-entries m q)
@@ -108,13 +110,9 @@ pub seen_list : (ks : List (String Global)) → IsStrictlySortedBy string_cmp ks
 seen_list ks h = listed_keys ks h
 
 pub paths_in-empty : paths_in finmap.empty ≡ []
-paths_in-empty = ap (map (λ e. e.0)) entries-empty
+paths_in-empty = ap (map (λ e. e.0)) (entries-empty path_cmp)
 
 -- ---- sorted paths as wholes
-
-firsts : (ps : List (List ℕ)) → map (λ e. e.0) (marks_of ps) ≡ ps
-firsts [] = refl
-firsts (p ∷ ps) = ap (λ (l : List (List ℕ)). p ∷ l) (firsts ps)
 
 same_mark : (x y : Option (Unit {0})) → is_some x ≡ is_some y → x ≡ y
 same_mark None None is = refl
@@ -123,10 +121,7 @@ same_mark (Some u) None is = cc
 same_mark (Some u) (Some v) is = refl
 
 find_any : (q : List ℕ) (ps : List (List ℕ)) → is_some (finmap.find path_cmp q (marks_of ps)) ≡ list_any (bytes_eq q) ps
-find_any q ps = is_some-find path_cmp q (marks_of ps) ∙ ap (list_any (eq_by_cmp path_cmp q)) (firsts ps) ∙ any_same q ps
-
-abbrev PathsSorted : List (List ℕ) → Type 0
-PathsSorted paths = is_strictly_sorted text_precedes paths ≡ true
+find_any q ps = is_some-find path_cmp q (marks_of ps) ∙ ap (list_any (eq_by_cmp path_cmp q)) (marks-back ps) ∙ any_same q ps
 
 -- sorted lists with the same paths are the same
 same_paths : (ps qs : List (List ℕ)) → PathsSorted ps → PathsSorted qs → ((q : List ℕ) → list_any (bytes_eq q) ps ≡ list_any (bytes_eq q) qs) → ps ≡ qs
@@ -232,11 +227,6 @@ pub valid_from : (files : List File) → All (λ f. IsFile f.path f.content) fil
 valid_from [] all = refl
 valid_from (f ∷ fs) all = files-put f.path f.content (files_from fs) (all 0 f (omega arith)) (valid_from fs (λ k d h. all (suc k) d (omega arith)))
 
-is_less : (r : Ordering) → is_lt r ≡ true → r ≡ Less
-is_less Less h = refl
-is_less Equal h = cc
-is_less Greater h = cc
-
 -- sorted files are put in as they are
 pub files_as_given : (files : List File) → is_strictly_sorted file_precedes files ≡ true → files_from files ≡ files
 files_as_given [] sorted = refl
@@ -246,7 +236,7 @@ files_as_given (f ∷ fs) sorted =
   where
     first : (fs : List File) → precedes_first file_precedes f fs ≡ true → put_file f.path f.content fs ≡ f ∷ fs
     first [] h = refl
-    first (g ∷ gs) h = ap (λ r. match_ordering r (f ∷ g ∷ gs) (file_of g.path f.content ∷ gs) (g ∷ put_file f.path f.content gs)) (is_less (path_cmp f.path g.path) h)
+    first (g ∷ gs) h = ap (λ r. match_ordering r (f ∷ g ∷ gs) (file_of g.path f.content ∷ gs) (g ∷ put_file f.path f.content gs)) (is_lt-true (path_cmp f.path g.path) h)
 
 within : (o : Option File) → ((f : File) → o ≡ Some f → length f.content ≤ file_limit) → IfSome (option_map (λ (file : File). file.content) o) (λ bytes. length bytes ≤ file_limit)
 within None h = tt

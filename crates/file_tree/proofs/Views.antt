@@ -15,11 +15,11 @@ use Rattle.std.specs.Map.{lookup, update}
 use Rattle.std.specs.List.{list_any, AllByRecursion}
 use denote.Ref.{Bor}
 use Rattle.std.specs.FinMap.Entries.{below_all}
-use Rattle.std.specs.FinMap.{FinMap, empty, len-empty, len-entries, get, insert, remove, contains_key, from_entries, find, entries, keys, is_sorted, put, entries-insert, get-insert, get-remove, get-from_entries, same_map, get_tied, slice_cmp-IsAntisymmetric, nat_cmp-IsAntisymmetric}
+use Rattle.std.specs.FinMap.{FinMap, get, insert, remove, contains_key, find, entries, keys, is_sorted, get-insert, get-remove, get-from_entries, same_map, get_tied, slice_cmp-IsAntisymmetric, nat_cmp-IsAntisymmetric}
 use Rattle.std.proofs.lemmas.Map.Text.{is_eq-slice_cmp}
-use Rattle.ldv_value.proofs.Booleans.{t-first, t-second, t-both}
-use Rattle.ldv_value.proofs.Lists.{nil-from-length}
+use Rattle.ldv_value.proofs.Booleans.{t-both}
 use Rattle.file_tree.specs.Views.{texts, map_by_bytes, marks, set_by_bytes}
+use Rattle.ldv_value.proofs.SortedMaps.{entries-sorted}
 
 -- the two tests by which a path is found
 tests : (bs q : List ℕ) → bytes_eq bs q ≡ eq_by_cmp (slice_cmp nat_cmp) q bs
@@ -101,26 +101,6 @@ kept m k q v Greater tie is = refl
 pub put_back : {X : Type 0} (m : FinMap (slice_cmp nat_cmp) X) (k : List ℕ) (v : X) → get m k ≡ Some v → insert m k v ≡ m
 put_back m k v is = same _ _ (λ q. get-insert nat_list_cmp_total m k v q ∙ kept m k q v (slice_cmp nat_cmp q k) refl is)
 
--- ---- sorted entries
-
-less : (r : Ordering) → T (is_lt r) → r ≡ Less
-less Less h = refl
-less Equal h = absurd h
-less Greater h = absurd h
-
-put_first : {X : Type 0} (e : List ℕ × X) (es : List (List ℕ × X)) → T (is_sorted (slice_cmp nat_cmp) (e ∷ es)) → put (slice_cmp nat_cmp) e.0 e.1 es ≡ e ∷ es
-put_first e [] h = refl
-put_first e (f ∷ fs) h = let is : slice_cmp nat_cmp e.0 f.0 ≡ Less = less _ (t-first _ _ (t-first _ _ h)) in rw is refl
-
-pub entries-empty : {X : Type 0} → entries (empty {X = X} {R = slice_cmp nat_cmp}) ≡ []
-entries-empty {X = X} = nil-from-length _ (sym (len-entries (empty {X = X} {R = slice_cmp nat_cmp})) ∙ len-empty (slice_cmp nat_cmp) X)
-
--- a map of sorted entries has just these, in this order
-pub listed : {X : Type 0} (es : List (List ℕ × X)) → T (is_sorted (slice_cmp nat_cmp) es) → entries (from_entries {R = slice_cmp nat_cmp} es) ≡ es
-listed [] h = entries-empty
-listed (e ∷ es) h =
-    entries-insert nat_list_cmp_total (from_entries es) e.0 e.1 ∙ ap (put (slice_cmp nat_cmp) e.0 e.1) (listed es (t-second _ _ h)) ∙ put_first e es h
-
 -- ---- the paths of a set
 
 marks_keys : (ks : List (String Global)) → map (λ e. e.0) (marks ks) ≡ map string_bytes ks
@@ -137,7 +117,7 @@ marks_sorted [] h = tt
 marks_sorted (k ∷ ks) h = t-both _ _ (marks_below k ks h.0) (marks_sorted ks h.1)
 
 pub listed_keys : (ks : List (String Global)) → IsStrictlySortedBy string_cmp ks → keys (set_by_bytes ks) ≡ map string_bytes ks
-listed_keys ks h = ap (map (λ e. e.0)) (listed (marks ks) (marks_sorted ks h)) ∙ marks_keys ks
+listed_keys ks h = ap (map (λ e. e.0)) (entries-sorted nat_list_cmp_total (marks ks) (marks_sorted ks h)) ∙ marks_keys ks
 
 pub map_shown : (xs : List (Bor (String Global))) → map (λ p. string_bytes p.now) xs ≡ map string_bytes (map (λ p. p.now) xs)
 map_shown [] = refl

@@ -1,3 +1,4 @@
+pub mod BitLaws
 pub mod MergeSteps
 pub mod SetLaws
 pub mod CountLaws

@@ -1,6 +1,6 @@
 -- What a statement that can be run so far answers, needs and asks is what its parts say.
 use Rattle.std.proofs.Common.{◌≡◌, ℕ, ◌<◌, ◌+◌, List, [], ◌∷◌, ◌++◌, length, take, get_or, refl, sym, ap, ◌∙◌, subst, Bool, true, false, append-nil, arith, inl, inr}
-use Rattle.std.specs.Prelude.{Option, Some, None, Result, Ok, Err, ◌⊎◌, map, filter, find, ◌&&◌, ◌==◌, if◌then◌else◌}
+use Rattle.std.specs.Prelude.{Option, Some, None, Result, Ok, Err, map, filter, find, ◌&&◌, ◌==◌, if◌then◌else◌}
 use Rattle.std.specs.Ordering.{nat_cmp, is_lt}
 use Rattle.std.specs.Cmp.{nat_cmp_is}
 use Rattle.std.specs.declared.cmp.Ordering.TheVariants.{Less}
@@ -32,15 +32,14 @@ use Rattle.sql_model.specs.Refusals.{check_refusal}
 use Rattle.sql_model.specs.Scope.{InScope, same_text, is_table, table_at, rows_of, catalog_of, scope_of, places_in, environment}
 use Rattle.sql_model.specs.Meaning.{is_true, truth}
 use Rattle.sql_model.specs.Statements.{refusal_of, reply_or, reply_of}
-use Rattle.ldv_top.proofs.BuiltStatements.{plain_core, plain_query, Plain, query_is, reply_is, need_none}
+use Rattle.ldv_top.proofs.BuiltStatements.{plain_core, plain_query, Plain, query_is}
 use Rattle.ldv_top.proofs.SelectionNeeds.{NeedsSorted, read_row, picked_rows, built_reply, built_needs, refused_query, built_tables}
 use Rattle.ldv_top.specs.Asks.{core_of, source_in, names_in_source, rows_in_source, first_places, verdict_of, is_met, condition_names, InScopes, row_values, row_need, picked_values, picked_needs, needs_in_source}
 use Rattle.ldv_top.specs.SortedTables.{Above, RowsSorted, TablesSorted}
 use Rattle.ldv_top.specs.Traces.{first_version, reads_of}
-
-cases_option : {A : Type 0} (o : Option A) → (o ≡ None) ⊎ ((x : A) × (o ≡ Some x))
-cases_option None = inl refl
-cases_option (Some x) = inr (x, refl)
+use Rattle.ldv_value.proofs.Cases.{cases-option}
+use Rattle.ldv_value.proofs.Booleans.{and-true}
+use Rattle.sql_model.proofs.Equations.{reply_is, need_is}
 
 -- ---- rows sorted by number
 
@@ -99,13 +98,9 @@ first_versions t (row ∷ rows) = ap (λ (l : List Need). row_need t row ∷ l) 
 
 -- ---- one condition at most
 
-and_true : (b : Bool) → (b && true) ≡ b
-and_true true = refl
-and_true false = refl
-
 met_same : (picks : List Expr) → has_at_most_one picks ≡ true → (scope : List InScope) (row : TableRow) → meets_all picks (environment scope row.values) ≡ is_met picks scope row
 met_same [] one scope row = refl
-met_same (e ∷ []) one scope row = and_true (is_true (truth e (environment scope row.values)))
+met_same (e ∷ []) one scope row = and-true (is_true (truth e (environment scope row.values)))
 met_same (e ∷ f ∷ more) one scope row = cc
 
 module _ (joined : Bool) (item : FromItem) (picks : List Expr) (one : has_at_most_one picks ≡ true) (db : List Table) where
@@ -263,7 +258,7 @@ module _ (st : Statement) (catalog : Catalog) (db : List Table) (built : is_buil
   given v is refusal known = is ∙ ap (λ (c : Catalog). verdict_of (checked_of st c)) same ∙ ap verdict_if known
 
   refused_is : (refusal : SqlRefusal) → Err refusal ≡ verdict_of (checked_of st catalog) → refusal_of (Some st) db ≡ Some refusal
-  refused_is refusal is = elim (cases_option (check_refusal st (catalog_of db))) [
+  refused_is refusal is = elim (cases-option (check_refusal st (catalog_of db))) [
     | inl none ↦ let never : Err refusal ≡ Ok (first_places (places_of st (catalog_of db))) = given (Err refusal) is None none in cc
     | inr found ↦
         let e : Err refusal ≡ Err found.0 = given (Err refusal) is (Some found.0) found.1 in
@@ -272,13 +267,13 @@ module _ (st : Statement) (catalog : Catalog) (db : List Table) (built : is_buil
   ]
 
   pub accepted_refusal : (places : List ℕ) → Ok places ≡ verdict_of (checked_of st catalog) → refusal_of (Some st) db ≡ None
-  accepted_refusal places is = elim (cases_option (check_refusal st (catalog_of db))) [
+  accepted_refusal places is = elim (cases-option (check_refusal st (catalog_of db))) [
     | inl none ↦ refusal_same st db built ∙ none
     | inr found ↦ let never : Ok places ≡ Err found.0 = given (Ok places) is (Some found.0) found.1 in cc
   ]
 
   pub accepted_places : (places : List ℕ) → Ok places ≡ verdict_of (checked_of st catalog) → places ≡ first_places (places_of st (catalog_of db))
-  accepted_places places is = elim (cases_option (check_refusal st (catalog_of db))) [
+  accepted_places places is = elim (cases-option (check_refusal st (catalog_of db))) [
     | inl none ↦ let e : Ok places ≡ Ok (first_places (places_of st (catalog_of db))) = given (Ok places) is None none in cc
     | inr found ↦ let never : Ok places ≡ Err found.0 = given (Ok places) is (Some found.0) found.1 in cc
   ]
@@ -300,4 +295,4 @@ pub reply_none : (db : List Table) → Refused Syntax ≡ reply_of None db
 reply_none db = sym (reply_is None db)
 
 pub reads_none : (db : List Table) → [] ≡ reads_of None db
-reads_none db = sym (ap (map first_version) (need_none db))
+reads_none db = sym (ap (map first_version) (need_is None db))

@@ -18,6 +18,7 @@ use Rattle.run_model.specs.Start.{start_script, start_state}
 use Rattle.run_model.specs.State.{State}
 use Rattle.run_model.specs.WorldRun.{core_after, ends_in, ends_within, outcome_in, outcome_within, steps_in, steps_by}
 use Rattle.run_model.proofs.Equations.{run-over, run-suc, steps-zero, steps-suc}
+use Rattle.ldv_value.proofs.Booleans.{or-right}
 
 -- ---- the state after the steps that were made
 
@@ -40,11 +41,7 @@ module _ {Db : Type 0} (base : Base Db) where
   ]
 
 ended_over : (c : Core) → all_ended c ≡ true → is_over c ≡ true
-ended_over c ended = by (is_some c.diverged)
-  where
-    by : (b : Bool) → (b || all_ended c) ≡ true
-    by true = refl
-    by false = ended
+ended_over c ended = or-right (is_some c.diverged) (all_ended c) ended
 
 -- ---- outcomes of runs that ended
 

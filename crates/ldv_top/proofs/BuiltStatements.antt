@@ -17,20 +17,15 @@ use Rattle.sql_model.specs.declared.statement.Statement.TheVariants.{Query as Th
 use Rattle.sql_model.specs.declared.table.Table.{Table}
 use Rattle.sql_model.specs.QueryAnswer.{AnswerRow, lineage_of, Combination, combination_rows, picked, single, group_row, core_rows, order_by, sort_rows, answer}
 use Rattle.sql_model.specs.Built.{has_none, has_one, has_at_most_one, is_built_core, is_built_union, is_built_query, is_built}
-use Rattle.sql_model.specs.Needs.{Versions, needed_by, sorted_needs, lineage_rows, accepted_needs, needs_by, need_of, made_unless, made_by, updated_unless, updated_rows}
+use Rattle.sql_model.specs.Needs.{Versions, needed_by, lineage_rows, accepted_needs, needs_by, made_unless, made_by, updated_unless, updated_rows}
 use Rattle.sql_model.specs.Scope.{InScope, catalog_of, scope_of}
 use Rattle.sql_model.specs.Sorting.{put_sorted}
-use Rattle.sql_model.specs.Statements.{refusal_of, reply_or, reply_of, after_unless, after}
+use Rattle.sql_model.specs.Statements.{refusal_of, after_unless, after}
+use Rattle.ldv_value.proofs.Booleans.{not-true}
+use Rattle.ldv_value.proofs.Options.{is_none-true}
+use Rattle.sql_model.proofs.Equations.{after_is, made_is, updated_is}
 
 -- ---- the parts of a built query
-
-not_is : (b : Bool) → not b ≡ true → b ≡ false
-not_is true is = cc
-not_is false is = refl
-
-none_is : {A : Type 0} (o : Option A) → is_none o ≡ true → o ≡ None
-none_is None is = refl
-none_is (Some x) is = cc
 
 empty_is : {A : Type 0} (xs : List A) → has_none xs ≡ true → xs ≡ []
 empty_is [] is = refl
@@ -56,11 +51,11 @@ core_is core is =
     let b = and_parts (not core.distinct && is_none core.items) (has_one core.from) c.0 in
     let a = and_parts (not core.distinct) (is_none core.items) b.0 in
     let source = one_is core.from b.1 in
-    let distinct : core.distinct ≡ false = not_is core.distinct a.0 in
-    let items : core.items ≡ None = none_is core.items a.1 in
+    let distinct : core.distinct ≡ false = not-true core.distinct a.0 in
+    let items : core.items ≡ None = is_none-true core.items a.1 in
     let from : core.from ≡ source.0 ∷ [] = source.1 in
     let group : core.group ≡ [] = empty_is core.group c.1 in
-    let having : core.having ≡ None = none_is core.having d.1 in
+    let having : core.having ≡ None = is_none-true core.having d.1 in
     (source.0, λ j. record { joined_all = core.joined_all; distinct = distinct j; items = items j; from = from j; picks = core.picks; group = group j; having = having j })
 
 union_is : (cores : List Core) → is_built_union cores ≡ true → (core : Core) × (is_built_core core ≡ true) × (cores ≡ core ∷ [])
@@ -81,7 +76,7 @@ query_is query is =
     let plain = core_is one.0 one.1 in
     let cores : query.cores ≡ plain_core one.0.joined_all plain.0 one.0.picks ∷ [] = one.2 ∙ ap (λ (core : Core). core ∷ []) plain.1 in
     let order : query.order ≡ [] = empty_is query.order a.1 in
-    let limit : query.limit ≡ None = none_is query.limit b.1 in
+    let limit : query.limit ≡ None = is_none-true query.limit b.1 in
     record { joined = one.0.joined_all; item = plain.0; picks = one.0.picks; same = λ j. record { cores = cores j; order = order j; limit = limit j } }
 
 -- what holds of no statement, and of each plain query, holds of each built statement
@@ -93,32 +88,6 @@ built_cases P none plain (Some (TheQuery query)) is =
 built_cases P none plain (Some (TheInsert insert)) is = absurd cc
 built_cases P none plain (Some (TheUpdate update)) is = absurd cc
 built_cases P none plain (Some (TheDelete delete)) is = absurd cc
-
--- ---- what the definitions are
-
-pub reply_is : (reading : Option Statement) (db : List Table) → reply_of reading db ≡ reply_or (refusal_of reading db) reading db
-unfolding reply_of
-reply_is reading db = refl
-
-pub after_is : (reading : Option Statement) (db : List Table) → after reading db ≡ after_unless (refusal_of reading db) reading db
-unfolding after
-after_is reading db = refl
-
-pub need_none : (db : List Table) → need_of None db ≡ []
-unfolding need_of
-need_none db = refl
-
-pub need_is : (statement : Statement) (db : List Table) → need_of (Some statement) db ≡ sorted_needs (needs_by (refusal_of (Some statement) db) statement db)
-unfolding need_of
-need_is statement db = refl
-
-made_is : (versions : Versions) (reading : Option Statement) (db : List Table) → made_by versions reading db ≡ made_unless (refusal_of reading db) versions reading db
-unfolding made_by
-made_is versions reading db = refl
-
-updated_is : (reading : Option Statement) (db : List Table) → updated_rows reading db ≡ updated_unless (refusal_of reading db) reading db
-unfolding updated_rows
-updated_is reading db = refl
 
 -- ---- what a query leaves: no table changes, no version is made, no row is updated
 

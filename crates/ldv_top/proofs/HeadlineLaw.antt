@@ -26,6 +26,7 @@ use Rattle.ldv_top.specs.Due.{Due, refused, due_of_run, due_outcome, outcome_due
 use Rattle.ldv_top.specs.Headline.{IsPackageOf, Recorded}
 use Rattle.ldv_top.specs.Plain.{plain_script}
 use Rattle.ldv_top.proofs.BudgetLaw.{outcome_ends, ended_starts, ended_outcome, enough_outcome}
+use Rattle.ldv_top.proofs.RecordLaws.{not_too_long}
 
 -- ---- runs that are written
 
@@ -74,9 +75,6 @@ same_due n m v w script in_v in_w outcome of_v of_w =
 
 -- ---- limits
 
-is_short : (bytes : List ℕ) → length bytes ≤ input_limit → is_too_long bytes ≡ false
-is_short bytes short = grind (arith, nat_tests)
-
 not_long : (bytes : List ℕ) → is_too_long bytes ≡ false → length bytes ≤ input_limit
 not_long bytes is = grind (arith, nat_tests)
 
@@ -116,7 +114,7 @@ module _ (again : (p : Package) → IsTyped p → Valid p → length (spelling p
       → due_replay budget (spelling (package_of Included n w)) ≡ due_world n w
   spelling_due n budget w bounded ruled tables typed short enough outcome comes =
       let ended : ends_within n w ≡ true = outcome_ends n w outcome comes in
-      rw (is_short (spelling (package_of Included n w)) short)
+      rw (not_too_long (spelling (package_of Included n w)) short)
       (ap (replayed_reading budget) (read_back n w bounded ended ruled tables typed short) ∙ own_due n budget w ended tables enough outcome comes)
 
   -- the package of a valid world
@@ -131,13 +129,13 @@ module _ (again : (p : Package) → IsTyped p → Valid p → length (spelling p
   pub recorded_due : (mode : Mode) (n : ℕ) (document : List ℕ) (w : World) → length document ≤ input_limit → n ≤ max_steps → world_reading document ≡ Ok w → IsTrue (world_rules w) → tables_test w.tables ≡ true
       → IsTyped (package_of mode n w) → (due_record mode n document).exit ≡ Done → Recorded mode n document (due_record mode n document).bytes
   recorded_due mode n document w short bounded is ruled tables typed done =
-      let recorded : due_record mode n document ≡ recorded_world mode n w = rw (is_short document short) (ap (recorded_reading mode n) is) in
+      let recorded : due_record mode n document ≡ recorded_world mode n w = rw (not_too_long document short) (ap (recorded_reading mode n) is) in
       by mode typed recorded (run_written mode n w (package_due mode n w) (ap (λ (d : Due). d.exit) (sym recorded) ∙ done))
     where
       by : (k : Mode) → IsTyped (package_of k n w) → due_record mode n document ≡ recorded_world k n w → Written k n w (package_due k n w) → Recorded k n document (due_record mode n document).bytes
       by Excluded typed_it recorded ran = let never : false ≡ true = ran.supported in cc
       by Included typed_it recorded ran =
-          let runs : due_run n document ≡ due_world n w = rw (is_short document short) (ap (due_reading n) is) in
+          let runs : due_run n document ≡ due_world n w = rw (not_too_long document short) (ap (due_reading n) is) in
           let p : Package = package_of Included n w in
           let spelled : Spelled (due_spelling (spelling p)) (spelling p) = spelling_done (spelling p) ran.finished in
           let bytes : (due_record mode n document).bytes ≡ spelling p = ap (λ (d : Due). d.bytes) (recorded ∙ ran.due) ∙ spelled.1 in

@@ -27,7 +27,7 @@ use Rattle.ldv_top.proofs.TraceLaw.{events_law, steps_law}
 
 -- ---- the limit of a spelling
 
-not_too_long : (bytes : List ℕ) → length bytes ≤ input_limit → is_too_long bytes ≡ false
+pub not_too_long : (bytes : List ℕ) → length bytes ≤ input_limit → is_too_long bytes ≡ false
 not_too_long bytes short = grind (arith, nat_tests)
 
 too_long : (bytes : List ℕ) → input_limit < length bytes → is_too_long bytes ≡ true

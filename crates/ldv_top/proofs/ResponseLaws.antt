@@ -1,8 +1,6 @@
 -- What is known of a world that was read, and of a plain script's run within a budget.
-use Rattle.std.proofs.Common.{◌≡◌, ℕ, ◌≤◌, ◌<◌, ◌^◌, List, [], ◌∷◌, length, refl, sym, ap, ◌∙◌, subst, Bool, true, false, arith, inl, inr, lit≤}
-use Rattle.std.specs.Prelude.{Option, Some, None, Result, Ok, Err, find, nat_le, if◌then◌else◌, ◌⊎◌, bytes_eq, slice_get, option_and_then, is_some, ◌&&◌}
-use Rattle.std.specs.List.{list_all}
-use Rattle.std.proofs.lemmas.Bool.{cases_Bool}
+use Rattle.std.proofs.Common.{◌≡◌, ℕ, ◌≤◌, ◌<◌, ◌^◌, List, [], length, sym, ap, ◌∙◌, true, arith, inl, inr, lit≤}
+use Rattle.std.specs.Prelude.{Option, Some, None, Result, Ok, Err, nat_le, if◌then◌else◌, bytes_eq, slice_get, option_and_then, is_some}
 use Rattle.std.proofs.lemmas.Bool.Decides.{nat_tests}
 use Rattle.ldv_value.proofs.Cases.{cases-option}
 use Rattle.ldv_value.specs.declared.file.File.{File}
@@ -24,22 +22,7 @@ use Rattle.ldv_top.proofs.BudgetLaw.{outcome_ends, enough_outcome, too_few}
 use Rattle.ldv_top.proofs.BuiltLaw.{plain_steps_built}
 use Rattle.ldv_top.proofs.RunLaw.{plain_law}
 use Rattle.ldv_top.proofs.TraceLaw.{plain_short, steps_law}
-
-and_second : (a b : Bool) → (a && b) ≡ true → b ≡ true
-and_second true b both = both
-and_second false b both = cc
-
-and_first : (a b : Bool) → (a && b) ≡ true → a ≡ true
-and_first true b both = refl
-and_first false b both = both
-
--- the start file is one of them
-found_passes : (p q : File → Bool) (files : List File) (file : File) → list_all q files ≡ true → find p files ≡ Some file → q file ≡ true
-found_passes p q [] file all is = cc
-found_passes p q (f ∷ files) file all is = elim (cases_Bool (p f)) [
-  | inl hit ↦ let e : Some f ≡ Some file = rw hit at is in let same : f ≡ file = cc in subst (λ (g : File). q g ≡ true) same (and_first (q f) (list_all q files) all)
-  | inr miss ↦ found_passes p q files file (and_second (q f) (list_all q files) all) (rw miss at is)
-]
+use Rattle.ldv_value.proofs.Lists.{found-all}
 
 at_most : (n : ℕ) → nat_le n 16777216 ≡ true → n < 2 ^ 32
 at_most n small = grind (arith, nat_tests)
@@ -49,7 +32,7 @@ start_small w file small is = elim (cases-option (slice_get w.start 0)) [
   | inl none ↦ let never : None ≡ Some file = rw none at is in cc
   | inr word ↦
       let found : file_at word.0 w.files ≡ Some file = rw word.1 at is in
-      at_most (length file.content) (found_passes (λ f. bytes_eq word.0 f.path) (λ f. nat_le (length f.content) 16777216) w.files file small found)
+      at_most (length file.content) (found-all (λ f. bytes_eq word.0 f.path) (λ f. nat_le (length f.content) 16777216) w.files file small found)
 ]
 
 -- ---- the run of a plain script

@@ -30,6 +30,7 @@ use Rattle.ldv_top.specs.declared.plain.PlainStep.{PlainStep}
 use Rattle.ldv_top.specs.declared.plain.PlainStep.TheVariants as plain
 use Rattle.ldv_top.specs.Plain.{constant_in, constants_onto, constants_in, plain_ask, plain_sql, plain_step, steps_onto, plain_steps, shown_as, Went, Goes, Stops, shown_line, take_step, go_on, finish, finish_as, finish_of, outcome_from, plain_script}
 use Rattle.ldv_top.proofs.BuiltStatements.{built_after, built_updated}
+use Rattle.ldv_value.proofs.Booleans.{or-right}
 
 -- ---- constants
 
@@ -332,16 +333,9 @@ plain_law w script sts budget enough starts is =
     let came : Came (run sql_base (suc (length script)) [] s) (0 ∷ []) (finish_of w.tables sts) = runs_on w.tables script sts does s.core 0 p refl refl refl refl in
     let split : suc (length script) + (budget - suc (length script)) ≡ budget = omega (arith, enough, short) in
     let over : is_over (run sql_base (suc (length script)) [] s).core ≡ true =
-    ended_over (run sql_base (suc (length script)) [] s).core (came_all_ended (run sql_base (suc (length script)) [] s) (0 ∷ []) (finish_of w.tables sts) came) in
+    or-right (is_some (run sql_base (suc (length script)) [] s).core.diverged) (all_ended (run sql_base (suc (length script)) [] s).core) (came_all_ended (run sql_base (suc (length script)) [] s) (0 ∷ []) (finish_of w.tables sts) came) in
     let at_end : run sql_base budget [] s ≡ run sql_base (suc (length script)) [] s =
     ap (λ (k : ℕ). run sql_base k [] s) (sym split) ∙ (settled sql_base (suc (length script)) (budget - suc (length script)) 1 [] s over).state in
     ap (outcome_in budget [] w) starts
     ∙ ap (λ (t : State SqlDatabase). outcome_at t.core) at_end
     ∙ came_at (run sql_base (suc (length script)) [] s) (finish_of w.tables sts) came
-  where
-    ended_over : (c : Core) → all_ended c ≡ true → is_over c ≡ true
-    ended_over c ended = by (is_some c.diverged)
-      where
-        by : (b : Bool) → (b || all_ended c) ≡ true
-        by true = refl
-        by false = ended

@@ -20,7 +20,9 @@ use Rattle.sql_model.specs.Needs.{NeededRow, needed_row, needed_by, is_same_row,
 use Rattle.sql_model.specs.Refusals.{tables_of_core, tables_of}
 use Rattle.sql_model.specs.Scope.{InScope, is_table, table_at, rows_of, catalog_of, scope_of, environment}
 use Rattle.sql_model.specs.Statements.{refusal_of, reply_or, reply_of}
-use Rattle.ldv_top.proofs.BuiltStatements.{plain_core, plain_query, Plain, query_is, reply_is, need_is, refused_needs, plain_answer, plain_needs}
+use Rattle.ldv_top.proofs.BuiltStatements.{plain_core, plain_query, Plain, query_is, refused_needs, plain_answer, plain_needs}
+use Rattle.ldv_value.proofs.Booleans.{or-false}
+use Rattle.sql_model.proofs.Equations.{reply_is, need_is}
 
 -- ---- sorted lists of needed rows
 
@@ -136,7 +138,7 @@ pub built_needs : (query : Query) (core : Core) (item : FromItem) (db : List Tab
     → NeedsSorted (map (read_row item.table) (picked_rows item core.picks db)) → need_of (Some (TheQuery query)) db ≡ map (read_row item.table) (picked_rows item core.picks db)
 built_needs query core item db built one from accepted sorted =
     let plain = plain_is query core item built one from in
-    need_is (TheQuery query) db
+    need_is (Some (TheQuery query)) db
     ∙ ap (λ (refusal : Option SqlRefusal). sorted_needs (needs_by refusal (TheQuery query) db)) accepted
     ∙ ap (λ (q : Query). sorted_needs (accepted_needs (TheQuery q) db)) plain.1
     ∙ ap sorted_needs (plain_reads plain.0 item core.picks db)
@@ -145,13 +147,9 @@ built_needs query core item db built one from accepted sorted =
 -- a refused query needs no row
 pub refused_query : (query : Query) (db : List Table) (refusal : SqlRefusal) → refusal_of (Some (TheQuery query)) db ≡ Some refusal → need_of (Some (TheQuery query)) db ≡ []
 refused_query query db refusal refused =
-    need_is (TheQuery query) db
+    need_is (Some (TheQuery query)) db
     ∙ ap (λ (r : Option SqlRefusal). sorted_needs (needs_by r (TheQuery query) db)) refused
     ∙ ap sorted_needs (refused_needs query db refusal)
-
-or_false : (b : Bool) → (b || false) ≡ b
-or_false true = refl
-or_false false = refl
 
 -- it asks the tables of its source's name, refused or not
 pub built_tables : (query : Query) (core : Core) (item : FromItem) (db : List Table) → query.cores ≡ core ∷ [] → core.from ≡ item ∷ []
@@ -159,4 +157,4 @@ pub built_tables : (query : Query) (core : Core) (item : FromItem) (db : List Ta
 built_tables query core item db one from =
     let names : tables_of (TheQuery query) ≡ item.table ∷ [] = ap (flat_map tables_of_core) one ∙ ap (λ (sources : List FromItem). map (λ source. source.table) sources ++ []) from in
     (λ j. map table_name (filter (λ table. list_any (λ name. is_table name table) (names j)) db))
-    ∙ (λ j. map table_name (filter (λ table. or_false (is_table item.table table) j) db))
+    ∙ (λ j. map table_name (filter (λ table. or-false (is_table item.table table) j) db))

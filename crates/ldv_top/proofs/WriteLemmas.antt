@@ -1,14 +1,15 @@
 -- Writes one after another, as one.
-use Rattle.std.proofs.Common.{◌≡◌, ℕ, ◌+◌, ◌<◌, ◌≤◌, List, ◌++◌, length, take, drop, get_or, zero, suc, ◌∷◌, [], refl, sym, ap, subst, ◌∙◌, arith, length-append, append_assoc}
+use Rattle.std.proofs.Common.{◌≡◌, ℕ, ◌+◌, ◌<◌, ◌≤◌, List, ◌++◌, length, take, drop, get_or, [], sym, ap, subst, ◌∙◌, arith, length-append}
 use Rattle.std.specs.List.{flat_map}
 use Rattle.std.specs.Prelude.{Option, Result, Ok, Err, ⊤, OnOk, OnErr}
 use Rattle.std.specs.Io.KnownBytes.{Appends}
 use Rattle.std.proofs.KnownBytes.{Appends-trans}
-use Rattle.std.proofs.lemmas.List.{take-append-le}
+use Rattle.std.proofs.lemmas.Grind.{flat_map-append}
+use Rattle.std.proofs.lemmas.List.{take-append-drop, take-append-le, take_more, flat_map_more}
 use Rattle.std.proofs.Math.Seq.{take-append-add}
 use Rattle.ldv_io.specs.declared.whole.WriteStop.{WriteStop}
 use Rattle.ldv_io.specs.Causes.{Rose}
-use Rattle.ldv_top.specs.Written.{AppendsPart, Wrote}
+use Rattle.ldv_top.specs.Written.{AppendsPart, Wrote, Writes}
 
 pub wrote_all : (old new : Option (List ℕ)) (bytes : List ℕ) (r : Result ⊤ WriteStop) → OnOk r (Appends old new bytes) → OnErr r (AppendsPart old new bytes) → Wrote old new bytes r
 wrote_all old new bytes (Ok done) whole part = whole
@@ -27,24 +28,42 @@ pub wrote_then : (old mid new : Option (List ℕ)) (a b : List ℕ) (r : Result 
 wrote_then old mid new a b (Ok done) first second = Appends-trans _ _ _ _ _ first second
 wrote_then old mid new a b (Err stop) first second = failed_then old mid new a b first second
 
-pub rose_later : (before mid now : ℕ) → Rose before mid → mid ≤ now → Rose before now
-rose_later before mid now rose le = omega (arith, rose)
+pub fault_then : (before mid now : ℕ) (r : Result ⊤ WriteStop) → before ≤ mid → OnErr r (Rose mid now) → OnErr r (Rose before now)
+fault_then before mid now (Ok done) le fault = tt
+fault_then before mid now (Err stop) le fault = omega (arith, fault)
 
-pub rose_then : (before mid now : ℕ) → before ≤ mid → Rose mid now → Rose before now
-rose_then before mid now le rose = omega (arith, rose)
+pub ruleset write_steps = (wrote_first, wrote_then, fault_then)
 
-pub ruleset write_steps = (wrote_first, wrote_then, rose_later, rose_then)
+-- ---- calls, one after another
 
--- a list in the order of its pieces, cut at one of them
-pieces_cut : {X : Type 0} (f : X → List ℕ) (xs : List X) (i : ℕ) (d : X) → i < length xs → flat_map f xs ≡ (flat_map f (take i xs) ++ f (get_or xs i d)) ++ flat_map f (drop (suc i) xs)
-pieces_cut f [] i d within = absurd (omega arith)
-pieces_cut f (x ∷ xs) zero d within = refl
-pieces_cut f (x ∷ xs) (suc i) d within =
-    ap (λ l. f x ++ l) (pieces_cut f xs i d (omega arith)) ∙ sym (append_assoc (f x) (flat_map f (take i xs) ++ f (get_or xs i d)) (flat_map f (drop (suc i) xs)))
-    ∙ ap (λ l. l ++ flat_map f (drop (suc i) xs)) (sym (append_assoc (f x) (flat_map f (take i xs)) (f (get_or xs i d))))
+pub writes_then : {Writer : Type 0} {taken : Writer → Option (List ℕ)} {faults : Writer → ℕ} {old mid new : Writer} {a b : List ℕ} {done : ⊤} {r : Result ⊤ WriteStop}
+    → Writes taken faults old mid a (Ok done) → Writes taken faults mid new b r → Writes taken faults old new (a ++ b) r
+writes_then {taken = taken} {faults = faults} {old = old} {mid = mid} {new = new} {a = a} {b = b} {r = r} first second = record {
+  written = wrote_then (taken old) (taken mid) (taken new) a b r first.written second.written;
+  later = omega (arith, first.later, second.later);
+  fault = fault_then (faults old) (faults mid) (faults new) r first.later second.fault;
+}
 
--- a write of one of the pieces that failed, after all before it
-pub wrote_some : {X : Type 0} (f : X → List ℕ) (xs : List X) (i : ℕ) (d : X) (old mid new : Option (List ℕ)) → i < length xs → Appends old mid (flat_map f (take i xs)) → AppendsPart mid new (f (get_or xs i d)) → AppendsPart old new (flat_map f xs)
-wrote_some f xs i d old mid new within before part =
-    subst (AppendsPart old new) (sym (pieces_cut f xs i d within))
-    (wrote_first old new (flat_map f (take i xs) ++ f (get_or xs i d)) (flat_map f (drop (suc i) xs)) (failed_then old mid new (flat_map f (take i xs)) (f (get_or xs i d)) before part))
+-- the first of two failed
+pub writes_stopped : {Writer : Type 0} {taken : Writer → Option (List ℕ)} {faults : Writer → ℕ} {old new : Writer} {a : List ℕ} (b : List ℕ) {stop : WriteStop}
+    → Writes taken faults old new a (Err stop) → Writes taken faults old new (a ++ b) (Err stop)
+writes_stopped {taken = taken} {old = old} {new = new} {a = a} b first = record { written = wrote_first (taken old) (taken new) a b first.written; later = first.later; fault = first.fault }
+
+-- the same bytes, said in other words
+pub writes_same : {Writer : Type 0} {taken : Writer → Option (List ℕ)} {faults : Writer → ℕ} {old new : Writer} {a b : List ℕ} {r : Result ⊤ WriteStop}
+    → a ≡ b → Writes taken faults old new a r → Writes taken faults old new b r
+writes_same {taken = taken} {faults = faults} {old = old} {new = new} {r = r} same first = subst (λ (bytes : List ℕ). Writes taken faults old new bytes r) same first
+
+-- ---- pieces, one after another
+
+-- one more of them
+pub writes_more : {X Writer : Type 0} {taken : Writer → Option (List ℕ)} {faults : Writer → ℕ} {old mid new : Writer} {done : ⊤} {r : Result ⊤ WriteStop} (f : X → List ℕ) (xs : List X) (i : ℕ) (d : X) → i < length xs
+    → Writes taken faults old mid (flat_map f (take i xs)) (Ok done) → Writes taken faults mid new (f (get_or xs i d)) r → Writes taken faults old new (flat_map f (take (i + 1) xs)) r
+writes_more f xs i d within before one =
+    writes_same (flat_map_more f [] (take i xs) (get_or xs i d) ∙ ap (flat_map f) (sym (take_more xs i d within))) (writes_then before one)
+
+-- one of them failed, after all before it
+pub writes_some : {X Writer : Type 0} {taken : Writer → Option (List ℕ)} {faults : Writer → ℕ} {old mid new : Writer} {done : ⊤} {stop : WriteStop} (f : X → List ℕ) (xs : List X) (i : ℕ) (d : X) → i < length xs
+    → Writes taken faults old mid (flat_map f (take i xs)) (Ok done) → Writes taken faults mid new (f (get_or xs i d)) (Err stop) → Writes taken faults old new (flat_map f xs) (Err stop)
+writes_some f xs i d within before one =
+    writes_same (sym (flat_map-append f (take (i + 1) xs) (drop (i + 1) xs)) ∙ ap (flat_map f) (take-append-drop (i + 1) xs)) (writes_stopped _ (writes_more f xs i d within before one))

@@ -18,7 +18,8 @@ use Rattle.sql_model.specs.Statements.{reply_of}
 use Rattle.sql_parse.specs.Texts.{statement_of}
 use Rattle.run_model.specs.declared.outcome.Outcome.{Outcome}
 use Rattle.run_model.specs.declared.outcome.ProcOutcome.{ProcOutcome}
-use Rattle.run_model.specs.Step.{printed_line, exit_status, too_long, wrong_kind}
+use Rattle.run_model.specs.Step.{printed_line, exit_status, wrong_kind}
+use Rattle.run_model.specs.StepBase.{too_long}
 use Rattle.ldv_value.specs.Limits.{printed_limit}
 use Rattle.ldv_top.specs.declared.finish.Finish.{Finish}
 use Rattle.ldv_top.specs.declared.finish.Shown.{Shown}

@@ -1,13 +1,11 @@
 //! The lines of the exits, written with no memory.
 
-ghost use Rattle.std.specs.Prelude.{◌≡◌, ◌++◌, ◌∷◌, [], ℕ, ◌<◌, ◌≤◌, option_map, OnErr};
-ghost use Rattle.std.specs.List.{flat_map};
+ghost use Rattle.std.specs.Prelude.{◌≡◌, ◌++◌, ◌∷◌, [], option_map};
 ghost use Rattle.std.specs.Fmt.{decimal};
-ghost use Rattle.ldv_io.specs.Causes.{Rose};
-ghost use Rattle.run_model.specs.OutcomeText.{name_text};
-ghost use Rattle.ldv_top.specs.Exits.{fixed_fault, damage_line, fixed_line, located, bad_script_line};
-ghost use Rattle.ldv_top.specs.Exits.{numbered_line, line_of};
-ghost use Rattle.ldv_top.specs.Written.{Wrote};
+ghost use Rattle.run_model.specs.OutcomeText.{parts_text, name_text};
+ghost use Rattle.ldv_top.specs.Exits.{fixed_fault, damage_line, fixed_line, numbered, located};
+ghost use Rattle.ldv_top.specs.Exits.{bad_script_line, numbered_line, line_of};
+ghost use Rattle.ldv_top.specs.Written.{Writes};
 
 use crate::exit::Exit;
 use itoa::Buffer;
@@ -16,40 +14,24 @@ use package_layout::DamageKind;
 use world_json::WorldFault;
 
 #[tactic(auto, using(crate::proofs::WriteLemmas::wrote_all))]
-fn write_piece<K: Sink>(sink: &mut K, bytes: &[u8]) -> Result<(), WriteStop>
-    ensures written { Wrote (K.taken sink.old) (K.taken sink.new) bytes.now result }
-    ensures later { K.faults sink.old ≤ K.faults sink.new }
-    ensures fault { OnErr result (Rose (K.faults sink.old) (K.faults sink.new)) }
+fn write_bytes<K: Sink>(sink: &mut K, bytes: &[u8]) -> Result<(), WriteStop>
+    ensures { Writes K.taken K.faults sink.old sink.new bytes.now result }
 {
     write_all(sink, bytes)
 }
 
-#[tactic(auto, using(crate::proofs::WriteLemmas::write_steps))]
-fn write_two<K: Sink>(sink: &mut K, first: &[u8], second: &[u8]) -> Result<(), WriteStop>
-    ensures written { Wrote (K.taken sink.old) (K.taken sink.new) (first.now ++ second.now) result }
-    ensures later { K.faults sink.old ≤ K.faults sink.new }
-    ensures fault { OnErr result (Rose (K.faults sink.old) (K.faults sink.new)) }
-{
-    write_piece(sink, first)?;
-    write_piece(sink, second)
-}
-
 fn write_number<K: Sink>(sink: &mut K, number: u32) -> Result<(), WriteStop>
-    ensures written { Wrote (K.taken sink.old) (K.taken sink.new) (decimal number) result }
-    ensures later { K.faults sink.old ≤ K.faults sink.new }
-    ensures fault { OnErr result (Rose (K.faults sink.old) (K.faults sink.new)) }
+    ensures { Writes K.taken K.faults sink.old sink.new (decimal number) result }
 {
     let mut buffer = Buffer::new();
-    write_piece(sink, buffer.format(number).as_bytes())
+    write_bytes(sink, buffer.format(number).as_bytes())
 }
 
 #[tactic(auto, using(crate::proofs::WriteLemmas::write_steps))]
 fn write_headed<K: Sink>(sink: &mut K, head: &[u8], number: u32) -> Result<(), WriteStop>
-    ensures written { Wrote (K.taken sink.old) (K.taken sink.new) (head.now ++ decimal number) result }
-    ensures later { K.faults sink.old ≤ K.faults sink.new }
-    ensures fault { OnErr result (Rose (K.faults sink.old) (K.faults sink.new)) }
+    ensures { Writes K.taken K.faults sink.old sink.new (head.now ++ decimal number) result }
 {
-    write_piece(sink, head)?;
+    write_bytes(sink, head)?;
     write_number(sink, number)
 }
 
@@ -60,21 +42,15 @@ fn write_numbered<K: Sink>(
     number: u32,
     tail: &[u8],
 ) -> Result<(), WriteStop>
-    ensures written { Wrote (K.taken sink.old)
-        (K.taken sink.new) (head.now ++ decimal number ++ tail.now) result }
-    ensures later { K.faults sink.old ≤ K.faults sink.new }
-    ensures fault { OnErr result (Rose (K.faults sink.old) (K.faults sink.new)) }
+    ensures { Writes K.taken K.faults sink.old sink.new (numbered head.now number tail.now) result }
 {
     write_headed(sink, head, number)?;
-    write_piece(sink, tail)
+    write_bytes(sink, tail)
 }
 
-// A point and a number before each of the parts.
+// A point and a number for each of the parts.
 fn write_parts<K: Sink>(sink: &mut K, parts: &[u32]) -> Result<(), WriteStop>
-    ensures written { Wrote (K.taken sink.old) (K.taken sink.new)
-        (flat_map (λ part. 46 ∷ decimal part) parts.now) result }
-    ensures later { K.faults sink.old ≤ K.faults sink.new }
-    ensures fault { OnErr result (Rose (K.faults sink.old) (K.faults sink.new)) }
+    ensures { Writes K.taken K.faults sink.old sink.new (parts_text parts.now) result }
 {
     for part in parts {
         match write_headed(sink, b".", *part) {
@@ -87,34 +63,26 @@ fn write_parts<K: Sink>(sink: &mut K, parts: &[u32]) -> Result<(), WriteStop>
 
 #[tactic(auto, using(crate::proofs::WriteLemmas::write_steps))]
 fn write_first_parts<K: Sink>(sink: &mut K, first: u32, rest: &[u32]) -> Result<(), WriteStop>
-    ensures written { Wrote (K.taken sink.old) (K.taken sink.new) (decimal first ++ flat_map
-        (λ part. 46 ∷ decimal part) rest.now) result }
-    ensures later { K.faults sink.old ≤ K.faults sink.new }
-    ensures fault { OnErr result (Rose (K.faults sink.old) (K.faults sink.new)) }
+    ensures { Writes K.taken K.faults sink.old sink.new (decimal first ++ parts_text rest.now) result }
 {
     write_number(sink, first)?;
     write_parts(sink, rest)
 }
 
 fn write_name<K: Sink>(sink: &mut K, parts: &[u32]) -> Result<(), WriteStop>
-    ensures written { Wrote (K.taken sink.old) (K.taken sink.new) (name_text parts.now) result }
-    ensures later { K.faults sink.old ≤ K.faults sink.new }
-    ensures fault { OnErr result (Rose (K.faults sink.old) (K.faults sink.new)) }
+    ensures { Writes K.taken K.faults sink.old sink.new (name_text parts.now) result }
 {
     match parts {
-        [] => write_piece(sink, b""),
+        [] => Ok(()),
         [first, rest @ ..] => write_first_parts(sink, *first, rest),
     }
 }
 
 #[tactic(auto, using(crate::proofs::WriteLemmas::write_steps))]
 fn write_named<K: Sink>(sink: &mut K, head: &[u8], parts: &[u32]) -> Result<(), WriteStop>
-    ensures written { Wrote (K.taken sink.old)
-        (K.taken sink.new) (head.now ++ name_text parts.now) result }
-    ensures later { K.faults sink.old ≤ K.faults sink.new }
-    ensures fault { OnErr result (Rose (K.faults sink.old) (K.faults sink.new)) }
+    ensures { Writes K.taken K.faults sink.old sink.new (head.now ++ name_text parts.now) result }
 {
-    write_piece(sink, head)?;
+    write_bytes(sink, head)?;
     write_name(sink, parts)
 }
 
@@ -126,10 +94,8 @@ fn write_located<K: Sink>(
     middle: &[u8],
     number: u32,
 ) -> Result<(), WriteStop>
-    ensures written { Wrote (K.taken sink.old)
-        (K.taken sink.new) (located head.now parts.now middle.now number (10 ∷ [])) result }
-    ensures later { K.faults sink.old ≤ K.faults sink.new }
-    ensures fault { OnErr result (Rose (K.faults sink.old) (K.faults sink.new)) }
+    ensures { Writes K.taken K.faults sink.old sink.new
+        (located head.now parts.now middle.now number (10 ∷ [])) result }
 {
     write_named(sink, head, parts)?;
     write_numbered(sink, middle, number, b"\n")
@@ -186,9 +152,7 @@ fn fixed_message(exit: &Exit) -> Option<&'static [u8]>
 }
 
 fn write_bad_script<K: Sink>(sink: &mut K, fault: &WorldFault) -> Result<(), WriteStop>
-    ensures written { Wrote (K.taken sink.old) (K.taken sink.new) (bad_script_line fault.now) result }
-    ensures later { K.faults sink.old ≤ K.faults sink.new }
-    ensures fault { OnErr result (Rose (K.faults sink.old) (K.faults sink.new)) }
+    ensures { Writes K.taken K.faults sink.old sink.new (bad_script_line fault.now) result }
 {
     match fault {
         WorldFault::BadScript(line) => write_numbered(
@@ -197,14 +161,12 @@ fn write_bad_script<K: Sink>(sink: &mut K, fault: &WorldFault) -> Result<(), Wri
             *line,
             b"\n",
         ),
-        _ => write_piece(sink, b""),
+        _ => write_bytes(sink, b""),
     }
 }
 
 fn write_with_number<K: Sink>(sink: &mut K, exit: &Exit) -> Result<(), WriteStop>
-    ensures written { Wrote (K.taken sink.old) (K.taken sink.new) (numbered_line exit.now) result }
-    ensures later { K.faults sink.old ≤ K.faults sink.new }
-    ensures fault { OnErr result (Rose (K.faults sink.old) (K.faults sink.new)) }
+    ensures { Writes K.taken K.faults sink.old sink.new (numbered_line exit.now) result }
 {
     match exit {
         Exit::NotWorld(fault) => write_bad_script(sink, fault),
@@ -221,19 +183,17 @@ fn write_with_number<K: Sink>(sink: &mut K, exit: &Exit) -> Result<(), WriteStop
             b" statement ",
             *index,
         ),
-        _ => write_piece(sink, b""),
+        _ => write_bytes(sink, b""),
     }
 }
 
 /// Writes the line of an exit, and nothing where all was written. It takes no memory. `Fault` comes only
 /// where a write failed, and then a proper prefix of the line was taken.
 pub fn exit_line<K: Sink>(exit: &Exit, sink: &mut K) -> Result<(), WriteStop>
-    ensures written { Wrote (K.taken sink.old) (K.taken sink.new) (line_of exit.now) result }
-    ensures later { K.faults sink.old ≤ K.faults sink.new }
-    ensures fault { OnErr result (Rose (K.faults sink.old) (K.faults sink.new)) }
+    ensures { Writes K.taken K.faults sink.old sink.new (line_of exit.now) result }
 {
     match fixed_message(exit) {
-        Some(line) => write_piece(sink, line),
+        Some(line) => write_bytes(sink, line),
         None => write_with_number(sink, exit),
     }
 }

@@ -1,5 +1,5 @@
 -- Tests put together. Each is named by its left side, or else by what it takes apart.
-use Rattle.std.proofs.Common.{◌≡◌, refl, Bool, true, false, ◌&&◌, ◌||◌, T}
+use Rattle.std.proofs.Common.{◌≡◌, ◌∙◌, sym, refl, Bool, true, false, ◌&&◌, ◌||◌, T, IsTrue}
 pub use Rattle.std.proofs.lemmas.Bool.{and_parts as and-parts, and_from as and-from, and_cases as and-cases, or_cases as or-cases, or_parts as or-parts, or_from as or-from, or_left as or-left, or_right as or-right, not-true, not-false, false≢true, true≢false, false_from_ne_true as not-so}
 
 pub and-first : (a b : Bool) → (a && b) ≡ true → a ≡ true
@@ -31,6 +31,9 @@ or-false false = refl
 pub or-assoc : (a b c : Bool) → ((a || b) || c) ≡ (a || (b || c))
 or-assoc true b c = refl
 or-assoc false b c = refl
+
+pub false-not : (b : Bool) → b ≡ false → ¬ IsTrue b
+false-not b h is = false≢true (sym h ∙ is)
 
 -- the same over `T`, as std's sorted lists of entries have it
 

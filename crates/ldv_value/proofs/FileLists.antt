@@ -17,6 +17,7 @@ use Rattle.ldv_value.specs.declared.file.File.{File}
 use Rattle.ldv_value.specs.Sorted.{is_strictly_sorted, precedes_first, text_precedes}
 use Rattle.ldv_value.specs.FileState.{path_cmp, file_precedes, file_of, file_at, content_in, put_file, remove_file, add_path}
 use Rattle.ldv_value.proofs.Booleans.{t-first, t-second, t-both, t-from, t-to, and-first, and-second, and-from}
+use Rattle.ldv_value.proofs.Orderings.{is_lt-true}
 
 -- whether two paths are the same, by their order
 pub eq_by_cmp-path : (q p : List ℕ) → eq_by_cmp path_cmp q p ≡ bytes_eq q p
@@ -90,12 +91,12 @@ files-from_entries fs gs is = sym (back fs) ∙ ap (map (λ e. file_of e.0 e.1))
     back [] = refl
     back (f ∷ fs) = ap (λ (l : List File). f ∷ l) (back fs)
 
+pub marks-back : (ps : List (List ℕ)) → map (λ e. e.0) (marks_of ps) ≡ ps
+marks-back [] = refl
+marks-back (p ∷ ps) = ap (λ (l : List (List ℕ)). p ∷ l) (marks-back ps)
+
 pub paths-from_marks : (ps qs : List (List ℕ)) → marks_of ps ≡ marks_of qs → ps ≡ qs
-paths-from_marks ps qs is = sym (back ps) ∙ ap (map (λ e. e.0)) is ∙ back qs
-  where
-    back : (ps : List (List ℕ)) → map (λ e. e.0) (marks_of ps) ≡ ps
-    back [] = refl
-    back (p ∷ ps) = ap (λ (l : List (List ℕ)). p ∷ l) (back ps)
+paths-from_marks ps qs is = sym (marks-back ps) ∙ ap (map (λ e. e.0)) is ∙ marks-back qs
 
 -- ---- what is found after a change
 
@@ -138,11 +139,6 @@ touched-add p (r ∷ rs) q = by (path_cmp p r) refl (touched-add p rs q)
 
 -- ---- sorted lists
 
-less : (r : Ordering) → is_lt r ≡ true → r ≡ Less
-less Less h = refl
-less Equal h = cc
-less Greater h = cc
-
 module _ {X V : Type 0} (key : X → List ℕ) (value : X → V) where
   abbrev keyed : List X → List (List ℕ × V)
   keyed = map (λ x. (key x, value x))
@@ -153,13 +149,13 @@ module _ {X V : Type 0} (key : X → List ℕ) (value : X → V) where
   below-weaker : (k l : List ℕ) (es : List (List ℕ × V)) → path_cmp k l ≡ Less → T (below_all path_cmp l es) → T (below_all path_cmp k es)
   below-weaker k l [] first h = tt
   below-weaker k l (e ∷ es) first h =
-      let second : path_cmp l e.0 ≡ Less = less _ (t-to _ (t-first _ _ h)) in
+      let second : path_cmp l e.0 ≡ Less = is_lt-true _ (t-to _ (t-first _ _ h)) in
       let both : path_cmp k e.0 ≡ Less = nat_list_cmp_total.trans k l e.0 first second in
       t-both _ _ (subst (λ r. T (is_lt r)) (sym both) tt) (below-weaker k l es first (t-second _ _ h))
 
   below-next : (x : X) (xs : List X) → precedes_first by_key x xs ≡ true → T (is_sorted path_cmp (keyed xs)) → T (below_all path_cmp (key x) (keyed xs))
   below-next x [] first h = tt
-  below-next x (y ∷ ys) first h = t-both _ _ (t-from _ first) (below-weaker (key x) (key y) (keyed ys) (less _ first) (t-first _ _ h))
+  below-next x (y ∷ ys) first h = t-both _ _ (t-from _ first) (below-weaker (key x) (key y) (keyed ys) (is_lt-true _ first) (t-first _ _ h))
 
   -- each item precedes the next, so all after it
   pub sorted-to : (xs : List X) → is_strictly_sorted by_key xs ≡ true → T (is_sorted path_cmp (keyed xs))
@@ -180,7 +176,7 @@ module _ {X V : Type 0} (key : X → List ℕ) (value : X → V) where
 abbrev FilesSorted : List File → Type 0
 FilesSorted files = is_strictly_sorted file_precedes files ≡ true
 
-abbrev PathsSorted : List (List ℕ) → Type 0
+abbrev pub PathsSorted : List (List ℕ) → Type 0
 PathsSorted paths = is_strictly_sorted text_precedes paths ≡ true
 
 pub entries-sorted : (files : List File) → FilesSorted files → T (is_sorted path_cmp (entries_of files))

@@ -4,7 +4,9 @@ pub mod FileLaws
 pub mod FileLists
 pub mod Lists
 pub mod Options
+pub mod Orderings
 pub mod Places
 pub mod SameBytes
 pub mod Scanning
+pub mod SortedMaps
 pub mod Utf8Parts

@@ -1,8 +1,12 @@
 -- A scanner byte by byte, as a loop over the bytes runs it.
-use Rattle.std.proofs.Common.{◌≡◌, ℕ, ◌+◌, ◌<◌, List, ◌++◌, refl, length, get_or, drop, drop-cons, append_assoc, add-one, ap, ◌∙◌, sym, Some, None}
+use Rattle.std.proofs.Common.{◌≡◌, ℕ, ◌+◌, ◌<◌, List, [], ◌++◌, refl, length, get_or, drop, drop-cons, append_assoc, add-one, ap, ◌∙◌, sym, Some, None}
 use Rattle.std.specs.Prelude.{Option, option_to_list}
 use Rattle.ldv_value.specs.Options.{◌>>=◌}
 use Rattle.ldv_value.specs.Scan.{Stepping, Finishing, before, tokens_from}
+
+pub before-none : {Token : Type 0} (o : Option (List Token)) → before [] o ≡ o
+before-none None = refl
+before-none (Some ts) = refl
 
 pub before-before : {Token : Type 0} (a b : List Token) (o : Option (List Token)) → before a (before b o) ≡ before (a ++ b) o
 before-before a b None = refl

@@ -59,7 +59,7 @@ pub type Parts = List<u32>;
 /// Row numbers.
 pub type Numbers = List<u32>;
 /// Indexes of columns, from 0.
-pub type Places = List<u32>;
+pub type Places = List<usize>;
 /// Lists of indexes of columns.
 pub type PlaceLists = List<Places>;
 /// Numbers of calls, counted from 1.

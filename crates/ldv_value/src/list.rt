@@ -170,3 +170,9 @@ impl CopyItem for u64 {
         Ok(*self)
     }
 }
+
+impl CopyItem for usize {
+    fn copy_item(&self, _alloc: Global) -> Result<Self, AllocError> {
+        Ok(*self)
+    }
+}

@@ -16,7 +16,7 @@ fn row(alloc: Global) -> Result<Values, AllocError> {
     Ok(row)
 }
 
-fn places(alloc: Global, places: &[u32]) -> Result<Places, AllocError> {
+fn places(alloc: Global, places: &[usize]) -> Result<Places, AllocError> {
     Ok(Places::of_vec(Vec::from_slice(alloc, places)?))
 }
 
@@ -44,7 +44,7 @@ fn expect_value(
     rt: &impl Abort,
     alloc: Global,
     expr: &Expr,
-    at: &[u32],
+    at: &[usize],
     want: &Value,
 ) -> Result<(), AllocError> {
     let value = value_of(alloc, expr, &row(alloc)?, &places(alloc, at)?)?;
@@ -56,7 +56,7 @@ fn expect_truth(
     rt: &impl Abort,
     alloc: Global,
     expr: &Expr,
-    at: &[u32],
+    at: &[usize],
     want: Truth,
 ) -> Result<(), AllocError> {
     let truth = truth_of(alloc, expr, &row(alloc)?, &places(alloc, at)?)?;
@@ -68,7 +68,7 @@ fn expect_value_of_text(
     rt: &impl Abort,
     alloc: Global,
     text: &str,
-    at: &[u32],
+    at: &[usize],
     want: &Value,
 ) -> Result<(), AllocError> {
     let text = format!(in alloc; "UPDATE t SET v = {text}")?;
@@ -85,7 +85,7 @@ fn expect_truth_of_text(
     rt: &impl Abort,
     alloc: Global,
     text: &str,
-    at: &[u32],
+    at: &[usize],
     want: Truth,
 ) -> Result<(), AllocError> {
     let text = format!(in alloc; "DELETE FROM t WHERE {text}")?;
@@ -101,7 +101,7 @@ fn expect_truth_of_text(
 // Numbers, with NULL where a result is outside 64 bits.
 #[test]
 fn has_numbers(rt: HostRuntime) -> Result<(), Fail> {
-    let cases: [(&str, &[u32], i64); 11] = [
+    let cases: [(&str, &[usize], i64); 11] = [
         ("a", &[0], 7),
         ("z", &[0], 7),
         ("a + a * 3", &[0, 0], 28),
@@ -122,7 +122,7 @@ fn has_numbers(rt: HostRuntime) -> Result<(), Fail> {
 
 #[test]
 fn has_null(rt: HostRuntime) -> Result<(), Fail> {
-    let cases: [(&str, &[u32]); 9] = [
+    let cases: [(&str, &[usize]); 9] = [
         ("NULL", &[]),
         ("b", &[1]),
         ("b + a", &[1, 0]),
@@ -141,7 +141,7 @@ fn has_null(rt: HostRuntime) -> Result<(), Fail> {
 
 #[test]
 fn has_texts(rt: HostRuntime) -> Result<(), Fail> {
-    let cases: [(&str, &[u32], &str); 4] = [
+    let cases: [(&str, &[usize], &str); 4] = [
         ("c", &[2], "x"),
         ("MAX(c)", &[2], "x"),
         ("'it''s'", &[], "it's"),
@@ -156,7 +156,7 @@ fn has_texts(rt: HostRuntime) -> Result<(), Fail> {
 
 #[test]
 fn knows_truths(rt: HostRuntime) -> Result<(), Fail> {
-    let cases: [(&str, &[u32], Truth); 16] = [
+    let cases: [(&str, &[usize], Truth); 16] = [
         ("a = 7", &[0], Truth::True),
         ("a <> 7", &[0], Truth::False),
         ("a < 8", &[0], Truth::True),

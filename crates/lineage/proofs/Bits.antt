@@ -1,64 +1,24 @@
 -- Rows as bits of blocks.
-use Rattle.std.proofs.Common.{◌≡◌, ◌≢◌, ◌==◌, ◌∙◌, sym, ap, subst, refl, ℕ, ◌+◌, ◌*◌, ◌/◌, ◌%◌, ◌^◌, ◌<◌, ◌||◌, ◌&&◌, inl, inr, Bool, true, false, cond, not, List, [], length, get_or, set, Option, Some, None, is_some, arith, bit_and, w64, Bor, get_or-set_same, get_or-set_other, eq-eqb}
+use Rattle.std.proofs.Common.{◌≡◌, ◌==◌, ◌∙◌, sym, ap, subst, refl, ℕ, ◌+◌, ◌*◌, ◌/◌, ◌%◌, ◌<◌, ◌||◌, ◌&&◌, inl, inr, Bool, true, false, cond, not, List, [], length, Option, Some, None, is_some, arith, Bor, eq-eqb}
 use Rattle.std.specs.Prelude.{unwrap_or, MatchOption, IfSome}
 use Rattle.std.specs.BTreeMap as tree
 use Rattle.std.specs.BTreeMap.{BTreeMap, is_at, Updates}
 use Rattle.std.specs.Cmp.{both_ways}
-use Rattle.std.specs.Int.{bit_at, bit_not}
 use Rattle.std.specs.Ordering.{eq_by_cmp, is_eq}
-use Rattle.std.specs.declared.cmp.Ordering.{Ordering}
-use Rattle.std.specs.declared.cmp.Ordering.TheVariants.{Less, Equal, Greater}
-use Rattle.std.proofs.lemmas.Bool.{cases_Bool, cases_eq, cases_lt, ne_eqb}
+use Rattle.std.proofs.lemmas.Bool.{cases_Bool, cases_lt}
 use Rattle.std.proofs.lemmas.Bool.Decides.{Decides-eqb}
 use Rattle.std.proofs.lemmas.Cmp.{tied_itself}
-use Rattle.std.proofs.lemmas.Nat.Bits.{bit_at-zero, bit_at_clear_same, bit_at_clear_other}
+use Rattle.std.proofs.lemmas.Nat.Bits.{bit_at-zero}
 use Rattle.lanes.specs.Sets.{member}
 use Rattle.lineage.specs.Blocks.{block_of, words_at, has_bit, AreLong, has_in_block, HasNone, IsBlock, Keeps}
 use Rattle.lineage.specs.Lineage.{Row, row_cmp, Lineage, version_at, has_row}
-use Rattle.lineage.proofs.Laws.{row_total, row_exact}
+use Rattle.lineage.proofs.Laws.{row_total, same_row}
 use Rattle.lineage.proofs.Maps.{version_found, turned}
 use Rattle.lanes.proofs.SetLaws.{no_member}
 use Rattle.ldv_value.proofs.Booleans.{true≢false}
 use Rattle.std.specs.FinMap.{from_entries}
 
--- ---- a bit cleared
-
-pub cleared : (words : List ℕ) (number : ℕ) → number / 64 < length words → (n : ℕ)
-    → member (set words (number / 64) (bit_and (get_or words (number / 64) 0) (bit_not w64 (1 * 2 ^ (number % 64) % 2 ^ 64)))) n ≡ (not (n == number) && member words n)
-cleared words number room n =
-    let place : ℕ = number / 64 in
-    let bit : ℕ = number % 64 in
-    let word : ℕ = bit_and (get_or words place 0) (bit_not w64 (1 * 2 ^ bit % 2 ^ 64)) in
-    let new : List ℕ = set words place word in
-    let within : bit < 64 = omega arith in
-    elim (cases_eq (n / 64) place) [
-      | inl here ↦
-          let at : get_or new (n / 64) 0 ≡ word = ap (λ (k : ℕ). get_or new k 0) here ∙ rw get_or-set_same refl in
-          elim (cases_eq (n % 64) bit) [
-            | inl same ↦
-                let is : n ≡ number = omega arith in
-                ap (λ (w : ℕ). bit_at w (n % 64) == 1) at ∙ ap (λ (k : ℕ). bit_at word k == 1) same ∙ ap (λ (p : ℕ). p == 1) (bit_at_clear_same w64 (get_or words place 0) bit within)
-                ∙ ap (λ (b : Bool). not b && member words n) (sym (eq-eqb n number is))
-            | inr other ↦
-                let apart : n ≢ number = λ is. other (ap (λ (k : ℕ). k % 64) is) in
-                ap (λ (w : ℕ). bit_at w (n % 64) == 1) at ∙ ap (λ (p : ℕ). p == 1) (bit_at_clear_other w64 (get_or words place 0) bit within (n % 64) (omega arith) other)
-                ∙ ap (λ (k : ℕ). bit_at (get_or words k 0) (n % 64) == 1) (sym here)
-                ∙ ap (λ (b : Bool). not b && member words n) (sym (ne_eqb n number apart))
-          ]
-      | inr there ↦
-          let apart : n ≢ number = λ is. there (ap (λ (k : ℕ). k / 64) is) in
-          ap (λ (w : ℕ). bit_at w (n % 64) == 1) (rw get_or-set_other refl) ∙ ap (λ (b : Bool). not b && member words n) (sym (ne_eqb n number apart))
-    ]
-
 -- ---- rows and their blocks
-
-is_equal : (r : Ordering) → is_eq r ≡ true → r ≡ Equal
-is_equal Less same = cc
-is_equal Equal same = refl
-is_equal Greater same = cc
-
-same_row : (a b : Row) → eq_by_cmp row_cmp a b ≡ true → a ≡ b
-same_row a b is = row_exact a b (is_equal (row_cmp a b) is)
 
 tied_row : (a b : Row) → a ≡ b → eq_by_cmp row_cmp a b ≡ true
 tied_row a b is = ap (λ (r : Row). eq_by_cmp row_cmp a r) (sym is) ∙ ap is_eq (tied_itself row_total a)

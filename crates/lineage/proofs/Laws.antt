@@ -1,5 +1,5 @@
 -- Laws of lineage, for layers that reason by its definitions.
-use Rattle.std.proofs.Common.{◌≡◌, ◌∙◌, sym, ap, refl, ℕ, ◌<◌, List, length, ◌||◌, ◌⊎◌, Bool, true, false, cond, Option, Some, None, is_some, inl, inr}
+use Rattle.std.proofs.Common.{◌≡◌, ◌∙◌, sym, ap, refl, ℕ, ◌<◌, List, length, ◌||◌, Bool, true, false, cond, Option, Some, None, is_some, inl, inr}
 use Rattle.std.specs.Option.{option_or}
 use Rattle.std.specs.declared.cmp.Ordering.TheVariants.{Less, Equal, Greater}
 use Rattle.std.specs.declared.cmp.Ordering.{Ordering}
@@ -8,6 +8,9 @@ use Rattle.std.specs.Cmp.{IsTotalOrder, on_total, then_total, nat_cmp_total}
 use Rattle.std.specs.FinMap.{empty, get-insert, get-empty, get_tied, same_map}
 use Rattle.std.proofs.lemmas.Map.Lookups.{exact_pairs, exact_unsigned}
 use Rattle.std.proofs.lemmas.Bool.{cases_Bool, false≢true}
+pub use Rattle.ldv_value.proofs.Options.{option_or-none as or_none, option_or-assoc as or_assoc}
+use Rattle.ldv_value.proofs.Booleans.{or-cases}
+use Rattle.ldv_value.proofs.Orderings.{is_eq-true}
 use Rattle.lineage.specs.Lineage.{Row, row_cmp, Lineage, version_at, has_row, added, IsUnion, IsNamed}
 
 pub row_total : IsTotalOrder row_cmp
@@ -15,6 +18,9 @@ row_total = then_total (on_total (λ (r : Row). r.0) nat_cmp_total) (on_total (�
 
 pub row_exact : (x y : Row) → row_cmp x y ≡ Equal → x ≡ y
 row_exact = exact_pairs nat_cmp nat_cmp exact_unsigned exact_unsigned
+
+pub same_row : (a b : Row) → eq_by_cmp row_cmp a b ≡ true → a ≡ b
+same_row a b is = row_exact a b (is_eq-true (row_cmp a b) is)
 
 -- two sets with the same rows at the same versions are one
 pub same_set : (one other : Lineage) → ((row : Row) → version_at one row ≡ version_at other row) → one ≡ other
@@ -26,14 +32,6 @@ version_at-empty = get-empty row_cmp
 -- a row alone, at a version
 abbrev pub alone : Row → ℕ → Row → Option ℕ
 alone row version other = cond (eq_by_cmp row_cmp other row) (Some version) None
-
-pub or_none : (o : Option ℕ) → option_or o None ≡ o
-or_none None = refl
-or_none (Some v) = refl
-
-pub or_assoc : (a b c : Option ℕ) → option_or (option_or a b) c ≡ option_or a (option_or b c)
-or_assoc None b c = refl
-or_assoc (Some v) b c = refl
 
 -- what is asked twice by tied keys is answered alike
 pub at_tied : (set : Lineage) (row other : Row) (r : Ordering) → row_cmp other row ≡ r → (o : Option ℕ) → version_at set row ≡ o
@@ -81,29 +79,17 @@ has_row-union one other both is row = ap is_some (is row) ∙ has_either (versio
 
 -- ---- tables with names
 
-or_cases : (a b : Bool) → (a || b) ≡ true → (a ≡ true) ⊎ (b ≡ true)
-or_cases true b h = inl refl
-or_cases false b h = inr h
-
 pub IsNamed-empty : (names : List (List ℕ)) → IsNamed names empty
 IsNamed-empty names row there = absurd (false≢true (sym (ap is_some (version_at-empty row)) ∙ there))
 
-equal_row : (row other : Row) → eq_by_cmp row_cmp other row ≡ true → other ≡ row
-equal_row row other same = row_exact other row (tied (row_cmp other row) same)
-  where
-    tied : (r : Ordering) → is_eq r ≡ true → r ≡ Equal
-    tied Less same = cc
-    tied Equal same = refl
-    tied Greater same = cc
-
 pub IsNamed-added : (names : List (List ℕ)) (set : Lineage) (row : Row) (version : ℕ) → IsNamed names set → row.0 < length names → IsNamed names (added set row version)
-IsNamed-added names set row version named within other there = elim (or_cases (has_row set other) (eq_by_cmp row_cmp other row) (sym (has_row-added set row version other) ∙ there)) [
+IsNamed-added names set row version named within other there = elim (or-cases (has_row set other) (eq_by_cmp row_cmp other row) (sym (has_row-added set row version other) ∙ there)) [
   | inl old ↦ named other old
-  | inr same ↦ rw (equal_row row other same) within
+  | inr same ↦ rw (same_row other row same) within
 ]
 
 pub IsNamed-union : (names : List (List ℕ)) (one other both : Lineage) → IsUnion one other both → IsNamed names one → IsNamed names other → IsNamed names both
-IsNamed-union names one other both is named also row there = elim (or_cases (has_row one row) (has_row other row) (sym (has_row-union one other both is row) ∙ there)) [
+IsNamed-union names one other both is named also row there = elim (or-cases (has_row one row) (has_row other row) (sym (has_row-union one other both is row) ∙ there)) [
   | inl here ↦ named row here
   | inr beside ↦ also row beside
 ]

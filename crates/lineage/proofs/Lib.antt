@@ -5,3 +5,4 @@ pub mod Maps
 pub mod Origins
 pub mod RowLaws
 pub mod Undone
+pub mod Unions

@@ -1,5 +1,5 @@
 -- The entries of a set, listed with the names of their tables.
-use Rattle.std.proofs.Common.{◌≡◌, ◌∙◌, sym, ap, subst, refl, ℕ, zero, suc, ◌<◌, get_or, ◌⊎◌, inl, inr, Bool, true, false, cond, ◌&&◌, T, List, [], ◌∷◌, map, length, arith, Option, Some, is_some, IsTrue}
+use Rattle.std.proofs.Common.{◌≡◌, sym, ap, subst, refl, ℕ, zero, suc, ◌<◌, get_or, ◌⊎◌, inl, inr, Bool, true, false, cond, T, List, [], ◌∷◌, map, length, Option, Some, is_some, IsTrue}
 use Rattle.std.specs.declared.cmp.Ordering.{Ordering}
 use Rattle.std.specs.declared.cmp.Ordering.TheVariants.{Less, Equal, Greater}
 use Rattle.std.specs.List.{AllByRecursion}
@@ -8,59 +8,29 @@ use Rattle.std.specs.Ordering.{nat_cmp, eq_by_cmp, is_lt, ordering_then}
 use Rattle.std.specs.Cmp.{ranked}
 use Rattle.std.specs.Cmp.Lexicographic.{slice_cmp, nat_list_cmp_total}
 use Rattle.std.specs.Map.{keys_of}
-use Rattle.std.specs.FinMap.{find, put, is_sorted, entries, entries_sorted, empty, from_entries, len-empty, len-entries, entries-insert, get-entries, nat_cmp-IsAntisymmetric}
+use Rattle.std.specs.FinMap.{find, is_sorted, entries, entries_sorted, from_entries, get-entries, nat_cmp-IsAntisymmetric}
 use Rattle.std.specs.FinMap.Entries.{below_all}
 use Rattle.std.proofs.lemmas.Cmp.{tied_itself}
 use Rattle.std.proofs.lemmas.Map.Keys.{Less-from_sorted}
 use Rattle.lineage.specs.Lineage.{Row, row_cmp, Lineage, IsNamed, name_at, member, members_of, member_cmp}
 use Rattle.lineage.proofs.Laws.{row_total}
+use Rattle.ldv_value.proofs.Booleans.{t-first, t-second, t-both}
+use Rattle.ldv_value.proofs.Orderings.{t-less}
+use Rattle.ldv_value.proofs.SortedMaps.{entries-sorted}
 
--- ---- a map of sorted entries has just these, in this order
-
-first : (a b : Bool) → T (a && b) → T a
-first true b h = tt
-first false b h = h
-
-second : (a b : Bool) → T (a && b) → T b
-second true b h = h
-second false b h = absurd h
-
-both : (a b : Bool) → T a → T b → T (a && b)
-both true b h g = g
-both false b h g = h
-
-less : (r : Ordering) → T (is_lt r) → r ≡ Less
-less Less h = refl
-less Equal h = absurd h
-less Greater h = absurd h
-
-put_first : (e : Row × ℕ) (es : List (Row × ℕ)) → T (is_sorted row_cmp (e ∷ es)) → put row_cmp e.0 e.1 es ≡ e ∷ es
-put_first e [] h = refl
-put_first e (f ∷ fs) h = let is : row_cmp e.0 f.0 ≡ Less = less _ (first _ _ (first _ _ h)) in rw is refl
-
-none_of_length : {A : Type 0} (es : List A) → length es ≡ 0 → es ≡ []
-none_of_length [] is = refl
-none_of_length (e ∷ es) is = absurd (omega arith)
-
-entries-empty : entries (empty {X = ℕ} {R = row_cmp}) ≡ []
-entries-empty = none_of_length _ (sym (len-entries (empty {X = ℕ} {R = row_cmp})) ∙ len-empty row_cmp ℕ)
-
-listed_sorted : (es : List (Row × ℕ)) → T (is_sorted row_cmp es) → entries (from_entries {R = row_cmp} es) ≡ es
-listed_sorted [] h = entries-empty
-listed_sorted (e ∷ es) h =
-    entries-insert row_total (from_entries es) e.0 e.1 ∙ ap (put row_cmp e.0 e.1) (listed_sorted es (second _ _ h)) ∙ put_first e es h
+-- ---- entries of which the keys are sorted
 
 below_rest : (row : Row) (es : List (Row × ℕ)) → AllByRecursion (λ q. row_cmp row q ≡ Less) (keys_of es) → T (below_all row_cmp row es)
 below_rest row [] h = tt
-below_rest row (e ∷ es) h = both _ _ (subst (λ r. T (is_lt r)) (sym h.0) tt) (below_rest row es h.1)
+below_rest row (e ∷ es) h = t-both _ _ (subst (λ r. T (is_lt r)) (sym h.0) tt) (below_rest row es h.1)
 
 sorted_keys : (es : List (Row × ℕ)) → IsStrictlySortedBy row_cmp (keys_of es) → T (is_sorted row_cmp es)
 unfolding IsStrictlySortedBy
 sorted_keys [] h = tt
-sorted_keys (e ∷ es) h = both _ _ (below_rest e.0 es h.0) (sorted_keys es h.1)
+sorted_keys (e ∷ es) h = t-both _ _ (below_rest e.0 es h.0) (sorted_keys es h.1)
 
 pub listed : (es : List (Row × ℕ)) → IsStrictlySortedBy row_cmp (keys_of es) → entries (from_entries {R = row_cmp} es) ≡ es
-listed es h = listed_sorted es (sorted_keys es h)
+listed es h = entries-sorted row_total es (sorted_keys es h)
 
 -- ---- the tables of entries have names
 
@@ -108,12 +78,12 @@ module _ (names : List (List ℕ)) (sorted : IsStrictlySortedBy (slice_cmp nat_c
 
   members_after : (a : Row × ℕ) (es : List (Row × ℕ)) → T (below_all row_cmp a.0 es) → AllNamed names es → AllByRecursion (λ m. member_cmp (member names a) m ≡ Less) (map (member names) es)
   members_after a [] h named = tt
-  members_after a (e ∷ es) h named = (member_below a e (less _ (first _ _ h)) named.0, members_after a es (second _ _ h) named.1)
+  members_after a (e ∷ es) h named = (member_below a e (t-less _ (t-first _ _ h)) named.0, members_after a es (t-second _ _ h) named.1)
 
   members_sorted : (es : List (Row × ℕ)) → T (is_sorted row_cmp es) → AllNamed names es → IsStrictlySortedBy member_cmp (map (member names) es)
   unfolding IsStrictlySortedBy
   members_sorted [] h named = tt
-  members_sorted (e ∷ es) h named = (members_after e es (first _ _ h) named.1, members_sorted es (second _ _ h) named.1)
+  members_sorted (e ∷ es) h named = (members_after e es (t-first _ _ h) named.1, members_sorted es (t-second _ _ h) named.1)
 
   pub members-sorted : (set : Lineage) → IsNamed names set → IsStrictlySortedBy member_cmp (members_of names set)
   members-sorted set named = members_sorted (entries set) (entries_sorted set) (named_entries names set named)

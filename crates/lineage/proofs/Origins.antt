@@ -17,7 +17,7 @@ use Rattle.ldv_value.proofs.Booleans.{or-false, true≢false}
 use Rattle.ldv_value.proofs.SameBytes.{bytes_eq-true, bytes_eq-itself}
 use Rattle.lineage.specs.Lineage.{Row, row_cmp, Lineage, added, IsUnion, IsNamed, name_at}
 use Rattle.lineage.specs.StandsFor.{origin_at, StandsFor}
-use Rattle.lineage.proofs.Laws.{row_exact, same_set, version_at-empty, version_at-added}
+use Rattle.lineage.proofs.Laws.{same_row, same_set, version_at-empty, version_at-added}
 use Rattle.lineage.proofs.Listed.{names-increase}
 use Rattle.sql_model.proofs.OriginSets.{has_origin-append}
 use Rattle.sql_model.specs.QueryAnswer.{Origin}
@@ -138,7 +138,7 @@ module _ (names : List (List ℕ)) where
         let w : Bool = nat_lt other.0 (length names) in
         let h : Bool = has_origin (origin_at names other) a in
         let e : Bool = eq_by_cmp row_cmp other row in
-        let same : e ≡ true → other ≡ row = λ is. row_exact other row (equal (row_cmp other row) is) in
+        let same : e ≡ true → other ≡ row = λ is. same_row other row is in
         version_at-added set row (version_of row) other
         ∙ ap (λ (o : Option ℕ). option_or o (cond e (Some (version_of row)) None)) (stands other)
         ∙ added_in w h e (version_of other) (version_of row)
@@ -148,8 +148,3 @@ module _ (names : List (List ℕ)) where
         (λ is. row-origin distinct other row ((Decides-ltb other.0 (length names)).0 is) within)
         ∙ sym (ap (λ b. if w && b then Some (version_of other) else None)
         (has_origin-append (origin_at names other) a (origin_at names row ∷ []) ∙ ap (λ b. h || b) (or-false (is_origin (origin_at names other) (origin_at names row)))))
-      where
-        equal : (r : Ordering) → is_eq r ≡ true → r ≡ Equal
-        equal Less is = cc
-        equal Equal is = refl
-        equal Greater is = cc

@@ -1,5 +1,5 @@
 -- Lineage: the rows of tables that an answer row comes from, each at one version.
-use Rattle.std.specs.Prelude.{◌≡◌, ℕ, ◌<◌, List, [], map, length, Bool, if◌then◌else◌, Option, is_some}
+use Rattle.std.specs.Prelude.{◌≡◌, ℕ, ◌<◌, List, [], ◌++◌, map, length, Bool, if◌then◌else◌, Option, is_some}
 use Rattle.std.specs.Prelude.{IsTrue, unwrap_or, slice_get}
 use Rattle.std.specs.Option.{option_or}
 use Rattle.std.specs.Coded.{Coded, coded×, coded_ℕ}
@@ -39,6 +39,10 @@ added set row version = if has_row set row then set else finmap.insert set row v
 abbrev pub IsUnion : Lineage → Lineage → Lineage → Type 0
 IsUnion one other both =
     (row : Row) → version_at both row ≡ option_or (version_at one row) (version_at other row)
+
+-- the union of two sets; a row that is in both has the version of the first
+abbrev pub union_of : Lineage → Lineage → Lineage
+union_of one other = finmap.from_entries (finmap.entries one ++ finmap.entries other)
 
 -- the table of each row of a set has a name
 abbrev pub IsNamed : List (List ℕ) → Lineage → Type 0

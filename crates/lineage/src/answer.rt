@@ -1,6 +1,6 @@
 //! Picked combinations and answer rows, each with its lineage.
 
-use crate::set::LineageSet;
+use crate::lineage_rows::LineageRows;
 use ldv_value::{List, Values};
 
 /// A picked combination: the values of the joined row, in FROM order, and the rows that it joins. Where no
@@ -8,7 +8,7 @@ use ldv_value::{List, Values};
 #[derive(Drop)]
 pub struct Pick {
     pub values: Values,
-    pub lineage: LineageSet,
+    pub lineage: LineageRows,
 }
 
 /// A row of an answer: its values, and the rows that it comes from. Where no lineage is kept, the lineage is
@@ -16,7 +16,7 @@ pub struct Pick {
 #[derive(Drop)]
 pub struct Answer {
     pub values: Values,
-    pub lineage: LineageSet,
+    pub lineage: LineageRows,
 }
 
 /// Picked combinations, in their order.

@@ -10,6 +10,7 @@ ghost use Rattle.lineage.specs.Undo.{without};
 ghost use Rattle.lineage.specs.Blocks.{HasNone, IsBlock};
 
 use crate::blocks::{Blocks, Row, block_of, clear_row, make_block, set_row, with_member};
+use crate::lineage_rows::LineageRows;
 use ldv_value::Names;
 use sql_model::{Member, Members};
 use std::alloc::{AllocError, Global};
@@ -78,6 +79,22 @@ impl LineageSet {
             Ok(()) => Ok(()),
             Err(stop) => {
                 self.take_back(new_rows);
+                Err(stop)
+            }
+        }
+    }
+
+    /// Adds the rows of a list. A row that is in both keeps the version that it has here. On `AllocError` the
+    /// set is as it was.
+    pub fn add_rows(&mut self, other: &LineageRows) -> Result<(), AllocError>
+        ensures ok { OnOk result (IsUnion self.old other.now self.new) }
+        ensures err { OnErr result (self.new ≡ self.old) }
+    {
+        let mut came = Vec::new(self.alloc);
+        match self.add_listed(&mut came, other) {
+            Ok(()) => Ok(()),
+            Err(stop) => {
+                self.take_back(came);
                 Err(stop)
             }
         }
@@ -158,6 +175,21 @@ impl LineageSet {
     {
         for (row, version) in other.versions.iter() {
             match self.add_noted(new_rows, *row, *version) {
+                Ok(()) => {}
+                Err(stop) => return Err(stop),
+            }
+        }
+        Ok(())
+    }
+
+    // Adds the rows of a list, and notes those that are new.
+    fn add_listed(&mut self, new_rows: &mut Vec<Row>, other: &LineageRows) -> Result<(), AllocError>
+        ensures ok { OnOk result (IsUnion self.old other.now self.new) }
+        ensures undo { without self.new new_rows.new.items ≡ without self.old new_rows.old.items }
+    {
+        for entry in other.items() {
+            let (row, version) = *entry;
+            match self.add_noted(new_rows, row, version) {
                 Ok(()) => {}
                 Err(stop) => return Err(stop),
             }

@@ -8,25 +8,27 @@ use Rattle.sql_model.specs.SqlNames.{sql_name_test}
 use Rattle.package_layout.specs.declared.group.Group.{Group}
 use Rattle.package_layout.specs.Fields.{Found, both_at, list_at, text_at, text_spelling, list_spelling}
 use Rattle.package_layout.specs.Room.{some_thousands}
+use Rattle.package_layout.specs.Counts.{IsCountable, CountedGroup}
 use Rattle.package_layout.specs.Groups.{TypedGroup, groups, is_group, group_of, group_at, group_spelling, neighbours_differ, ungroup, ungrouped, grouped_at}
-use Rattle.package_layout.proofs.Laws.{IsField, just, some_is, always, list_all-always, and_true, both_true, restate, made_law, then_law}
+use Rattle.package_layout.proofs.Laws.{IsField, just, some_is, always, list_all-always, Uncounted, all_uncounted, and_true, both_true, restate, recount, made_law, then_law}
 use Rattle.package_layout.proofs.Numbers.{text_law, short_list_law, long_law}
 use Rattle.package_layout.proofs.Groups.{groups_ungroup, add_all_typed, add_all_fits, add_all_apart, ungroup_groups, fits}
 
 -- ---- one group
 
-module _ {P : Type 0} (spell : P → List ℕ) (good : P → Type 0) (read : List ℕ → Found P) (part : IsField spell good always read) (filled : (p : P) → 0 < length (spell p)) where
+module _ {P : Type 0} (spell : P → List ℕ) (good : P → Type 0) (read : List ℕ → Found P) (part : IsField spell good always Uncounted read) (filled : (p : P) → 0 < length (spell p)) where
   abbrev Parts : Type 0
   Parts = List ℕ × List P
 
   abbrev is_good : Group P → Bool
   is_good g = is_group g.table g.parts
 
-  parts_law : IsField (list_spelling w32 spell) (AllByRecursion good) always (list_at w32 read)
-  parts_law = restate (list_spelling w32 spell) (AllByRecursion good) (AllByRecursion good) (list_all always) always (list_at w32 read) (long_law spell good always read part filled)
-      (λ ps t h. (t, list_all-always ps)) (λ ps t h. (t, refl))
+  parts_law : IsField (list_spelling w32 spell) (AllByRecursion good) always IsCountable (list_at w32 read)
+  parts_law = recount IsCountable (restate (list_spelling w32 spell) (AllByRecursion good) (AllByRecursion good) (list_all always) always (list_at w32 read) (long_law spell good always read part filled)
+      (λ ps t h. (t, list_all-always ps)) (λ ps t h. (t, refl)))
+      (λ ps n. (n, all_uncounted ps)) (λ ps n. n.0)
 
-  both_law : IsField (λ (p : Parts). text_spelling p.0 ++ list_spelling w32 spell p.1) (λ (p : Parts). IsUtf8 p.0 × AllByRecursion good p.1) always (both_at text_at (list_at w32 read))
+  both_law : IsField (λ (p : Parts). text_spelling p.0 ++ list_spelling w32 spell p.1) (λ (p : Parts). IsUtf8 p.0 × AllByRecursion good p.1) always (λ (p : Parts). IsCountable p.0 × IsCountable p.1) (both_at text_at (list_at w32 read))
   both_law = then_law text_spelling IsUtf8 always text_at (list_spelling w32 spell) (AllByRecursion good) (λ a. always) (λ a. list_at w32 read) text_law (λ a. parts_law)
 
   abbrev made_of : Parts → Group P
@@ -36,7 +38,7 @@ module _ {P : Type 0} (spell : P → List ℕ) (good : P → Type 0) (read : Lis
   group_from p g true e h = subst (λ (z : Group P). (p ≡ (z.table, z.parts)) × (is_good z ≡ true)) (some_is (made_of p) g h) (refl, e)
   group_from p g false e h = absurd cc
 
-  pub group_law : IsField (group_spelling spell) (TypedGroup good) is_good (group_at read)
+  pub group_law : IsField (group_spelling spell) (TypedGroup good) is_good CountedGroup (group_at read)
   group_law = made_law (λ (p : Parts). text_spelling p.0 ++ list_spelling w32 spell p.1) (λ (p : Parts). IsUtf8 p.0 × AllByRecursion good p.1) always (both_at text_at (list_at w32 read)) (TypedGroup good) is_good group_of (λ g. (g.table, g.parts)) both_law
       (λ g t h. (t, refl, rw h refl))
       (λ p g t f e. let k = group_from p g (is_group p.0 p.1) refl e in (k.0, subst (λ (q : Parts). IsUtf8 q.0 × AllByRecursion good q.1) k.0 t, k.1))
@@ -76,7 +78,7 @@ module _ {X P : Type 0} (table_of : X → List ℕ) (part_of : X → P) (place :
 
 module _ {X P : Type 0} (table_of : X → List ℕ) (part_of : X → P) (place : List ℕ → P → X) (spell : P → List ℕ) (good : P → Type 0) (read : List ℕ → Found P)
     (back : (x : X) → place (table_of x) (part_of x) ≡ x) (table_is : (t : List ℕ) (p : P) → table_of (place t p) ≡ t) (part_is : (t : List ℕ) (p : P) → part_of (place t p) ≡ p)
-    (part : IsField spell good always read) (filled : (p : P) → 0 < length (spell p)) where
+    (part : IsField spell good always Uncounted read) (filled : (p : P) → 0 < length (spell p)) where
   abbrev Typed : X → Type 0
   Typed = TypedItem table_of part_of place good table_is part_is
 
@@ -112,7 +114,7 @@ module _ {X P : Type 0} (table_of : X → List ℕ) (part_of : X → P) (place :
       )
   from_apart gs xs false e t h k = absurd cc
 
-  pub grouped_law : IsField (λ xs. list_spelling w16 (group_spelling spell) (groups table_of part_of xs)) (AllByRecursion Typed) room (grouped_at place read)
+  pub grouped_law : IsField (λ xs. list_spelling w16 (group_spelling spell) (groups table_of part_of xs)) (AllByRecursion Typed) room (λ xs. AllByRecursion CountedGroup (groups table_of part_of xs)) (grouped_at place read)
   grouped_law = made_law (list_spelling w16 (group_spelling spell)) (AllByRecursion (TypedGroup good)) (λ gs. some_thousands gs && list_all ok gs) (list_at w16 (group_at read)) (AllByRecursion Typed) room (ungrouped place) (groups table_of part_of)
       (short_list_law (group_spelling spell) (TypedGroup good) ok (group_at read) (group_law spell good read part filled))
       forth (λ gs xs t h k. from_apart gs xs (neighbours_differ [] gs) refl t h k)

@@ -1,5 +1,5 @@
 -- Packages and their bytes.
-use Rattle.std.proofs.Common.{◌≡◌, ℕ, ◌+◌, ◌-◌, ◌^◌, ◌<◌, ◌≤◌, Bool, true, false, cond, List, ◌++◌, length, take, drop, Option, Some, None, Result, Ok, Err, refl, sym, ap, subst, ◌∙◌, arith}
+use Rattle.std.proofs.Common.{◌≡◌, ℕ, ◌+◌, ◌-◌, ◌<◌, ◌≤◌, Bool, true, false, cond, List, ◌++◌, length, take, drop, Option, Some, None, Result, Ok, Err, refl, sym, ap, subst, ◌∙◌, arith}
 use Rattle.std.specs.Prelude.{bytes_eq, nat_le, IfOk, IfSome, ◌↔◌}
 use Rattle.std.proofs.lemmas.Bool.{leb-true, le-leb}
 use Rattle.std.proofs.lemmas.Slice.Eq.{bytes_eq-Decides}
@@ -13,10 +13,11 @@ use Rattle.package_layout.specs.declared.layout.PackageStop.{PackageStop}
 use Rattle.package_layout.specs.declared.layout.PackageStop.TheVariants.{Damaged}
 use Rattle.package_layout.specs.Version.{Version, One, magic}
 use Rattle.package_layout.specs.Whole.{sections, body, spelling_as, IsTyped, has_room, all_of}
-use Rattle.package_layout.specs.Valid.{rules, Valid, HasMagic, HasDigest, IsNoSpelling, before_digest, middle, kept_if, package_in, has_magic, has_digest, form_of, reading_as}
+use Rattle.package_layout.specs.Counts.{IsCounted}
+use Rattle.package_layout.specs.Valid.{rules, Valid, HasMagic, HasDigest, IsSpelling, IsNoSpelling, before_digest, middle, kept_if, package_in, has_magic, has_digest, form_of, reading_as}
 use Rattle.package_layout.specs.ReadResult.{ReadsAs, damage_before}
 use Rattle.package_layout.proofs.Laws.{IsBytes, IsBytes-take, IsBytes-drop, bind_some, just, some_is, both_true, and_true}
-use Rattle.package_layout.proofs.Whole.{all_again, all_took}
+use Rattle.package_layout.proofs.Whole.{sections_law, all_again, all_took}
 
 -- ---- tests
 
@@ -86,7 +87,7 @@ digest_seen false d o e = absurd cc
 pub record IsRead (v : Version) (bytes : List ℕ) (p : Package) : Type 0 where
   pub is_typed : IsTyped p
   pub is_valid : Valid p
-  pub spells : spelling_as v p ≡ bytes
+  pub spells : IsSpelling v p bytes
 
 abbrev damaged : DamageKind → Result Package PackageStop
 damaged kind = Err (Damaged kind)
@@ -141,24 +142,25 @@ module _ (version : Version) where
 
   -- ---- what is spelled is read
 
-  section_again : (p : Package) → IsTyped p → Valid p → length (spelling_as version p) < 2 ^ 32 → package_in version (sections version p) ≡ Some p
-  section_again p t v len =
+  section_again : (p : Package) → IsTyped p → Valid p → IsCounted p → package_in version (sections version p) ≡ Some p
+  section_again p t v n =
       let both = both_true (has_room p) (rules p) v in
-      let small : length (sections version p) < 2 ^ 32 = omega (arith, spelling_length p, length-append (magic version) (sections version p)) in
-      let one : all_of version (sections version p) ≡ Some p = all_again version p t both.0 small in
+      let one : all_of version (sections version p) ≡ Some p = all_again version p t both.0 n in
       rw one (kept (rules p) p both.1)
 
-  pub read_again : (p : Package) → IsTyped p → Valid p → length (spelling_as version p) < 2 ^ 32 → reading_as version (spelling_as version p) ≡ Ok p
-  read_again p t v len =
+  pub read_again : (p : Package) → IsTyped p → Valid p → IsCounted p → reading_as version (spelling_as version p) ≡ Ok p
+  read_again p t v n =
       let m : has_magic version (spelling_as version p) ≡ true = magic_test (spelling_as version p) (spelled_magic p) in
       let d : has_digest (spelling_as version p) ≡ true = digest_test (spelling_as version p) (spelled_digest p) in
-      let i : package_in version (middle (spelling_as version p)) ≡ Some p = ap (package_in version) (spelled_middle p) ∙ section_again p t v len in
+      let i : package_in version (middle (spelling_as version p)) ≡ Some p = ap (package_in version) (spelled_middle p) ∙ section_again p t v n in
       from_tests (has_magic version (spelling_as version p)) (has_digest (spelling_as version p)) (package_in version (middle (spelling_as version p))) p m d i
 
-  pub one_spelling : (p q : Package) → IsTyped p → IsTyped q → Valid p → Valid q → length (spelling_as version p) < 2 ^ 32 → spelling_as version p ≡ spelling_as version q → p ≡ q
-  one_spelling p q t u v w len e =
-      let other : length (spelling_as version q) < 2 ^ 32 = subst (λ (l : List ℕ). length l < 2 ^ 32) e len in
-      ok_is p q (sym (read_again p t v len) ∙ ap (reading_as version) e ∙ read_again q u w other)
+  pub one_spelling : (p q : Package) → IsTyped p → IsTyped q → Valid p → Valid q → IsCounted p → IsCounted q → spelling_as version p ≡ spelling_as version q → p ≡ q
+  one_spelling p q t u v w n m e = ok_is p q (sym (read_again p t v n) ∙ ap (reading_as version) e ∙ read_again q u w m)
+
+  -- each item has a byte at least, so that all counts of a short spelling fit
+  pub counted_within : (p : Package) → length (spelling_as version p) ≤ 67108864 → IsCounted p
+  counted_within p within = (sections_law version).short p (omega (arith, spelling_length p, length-append (magic version) (sections version p)))
 
   -- ---- what is read was spelled so
 
@@ -178,26 +180,25 @@ module _ (version : Version) where
       let k = all_took version (middle bytes) q clean first.1 in
       let l = kept_is (rules q) q p first.2 in
       let whole : bytes ≡ spelling_as version q = parts_of bytes (magic_fact bytes tests.0) (digest_fact bytes tests.1) ∙ ap (λ (s : List ℕ). (magic version ++ s) ++ sha256 (magic version ++ s)) k.0 in
-      subst (IsRead version bytes) l.1 (record { is_typed = k.1; is_valid = and_true (has_room q) (rules q) k.2 l.0; spells = sym whole })
+      subst (IsRead version bytes) l.1 (record { is_typed = k.1; is_valid = and_true (has_room q) (rules q) k.2 l.0; spells = record { room = k.2; counted = k.3; same = sym whole } })
 
   -- ---- the answers
 
-  pub found : (bytes : List ℕ) (r : Result Package PackageStop) → IsBytes bytes → ReadsAs r (reading_as version bytes) → IfOk r (λ p. IsTyped p × Valid p × (spelling_as version p ≡ bytes))
+  pub found : (bytes : List ℕ) (r : Result Package PackageStop) → IsBytes bytes → ReadsAs r (reading_as version bytes) → IfOk r (λ p. IsTyped p × Valid p × IsSpelling version p bytes)
   found bytes (Ok p) h e = let k = read_is bytes p h e in (k.is_typed, k.is_valid, k.spells)
   found bytes (Err stop) h e = tt
 
-  no_form : (bytes : List ℕ) → reading_as version bytes ≡ Err Form → HasMagic version bytes × HasDigest bytes × (length bytes < 2 ^ 32 → IsNoSpelling version bytes)
+  no_form : (bytes : List ℕ) → reading_as version bytes ≡ Err Form → HasMagic version bytes × HasDigest bytes × IsNoSpelling version bytes
   no_form bytes e =
       let tests = form_tests (has_magic version bytes) (has_digest bytes) (package_in version (middle bytes)) e in (
         magic_fact bytes tests.0,
         digest_fact bytes tests.1,
-        λ len p t v is.
-            let short : length (spelling_as version p) < 2 ^ 32 = subst (λ (l : List ℕ). length l < 2 ^ 32) (sym is) len in
-            let no : read_as p ≡ Err Form = sym (read_again p t v short) ∙ ap (reading_as version) is ∙ e in
+        λ p t v is.
+            let no : read_as p ≡ Err Form = sym (read_again p t v is.counted) ∙ ap (reading_as version) is.same ∙ e in
             cc,
       )
 
-  pub form_is : (bytes : List ℕ) (r : Result Package PackageStop) → ReadsAs r (reading_as version bytes) → r ≡ damaged Form → HasMagic version bytes × HasDigest bytes × (length bytes < 2 ^ 32 → IsNoSpelling version bytes)
+  pub form_is : (bytes : List ℕ) (r : Result Package PackageStop) → ReadsAs r (reading_as version bytes) → r ≡ damaged Form → HasMagic version bytes × HasDigest bytes × IsNoSpelling version bytes
   form_is bytes r a e = no_form bytes (subst (λ z. ReadsAs z (reading_as version bytes)) e a)
 
   at_once_magic : (bytes : List ℕ) (r : Result Package PackageStop) → has_magic version bytes ≡ false → IfSome (damage_before version bytes) (λ kind. r ≡ damaged kind) → r ≡ damaged Magic

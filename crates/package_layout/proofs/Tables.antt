@@ -16,12 +16,13 @@ use Rattle.package_layout.specs.Fields.{Found, then_at, both_at, number_at, text
 use Rattle.package_layout.specs.Spelling.{value_spelling, kind_number, rule_number, column_spelling, number_spelling, reason_spelling, cells_spelling, row_spelling, schema_spelling, table_spelling}
 use Rattle.package_layout.specs.Typed.{IsU32, TypedValue, TypedValues, TypedColumn, TypedRow, TypedTable}
 use Rattle.package_layout.specs.Room.{few, key_room, row_room, table_room}
+use Rattle.package_layout.specs.Counts.{CountedList, CountedValue, CountedColumn, CountedRow, CountedTable}
 use Rattle.package_layout.specs.Reading.{value_at, kind_of, kind_at, column_at, rule_of, rule_at, reason_at, cells_at, row_at, rows_at, key_at, schema_at, table_at}
-use Rattle.package_layout.proofs.Laws.{IsField, just, some_is, always, list_all-always, and_true, both_true, restate, made_law, then_law, struct_law}
+use Rattle.package_layout.proofs.Laws.{IsField, just, some_is, always, list_all-always, Uncounted, all_uncounted, and_true, both_true, restate, recount, made_law, then_law, struct_law}
 use Rattle.package_layout.proofs.Numbers.{wide8, wide32, number_law, text_law, items_law, byte_list_law, long_law, ltb_from}
 use Rattle.package_layout.proofs.Values.{value_law}
 
-abbrev pub u32_law : IsField (to_be_bytes w32) IsU32 always (number_at w32)
+abbrev pub u32_law : IsField (to_be_bytes w32) IsU32 always Uncounted (number_at w32)
 u32_law = number_law w32 (2 ^ 32) wide32
 
 -- any value is one of memory
@@ -50,18 +51,19 @@ kind_back (suc (suc (suc zero))) p e = kind_is 3 (false, true) p refl e
 kind_back (suc (suc (suc (suc zero)))) p e = kind_is 4 (true, true) p refl e
 kind_back (suc (suc (suc (suc (suc n))))) p e = absurd cc
 
-kind_law : IsField (λ (p : Kind). to_be_bytes w8 (kind_number p.0 p.1)) Anything always kind_at
+kind_law : IsField (λ (p : Kind). to_be_bytes w8 (kind_number p.0 p.1)) Anything always Uncounted kind_at
 kind_law = made_law (to_be_bytes w8) (λ n. n < 256) always (number_at w8) Anything always kind_of (λ (p : Kind). kind_number p.0 p.1) (number_law w8 256 wide8)
     (λ p t f. kind_again p.0 p.1) (λ n p t f e. (kind_back n p e, tt, refl))
 
 abbrev ColumnParts : Type 0
 ColumnParts = List ℕ × Kind
 
-column_law : IsField column_spelling TypedColumn always column_at
-column_law = restate column_spelling (λ c. IsUtf8 c.name × Unit {0}) TypedColumn always always column_at
+column_law : IsField column_spelling TypedColumn always CountedColumn column_at
+column_law = recount CountedColumn (restate column_spelling (λ c. IsUtf8 c.name × Unit {0}) TypedColumn always always column_at
     (struct_law (λ (p : ColumnParts). text_spelling p.0 ++ to_be_bytes w8 (kind_number p.1.0 p.1.1)) (λ (p : ColumnParts). IsUtf8 p.0 × Unit {0}) always (both_at text_at kind_at) (λ (p : ColumnParts). record { name = p.0; text = p.1.0; not_null = p.1.1 }) (λ (c : Column). (c.name, (c.text, c.not_null)))
     (then_law text_spelling IsUtf8 always text_at (λ (p : Kind). to_be_bytes w8 (kind_number p.0 p.1)) Anything (λ a. always) (λ a. kind_at) text_law (λ a. kind_law)) (λ c. refl) (λ p. refl))
-    (λ c t h. ((t, tt), h)) (λ c t h. (t.0, h))
+    (λ c t h. ((t, tt), h)) (λ c t h. (t.0, h)))
+    (λ c n. (n, tt)) (λ c n. n.0)
 
 -- ---- rows
 
@@ -80,15 +82,15 @@ rule_back (suc (suc zero)) r e = rule_is 2 H r refl e
 rule_back (suc (suc (suc zero))) r e = rule_is 3 K r refl e
 rule_back (suc (suc (suc (suc n)))) r e = absurd cc
 
-pub rule_law : IsField (λ r. to_be_bytes w8 (rule_number r)) Anything always rule_at
+pub rule_law : IsField (λ r. to_be_bytes w8 (rule_number r)) Anything always Uncounted rule_at
 rule_law = made_law (to_be_bytes w8) (λ n. n < 256) always (number_at w8) Anything always rule_of rule_number (number_law w8 256 wide8)
     (λ r t f. rule_again r) (λ n r t f e. (rule_back n r e, tt, refl))
 
 abbrev Reason : Type 0
 Reason = ℕ × Rule
 
-reason_law : IsField (λ (p : Reason). reason_spelling p.0 p.1) (λ (p : Reason). IsU32 p.0 × Unit {0}) always reason_at
-reason_law = then_law (to_be_bytes w32) IsU32 always (number_at w32) (λ r. to_be_bytes w8 (rule_number r)) Anything (λ a. always) (λ a. rule_at) u32_law (λ a. rule_law)
+reason_law : IsField (λ (p : Reason). reason_spelling p.0 p.1) (λ (p : Reason). IsU32 p.0 × Unit {0}) always Uncounted reason_at
+reason_law = recount Uncounted (then_law (to_be_bytes w32) IsU32 always (number_at w32) (λ r. to_be_bytes w8 (rule_number r)) Anything (λ a. always) (λ a. rule_at) u32_law (λ a. rule_law)) (λ p n. (tt, tt)) (λ p n. tt)
 
 abbrev RowEnd : Type 0
 RowEnd = Reason × List Value
@@ -105,7 +107,10 @@ end_spelling p = reason_spelling p.0.0 p.0.1 ++ cells_spelling p.1
 abbrev TypedEnd : RowEnd → Type 0
 TypedEnd p = (IsU32 p.0.0 × Unit {0}) × TypedValues p.1
 
-end_law : (columns : ℕ) → IsField end_spelling TypedEnd (λ (p : RowEnd). so_many columns p.1) (both_at reason_at (cells_at columns))
+abbrev CountedEnd : RowEnd → Type 0
+CountedEnd p = Unit {0} × AllByRecursion CountedValue p.1
+
+end_law : (columns : ℕ) → IsField end_spelling TypedEnd (λ (p : RowEnd). so_many columns p.1) CountedEnd (both_at reason_at (cells_at columns))
 end_law columns = then_law (λ (p : Reason). reason_spelling p.0 p.1) (λ (p : Reason). IsU32 p.0 × Unit {0}) always reason_at cells_spelling TypedValues (λ a. so_many columns) (λ a. cells_at columns) reason_law (λ a. items_law value_spelling TypedValue always value_at value_law columns)
 
 abbrev parts_spelling : RowParts → List ℕ
@@ -117,20 +122,21 @@ TypedParts p = IsU32 p.0 × TypedEnd p.1
 abbrev parts_at : ℕ → List ℕ → Found RowParts
 parts_at columns = both_at (number_at w32) (both_at reason_at (cells_at columns))
 
-parts_law : (columns : ℕ) → IsField parts_spelling TypedParts (λ (p : RowParts). so_many columns p.1.1) (parts_at columns)
+parts_law : (columns : ℕ) → IsField parts_spelling TypedParts (λ (p : RowParts). so_many columns p.1.1) (λ (p : RowParts). Unit {0} × CountedEnd p.1) (parts_at columns)
 parts_law columns = then_law number_spelling IsU32 always (number_at w32) end_spelling TypedEnd (λ a (p : RowEnd). so_many columns p.1) (λ a. both_at reason_at (cells_at columns)) u32_law (λ a. end_law columns)
 
-row_law : (columns : ℕ) → IsField row_spelling TypedRow (row_room columns) (row_at columns)
-row_law columns = restate row_spelling (λ r. IsU32 r.number × ((IsU32 r.statement × Unit {0}) × TypedValues r.values)) TypedRow (λ r. so_many columns r.values) (row_room columns) (row_at columns)
+row_law : (columns : ℕ) → IsField row_spelling TypedRow (row_room columns) CountedRow (row_at columns)
+row_law columns = recount CountedRow (restate row_spelling (λ r. IsU32 r.number × ((IsU32 r.statement × Unit {0}) × TypedValues r.values)) TypedRow (λ r. so_many columns r.values) (row_room columns) (row_at columns)
     (struct_law parts_spelling TypedParts (λ (p : RowParts). so_many columns p.1.1) (parts_at columns)
     (λ (p : RowParts). record { number = p.0; statement = p.1.0.0; rule = p.1.0.1; values = p.1.1 }) (λ (r : PackedRow). (r.number, ((r.statement, r.rule), r.values))) (parts_law columns) (λ r. refl) (λ p. refl))
     (λ r t h. ((t.0, ((t.1.0, tt), t.1.1)), and_true (length r.values == columns) (list_all always r.values) h (list_all-always r.values)))
-    (λ r t h. ((t.0, (t.1.0.0, t.1.1)), (both_true (length r.values == columns) (list_all always r.values) h).0))
+    (λ r t h. ((t.0, (t.1.0.0, t.1.1)), (both_true (length r.values == columns) (list_all always r.values) h).0)))
+    (λ r n. (tt, (tt, n))) (λ r n. n.1.1)
 
 row_filled : (r : PackedRow) → 0 < length (row_spelling r)
 row_filled r = omega arith
 
-rows_law : (columns : ℕ) → IsField (list_spelling w32 row_spelling) (AllByRecursion TypedRow) (list_all (row_room columns)) (rows_at columns)
+rows_law : (columns : ℕ) → IsField (list_spelling w32 row_spelling) (AllByRecursion TypedRow) (list_all (row_room columns)) (CountedList CountedRow) (rows_at columns)
 rows_law columns = long_law row_spelling TypedRow (row_room columns) (row_at columns) (row_law columns) row_filled
 
 -- ---- tables
@@ -143,10 +149,11 @@ bytes_fact : (key : List ℕ) → list_all (λ place. nat_lt place 256) key ≡ 
 bytes_fact [] h = tt
 bytes_fact (k ∷ key) h = let both = both_true (nat_lt k 256) (list_all (λ place. nat_lt place 256) key) h in (ltb-true k 256 both.0, bytes_fact key both.1)
 
-key_law : IsField (list_spelling w8 (to_be_bytes w8)) Anything key_room key_at
-key_law = restate (list_spelling w8 (to_be_bytes w8)) (AllByRecursion (λ n. n < 256)) Anything (λ key. few key && list_all always key) key_room key_at (byte_list_law (to_be_bytes w8) (λ n. n < 256) always (number_at w8) (number_law w8 256 wide8))
+key_law : IsField (list_spelling w8 (to_be_bytes w8)) Anything key_room Uncounted key_at
+key_law = recount Uncounted (restate (list_spelling w8 (to_be_bytes w8)) (AllByRecursion (λ n. n < 256)) Anything (λ key. few key && list_all always key) key_room key_at (byte_list_law (to_be_bytes w8) (λ n. n < 256) always (number_at w8) (number_law w8 256 wide8))
     (λ key t h. let both = both_true (few key) (list_all (λ place. nat_lt place 256) key) h in (bytes_fact key both.1, and_true (few key) (list_all always key) both.0 (list_all-always key)))
-    (λ key t h. (tt, and_true (few key) (list_all (λ place. nat_lt place 256) key) (both_true (few key) (list_all always key) h).0 (bytes_test key t)))
+    (λ key t h. (tt, and_true (few key) (list_all (λ place. nat_lt place 256) key) (both_true (few key) (list_all always key) h).0 (bytes_test key t))))
+    (λ key n. all_uncounted key) (λ key n. tt)
 
 abbrev SchemaParts : Type 0
 SchemaParts = List Column × List ℕ
@@ -154,8 +161,8 @@ SchemaParts = List Column × List ℕ
 abbrev schema_room : Schema → Bool
 schema_room s = few s.columns && key_room s.key
 
-schema_law : IsField schema_spelling (λ s. AllByRecursion TypedColumn s.columns) schema_room schema_at
-schema_law = restate schema_spelling (λ s. AllByRecursion TypedColumn s.columns × Unit {0}) (λ s. AllByRecursion TypedColumn s.columns) (λ s. (few s.columns && list_all always s.columns) && key_room s.key) schema_room schema_at
+schema_law : IsField schema_spelling (λ s. AllByRecursion TypedColumn s.columns) schema_room (λ s. AllByRecursion CountedColumn s.columns) schema_at
+schema_law = recount (λ s. AllByRecursion CountedColumn s.columns) (restate schema_spelling (λ s. AllByRecursion TypedColumn s.columns × Unit {0}) (λ s. AllByRecursion TypedColumn s.columns) (λ s. (few s.columns && list_all always s.columns) && key_room s.key) schema_room schema_at
     (struct_law (λ (p : SchemaParts). list_spelling w8 column_spelling p.0 ++ list_spelling w8 (to_be_bytes w8) p.1) (λ (p : SchemaParts). AllByRecursion TypedColumn p.0 × Unit {0}) (λ (p : SchemaParts). (few p.0 && list_all always p.0) && key_room p.1) (both_at (list_at w8 column_at) key_at)
     (λ (p : SchemaParts). record { columns = p.0; key = p.1 }) (λ (s : Schema). (s.columns, s.key))
     (then_law (list_spelling w8 column_spelling) (AllByRecursion TypedColumn) (λ cs. few cs && list_all always cs) (list_at w8 column_at) (list_spelling w8 (to_be_bytes w8)) Anything (λ a. key_room) (λ a. key_at) (byte_list_law column_spelling TypedColumn always column_at column_law) (λ a. key_law))
@@ -165,7 +172,8 @@ schema_law = restate schema_spelling (λ s. AllByRecursion TypedColumn s.columns
     ((t, tt), and_true (few s.columns && list_all always s.columns) (key_room s.key) (and_true (few s.columns) (list_all always s.columns) both.0 (list_all-always s.columns)) both.1))
     (λ s t h.
     let both = both_true (few s.columns && list_all always s.columns) (key_room s.key) h in
-    (t.0, and_true (few s.columns) (key_room s.key) (both_true (few s.columns) (list_all always s.columns) both.0).0 both.1))
+    (t.0, and_true (few s.columns) (key_room s.key) (both_true (few s.columns) (list_all always s.columns) both.0).0 both.1)))
+    (λ s n. (n, tt)) (λ s n. n.0)
 
 abbrev TableEnd : Type 0
 TableEnd = ℕ × List PackedRow
@@ -182,21 +190,24 @@ tail_spelling p = schema_spelling p.0 ++ (to_be_bytes w32 p.1.0 ++ list_spelling
 abbrev TypedTail : TableTail → Type 0
 TypedTail p = AllByRecursion TypedColumn p.0.columns × (IsU32 p.1.0 × AllByRecursion TypedRow p.1.1)
 
+abbrev CountedTail : TableTail → Type 0
+CountedTail p = AllByRecursion CountedColumn p.0.columns × (Unit {0} × CountedList CountedRow p.1.1)
+
 abbrev tail_room : TableTail → Bool
 tail_room p = schema_room p.0 && list_all (row_room (length p.0.columns)) p.1.1
 
 abbrev tail_at : List ℕ → Found TableTail
 tail_at = then_at schema_at (λ s. both_at (number_at w32) (rows_at (length s.columns)))
 
-table_end_law : (s : Schema) → IsField (λ (p : TableEnd). to_be_bytes w32 p.0 ++ list_spelling w32 row_spelling p.1) (λ (p : TableEnd). IsU32 p.0 × AllByRecursion TypedRow p.1) (λ (p : TableEnd). list_all (row_room (length s.columns)) p.1) (both_at (number_at w32) (rows_at (length s.columns)))
+table_end_law : (s : Schema) → IsField (λ (p : TableEnd). to_be_bytes w32 p.0 ++ list_spelling w32 row_spelling p.1) (λ (p : TableEnd). IsU32 p.0 × AllByRecursion TypedRow p.1) (λ (p : TableEnd). list_all (row_room (length s.columns)) p.1) (λ (p : TableEnd). Unit {0} × CountedList CountedRow p.1) (both_at (number_at w32) (rows_at (length s.columns)))
 table_end_law s = then_law (to_be_bytes w32) IsU32 always (number_at w32) (list_spelling w32 row_spelling) (AllByRecursion TypedRow) (λ a. list_all (row_room (length s.columns))) (λ a. rows_at (length s.columns)) u32_law (λ a. rows_law (length s.columns))
 
-table_tail_law : IsField tail_spelling TypedTail tail_room tail_at
+table_tail_law : IsField tail_spelling TypedTail tail_room CountedTail tail_at
 table_tail_law = then_law schema_spelling (λ s. AllByRecursion TypedColumn s.columns) schema_room schema_at (λ (p : TableEnd). to_be_bytes w32 p.0 ++ list_spelling w32 row_spelling p.1) (λ (p : TableEnd). IsU32 p.0 × AllByRecursion TypedRow p.1)
     (λ s (p : TableEnd). list_all (row_room (length s.columns)) p.1) (λ s. both_at (number_at w32) (rows_at (length s.columns))) schema_law table_end_law
 
-pub table_law : IsField table_spelling TypedTable table_room table_at
-table_law = restate table_spelling TypedTable TypedTable (λ t. tail_room (t.schema, (t.next, t.rows))) table_room table_at
+pub table_law : IsField table_spelling TypedTable table_room CountedTable table_at
+table_law = recount CountedTable (restate table_spelling TypedTable TypedTable (λ t. tail_room (t.schema, (t.next, t.rows))) table_room table_at
     (struct_law (λ (p : TableParts). text_spelling p.0 ++ tail_spelling p.1) (λ (p : TableParts). IsUtf8 p.0 × TypedTail p.1) (λ (p : TableParts). tail_room p.1) (both_at text_at tail_at)
     (λ (p : TableParts). record { name = p.0; schema = p.1.0; next = p.1.1.0; rows = p.1.1.1 }) (λ (t : PackedTable). (t.name, (t.schema, (t.next, t.rows))))
     (then_law text_spelling IsUtf8 always text_at tail_spelling TypedTail (λ a. tail_room) (λ a. tail_at) text_law (λ a. table_tail_law)) (λ t. refl) (λ p. refl))
@@ -207,7 +218,8 @@ table_law = restate table_spelling TypedTable TypedTable (λ t. tail_room (t.sch
     (λ t h k.
     let a = both_true (schema_room t.schema) (list_all (row_room (length t.schema.columns)) t.rows) k in
     let b = both_true (few t.schema.columns) (key_room t.schema.key) a.0 in
-    (h, and_true (few t.schema.columns) (key_room t.schema.key && list_all (row_room (length t.schema.columns)) t.rows) b.0 (and_true (key_room t.schema.key) (list_all (row_room (length t.schema.columns)) t.rows) b.1 a.1)))
+    (h, and_true (few t.schema.columns) (key_room t.schema.key && list_all (row_room (length t.schema.columns)) t.rows) b.0 (and_true (key_room t.schema.key) (list_all (row_room (length t.schema.columns)) t.rows) b.1 a.1))))
+    (λ t n. (n.0, (n.1.0, (tt, n.1.1)))) (λ t n. (n.0, (n.1.0, n.1.1.1)))
 
 pub table_filled : (t : PackedTable) → 0 < length (table_spelling t)
 table_filled t = omega arith

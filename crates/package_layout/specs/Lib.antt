@@ -1,3 +1,4 @@
+pub mod Counts
 pub mod Events
 pub mod Fields
 pub mod Groups

@@ -1,6 +1,5 @@
--- What the fields of the format have room for: counts within their fields, and in each row of a table
--- one value for each column. A list with a count of four bytes that is too long for it is too long for a
--- package.
+-- What the fields of the format have room for: counts of one and two bytes within their fields, and in each
+-- row of a table one value for each column. Counts of four bytes are in `specs/Counts.antt`.
 use Rattle.std.specs.Prelude.{ℕ, ◌^◌, List, length, Bool, true, ◌&&◌, ◌==◌, nat_lt}
 use Rattle.std.specs.List.{list_all}
 use Rattle.sql_model.specs.declared.reply.SqlRefusal.{SqlRefusal}

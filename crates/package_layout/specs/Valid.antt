@@ -1,11 +1,12 @@
 -- Valid packages, and how bytes are read: the valid package that they spell, or how they are damaged.
-use Rattle.std.specs.Prelude.{◌≡◌, ◌≢◌, ◌≤◌, ◌-◌, ℕ, List, length, take, drop, if◌then◌else◌, Result, Ok, Err}
+use Rattle.std.specs.Prelude.{◌≡◌, ◌≤◌, ◌-◌, ℕ, List, length, take, drop, if◌then◌else◌, Result, Ok, Err}
 use Rattle.std.specs.Prelude.{Bool, true, false, ◌&&◌, nat_le, Option, Some, None, IsTrue, bytes_eq}
 use Rattle.sha2.specs.Sha256.{sha256}
 use Rattle.run_model.specs.declared.package.Package.{Package}
 use Rattle.run_model.specs.ValidPackage.{rules}
 use Rattle.package_layout.specs.declared.damage.DamageKind.{DamageKind}
 use Rattle.package_layout.specs.declared.damage.DamageKind.TheVariants.{Magic, Digest, Form}
+use Rattle.package_layout.specs.Counts.{IsCounted}
 use Rattle.package_layout.specs.Fields.{◌>>=◌}
 use Rattle.package_layout.specs.Typed.{IsTyped}
 use Rattle.package_layout.specs.Version.{Version, One, magic}
@@ -39,9 +40,16 @@ pub record HasDigest (bytes : List ℕ) : Type 0 where
   pub long : 40 ≤ length bytes
   pub same : drop (length bytes - 32) bytes ≡ sha256 (before_digest bytes)
 
+-- The bytes are the spelling of a package. It has one where the format has room for it and all of its counts
+-- fit their fields.
+pub record IsSpelling (version : Version) (p : Package) (bytes : List ℕ) : Type 0 where
+  pub room : IsTrue (has_room p)
+  pub counted : IsCounted p
+  pub same : spelling_as version p ≡ bytes
+
 -- the bytes spell no valid package
 abbrev pub IsNoSpelling : Version → List ℕ → Type 0
-IsNoSpelling version bytes = (p : Package) → IsTyped p → Valid p → spelling_as version p ≢ bytes
+IsNoSpelling version bytes = (p : Package) → IsTyped p → Valid p → ¬ IsSpelling version p bytes
 
 -- the bytes between the magic and the digest
 abbrev pub middle : List ℕ → List ℕ

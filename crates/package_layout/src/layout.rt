@@ -1,13 +1,15 @@
 //! A package and its bytes.
 
-ghost use Rattle.std.specs.Prelude.{◌≡◌, ◌<◌, ◌≤◌, ◌-◌, ◌^◌, ◌↔◌, ◌++◌, None, Ok, Err, IfOk, IfSome, OnOk};
+ghost use Rattle.std.specs.Prelude.{◌≡◌, ◌<◌, ◌≤◌, ◌-◌, ◌↔◌, ◌++◌, None, Ok, Err, IfOk, IfSome, OnOk};
 ghost use Rattle.std.specs.Prelude.{IsErrOf, length, take, drop, bytes_eq};
 ghost use Rattle.sha2.specs.Sha256.{sha256};
 ghost use Rattle.ldv_value.specs.Limits.{input_limit};
+ghost use Rattle.package_layout.specs.Counts.{IsCounted};
 ghost use Rattle.package_layout.specs.Fields.{Makes};
 ghost use Rattle.package_layout.specs.Whole.{body, spelling, IsTyped};
-ghost use Rattle.package_layout.specs.Valid.{Valid, HasMagic, HasDigest, IsNoSpelling, before_digest, middle};
-ghost use Rattle.package_layout.specs.Valid.{package_in, has_magic, has_digest, reading};
+ghost use Rattle.package_layout.specs.Valid.{Valid, HasMagic, HasDigest, IsSpelling, IsNoSpelling};
+ghost use Rattle.package_layout.specs.Valid.{before_digest, middle, package_in, has_magic, has_digest};
+ghost use Rattle.package_layout.specs.Valid.{reading};
 ghost use Rattle.package_layout.specs.ReadResult.{damage_before, ReadsAs};
 ghost use Rattle.package_layout.specs.Version.{One};
 ghost use Rattle.run_model.specs.declared.package.Package.{Package};
@@ -91,17 +93,13 @@ fn with_digest(body: Bytes) -> Result<Bytes, AllocError>
 /// The valid package that bytes spell. They are `Damaged` where there is none: by `Magic` where they
 /// don't begin with the magic, else by `Digest` where they are too short for a digest or end with another
 /// one, else by `Form`.
-///
-/// A count of four bytes can't tell a list of 2^32 items or more from a shorter one, so `form` says that
-/// they spell no valid package where they are fewer than 2^32.
 pub fn read_package(alloc: Global, bytes: &[u8]) -> Result<Package, PackageStop>
-    ensures found { IfOk result (λ p. IsTyped p × Valid p × (spelling p ≡ bytes.now)) }
+    ensures found { IfOk result (λ p. IsTyped p × Valid p × IsSpelling One p bytes.now) }
     ensures magic { (result ≡ Err (PackageStop.Damaged DamageKind.Magic)) ↔ (¬ HasMagic One bytes.now) }
     ensures digest { (result ≡ Err (PackageStop.Damaged DamageKind.Digest))
         ↔ (HasMagic One bytes.now × (¬ HasDigest bytes.now)) }
     ensures form { result ≡ Err (PackageStop.Damaged DamageKind.Form) →
-        HasMagic One bytes.now × HasDigest bytes.now
-        × (length bytes.now < 2 ^ 32 → IsNoSpelling One bytes.now) }
+        HasMagic One bytes.now × HasDigest bytes.now × IsNoSpelling One bytes.now }
     // The same as one function of the bytes.
     ensures reading { ReadsAs result (reading bytes.now) }
 {
@@ -197,10 +195,12 @@ fn package_in(alloc: Global, middle: &[u8]) -> Result<Package, DecodeError>
 }
 
 /// The law of the layout, over all packages that memory can hold: two valid packages with one spelling are
-/// equal, and the spelling of a valid one is read as that package, where it isn't too long.
+/// equal, and the spelling of a valid one is read as that package, where it isn't too long. A count of four
+/// bytes that doesn't fit its field comes only where it is.
 pub fn round_trip_law()
     ensures unique { (p q : Package) → IsTyped p → IsTyped q → Valid p → Valid q →
         length (spelling p) ≤ input_limit → spelling p ≡ spelling q → p ≡ q }
     ensures again { (p : Package) → IsTyped p → Valid p →
         length (spelling p) ≤ input_limit → reading (spelling p) ≡ Ok p }
+    ensures counted { (p : Package) → length (spelling p) ≤ input_limit → IsCounted p }
 {}

@@ -8,6 +8,8 @@
 //! - what a package meets to be valid is `valid_test` of `specs/Valid.antt`: the rules of `run_model`
 //!   (`ValidPackage` and `ValidTrace`, a test for each rule), and that the format has room for it
 //!   (`specs/Room.antt`);
+//! - a count of four bytes that its field can't hold (`specs/Counts.antt`) is only in a package that is too
+//!   long (`round_trip_law`), and one with such a count has no spelling (`IsSpelling` of `specs/Valid.antt`);
 //! - two valid packages with one spelling are equal, and the spelling of a valid one is read as that
 //!   package (`round_trip_law`).
 //!
@@ -30,7 +32,6 @@ mod group;
 mod layout;
 mod log;
 mod number;
-mod order;
 mod part;
 mod rules;
 mod sections;

@@ -91,7 +91,7 @@ pub(crate) fn decode_count(width: Width, cursor: &mut Cursor) -> Result<u32, Dec
 }
 
 /// A count in a field of the given width. Where it is too large for the field, its last bytes are
-/// written: the items alone are then too long for a package.
+/// written. In a valid package only one of four bytes can be, and such a package is too long.
 pub(crate) fn encode_count(width: Width, count: usize, to: &mut Bytes) -> Result<(), AllocError>
     ensures { OnOk result (to.new ≡ to.old ++ to_be_bytes (of_count width) count) }
 {

@@ -8,10 +8,9 @@ ghost use Rattle.package_layout.specs.Valid.{files_rule, rows_rule, table_rule, 
 ghost use Rattle.package_layout.specs.Valid.{refusal_rule, reply_rule, entry_rule, is_root_process, log_rule};
 ghost use Rattle.package_layout.specs.Valid.{logs_rule};
 
-use crate::order::is_ranked;
 use ldv_value::{
     Bytes, FILE_LIMIT, MAX_FILES, MAX_PARAMS, MAX_TABLES, Parts, RowList, TEXT_LIMIT, Utf8, Value,
-    Values, Words, is_path,
+    Values, Words, is_path, is_strictly_sorted,
 };
 use run_model::{Entry, Log, Logs, PackedFile, PackedFiles, PackedRows, PackedTable, PackedTables};
 use sql_model::{Column, Columns, Reply, SqlRefusal, has_key_twice, is_sql_name, meets_schema};
@@ -49,7 +48,7 @@ pub(crate) fn is_valid_files(files: &PackedFiles) -> bool
 fn are_files(files: &PackedFiles) -> bool
     ensures { result ≡ are_files files.now }
 {
-    each_file(files) && is_ranked(files)
+    each_file(files) && is_strictly_sorted(files.items())
 }
 
 fn each_file(files: &PackedFiles) -> bool
@@ -88,7 +87,7 @@ fn are_tables(alloc: Global, tables: &PackedTables) -> Result<bool, AllocError>
     if !each_table(alloc, tables)? {
         return Ok(false);
     }
-    Ok(is_ranked(tables))
+    Ok(is_strictly_sorted(tables.items()))
 }
 
 fn each_table(alloc: Global, tables: &PackedTables) -> Result<bool, AllocError>
@@ -128,7 +127,7 @@ fn is_valid_rows(table: &PackedTable) -> bool
 fn are_numbered(next: u32, rows: &PackedRows) -> bool
     ensures { result ≡ numbers_test (λ row. row.number) next rows.now }
 {
-    is_ranked(rows) && are_below(next, rows)
+    is_strictly_sorted(rows.items()) && are_below(next, rows)
 }
 
 fn are_below(next: u32, rows: &PackedRows) -> bool
@@ -193,7 +192,7 @@ fn each_row_short(rows: &PackedRows) -> bool
 pub(crate) fn is_valid_logs(logs: &Logs) -> bool
     ensures { result ≡ logs_rule logs.now }
 {
-    each_log(logs) && is_ranked(logs)
+    each_log(logs) && is_strictly_sorted(logs.items())
 }
 
 fn each_log(logs: &Logs) -> bool

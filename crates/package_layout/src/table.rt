@@ -186,7 +186,7 @@ fn encode_key(key: &Places, to: &mut Bytes) -> Result<(), AllocError>
 {
     encode_count(Width::One, key.len(), to)?;
     for place in key.items() {
-        encode_count(Width::One, *place as usize, to)?;
+        encode_count(Width::One, *place, to)?;
     }
     Ok(())
 }
@@ -204,7 +204,7 @@ fn decode_places(alloc: Global, count: u8, cursor: &mut Cursor) -> Result<Places
     let mut places = List::new(alloc);
     for _turn in 0..count {
         let place = decode_u8(cursor)?;
-        places.push(u32::from(place))?;
+        places.push(usize::from(place))?;
     }
     Ok(places)
 }

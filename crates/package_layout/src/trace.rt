@@ -9,7 +9,6 @@ ghost use Rattle.package_layout.specs.Trace.{act_rule, event_rule, made_after, i
 ghost use Rattle.package_layout.specs.Trace.{progress_after, follows, at_start, starts_on, starts};
 ghost use Rattle.package_layout.specs.Trace.{trace_test, asked_count, progress_of};
 
-use crate::order::is_ranked;
 use ldv_value::{Names, Utf8, is_path, is_strictly_sorted};
 use run_model::{Act, Event, Events};
 use sql_model::{Members, Needs, is_sql_name};
@@ -101,8 +100,8 @@ fn is_valid_act(before: Progress, act: &Act) -> bool
             u64::from(*statement) == before.asked
                 && are_names(tables)
                 && is_strictly_sorted(tables.items())
-                && is_ranked(reads)
-                && is_ranked(made)
+                && is_strictly_sorted(reads.items())
+                && is_strictly_sorted(made.items())
         }
     }
 }

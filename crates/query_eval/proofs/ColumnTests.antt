@@ -16,7 +16,7 @@ use Rattle.query_eval.specs.Types.{ColumnName, Compare, Expr, Null, Int, Text, T
 use Rattle.query_eval.specs.declared.masking.Comparison.{Comparison}
 use Rattle.query_eval.specs.declared.masking.Located.{Located}
 use Rattle.query_eval.specs.declared.masking.Mask.{Mask}
-use Rattle.query_eval.specs.declared.placed.Placed.{Placed}
+use Rattle.core_parts.specs.declared.placed.Placed.{Placed}
 use Rattle.sql_model.proofs.Folds.{fold-Both, fold-Column, fold-Constant}
 use Rattle.sql_model.specs.KeyOrder.{order_total}
 use Rattle.sql_model.specs.Kinds.{names_in, names_step}

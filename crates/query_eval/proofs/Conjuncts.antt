@@ -1,12 +1,12 @@
 -- Conjuncts.
 use Rattle.std.proofs.Common.{◌≡◌, ◌∙◌, sym, ap, subst, refl, ℕ, Bool, true, false, ◌&&◌, List, [], ◌∷◌, ◌++◌}
 use Rattle.std.specs.List.{flat_map}
-use Rattle.query_eval.proofs.Places.{places-append, placed-front, others-front, placed-more}
+use Rattle.core_parts.proofs.Places.{places-append, placed-front, others-front, placed-more}
 use Rattle.query_eval.specs.Conditions.{Adds}
 use Rattle.query_eval.specs.Joining.{meets}
-use Rattle.query_eval.specs.Placing.{own_places, other_places, AllPlaced}
+use Rattle.core_parts.specs.Placing.{own_places, other_places, AllPlaced}
 use Rattle.query_eval.specs.Types.{Truth, True, False, Unknown, And, Expr, Operator, Value}
-use Rattle.query_eval.specs.declared.placed.Placed.{Placed}
+use Rattle.core_parts.specs.declared.placed.Placed.{Placed}
 use Rattle.sql_model.proofs.Folds.{fold-Both}
 use Rattle.sql_model.specs.Kinds.{names_in, names_step}
 use Rattle.sql_model.specs.Meaning.{Environment, Meaning, eval_step, is_true, truth, truth_and}

@@ -10,7 +10,7 @@ use Rattle.lineage.specs.StandsFor.{StandsFor}
 use Rattle.lineage.specs.declared.answer.Answer.{Answer}
 use Rattle.query_eval.proofs.Merges.{united-stands}
 use Rattle.query_eval.proofs.Projections.{statement-is}
-use Rattle.query_eval.specs.Checking.{places_at}
+use Rattle.core_parts.specs.Checking.{places_at}
 use Rattle.query_eval.specs.Finishing.{as_key, sort_columns, by_columns, first_answers, other_answers, IsLimited, IsFinished, ordered}
 use Rattle.query_eval.specs.Merging.{united}
 use Rattle.query_eval.specs.Types.{Checked, Order, Query, TheQuery}

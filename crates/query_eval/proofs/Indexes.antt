@@ -10,7 +10,8 @@ use Rattle.ldv_value.specs.declared.value.Value.{Value}
 use Rattle.ldv_value.specs.declared.value.Value.TheVariants.{Null, Int, Text}
 use Rattle.ldv_value.specs.Order.{order, known}
 use Rattle.sql_model.specs.KeyOrder.{order_total}
-use Rattle.query_eval.proofs.Onces.{exact, tied}
+use Rattle.core_parts.proofs.Listings.{put_item}
+use Rattle.core_parts.proofs.SameValues.{exact}
 use Rattle.query_eval.specs.Joining.{equals, rows_listed, row_added, with_value}
 use Rattle.query_eval.specs.declared.source.SourceRow.{SourceRow}
 use Rattle.sql_model.specs.Meaning.{is_true, is_null}
@@ -20,16 +21,7 @@ pub put_row : (m t n : BTreeMap Value (List SourceRow)) (key : Value) (row : Sou
     → ((v : Value) → tree.get order t v ≡ cond (is_at (order key) v) None (tree.get order m v))
     → ((v : Value) → tree.get order n v ≡ cond (is_at (order key) v) (Some (rows ++ row ∷ [])) (tree.get order t v))
     → (v : Value) → rows_listed n v ≡ row_added key row v (rows_listed m v)
-put_row m t n key row rows is others put v = elim (cases_Bool (is_eq (order key v))) [
-  | inl hit ↦
-      let same : key ≡ v = exact key v (tied (order key v) hit) in
-      ap (λ (o : Option (List SourceRow)). unwrap_or o []) (put v ∙ ap (λ b. cond b (Some (rows ++ row ∷ [])) (tree.get order t v)) hit)
-      ∙ ap (λ l. l ++ row ∷ []) (is ∙ ap (rows_listed m) same)
-      ∙ ap (λ b. cond b (rows_listed m v ++ row ∷ []) (rows_listed m v)) (sym hit)
-  | inr miss ↦
-      ap (λ (o : Option (List SourceRow)). unwrap_or o []) (put v ∙ ap (λ b. cond b (Some (rows ++ row ∷ [])) (tree.get order t v)) miss ∙ others v ∙ ap (λ b. cond b None (tree.get order m v)) miss)
-      ∙ ap (λ b. cond b (rows_listed m v ++ row ∷ []) (rows_listed m v)) (sym miss)
-]
+put_row = put_item order exact
 
 true_of : (b : Bool) → is_true (known b) ≡ b
 true_of true = refl

@@ -6,10 +6,10 @@ use Rattle.std.specs.List.{list_all, remove, AllByRecursion}
 use Rattle.query_eval.proofs.Agree.{first_rows_tell}
 use Rattle.query_eval.proofs.Product.{extensions, filter_joined, flat_map_joined, goes_on, pushed, EachSplits, all_of, all_there}
 use Rattle.query_eval.specs.Joining.{combos, meets, tests, is_ready, ready, later, remaining, extended, all_extended, EachHas, equals, HasProbe, looked_up}
-use Rattle.query_eval.specs.Placing.{IsPlaced, AllPlaced}
+use Rattle.core_parts.specs.Placing.{IsPlaced, AllPlaced}
 use Rattle.query_eval.specs.Sourcing.{joined, AreWide}
 use Rattle.query_eval.specs.Types.{ColumnName, Value}
-use Rattle.query_eval.specs.declared.placed.Placed.{Placed}
+use Rattle.core_parts.specs.declared.placed.Placed.{Placed}
 use Rattle.query_eval.specs.declared.probe.Probe.{Probe}
 use Rattle.query_eval.specs.declared.source.SourceRow.{SourceRow}
 use Rattle.sql_model.specs.Kinds.{names_in}

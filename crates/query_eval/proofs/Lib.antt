@@ -3,16 +3,11 @@ pub mod Conjuncts
 pub mod Finishes
 pub mod Indexes
 pub mod Levels
-pub mod Lists
 pub mod ColumnTests
 pub mod MaskLaws
 pub mod Merges
-pub mod Names
 pub mod Onces
 pub mod Picks
-pub mod Places
 pub mod Probes
 pub mod Product
 pub mod Projections
-pub mod Sorts
-pub mod Unions

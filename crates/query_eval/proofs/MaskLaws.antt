@@ -4,7 +4,7 @@ use Rattle.std.specs.Prelude.{Some}
 use Rattle.std.specs.List.{flat_map, list_all, AllByRecursion}
 use Rattle.std.proofs.lemmas.Bool.{cases_Bool}
 use Rattle.std.proofs.lemmas.Bool.Decides.{Decides-eqb}
-use Rattle.query_eval.specs.Checking.{core_at, IsChecked}
+use Rattle.core_parts.specs.Checking.{core_at, IsChecked}
 use Rattle.query_eval.specs.Masking.{HaveWidths, values_of, passes, AreMasks, row_passes, kept_by, keeps_from, TablesAreWide}
 use Rattle.query_eval.specs.Sourcing.{all_kept, LeavesPicked}
 use Rattle.query_eval.specs.Types.{Checked, Core, FromItem, Int, Query, Table, TableRow, Value}

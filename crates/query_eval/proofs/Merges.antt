@@ -11,9 +11,10 @@ use Rattle.lineage.specs.StandsFor.{StandsFor}
 use Rattle.lineage.specs.declared.answer.Answer.{Answer}
 use Rattle.lineage.proofs.Origins.{stands-empty}
 use Rattle.lineage.proofs.RowLaws.{kept-union, answers-values}
-use Rattle.query_eval.proofs.Onces.{all_exact, tied}
-use Rattle.query_eval.proofs.Unions.{version-union}
-use Rattle.query_eval.specs.KeyOrders.{values_order}
+use Rattle.core_parts.proofs.Listings.{put_item, moved}
+use Rattle.core_parts.proofs.SameValues.{all_exact}
+use Rattle.lineage.proofs.Unions.{version_union}
+use Rattle.sql_model.specs.KeyOrder.{values_order}
 use Rattle.query_eval.specs.Merging.{united, own_values, with_values, merged, listed, answer_added}
 use Rattle.query_eval.specs.Types.{Value}
 use Rattle.sql_model.specs.Keys.{same_values}
@@ -26,20 +27,7 @@ pub put_answer : (m t n : BTreeMap (List Value) (List Answer)) (answer : Answer)
     → ((v : List Value) → tree.get values_order t v ≡ cond (is_at (values_order answer.values) v) None (tree.get values_order m v))
     → ((v : List Value) → tree.get values_order n v ≡ cond (is_at (values_order answer.values) v) (Some (answers ++ answer ∷ [])) (tree.get values_order t v))
     → (v : List Value) → listed n v ≡ answer_added answer v (listed m v)
-put_answer m t n answer answers is others put v = elim (cases_Bool (is_eq (values_order answer.values v))) [
-  | inl hit ↦
-      let same : answer.values ≡ v = all_exact answer.values v (tied (values_order answer.values v) hit) in
-      ap (λ (o : Option (List Answer)). unwrap_or o []) (put v ∙ ap (λ b. cond b (Some (answers ++ answer ∷ [])) (tree.get values_order t v)) hit)
-      ∙ ap (λ l. l ++ answer ∷ []) (is ∙ ap (listed m) same)
-      ∙ ap (λ b. cond b (listed m v ++ answer ∷ []) (listed m v)) (sym hit)
-  | inr miss ↦
-      ap (λ (o : Option (List Answer)). unwrap_or o []) (put v ∙ ap (λ b. cond b (Some (answers ++ answer ∷ [])) (tree.get values_order t v)) miss ∙ others v ∙ ap (λ b. cond b None (tree.get values_order m v)) miss)
-      ∙ ap (λ b. cond b (listed m v ++ answer ∷ []) (listed m v)) (sym miss)
-]
-
-moved : (b : Bool) (answers more : List Answer) (answer : Answer) → cond b (answers ++ answer ∷ []) answers ++ more ≡ answers ++ cond b (answer ∷ more) more
-moved true answers more answer = append_assoc answers (answer ∷ []) more
-moved false answers more answer = refl
+put_answer m t n answer = put_item values_order all_exact m t n answer.values answer
 
 -- an answer that is listed goes from those that are left to those that are there
 pub group_on : (m n : BTreeMap (List Value) (List Answer)) (answer : Answer) (rest : List Answer)
@@ -64,7 +52,7 @@ module _ (names : List (List ℕ)) (versions : Versions) (keep : Bool) where
   united-stands (answer ∷ answers) [] stand = absurd stand
   united-stands (answer ∷ answers) (row ∷ rows) stand =
       kept-union names versions keep answer.lineage (united answers) (united (answer ∷ answers)) row.lineage (lineage_of rows)
-      (version-union answer.lineage (united answers)) stand.0.stands (united-stands answers rows stand.1)
+      (version_union answer.lineage (united answers)) stand.0.stands (united-stands answers rows stand.1)
 
   filter-stands : (v : List Value) (answers : List Answer) (rows : List AnswerRow) → AnswersStandFor names versions keep answers rows
       → AnswersStandFor names versions keep (filter (with_values v) answers) (filter (has_values v) rows)

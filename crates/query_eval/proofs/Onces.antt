@@ -11,32 +11,11 @@ use Rattle.std.specs.Ordering.{is_eq}
 use Rattle.std.specs.Cmp.{eq_by_cmp_equiv}
 use Rattle.ldv_value.specs.declared.value.Value.{Value}
 use Rattle.ldv_value.specs.Order.{order}
-use Rattle.query_eval.specs.KeyOrders.{values_order, values_total}
+use Rattle.sql_model.specs.KeyOrder.{values_order, values_total}
 use Rattle.sql_model.specs.QueryAnswer.{distinct}
 use Rattle.sql_model.specs.Keys.{same_values}
 use Rattle.query_eval.specs.Merging.{unseen}
-use Rattle.std.specs.FinMap.{int_cmp-IsAntisymmetric, nat_cmp-IsAntisymmetric, slice_cmp-IsAntisymmetric}
-use Rattle.std.specs.declared.cmp.Ordering.{Ordering}
-use Rattle.ldv_value.specs.declared.value.Value.TheVariants.{Null, Int, Text}
-
-pub exact : (x y : Value) → order x y ≡ Equal → x ≡ y
-exact Null Null is = refl
-exact Null (Int n) is = cc
-exact Null (Text t) is = cc
-exact (Int m) Null is = cc
-exact (Int m) (Int n) is = ap Int (int_cmp-IsAntisymmetric m n is)
-exact (Int m) (Text t) is = cc
-exact (Text s) Null is = cc
-exact (Text s) (Int n) is = cc
-exact (Text s) (Text t) is = ap Text (slice_cmp-IsAntisymmetric nat_cmp-IsAntisymmetric s t is)
-
-pub tied : (r : Ordering) → is_eq r ≡ true → r ≡ Equal
-tied Less is = cc
-tied Equal is = refl
-tied Greater is = cc
-
-pub all_exact : (x y : List Value) → values_order x y ≡ Equal → x ≡ y
-all_exact = slice_cmp-IsAntisymmetric exact
+use Rattle.core_parts.proofs.SameValues.{tied, all_exact}
 
 module _ {X : Type 0} where
   -- a second filter that leaves out nothing more

@@ -20,7 +20,7 @@ use Rattle.query_eval.specs.Joining.{combos, tests}
 use Rattle.query_eval.specs.Picking.{rows_added, kept_rows, pick_of}
 use Rattle.query_eval.specs.Sourcing.{table_row, source_rows, joined, AreSources, all_kept, LeavesPicked}
 use Rattle.query_eval.specs.Types.{Core, FromItem, Table, TableRow, Value}
-use Rattle.query_eval.specs.declared.placed.Placed.{Placed}
+use Rattle.core_parts.specs.declared.placed.Placed.{Placed}
 use Rattle.query_eval.specs.declared.source.Source.{Source}
 use Rattle.query_eval.specs.declared.source.SourceRow.{SourceRow}
 use Rattle.sql_model.specs.Needs.{Versions}

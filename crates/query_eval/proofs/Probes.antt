@@ -9,7 +9,7 @@ use Rattle.query_eval.proofs.Levels.{joined-one}
 use Rattle.query_eval.specs.Joining.{IsBetween, IsEquality, IsProbeOf, equals}
 use Rattle.query_eval.specs.Sourcing.{joined}
 use Rattle.query_eval.specs.Types.{ColumnName, Compare, Expr, Null, Int, Text, Value}
-use Rattle.query_eval.specs.declared.placed.Placed.{Placed}
+use Rattle.core_parts.specs.declared.placed.Placed.{Placed}
 use Rattle.query_eval.specs.declared.probe.Probe.{Probe}
 use Rattle.query_eval.specs.declared.source.SourceRow.{SourceRow}
 use Rattle.sql_model.proofs.Folds.{fold-Both, fold-Column}

@@ -7,25 +7,22 @@ use Rattle.lineage.specs.Rows.{kept, IsRow, AnswersStandFor, PicksStandFor, join
 use Rattle.lineage.specs.StandsFor.{StandsFor}
 use Rattle.lineage.specs.declared.answer.Answer.{Answer}
 use Rattle.lineage.specs.declared.answer.Pick.{Pick}
-use Rattle.query_eval.specs.Checking.{core_at, places_at, IsChecked}
-use Rattle.query_eval.specs.Placing.{AllPlaced, values_over}
+use Rattle.core_parts.specs.Checking.{core_at, places_at, IsChecked}
+use Rattle.core_parts.specs.Placing.{AllPlaced}
+use Rattle.query_eval.specs.Projecting.{values_over}
 use Rattle.query_eval.specs.Projecting.{projected, whole, IsProjected}
 use Rattle.query_eval.specs.Types.{Catalog, Checked, Core, Item, Query, Statement, TheQuery, Value}
-use Rattle.query_eval.specs.declared.placed.Placed.{Placed}
+use Rattle.core_parts.specs.declared.placed.Placed.{Placed}
 use Rattle.sql_model.specs.Kinds.{names_in}
 use Rattle.sql_model.specs.Meaning.{eval}
 use Rattle.sql_model.specs.Needs.{Versions}
+use Rattle.core_parts.proofs.Lists.{got-mapped}
 use Rattle.sql_model.specs.Places.{core_places, order_places}
 use Rattle.sql_model.specs.QueryAnswer.{Origin, Combination, combination_rows, joined_values, item_values, group_row, single, rows_in_scope, is_kept, groups_of}
 use Rattle.sql_model.specs.Refusals.{answer_titles, core_names, cores_of, groups, names_of_items}
 use Rattle.sql_model.specs.Scope.{InScope, environment, places_in, place_of, scope_of}
 
 -- ---- the places of a core
-
-got-mapped : {A B : Type 0} (f : A → B) (xs : List A) (last : B) (i : ℕ) (x : A) → slice_get xs i ≡ Some x → slice_get (map f xs ++ last ∷ []) i ≡ Some (f x)
-got-mapped f [] last i x is = cc
-got-mapped f (y ∷ xs) last zero x is = let same : y ≡ x = cc in ap (λ z. Some (f z)) same
-got-mapped f (y ∷ xs) last (suc i) x is = got-mapped f xs last i x is
 
 module _ (checked : Checked) (query : Query) (catalog : Catalog) (is : IsChecked checked query catalog) where
   pub statement-is : checked.statement ≡ TheQuery query

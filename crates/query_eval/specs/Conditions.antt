@@ -1,9 +1,9 @@
 -- The conditions of a core, one by one.
 use Rattle.std.specs.Prelude.{◌≡◌, ℕ, List, ◌++◌, ◌&&◌}
 use Rattle.query_eval.specs.Joining.{meets}
-use Rattle.query_eval.specs.Placing.{AllPlaced}
+use Rattle.core_parts.specs.Placing.{AllPlaced}
 use Rattle.query_eval.specs.Types.{Expr, Value}
-use Rattle.query_eval.specs.declared.placed.Placed.{Placed}
+use Rattle.core_parts.specs.declared.placed.Placed.{Placed}
 use Rattle.sql_model.specs.Kinds.{names_in}
 use Rattle.sql_model.specs.Meaning.{is_true, truth}
 use Rattle.sql_model.specs.QueryAnswer.{meets_all}

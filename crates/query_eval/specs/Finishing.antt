@@ -4,22 +4,15 @@ use Rattle.std.specs.declared.cmp.Ordering.{Ordering}
 use Rattle.lineage.specs.Rows.{kept, AnswersStandFor}
 use Rattle.lineage.specs.StandsFor.{StandsFor}
 use Rattle.lineage.specs.declared.answer.Answer.{Answer}
-use Rattle.query_eval.specs.Checking.{IsChecked}
+use Rattle.core_parts.specs.Checking.{IsChecked}
 use Rattle.query_eval.specs.Merging.{united}
-use Rattle.query_eval.specs.Types.{Catalog, Checked, Order, Query, Statement, TheQuery, TheInsert, TheUpdate}
-use Rattle.query_eval.specs.Types.{TheDelete}
+use Rattle.query_eval.specs.Types.{Catalog, Checked, Order, Query}
 use Rattle.query_eval.specs.declared.finishing.Finished.{Finished}
 use Rattle.query_eval.specs.declared.sort.SortColumn.{SortColumn}
 use Rattle.sql_model.specs.Needs.{Versions}
 use Rattle.sql_model.specs.QueryAnswer.{AnswerRow, SortKey, lineage_of, sort_key, order_by, sort_rows}
 use Rattle.sql_model.specs.QueryAnswer.{limit_of, first_rows, other_rows}
 use Rattle.sql_model.specs.Refusals.{answer_titles}
-
-abbrev pub IsQuery : Statement → Type 0
-IsQuery (TheQuery query) = Unit {0}
-IsQuery (TheInsert insert) = ⊥
-IsQuery (TheUpdate update) = ⊥
-IsQuery (TheDelete delete) = ⊥
 
 -- ---- columns to sort by
 

@@ -9,11 +9,11 @@ use Rattle.std.specs.Prelude.{cond}
 use Rattle.ldv_value.specs.Order.{order, test_of}
 use Rattle.ldv_value.specs.declared.value.Cmp.{Cmp}
 use Rattle.ldv_value.specs.declared.value.Cmp.TheVariants.{Eq, Ne, Lt, Le, Gt, Ge}
-use Rattle.query_eval.specs.Placing.{IsPlaced}
+use Rattle.core_parts.specs.Placing.{IsPlaced}
 use Rattle.query_eval.specs.Sourcing.{joined}
 use Rattle.query_eval.specs.Types.{ColumnName, Operator, Add, Subtract, Multiply, Compare, And, Or, Expr, Value}
 use Rattle.sql_model.specs.declared.expr.Expr.TheVariants.{Both, Column}
-use Rattle.query_eval.specs.declared.placed.Placed.{Placed}
+use Rattle.core_parts.specs.declared.placed.Placed.{Placed}
 use Rattle.query_eval.specs.declared.probe.Probe.{Probe}
 use Rattle.query_eval.specs.declared.source.SourceRow.{SourceRow}
 use Rattle.sql_model.specs.Meaning.{is_true, truth}

@@ -1,12 +1,9 @@
-pub mod Checking
 pub mod Conditions
 pub mod Finishing
 pub mod Joining
-pub mod KeyOrders
 pub mod Masking
 pub mod Merging
 pub mod Picking
-pub mod Placing
 pub mod Projecting
 pub mod Sourcing
 pub mod Types

@@ -5,14 +5,14 @@ use Rattle.std.specs.List.{list_all, AllByRecursion}
 use Rattle.ldv_value.specs.Order.{test_of}
 use Rattle.ldv_value.specs.declared.value.Cmp.{Cmp}
 use Rattle.ldv_value.specs.declared.value.Cmp.TheVariants.{Eq, Ne, Lt, Le, Gt, Ge}
-use Rattle.query_eval.specs.Checking.{core_at, IsChecked}
-use Rattle.query_eval.specs.Placing.{IsPlaced}
+use Rattle.core_parts.specs.Checking.{core_at, IsChecked}
+use Rattle.core_parts.specs.Placing.{IsPlaced}
 use Rattle.query_eval.specs.Types.{Catalog, Checked, ColumnName, Core, Expr, FromItem, Int, Query, Table}
 use Rattle.query_eval.specs.Types.{TableRow, Value}
 use Rattle.query_eval.specs.declared.masking.Comparison.{Comparison}
 use Rattle.query_eval.specs.declared.masking.Located.{Located}
 use Rattle.query_eval.specs.declared.masking.Mask.{Mask}
-use Rattle.query_eval.specs.declared.placed.Placed.{Placed}
+use Rattle.core_parts.specs.declared.placed.Placed.{Placed}
 use Rattle.sql_model.specs.Kinds.{names_in}
 use Rattle.sql_model.specs.Meaning.{Environment, is_true, truth}
 use Rattle.sql_model.specs.QueryAnswer.{Combination, joined_values, meets_all, row_environment}

@@ -4,17 +4,13 @@ use Rattle.std.specs.BTreeMap as tree
 use Rattle.std.specs.BTreeMap.{BTreeMap}
 use Rattle.std.specs.BTreeSet as treeset
 use Rattle.std.specs.BTreeSet.{BTreeSet}
-use Rattle.std.specs.FinMap.{empty, entries, from_entries}
+use Rattle.std.specs.FinMap.{empty}
 use Rattle.std.specs.Ordering.{is_eq}
-use Rattle.lineage.specs.Lineage.{Lineage}
+use Rattle.lineage.specs.Lineage.{Lineage, union_of}
 use Rattle.lineage.specs.declared.answer.Answer.{Answer}
-use Rattle.query_eval.specs.KeyOrders.{values_order}
+use Rattle.sql_model.specs.KeyOrder.{values_order}
 use Rattle.query_eval.specs.Types.{Value}
 use Rattle.sql_model.specs.Keys.{same_values}
-
--- the union of two sets; a row that is in both has the version of the first
-abbrev pub union_of : Lineage → Lineage → Lineage
-union_of one other = from_entries (entries one ++ entries other)
 
 -- the union of the lineages of answers
 abbrev pub united : List Answer → Lineage

@@ -7,7 +7,7 @@ use Rattle.std.specs.Ordering.{nat_cmp}
 use Rattle.lineage.specs.Lineage.{Lineage, added}
 use Rattle.lineage.specs.Rows.{joined_row, PicksStandFor}
 use Rattle.lineage.specs.declared.answer.Pick.{Pick}
-use Rattle.query_eval.specs.Checking.{core_at, IsChecked}
+use Rattle.core_parts.specs.Checking.{core_at, IsChecked}
 use Rattle.query_eval.specs.Sourcing.{joined, AreSources, LeavesPicked}
 use Rattle.query_eval.specs.Types.{Checked, Core, Query, Table, TableRow}
 use Rattle.query_eval.specs.declared.source.Source.{Source}

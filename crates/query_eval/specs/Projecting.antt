@@ -1,16 +1,23 @@
 -- The answers of picked combinations.
-use Rattle.std.specs.Prelude.{◌≡◌, ℕ, List, map, Bool, false, Some}
+use Rattle.std.specs.Prelude.{◌≡◌, ℕ, List, [], ◌∷◌, map, Bool, false, Some}
 use Rattle.lineage.specs.Rows.{joined_row, AnswersStandFor, PicksStandFor}
 use Rattle.lineage.specs.declared.answer.Answer.{Answer}
 use Rattle.lineage.specs.declared.answer.Pick.{Pick}
-use Rattle.query_eval.specs.Checking.{core_at, IsChecked}
-use Rattle.query_eval.specs.Placing.{values_over}
-use Rattle.query_eval.specs.Types.{Catalog, Checked, Core, Query}
-use Rattle.query_eval.specs.declared.placed.Placed.{Placed}
+use Rattle.core_parts.specs.Checking.{core_at, IsChecked}
+use Rattle.query_eval.specs.Types.{Catalog, Checked, Core, Query, Value}
+use Rattle.core_parts.specs.declared.placed.Placed.{Placed}
+use Rattle.sql_model.specs.Meaning.{Meaning, eval}
 use Rattle.sql_model.specs.Needs.{Versions}
 use Rattle.sql_model.specs.QueryAnswer.{Combination, rows_in_scope}
 use Rattle.sql_model.specs.Refusals.{groups}
-use Rattle.sql_model.specs.Scope.{InScope, scope_of}
+use Rattle.sql_model.specs.Scope.{InScope, environment, scope_of}
+
+-- what an expression means over a row
+abbrev pub meaning : List InScope → List Value → Placed → Meaning
+meaning scope row placed = eval placed.expr (environment scope row ∷ [])
+
+abbrev pub values_over : List InScope → List Value → List Placed → List Value
+values_over scope row placed = map (λ p. (meaning scope row p).value) placed
 
 -- the values of the items over the joined row
 abbrev pub projected : List InScope → List Placed → Pick → Answer

@@ -7,7 +7,7 @@ ghost use Rattle.sql_model.specs.Kinds.{names_in};
 ghost use Rattle.sql_model.specs.Refusals.{core_names, items_of, names_of_items};
 ghost use Rattle.sql_model.specs.Scope.{InScope, places_in};
 
-use crate::placed::{Placed, placed_at, take_places};
+use core_parts::{Placed, placed_at, take_places};
 use ldv_value::{List, Places};
 use sql_model::{Core, Expr, Item, Operator};
 use std::alloc::{AllocError, Global};

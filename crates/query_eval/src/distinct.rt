@@ -5,8 +5,8 @@ ghost use Rattle.query_eval.specs.Merging.{unseen};
 ghost use Rattle.query_eval.specs.Types.{Value as Seen};
 ghost use Rattle.sql_model.specs.QueryAnswer.{distinct};
 
-use crate::refs::Refs;
 use crate::row_values::RowValues;
+use core_parts::Refs;
 use ldv_value::Values;
 use std::alloc::{AllocError, Global};
 use std::collections::BTreeSet;

@@ -1,13 +1,14 @@
 //! ORDER BY and LIMIT.
 
 ghost use Rattle.std.specs.Prelude.{◌≡◌, ◌≤◌, length, IfOk, Some};
-ghost use Rattle.query_eval.specs.Finishing.{IsQuery, IsFinished, IsLimited};
+ghost use Rattle.core_parts.specs.Checking.{IsQuery};
+ghost use Rattle.query_eval.specs.Finishing.{IsFinished, IsLimited};
 ghost use Rattle.query_eval.specs.Types.{Int};
 ghost use Rattle.sql_model.specs.QueryAnswer.{limit_of};
 
-use crate::cores::{places_or, query_of};
-use crate::lineages::united;
+use crate::lineages::united_set;
 use crate::sort::{sort_columns, sorted};
+use core_parts::{places_or, query_of};
 use ldv_value::{List, Value};
 use lineage::{Answers, LineageSet};
 use sql_model::Checked;
@@ -88,7 +89,7 @@ fn cut_below(alloc: Global, count: usize, answers: Answers) -> Result<Finished, 
     ensures { IfOk result (IsLimited (Some count) answers) }
 {
     let mut items = answers.into_vec();
-    let cut = united(alloc, &items[count..])?;
+    let cut = united_set(alloc, &items[count..])?;
     items.truncate(count);
     Ok(Finished {
         answers: List::of_vec(items),

@@ -13,9 +13,9 @@ ghost use Rattle.query_eval.specs.declared.source.SourceRow.{SourceRow as Given}
 ghost use Rattle.sql_model.specs.Meaning.{is_null};
 ghost use Rattle.sql_model.specs.Scope.{value_at};
 
-use crate::refs::Refs;
 use crate::source::SourceRow;
 use crate::value_key::ValueKey;
+use core_parts::Refs;
 use ldv_value::{Value, Values};
 use std::alloc::{AllocError, Global};
 use std::collections::BTreeMap;

@@ -9,18 +9,17 @@ ghost use Rattle.std.specs.Prelude.{IfOk, OnOk};
 ghost use Rattle.std.specs.List.{remove};
 ghost use Rattle.query_eval.specs.Joining.{combos, meets, tests, is_ready, ready, later, remaining, extended};
 ghost use Rattle.query_eval.specs.Joining.{all_extended, EachHas, IsIndex, looked_up};
-ghost use Rattle.query_eval.specs.Placing.{IsPlaced, AllPlaced};
+ghost use Rattle.core_parts.specs.Placing.{IsPlaced, AllPlaced};
 ghost use Rattle.query_eval.specs.Sourcing.{joined, source_rows, AreWide, SourcesAreWide};
 ghost use Rattle.query_eval.specs.declared.source.SourceRow.{SourceRow as Given};
 ghost use Rattle.sql_model.specs.Meaning.{is_true, truth};
 ghost use Rattle.sql_model.specs.Scope.{InScope, environment};
 
 use crate::index::{Index, index_of, rows_for};
-use crate::placed::Placed;
 use crate::probe::{Found, Probe, probe_at};
-use crate::refs::Refs;
 use crate::source::{Source, SourceRow};
-use ldv_value::{CopyItem, List, Truth, Values};
+use core_parts::{Placed, Refs, is_certain};
+use ldv_value::{CopyItem, List, Values};
 use sql_model::truth_of;
 use std::alloc::{AllocError, Global};
 
@@ -28,16 +27,6 @@ use std::alloc::{AllocError, Global};
 pub(crate) type Combination<'a> = Refs<'a, SourceRow>;
 /// Combinations, in their order.
 pub(crate) type Combinations<'a> = List<Refs<'a, SourceRow>>;
-
-fn is_certain(truth: Truth) -> bool
-    ensures { result ≡ is_true truth }
-{
-    match truth {
-        Truth::True => true,
-        Truth::False => false,
-        Truth::Unknown => false,
-    }
-}
 
 // Whether a condition is True over a row.
 fn is_met(alloc: Global, cond: &Placed, values: &Values) -> Result<bool, AllocError>
@@ -203,7 +192,7 @@ fn extend_found<'a>(
         → made.new ++ looked_up scope conds.now probe ps rows.now
         ≡ made.old ++ looked_up scope conds.now probe (prefix.now ∷ ps) rows.now) }
 {
-    match rows_for(index, rows, probe.place, prefix, probe.from as usize) {
+    match rows_for(index, rows, probe.place, prefix, probe.from) {
         None => Ok(()),
         Some(found) => {
             extend_by(alloc, made, prefix, found.items(), conds)?;
@@ -293,10 +282,7 @@ struct Parted {
 fn is_ready(cond: &Placed, width: usize) -> bool
     ensures { result ≡ is_ready width cond.now }
 {
-    cond.places
-        .items()
-        .iter()
-        .all(|place| (*place as usize) < width)
+    cond.places.items().iter().all(|place| *place < width)
 }
 
 fn part(alloc: Global, conds: List<Placed>, width: usize) -> Result<Parted, AllocError>

@@ -17,7 +17,6 @@
 #![tactic(auto)]
 
 mod conditions;
-mod cores;
 mod distinct;
 mod finishing;
 mod index;
@@ -26,10 +25,8 @@ mod lineages;
 mod masking;
 mod merging;
 mod picking;
-mod placed;
 mod probe;
 mod projection;
-mod refs;
 mod row_values;
 mod sort;
 mod source;

@@ -2,11 +2,11 @@
 
 ghost use Rattle.std.specs.Prelude.{◌≡◌, ◌∷◌, List as Items, true, IfOk, IfSome, OnOk};
 ghost use Rattle.std.specs.List.{AllByRecursion};
-ghost use Rattle.query_eval.specs.Checking.{HasCore};
+ghost use Rattle.core_parts.specs.Checking.{HasCore};
 ghost use Rattle.query_eval.specs.Masking.{turned, IsComparison, IsLocated, HaveWidths, passes, IsMask};
 ghost use Rattle.query_eval.specs.Masking.{AreMasks};
 ghost use Rattle.query_eval.specs.Joining.{IsColumn, meets};
-ghost use Rattle.query_eval.specs.Placing.{IsPlaced, AllPlaced};
+ghost use Rattle.core_parts.specs.Placing.{IsPlaced, AllPlaced};
 ghost use Rattle.query_eval.specs.Types.{Compare, Int};
 ghost use Rattle.sql_model.specs.Meaning.{is_true, truth};
 ghost use Rattle.sql_model.specs.QueryAnswer.{Combination, joined_values};
@@ -14,9 +14,8 @@ ghost use Rattle.sql_model.specs.Scope.{InScope, environment};
 ghost use Rattle.sql_model.specs.declared.expr.Expr.TheVariants.{Both, Constant};
 
 use crate::conditions::conditions_of;
-use crate::cores::{core_of, places_or};
-use crate::placed::Placed;
 use crate::probe::is_column;
+use core_parts::{Placed, core_of, places_or};
 use ldv_value::{Cmp, List, Value};
 use sql_model::{Checked, Expr, Operator};
 use std::alloc::{AllocError, Global};
@@ -87,7 +86,7 @@ fn mask_of(cond: &Placed, widths: &[usize]) -> Option<Mask>
     let Some(place) = cond.places.get(0) else {
         return None;
     };
-    let Some(located) = locate(widths, *place as usize) else {
+    let Some(located) = locate(widths, *place) else {
         return None;
     };
     Some(Mask {

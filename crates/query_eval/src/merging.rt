@@ -6,7 +6,7 @@ ghost use Rattle.std.specs.Option.{option_map};
 ghost use Rattle.std.specs.BTreeMap as tree;
 ghost use Rattle.std.specs.BTreeMap.{is_at};
 ghost use Rattle.lineage.specs.Rows.{AnswersStandFor};
-ghost use Rattle.query_eval.specs.KeyOrders.{values_order};
+ghost use Rattle.sql_model.specs.KeyOrder.{values_order};
 ghost use Rattle.query_eval.specs.Merging.{united, own_values, with_values, merged, listed, answer_added};
 ghost use Rattle.lineage.specs.declared.answer.Answer.{Answer as Given};
 ghost use Rattle.query_eval.specs.Types.{Value as Seen};
@@ -14,11 +14,11 @@ ghost use Rattle.sql_model.specs.Needs.{Versions};
 ghost use Rattle.sql_model.specs.QueryAnswer.{AnswerRow, distinct, merge};
 
 use crate::distinct::distinct_of;
-use crate::lineages::united_refs;
-use crate::refs::Refs;
+use crate::lineages::united_rows;
 use crate::row_values::RowValues;
+use core_parts::Refs;
 use ldv_value::{List, Values};
-use lineage::{Answer, Answers, LineageSet};
+use lineage::{Answer, Answers, LineageRows};
 use std::alloc::{AllocError, Global};
 use std::collections::BTreeMap;
 
@@ -115,12 +115,12 @@ fn lineage_under<'a>(
     alloc: Global,
     groups: &Groups<'a>,
     values: &'a Values,
-) -> Result<LineageSet, AllocError>
+) -> Result<LineageRows, AllocError>
     ensures { IfOk result (λ lineage. lineage ≡ united (listed groups.now.map values.now)) }
 {
     match group_at(groups, values) {
-        None => Ok(LineageSet::empty(alloc)),
-        Some(answers) => united_refs(alloc, answers.items()),
+        None => Ok(LineageRows::empty(alloc)),
+        Some(answers) => united_rows(alloc, answers.items()),
     }
 }
 

@@ -2,16 +2,16 @@
 
 ghost use Rattle.std.specs.Prelude.{◌≡◌, List as Items, map, IfOk};
 ghost use Rattle.std.specs.FinMap.{empty};
-ghost use Rattle.query_eval.specs.Checking.{HasCore};
+ghost use Rattle.core_parts.specs.Checking.{HasCore};
 ghost use Rattle.query_eval.specs.Picking.{rows_added, kept_rows, pick_of, ArePicked};
 ghost use Rattle.query_eval.specs.Sourcing.{SourcesAreWide};
 
 use crate::conditions::conditions_of;
-use crate::cores::{core_of, places_or};
 use crate::joining::{Combination, Combinations, join, joined_values};
 use crate::source::{Source, SourceRow};
+use core_parts::{core_of, places_or};
 use ldv_value::List;
-use lineage::{LineageSet, Pick, Picks};
+use lineage::{LineageRows, Pick, Picks};
 use sql_model::Checked;
 use std::alloc::{AllocError, Global};
 
@@ -73,13 +73,13 @@ fn lineage_of(
     sources: &[Source],
     rows: &[&SourceRow],
     keep: bool,
-) -> Result<LineageSet, AllocError>
+) -> Result<LineageRows, AllocError>
     ensures { IfOk result (λ lineage. lineage ≡ kept_rows keep sources.now (map (λ r. r.now) rows.now)) }
 {
     if keep {
         rows_added(alloc, sources, rows)
     } else {
-        Ok(LineageSet::empty(alloc))
+        Ok(LineageRows::empty(alloc))
     }
 }
 
@@ -88,10 +88,10 @@ fn rows_added(
     alloc: Global,
     sources: &[Source],
     rows: &[&SourceRow],
-) -> Result<LineageSet, AllocError>
+) -> Result<LineageRows, AllocError>
     ensures { IfOk result (λ lineage. lineage ≡ rows_added empty sources.now (map (λ r. r.now) rows.now)) }
 {
-    let mut lineage = LineageSet::empty(alloc);
+    let mut lineage = LineageRows::empty(alloc);
     let mut left = sources;
     let mut right = rows;
     'rows: loop {

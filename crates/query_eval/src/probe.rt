@@ -4,7 +4,7 @@ ghost use Rattle.std.specs.Prelude.{◌≡◌, IfSome, true};
 ghost use Rattle.query_eval.specs.Joining.{IsBetween, IsColumn, IsEquality, IsProbeOf, HasProbe};
 ghost use Rattle.query_eval.specs.Joining.{is_equal_sign, is_equal_test};
 
-use crate::placed::Placed;
+use core_parts::Placed;
 use ldv_value::Cmp;
 use sql_model::{Expr, Operator};
 
@@ -12,7 +12,7 @@ use sql_model::{Expr, Operator};
 /// next source by its place there.
 #[derive(Clone, Copy)]
 pub struct Probe {
-    pub from: u32,
+    pub from: usize,
     pub place: usize,
 }
 
@@ -78,18 +78,18 @@ pub(crate) fn is_column(expr: &Expr) -> bool
 }
 
 // One place among the first, and one among those that follow.
-fn probe_between(a: u32, b: u32, width: usize) -> Option<Probe>
+fn probe_between(a: usize, b: usize, width: usize) -> Option<Probe>
     ensures { IfSome result (IsBetween a b width) }
 {
-    if (a as usize) < width && width <= b as usize {
+    if a < width && width <= b {
         Some(Probe {
             from: a,
-            place: b as usize - width,
+            place: b - width,
         })
-    } else if (b as usize) < width && width <= a as usize {
+    } else if b < width && width <= a {
         Some(Probe {
             from: b,
-            place: a as usize - width,
+            place: a - width,
         })
     } else {
         None

@@ -1,16 +1,16 @@
 //! The answer rows of a core that doesn't group.
 
-ghost use Rattle.std.specs.Prelude.{◌≡◌, List as Items, map, IfOk};
-ghost use Rattle.query_eval.specs.Placing.{AllPlaced};
-ghost use Rattle.query_eval.specs.Checking.{HasCore};
-ghost use Rattle.query_eval.specs.Projecting.{projected, whole, IsProjected};
-ghost use Rattle.sql_model.specs.Scope.{InScope};
+ghost use Rattle.std.specs.Prelude.{◌≡◌, ◌++◌, ℕ, List as Items, map, IfOk};
+ghost use Rattle.core_parts.specs.Placing.{AllPlaced};
+ghost use Rattle.core_parts.specs.Checking.{HasCore};
+ghost use Rattle.query_eval.specs.Projecting.{projected, values_over, whole, IsProjected};
+ghost use Rattle.sql_model.specs.Refusals.{names_of_items};
+ghost use Rattle.sql_model.specs.Scope.{InScope, places_in};
 
-use crate::cores::{core_of, places_or};
-use crate::placed::{Placed, placed_items, row_values};
-use ldv_value::List;
+use core_parts::{Placed, core_of, placed_items, places_or};
+use ldv_value::{List, Places, Values};
 use lineage::{Answer, Answers, Picks};
-use sql_model::Checked;
+use sql_model::{Checked, Item, value_of};
 use std::alloc::{AllocError, Global};
 
 /// The answer rows of a core that doesn't group, whose picked combinations these are. `core` is the core's
@@ -26,10 +26,33 @@ pub fn project(checked: &Checked, core: usize, picks: Picks) -> Result<Answers, 
     match &core_of(checked, core).items {
         None => whole(alloc, picks),
         Some(items) => {
-            let items = placed_items(alloc, items.items(), places)?;
+            let items = first_items(alloc, items.items(), places)?;
             projected(alloc, items.items(), picks)
         }
     }
+}
+
+// The items of a core with the places that they take, which come first.
+fn first_items(alloc: Global, items: &[Item], places: &Places) -> Result<List<Placed>, AllocError>
+    ensures exprs { IfOk result (λ placed. map (λ p. p.expr) placed ≡ map (λ item. item.expr) items.now) }
+    ensures placed { IfOk result (λ placed. (scope : Items InScope) (others : Items ℕ)
+        → places.now ≡ places_in scope (names_of_items items.now) ++ others → AllPlaced scope placed) }
+{
+    let mut at = 0;
+    placed_items(alloc, items, places, &mut at)
+}
+
+// The values of expressions over a row.
+fn row_values(alloc: Global, exprs: &[Placed], row: &Values) -> Result<Values, AllocError>
+    ensures { IfOk result (λ values. (scope : Items InScope) → AllPlaced scope exprs.now
+        → values ≡ values_over scope row.now exprs.now) }
+{
+    let mut values = List::with_capacity(alloc, exprs.len())?;
+    for placed in exprs {
+        let value = value_of(alloc, &placed.expr, row, &placed.places)?;
+        values.push(value)?;
+    }
+    Ok(values)
 }
 
 // The answers with the values of items.

@@ -1,15 +1,14 @@
 //! A row of values as the key of a map, without a copy.
 
-ghost use Rattle.std.specs.Prelude.{◌≡◌, [], Some, refl};
-ghost use Rattle.std.specs.Cmp.Lexicographic.{slice_cmp};
-ghost use Rattle.ldv_value.specs.Order.{order};
-ghost use Rattle.query_eval.specs.KeyOrders.{values_order, values_total};
+ghost use Rattle.std.specs.Prelude.{◌≡◌, Some, refl};
+ghost use Rattle.sql_model.specs.KeyOrder.{values_order, values_total};
 ghost use Rattle.std.specs.Cmp.{eq_by_cmp_equiv, partial_order_from_agreeing_total, partial_equiv_from_equiv};
 ghost use Rattle.std.specs.Cmp.Rules.{comparing};
 ghost use Rattle.std.specs.Ordering.{eq_by_cmp};
 ghost use Rattle.std.proofs.Common.{rules};
 
-use ldv_value::{Value, Values, compare};
+use ldv_value::Values;
+use sql_model::compare_values;
 use std::cmp::Ordering;
 use std::marker::Model;
 
@@ -72,38 +71,5 @@ impl<'a> Ord for RowValues<'a> {
 
     fn cmp(&self, other: &RowValues<'a>) -> Ordering {
         compare_values(self.values.items(), other.values.items())
-    }
-}
-
-fn compare_values(a: &[Value], b: &[Value]) -> Ordering
-    ensures { result ≡ slice_cmp order a.now b.now }
-{
-    let mut left = a;
-    let mut right = b;
-    loop {
-        match left {
-            [] => return compare_empty(right),
-            [first, rest @ ..] => match right {
-                [] => return Ordering::Greater,
-                [second, more @ ..] => {
-                    let between = compare(first, second);
-                    if between.is_ne() {
-                        return between;
-                    }
-                    left = rest;
-                    right = more;
-                }
-            },
-        }
-    }
-}
-
-// No values against some.
-fn compare_empty(values: &[Value]) -> Ordering
-    ensures { result ≡ slice_cmp order [] values.now }
-{
-    match values {
-        [] => Ordering::Equal,
-        [_first, ..] => Ordering::Less,
     }
 }

@@ -3,28 +3,27 @@
 ghost use Rattle.std.specs.Prelude.{◌≡◌, [], map, IfOk};
 ghost use Rattle.ldv_value.specs.Order.{order};
 ghost use Rattle.query_eval.specs.Finishing.{as_key, sort_columns, by_columns};
-ghost use Rattle.query_eval.specs.Types.{Null};
 ghost use Rattle.sql_model.specs.QueryAnswer.{directed, order_by};
 ghost use Rattle.sql_model.specs.Scope.{value_at};
 ghost use Rattle.sql_model.specs.Sorting.{sorted_by};
 
 use ldv_value::{List, Value, Values, compare};
 use lineage::Answers;
-use sql_model::Order;
+use sql_model::{Order, value_or};
 use std::alloc::{AllocError, Global};
 use std::cmp::Ordering;
 
 /// An answer column by its place, from 0, and whether its order is turned round.
 #[derive(Clone, Copy)]
 pub struct SortColumn {
-    pub place: u32,
+    pub place: usize,
     pub descending: bool,
 }
 
 /// The columns to sort by: the places of the keys of ORDER BY, each with its direction.
 pub(crate) fn sort_columns(
     alloc: Global,
-    places: &[u32],
+    places: &[usize],
     parts: &[Order],
 ) -> Result<Vec<SortColumn>, AllocError>
     ensures { IfOk result (λ columns. columns.items ≡ sort_columns places.now parts.now) }
@@ -81,22 +80,13 @@ fn compare_by(column: SortColumn, a: &Values, b: &Values) -> Ordering
     ensures { result ≡ directed column.descending (order (value_at a.now column.place) (value_at b.now column.place)) }
 {
     let null = Value::Null;
-    let place = column.place as usize;
-    let between = compare(value_or(a, place, &null), value_or(b, place, &null));
+    let between = compare(
+        value_or(a, column.place, &null),
+        value_or(b, column.place, &null),
+    );
     if column.descending {
         between.reverse()
     } else {
         between
-    }
-}
-
-// The value of a row at a place, or a given NULL where the row has none there.
-fn value_or<'a>(row: &'a Values, place: usize, null: &'a Value) -> &'a Value
-    requires { null.now ≡ Null }
-    ensures { result.now ≡ value_at row.now place }
-{
-    match row.get(place) {
-        None => null,
-        Some(value) => value,
     }
 }

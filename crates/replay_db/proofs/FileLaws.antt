@@ -1,14 +1,14 @@
 -- What is found among files of which some are cut.
-use Rattle.std.proofs.Common.{◌≡◌, ℕ, List, [], ◌∷◌, refl, sym, ap, ◌∙◌, Bool, true, false, inl, inr}
-use Rattle.std.specs.Prelude.{Option, option_map, map, find, bytes_eq}
-use Rattle.std.specs.List.{list_any, cons_option}
+use Rattle.std.proofs.Common.{◌≡◌, ℕ, List, [], ◌∷◌, refl, sym, ap, ◌∙◌, Bool, false, inl, inr}
+use Rattle.std.specs.Prelude.{Option, Some, None, option_map, is_some, find, bytes_eq}
+use Rattle.std.specs.List.{cons_option}
 use Rattle.std.proofs.lemmas.Bool.{cases_Bool}
 use Rattle.std.proofs.lemmas.Slice.Eq.{bytes_eq-Decides}
-use Rattle.replay_db.specs.Types.{File}
-use Rattle.run_model.specs.Between.{Cut, FileCut, Gone, Same, Other, kept_file, cut_files, cut_file_state}
-use Rattle.run_model.specs.Outcome.{outcome_of_path, outcomes_of_paths}
-use Rattle.ldv_value.specs.FileState.{FileState, file_at}
-use Rattle.replay_db.proofs.Tests.{or_second}
+use Rattle.replay_db.specs.Types.{File, Event}
+use Rattle.run_model.specs.Between.{Cut, FileCut, Gone, Same, Other, kept_file, cut_files, KeepsFile}
+use Rattle.run_model.specs.Slice.{FileNeed, Whole, Present, file_need}
+use Rattle.ldv_value.specs.FileState.{file_at, content_in, untouched}
+use Rattle.replay_db.proofs.FilesAgree.{ContentAgrees, Agrees}
 
 abbrev at_path : (List ℕ → Bool) → List File → Option File
 at_path p files = find (λ file. p file.path) files
@@ -21,39 +21,67 @@ passed_over p f miss (Other bytes) rest files same = rw miss same
 
 module _ (cut : Cut) where
   -- a file that stays as it is is found
-  pub file_same : (path : List ℕ) → cut.file path ≡ Same → (files : List File) → file_at path (cut_files cut [] files) ≡ file_at path files
+  pub file_same : (path : List ℕ) → cut.file path ≡ Same → (files : List File) → file_at path (cut_files cut files) ≡ file_at path files
   file_same path stays [] = refl
   file_same path stays (f ∷ fs) = elim (cases_Bool (bytes_eq path f.path)) [
     | inl hit ↦
         let here : path ≡ f.path = (bytes_eq-Decides path f.path).0 hit in
         let same : cut.file f.path ≡ Same = ap cut.file (sym here) ∙ stays in
         rw (same, hit) refl
-    | inr miss ↦ rw miss (passed_over (bytes_eq path) f miss (cut.file f.path) (cut_files cut [] fs) fs (file_same path stays fs))
+    | inr miss ↦ rw miss (passed_over (bytes_eq path) f miss (cut.file f.path) (cut_files cut fs) fs (file_same path stays fs))
   ]
 
-  -- a touched path has its content
-  touched_same : (touched : List (List ℕ)) (path : List ℕ) → list_any (bytes_eq path) touched ≡ true → (files : List File)
-      → file_at path (cut_files cut touched files) ≡ file_at path files
-  touched_same touched path is [] = refl
-  touched_same touched path is (f ∷ fs) = elim (cases_Bool (bytes_eq path f.path)) [
+  -- what isn't there is not there either
+  pub file_absent : (path : List ℕ) (files : List File) → file_at path files ≡ None → file_at path (cut_files cut files) ≡ None
+  file_absent path [] none = refl
+  file_absent path (f ∷ fs) none = elim (cases_Bool (bytes_eq path f.path)) [
+    | inl hit ↦ let never : Some f ≡ None = rw hit at none in absurd cc
+    | inr miss ↦
+        let rest : file_at path fs ≡ None = rw miss at none in
+        passed_over (bytes_eq path) f miss (cut.file f.path) (cut_files cut fs) [] (file_absent path fs rest)
+  ]
+
+  -- a file that stays with other bytes is found where it was
+  pub file_there : (path bytes : List ℕ) → cut.file path ≡ Other bytes → (files : List File)
+      → is_some (file_at path (cut_files cut files)) ≡ is_some (file_at path files)
+  file_there path bytes stays [] = refl
+  file_there path bytes stays (f ∷ fs) = elim (cases_Bool (bytes_eq path f.path)) [
     | inl hit ↦
-        let here : f.path ≡ path = sym ((bytes_eq-Decides path f.path).0 hit) in
-        let same : list_any (bytes_eq f.path) touched ≡ true = ap (λ (q : List ℕ). list_any (bytes_eq q) touched) here ∙ is in
+        let here : path ≡ f.path = (bytes_eq-Decides path f.path).0 hit in
+        let same : cut.file f.path ≡ Other bytes = ap cut.file (sym here) ∙ stays in
         rw (same, hit) refl
-    | inr miss ↦ elim (cases_Bool (list_any (bytes_eq f.path) touched)) [
-      | inl own ↦ rw (own, miss) (touched_same touched path is fs)
-      | inr other ↦ rw (other, miss) (passed_over (bytes_eq path) f miss (cut.file f.path) (cut_files cut touched fs) fs (touched_same touched path is fs))
-    ]
+    | inr miss ↦
+        let over : file_at path (cut_files cut (f ∷ fs)) ≡ file_at path (cut_files cut fs) =
+        passed_over (bytes_eq path) f miss (cut.file f.path) (cut_files cut fs) (cut_files cut fs) refl in
+        let old : file_at path (f ∷ fs) ≡ file_at path fs = rw miss refl in
+        ap is_some over ∙ file_there path bytes stays fs ∙ sym (ap is_some old)
   ]
 
-  outcomes_part : (s : FileState) (paths : List (List ℕ)) → ((path : List ℕ) → list_any (bytes_eq path) paths ≡ true → list_any (bytes_eq path) s.touched ≡ true)
-      → map (outcome_of_path (cut_file_state cut s)) paths ≡ map (outcome_of_path s) paths
-  outcomes_part s [] among = refl
-  outcomes_part s (path ∷ paths) among =
-      let self : bytes_eq path path ≡ true = (bytes_eq-Decides path path).1 refl in
-      let found = touched_same s.touched path (among path (rw self refl)) s.files in
-      let head : outcome_of_path (cut_file_state cut s) path ≡ outcome_of_path s path = λ j. record { path = path; content = option_map (λ (file : File). file.content) (found j) } in
-      λ j. head j ∷ outcomes_part s paths (λ q more. among q (or_second (bytes_eq q path) (list_any (bytes_eq q) paths) more)) j
+  -- ---- the files of a world from which nothing was cut that the events need
 
-  pub outcomes_same : (s : FileState) → outcomes_of_paths (cut_file_state cut s) ≡ outcomes_of_paths s
-  outcomes_same s = outcomes_part s s.touched (λ path more. more)
+  content_some : (o : Option File) → is_some (option_map (λ (file : File). file.content) o) ≡ is_some o
+  content_some None = refl
+  content_some (Some f) = refl
+
+  content_agrees : (path : List ℕ) (need : Option FileNeed) (k : FileCut) (files : List File) → cut.file path ≡ k → KeepsFile need k
+      → (o : Option File) → file_at path files ≡ o
+      → ContentAgrees (option_map (λ (file : File). file.content) o) need (content_in (cut_files cut files) path)
+  content_agrees path need k files is keeps None none =
+      ap (option_map (λ (file : File). file.content)) (file_absent path files none)
+  content_agrees path (Some Whole) Gone files is keeps (Some f) found = absurd keeps
+  content_agrees path (Some Whole) Same files is keeps (Some f) found =
+      ap (option_map (λ (file : File). file.content)) (file_same path is files ∙ found)
+  content_agrees path (Some Whole) (Other bytes) files is keeps (Some f) found = absurd keeps
+  content_agrees path (Some Present) Gone files is keeps (Some f) found = absurd keeps
+  content_agrees path (Some Present) Same files is keeps (Some f) found =
+      content_some (file_at path (cut_files cut files)) ∙ ap is_some (file_same path is files ∙ found)
+  content_agrees path (Some Present) (Other bytes) files is keeps (Some f) found =
+      content_some (file_at path (cut_files cut files)) ∙ file_there path bytes is files ∙ ap is_some found
+  content_agrees path None k files is keeps (Some f) found = tt
+
+  pub files_agree : (es : List Event) (files : List File) → ((path : List ℕ) → KeepsFile (file_need path es) (cut.file path))
+      → Agrees es (untouched (cut_files cut files)) (untouched files)
+  files_agree es files keeps = record {
+    touched = refl;
+    paths = λ path. content_agrees path (file_need path es) (cut.file path) files refl (keeps path) (file_at path files) refl;
+  }

@@ -1,5 +1,8 @@
 pub mod EndedLaw
 mod FileLaws
+mod FilesAgree
+mod FilesSame
+mod CoreSame
 mod Keeps
 mod PackageLaws
 mod RunSame

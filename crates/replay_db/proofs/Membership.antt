@@ -1,17 +1,17 @@
 -- What is in two sorted worlds, and what was cut, say the same of whether one lies between.
 use Rattle.std.proofs.Common.{◌≡◌, ℕ, List, [], ◌∷◌, refl, sym, ap, ◌∙◌, subst, Bool, true, false, cond, arith, inl, inr}
-use Rattle.std.specs.Prelude.{Option, Some, None, is_some, is_none, find, filter, map, ◌&&◌, ◌||◌, ◌⊎◌, ◌==◌, nat_lt, bytes_eq, IsTrue}
+use Rattle.std.specs.Prelude.{Option, Some, None, is_some, is_none, filter, map, ◌||◌, ◌⊎◌, ◌==◌, nat_lt}
 use Rattle.std.specs.List.{filter_map, cons_option, list_any}
 use Rattle.std.proofs.lemmas.Bool.{cases_Bool, and_parts, and_from}
 use Rattle.std.proofs.lemmas.Bool.Decides.{nat_tests}
-use Rattle.sql_model.specs.Scope.{same_text, is_table, table_at}
+use Rattle.sql_model.specs.Scope.{same_text, is_table}
 use Rattle.replay_db.specs.Types.{File, Table, TableRow, Event, World}
-use Rattle.run_model.specs.Between.{IsIn, is_row_needed, with_content, IsPresent, TableBetween, LiesBetween, FileCut, Gone, Same, Other, Cut, kept_file, cut_files, row_stays, cut_table, table_stays, cut_tables, cut_world, KeepsFile, has_row, is_initial, KeepsNeeded, CutOf, cut_to}
+use Rattle.run_model.specs.Between.{IsIn, is_row_needed, with_content, IsPresent, TableBetween, LiesBetween, FileCut, Gone, Same, Other, Cut, kept_file, cut_files, row_stays, cut_table, table_stays, cut_tables, cut_world, KeepsFile, has_row, is_initial, KeepsNeeded, CutOf}
 use Rattle.run_model.specs.Slice.{FileNeed, Whole, Present, file_need, is_table_needed}
 use Rattle.package_layout.specs.Order.{rises, is_below}
 use Rattle.replay_db.specs.Laws.{MembershipLaw}
-use Rattle.replay_db.proofs.SortedLists.{found_in, none_in, any_in, in_any, in_filter, filter_in, in_filter_map, filter_map_in, same_item, same_list, at, at_key, at_item, found_all, filter_map_sorted, Sorted}
-use Rattle.replay_db.proofs.Tests.{cases_option, or_first, or_second, same_text_is, self_text, number_is, self_number}
+use Rattle.replay_db.proofs.SortedLists.{found_in, none_in, any_in, in_any, in_filter, filter_in, in_filter_map, filter_map_in, same_item, at, at_key, at_item, found_all}
+use Rattle.replay_db.proofs.Tests.{or_first, or_second, same_text_is, self_text, number_is, self_number}
 use Rattle.replay_db.proofs.TraceLists.{below_next, below_itself}
 use Rattle.replay_db.proofs.WorldRules.{SortedWorld, sorted_world}
 
@@ -104,7 +104,7 @@ module _ (events : List Event) (v w : World) (sv : SortedWorld v) (sw : SortedWo
   file_becomes f in_f None is None none = refl
 
   files_become : (fs : List File) → ((f : File) → IsIn f fs → IsIn f w.files)
-      → cut_files made_cut [] fs ≡ filter_map (λ (f : File). file_found f.path v.files) fs
+      → cut_files made_cut fs ≡ filter_map (λ (f : File). file_found f.path v.files) fs
   files_become [] among = refl
   files_become (f ∷ fs) among =
       let one : kept_file (made_cut.file f.path) f ≡ file_found f.path v.files =
@@ -115,7 +115,7 @@ module _ (events : List Event) (v w : World) (sv : SortedWorld v) (sw : SortedWo
   file_covered g (inl in_g) = (g, (in_g, refl))
   file_covered g (inr present) = (with_content g present.1.0, (present.1.1, refl))
 
-  files_same : cut_files made_cut [] w.files ≡ v.files
+  files_same : cut_files made_cut w.files ≡ v.files
   files_same =
       files_become w.files (λ f is. is)
       ∙ found_all path_of is_below below_itself below_next same_text same_text_is self_text v.files w.files sv.files sw.files (λ g is. file_covered g (l.others g is))

@@ -1,9 +1,9 @@
 -- What events need is the same of initial files and tables from which nothing was cut that they need.
-use Rattle.std.proofs.Common.{◌≡◌, ℕ, List, [], ◌∷◌, refl, sym, ap, ◌∙◌, true, inl, inr}
+use Rattle.std.proofs.Common.{◌≡◌, ℕ, List, [], ◌∷◌, refl, ap, true, inl, inr}
 use Rattle.std.specs.Prelude.{Option, Some, None, option_map, is_some, filter}
 use Rattle.std.specs.List.{cons_option, filter_map}
 use Rattle.std.proofs.lemmas.Bool.{cases_Bool}
-use Rattle.replay_db.specs.Types.{File, Table, TableRow, Event, Mode, Included, Excluded, PackedRow, PackedTable}
+use Rattle.replay_db.specs.Types.{File, Table, TableRow, Event, Mode, Included, Excluded, PackedRow}
 use Rattle.run_model.specs.Between.{Cut, FileCut, Gone, Same, Other, kept_file, with_content, cut_files, cut_table, cut_tables, KeepsFile}
 use Rattle.run_model.specs.Package.{tables_of}
 use Rattle.run_model.specs.Slice.{FileNeed, Whole, Present, file_need, packed_as, packed_file, files_needed, first_reason, packed_because, rows_needed, is_table_needed, packed_table, tables_needed}
@@ -28,10 +28,10 @@ module _ (cut : Cut) (events : List Event) (keeps : KeepsAll cut events) where
   packed_same f None Same keeps is rest files same = λ j. cons_option (option_map (packed_as f) (is j)) (same j)
   packed_same f None (Other bytes) keeps is rest files same = absurd keeps
 
-  pub files_same : (files : List File) → files_needed events (cut_files cut [] files) ≡ files_needed events files
+  pub files_same : (files : List File) → files_needed events (cut_files cut files) ≡ files_needed events files
   files_same [] = refl
   files_same (f ∷ fs) =
-      packed_same f (file_need f.path events) (cut.file f.path) (keeps.files f.path) refl (cut_files cut [] fs) fs (files_same fs)
+      packed_same f (file_need f.path events) (cut.file f.path) (keeps.files f.path) refl (cut_files cut fs) fs (files_same fs)
 
   -- ---- tables
 

@@ -1,11 +1,11 @@
 -- The slice keeps what is needed, and is the package's own world.
-use Rattle.std.proofs.Common.{◌≡◌, ℕ, List, [], ◌∷◌, refl, ap, Bool, true, false, inl, inr}
+use Rattle.std.proofs.Common.{◌≡◌, ℕ, List, [], ◌∷◌, refl, ap, inl, inr}
 use Rattle.std.specs.Prelude.{Option, Some, None, option_map, map, filter}
 use Rattle.std.specs.List.{cons_option}
 use Rattle.std.proofs.lemmas.Bool.{cases_Bool}
-use Rattle.replay_db.specs.Types.{File, Table, TableRow, Event, Included, PackedFile, World}
-use Rattle.run_model.specs.Between.{FileCut, kept_file, cut_files, cut_table, cut_tables, KeepsFile, KeepsNeeded, Between, cut_to, is_row_needed, slice_cut, slice_of}
-use Rattle.run_model.specs.Package.{package_of, own_file, own_row, own_table, own_world}
+use Rattle.replay_db.specs.Types.{File, Table, TableRow, Event, PackedFile}
+use Rattle.run_model.specs.Between.{kept_file, cut_files, cut_table, cut_tables, KeepsFile, KeepsNeeded, cut_to, is_row_needed, slice_cut}
+use Rattle.run_model.specs.Package.{own_file, own_row, own_table}
 use Rattle.run_model.specs.Slice.{FileNeed, Whole, Present, file_need, packed_as, files_needed, first_reason, rows_needed, is_table_needed, packed_table, tables_needed}
 use Rattle.run_model.specs.WorldRun.{events_within}
 use Rattle.replay_db.specs.Laws.{SliceLaw, OwnLaw}
@@ -37,9 +37,9 @@ module _ (all : List Event) where
   own_file_same f (Some Present) rest files same = ap (λ (l : List File). (record { path = f.path; content = [] }) ∷ l) same
   own_file_same f None rest files same = same
 
-  own_files : (files : List File) → map own_file (files_needed all files) ≡ cut_files (slice_cut all) [] files
+  own_files : (files : List File) → map own_file (files_needed all files) ≡ cut_files (slice_cut all) files
   own_files [] = refl
-  own_files (f ∷ fs) = own_file_same f (file_need f.path all) (files_needed all fs) (cut_files (slice_cut all) [] fs) (own_files fs)
+  own_files (f ∷ fs) = own_file_same f (file_need f.path all) (files_needed all fs) (cut_files (slice_cut all) fs) (own_files fs)
 
   own_rows : (table : List ℕ) (rows : List TableRow) → map own_row (rows_needed all table rows) ≡ filter (λ row. is_row_needed all table row.number) rows
   own_rows table [] = refl

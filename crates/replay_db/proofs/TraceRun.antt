@@ -1,24 +1,29 @@
 -- The events of a run, step by step.
-use Rattle.std.proofs.Common.{◌≡◌, ℕ, zero, suc, ◌+◌, ◌<◌, ◌≤◌, List, [], ◌∷◌, ◌++◌, refl, sym, ap, ◌∙◌, subst, true, false, arith, inl, inr}
-use Rattle.std.specs.Prelude.{Option, Some, None, map, slice_get, ◌&&◌, nat_le, nat_lt}
+use Rattle.std.proofs.Common.{◌≡◌, ℕ, zero, suc, ◌+◌, ◌<◌, ◌≤◌, List, [], ◌∷◌, ◌++◌, length, refl, sym, ap, ◌∙◌, subst, Bool, true, false, arith, inl, inr}
+use Rattle.std.specs.Prelude.{Option, Some, None, map, slice_get, is_some, ◌&&◌, ◌||◌, nat_le, nat_lt}
 use Rattle.std.specs.List.{AllByRecursion}
-use Rattle.std.proofs.lemmas.Bool.{cases_Bool, le-leb}
+use Rattle.std.proofs.lemmas.Bool.{cases_Bool, le-leb, lt-ltb, ltb-true}
+use Rattle.ldv_value.specs.Limits.{max_processes}
+use Rattle.ldv_value.specs.Names.{path_test}
 use Rattle.sql_model.specs.Statements.{reply_of}
 use Rattle.sql_parse.specs.Texts.{statement_of}
-use Rattle.replay_db.specs.Types.{Reply, Statement, Act, Ended, Event}
-use Rattle.run_model.specs.Core.{Core, is_over}
+use Rattle.replay_db.specs.Types.{Reply, Statement, Act, Started, Spawned, Waited, Ended, Asked, Event}
+use Rattle.run_model.specs.Core.{Process, Core, all_ended, is_over}
 use Rattle.run_model.specs.Events.{event_at, events_of_step, events}
 use Rattle.run_model.specs.Run.{first_pick, later_picks, chosen, move_of, move, steps}
-use Rattle.run_model.specs.Schedule.{choose, scheduled}
+use Rattle.run_model.specs.RunLaw.{MayRun}
+use Rattle.run_model.specs.Schedule.{choose}
 use Rattle.run_model.specs.SqlDatabase.{SqlDatabase, db_after, lists_of, sql_base}
 use Rattle.run_model.specs.State.{State, Stepped}
-use Rattle.run_model.specs.Step.{Ask, quiet, took, ask_at, status_acts, ends_at, asked_act, asking}
+use Rattle.run_model.specs.Step.{Ask, Effect, quiet, took, ask_at, ends_at, asked_act, asking}
 use Rattle.run_model.proofs.Equations.{events-zero, events-over, events-suc, steps-suc}
+use Rattle.run_model.proofs.NeverStuck.{Ordered, found_below, move_ordered, chosen_runs}
+use Rattle.package_layout.specs.Events.{act_room, TypedAct}
 use Rattle.package_layout.specs.Trace.{act_rule, made_after, is_asked, asked_after, follows}
 use Rattle.package_layout.proofs.Laws.{and_true}
 use Rattle.replay_db.proofs.StatementEvents.{RuledNames, GoodDatabase, good_after, asked_ruled}
 use Rattle.replay_db.proofs.TraceLists.{all_append}
-use Rattle.replay_db.proofs.TraceState.{IsStatus, Alone, scheduled_alone, choose_is, QuietStep, quiet_step, TookStep, took_step, ends_alone}
+use Rattle.replay_db.proofs.TraceState.{GoodList, PlainAct, PlainActs, made_by, plain_append, made_append, QuietStep, quiet_step, TookStep, took_step, ends_plain}
 
 -- so many steps are left
 steps_left : (n number total : ℕ) (picks : List ℕ) (s : State SqlDatabase) → is_over s.core ≡ false
@@ -28,16 +33,17 @@ steps_left n number total picks s going enough =
     let count : steps sql_base (suc n) picks s ≡ 1 + steps sql_base n (later_picks picks) (move sql_base (first_pick picks) s).state = steps-suc sql_base n picks s going in
     (omega arith, omega arith)
 
--- ---- one step of the one process
+-- ---- one step
 
--- what a step may be: it asks a statement or none, and the process may end
+-- what a step may be: it asks a statement or none
 pub data Kind : Type 0 where
   Quiet : Kind
   Asks : Option Statement → Kind
 
-abbrev pub acts_of : Kind → ℕ → SqlDatabase → Option ℕ → List Act
-acts_of Quiet asked db status = status_acts status
-acts_of (Asks statement) asked db status = asked_act asked (lists_of statement db) ∷ status_acts status
+-- the acts that aren't a question come after it
+abbrev pub acts_of : Kind → ℕ → SqlDatabase → List Act → List Act
+acts_of Quiet asked db plain = plain
+acts_of (Asks statement) asked db plain = asked_act asked (lists_of statement db) ∷ plain
 
 abbrev pub asked_then : Kind → ℕ → ℕ
 asked_then Quiet asked = asked
@@ -47,53 +53,96 @@ abbrev pub db_then : Kind → SqlDatabase → SqlDatabase
 db_then Quiet db = db
 db_then (Asks statement) db = db_after statement db
 
+abbrev pub made_in : State SqlDatabase → ℕ
+made_in s = length s.core.processes
+
 pub record StepOf (s : State SqlDatabase) (m : Stepped SqlDatabase) : Type 0 where
   pub kind : Kind
-  pub process : m.process ≡ 0
-  pub alone : Alone m.state.core
+  pub plain : List Act
+  pub process : m.process < made_in s
+  pub good : GoodList m.state.core.processes
+  pub rules : PlainActs (made_in s) plain
+  pub made : made_in m.state ≡ made_by (made_in s) plain
   pub asked : m.state.core.asked ≡ asked_then kind s.core.asked
   pub db : m.state.db ≡ db_then kind s.db
-  pub acts : m.acts ≡ acts_of kind s.core.asked s.db alone.process.status
+  pub acts : m.acts ≡ acts_of kind s.core.asked s.db plain
 
-asking_step : (s : State SqlDatabase) (one : Alone s.core) (o : Option Ask) → StepOf s (asking sql_base 0 s o)
-asking_step s one None =
-    let q : QuietStep s.core (quiet 0 s.core) = quiet_step s.core one in
+asking_step : (number : ℕ) (p : Process) (s : State SqlDatabase) → slice_get s.core.processes number ≡ Some p
+    → GoodList s.core.processes → (o : Option Ask) → StepOf s (asking sql_base number s o)
+asking_step number p s is good None =
+    let e : Effect = quiet number s.core in
+    let q : QuietStep s.core e = quiet_step number p s.core is good in
+    let ends = ends_plain number e.core q.good in
+    let last : PlainActs (made_by (made_in s) e.acts) (ends_at number e.core) =
+    subst (λ (m : ℕ). PlainActs m (ends_at number e.core)) q.made ends.0 in
+    let count : made_by (made_in s) (e.acts ++ ends_at number e.core) ≡ length e.core.processes =
+    made_append (made_in s) e.acts (ends_at number e.core)
+    ∙ ap (λ (m : ℕ). made_by m (ends_at number e.core)) (sym q.made)
+    ∙ ends.1 in
     record {
       kind = Quiet;
-      process = refl;
-      alone = q.alone;
+      plain = e.acts ++ ends_at number e.core;
+      process = found_below s.core.processes number p is;
+      good = q.good;
+      rules = plain_append (made_in s) e.acts (ends_at number e.core) q.acts last;
+      made = sym count;
       asked = q.asked;
       db = refl;
-      acts = (λ j. q.acts j ++ ends_at 0 (quiet 0 s.core).core) ∙ ends_alone (quiet 0 s.core).core q.alone;
+      acts = refl;
     }
-asking_step s one (Some a) =
+asking_step number p s is good (Some a) =
     let statement : Option Statement = statement_of a.question.text a.question.params in
     let reply : Reply = reply_of statement s.db.tables in
-    let t : TookStep s.core (took 0 a reply s.core) = took_step s.core a reply one in
+    let new : Core = took number a reply s.core in
+    let t : TookStep s.core new = took_step number p a reply s.core is good in
+    let ends = ends_plain number new t.good in
     record {
       kind = Asks statement;
-      process = refl;
-      alone = t.alone;
+      plain = ends_at number new;
+      process = found_below s.core.processes number p is;
+      good = t.good;
+      rules = subst (λ (m : ℕ). PlainActs m (ends_at number new)) t.made ends.0;
+      made = sym (ap (λ (m : ℕ). made_by m (ends_at number new)) (sym t.made) ∙ ends.1);
       asked = t.asked;
       db = refl;
-      acts = ap (λ (acts : List Act). asked_act s.core.asked (lists_of statement s.db) ∷ acts) (ends_alone (took 0 a reply s.core) t.alone);
+      acts = refl;
     }
 
 -- of the process that is chosen
-move_zero : (s : State SqlDatabase) → Alone s.core → StepOf s (move_of sql_base 0 s)
-move_zero s one =
-    let m : StepOf (chosen 0 s) (move_of sql_base 0 s) = asking_step (chosen 0 s) (scheduled_alone 0 s.core one) (ask_at 0 (chosen 0 s).core) in
-    record { kind = m.kind; process = m.process; alone = m.alone; asked = m.asked; db = m.db; acts = m.acts }
+chosen_step : (number : ℕ) (p : Process) (s : State SqlDatabase) → slice_get s.core.processes number ≡ Some p
+    → GoodList s.core.processes → StepOf s (move_of sql_base number s)
+chosen_step number p s is good =
+    let m : StepOf (chosen number s) (move_of sql_base number s) =
+    asking_step number p (chosen number s) is good (ask_at number (chosen number s).core) in
+    record {
+      kind = m.kind;
+      plain = m.plain;
+      process = m.process;
+      good = m.good;
+      rules = m.rules;
+      made = m.made;
+      asked = m.asked;
+      db = m.db;
+      acts = m.acts;
+    }
 
-pub move_step : (pick : Option ℕ) (s : State SqlDatabase) → Alone s.core → StepOf s (move sql_base pick s)
-move_step pick s one = subst (λ (number : ℕ). StepOf s (move_of sql_base number s)) (sym (choose_is pick s.core one)) (move_zero s one)
+going_on : (diverged ended : Bool) → (diverged || ended) ≡ false → ended ≡ false
+going_on true ended going = absurd cc
+going_on false ended going = going
 
-abbrev events_alone : Kind → ℕ → ℕ → SqlDatabase → Option ℕ → List Event
-events_alone kind number asked db status = map (event_at number 0) (acts_of kind asked db status)
+pub move_step : (pick : Option ℕ) (s : State SqlDatabase) → GoodList s.core.processes → Ordered s.core → is_over s.core ≡ false
+    → StepOf s (move sql_base pick s)
+move_step pick s good ordered going =
+    let may : MayRun (choose pick s.core) s.core =
+    chosen_runs pick s.core ordered (going_on (is_some s.core.diverged) (all_ended s.core) going) in
+    chosen_step (choose pick s.core) may.0 s may.1 good
+
+abbrev events_by_kind : Kind → ℕ → ℕ → ℕ → SqlDatabase → List Act → List Event
+events_by_kind kind number process asked db plain = map (event_at number process) (acts_of kind asked db plain)
 
 step_events : (number : ℕ) (s : State SqlDatabase) (m : Stepped SqlDatabase) (of : StepOf s m)
-    → events_of_step number m ≡ events_alone of.kind number s.core.asked s.db of.alone.process.status
-step_events number s m of = λ j. map (event_at number (of.process j)) (of.acts j)
+    → events_of_step number m ≡ events_by_kind of.kind number m.process s.core.asked s.db of.plain
+step_events number s m of = λ j. map (event_at number m.process) (of.acts j)
 
 module _ (names : List (List ℕ)) where
   kind_good : (kind : Kind) (asked : ℕ) (db : SqlDatabase) → GoodDatabase names asked db → GoodDatabase names (asked_then kind asked) (db_then kind db)
@@ -107,90 +156,152 @@ module _ (names : List (List ℕ)) where
       subst (λ (n : ℕ). GoodDatabase names n m.state.db) (sym of.asked)
       (subst (GoodDatabase names (asked_then of.kind s.core.asked)) (sym of.db) (kind_good of.kind s.core.asked s.db good))
 
+-- ---- what acts that aren't questions meet
+
+pub plain_quiet : (made : ℕ) (act : Act) → PlainAct made act → is_asked act ≡ false
+plain_quiet made (Asked statement tables reads written) plain = absurd plain
+plain_quiet made other plain = refl
+
+plain_rule : (made asked step : ℕ) (act : Act) → PlainAct made act
+    → act_rule (record { made = made; asked = asked; step = step }) act ≡ true
+plain_rule made asked step (Started path) plain = absurd plain
+plain_rule made asked step (Spawned path) plain = and_true (path_test path) (nat_lt made max_processes) plain.0.0 plain.1
+plain_rule made asked step (Waited child) plain = lt-ltb child made plain
+plain_rule made asked step (Ended status) plain = refl
+plain_rule made asked step (Asked statement tables reads written) plain = absurd plain
+plain_rule made asked step other plain = plain.0
+
+pub plain_room : (made : ℕ) (act : Act) → PlainAct made act → act_room act ≡ true
+plain_room made (Asked statement tables reads written) plain = absurd plain
+plain_room made other plain = refl
+
+pub plain_typed : (made : ℕ) (act : Act) → made ≤ 65535 → PlainAct made act → TypedAct act
+plain_typed made (Started path) few plain = absurd plain
+plain_typed made (Spawned path) few plain = plain.0.1
+plain_typed made (Waited child) few plain = omega (arith, few, plain)
+plain_typed made (Ended status) few plain = plain
+plain_typed made (Asked statement tables reads written) few plain = absurd plain
+plain_typed made other few plain = plain.1
+
+made_more : (made : ℕ) (act : Act) → made ≤ made_after made act
+made_more made (Spawned path) = omega arith
+made_more made other = omega arith
+
+made_few : (made : ℕ) (act : Act) → made ≤ 65535 → PlainAct made act → made_after made act ≤ 65535
+made_few made (Spawned path) few plain = let below : made < 65535 = ltb-true made max_processes plain.1 in omega (arith, below)
+made_few made other few plain = few
+
 -- ---- one event follows another
 
 module _ (names : List (List ℕ)) (ruled : RuledNames names) (total : ℕ) where
-  one_follows : (number asked step : ℕ) (act : Act) (rest : List Event) → step ≤ number → number ≤ total
-      → act_rule (record { made = 1; asked = asked; step = step }) act ≡ true
-      → follows total (record { made = made_after 1 act; asked = asked_after asked (is_asked act); step = number }) rest ≡ true
-      → follows total (record { made = 1; asked = asked; step = step }) (event_at number 0 act ∷ rest) ≡ true
-  one_follows number asked step act rest later within rule more =
+  one_follows : (number process made asked step : ℕ) (act : Act) (rest : List Event) → step ≤ number → number ≤ total → process < made
+      → act_rule (record { made = made; asked = asked; step = step }) act ≡ true
+      → follows total (record { made = made_after made act; asked = asked_after asked (is_asked act); step = number }) rest ≡ true
+      → follows total (record { made = made; asked = asked; step = step }) (event_at number process act ∷ rest) ≡ true
+  one_follows number process made asked step act rest later within below rule more =
       let numbers = nat_le step number && nat_le number total in
       let two = and_true (nat_le step number) (nat_le number total) (le-leb step number later) (le-leb number total within) in
-      let three = and_true numbers (nat_lt 0 1) two refl in
-      let four = and_true (numbers && nat_lt 0 1) (act_rule (record { made = 1; asked = asked; step = step }) act) three rule in
-      and_true (numbers && nat_lt 0 1 && act_rule (record { made = 1; asked = asked; step = step }) act)
-      (follows total (record { made = made_after 1 act; asked = asked_after asked (is_asked act); step = number }) rest) four more
+      let three = and_true numbers (nat_lt process made) two (lt-ltb process made below) in
+      let four = and_true (numbers && nat_lt process made) (act_rule (record { made = made; asked = asked; step = step }) act) three rule in
+      and_true (numbers && nat_lt process made && act_rule (record { made = made; asked = asked; step = step }) act)
+      (follows total (record { made = made_after made act; asked = asked_after asked (is_asked act); step = number }) rest) four more
 
-  -- where one process was made and so many statements were asked, the rest follows
-  abbrev Goes : ℕ → ℕ → List Event → Type 0
-  Goes number asked rest = (step : ℕ) → step ≤ number → follows total (record { made = 1; asked = asked; step = step }) rest ≡ true
+  -- where so many processes were made and so many statements were asked, the rest follows
+  abbrev Goes : ℕ → ℕ → ℕ → List Event → Type 0
+  Goes number made asked rest = (step : ℕ) → step ≤ number → follows total (record { made = made; asked = asked; step = step }) rest ≡ true
 
-  end_follows : (number asked : ℕ) (status : Option ℕ) (rest : List Event) → number ≤ total → Goes (number + 1) asked rest
-      → Goes number asked (map (event_at number 0) (status_acts status) ++ rest)
-  end_follows number asked None rest within goes step later = goes step (omega arith)
-  end_follows number asked (Some status) rest within goes step later =
-      let next : number ≤ number + 1 = omega arith in
-      one_follows number asked step (Ended status) rest later within refl (goes number next)
-
-  kind_follows : (kind : Kind) (number asked : ℕ) (db : SqlDatabase) (status : Option ℕ) (rest : List Event) → GoodDatabase names asked db
-      → number ≤ total → Goes (number + 1) (asked_then kind asked) rest → Goes number asked (events_alone kind number asked db status ++ rest)
-  kind_follows Quiet number asked db status rest good within goes step later = end_follows number asked status rest within goes step later
-  kind_follows (Asks statement) number asked db status rest good within goes step later =
+  plain_follows : (acts : List Act) (number process made asked : ℕ) (rest : List Event) → number ≤ total → process < made
+      → PlainActs made acts → Goes (number + 1) (made_by made acts) asked rest
+      → Goes number made asked (map (event_at number process) acts ++ rest)
+  plain_follows [] number process made asked rest within below rules goes step later = goes step (omega (arith, later))
+  plain_follows (act ∷ acts) number process made asked rest within below rules goes step later =
+      let next : process < made_after made act = omega (arith, below, made_more made act) in
       let same : number ≤ number = omega arith in
-      one_follows number asked step (asked_act asked (lists_of statement db)) (map (event_at number 0) (status_acts status) ++ rest) later within
-      (asked_ruled names asked db good statement ruled 1 step) (end_follows number (asked + 1) status rest within goes number same)
+      let after : Goes number (made_after made act) asked (map (event_at number process) acts ++ rest) =
+      plain_follows acts number process (made_after made act) asked rest within next rules.1 goes in
+      one_follows number process made asked step act (map (event_at number process) acts ++ rest) later within below
+      (plain_rule made asked step act rules.0)
+      (subst
+      (λ (b : Bool). follows total (record { made = made_after made act; asked = asked_after asked b; step = number }) (map (event_at number process) acts ++ rest) ≡ true)
+      (sym (plain_quiet made act rules.0)) (after number same))
 
-  pub run_follows : (n number : ℕ) (picks : List ℕ) (s : State SqlDatabase) → Alone s.core → GoodDatabase names s.core.asked s.db
-      → number + steps sql_base n picks s ≤ total + 1 → Goes number s.core.asked (events sql_base n number picks s)
-  run_follows zero number picks s one good enough step later = ap (follows total (record { made = 1; asked = s.core.asked; step = step })) (events-zero sql_base number picks s)
-  run_follows (suc n) number picks s one good enough step later = elim (cases_Bool (is_over s.core)) [
-    | inl over ↦ ap (follows total (record { made = 1; asked = s.core.asked; step = step })) (events-over sql_base (suc n) number picks s over)
+  kind_follows : (kind : Kind) (number process made asked : ℕ) (db : SqlDatabase) (plain : List Act) (rest : List Event) → GoodDatabase names asked db
+      → number ≤ total → process < made → PlainActs made plain → Goes (number + 1) (made_by made plain) (asked_then kind asked) rest
+      → Goes number made asked (events_by_kind kind number process asked db plain ++ rest)
+  kind_follows Quiet number process made asked db plain rest good within below rules goes step later =
+      plain_follows plain number process made asked rest within below rules goes step later
+  kind_follows (Asks statement) number process made asked db plain rest good within below rules goes step later =
+      let same : number ≤ number = omega arith in
+      one_follows number process made asked step (asked_act asked (lists_of statement db)) (map (event_at number process) plain ++ rest) later within below
+      (asked_ruled names asked db good statement ruled made step)
+      (plain_follows plain number process made (asked + 1) rest within below rules goes number same)
+
+  pub run_follows : (n number : ℕ) (picks : List ℕ) (s : State SqlDatabase) → GoodList s.core.processes → Ordered s.core → GoodDatabase names s.core.asked s.db
+      → number + steps sql_base n picks s ≤ total + 1 → Goes number (made_in s) s.core.asked (events sql_base n number picks s)
+  run_follows zero number picks s list ordered good enough step later =
+      ap (follows total (record { made = made_in s; asked = s.core.asked; step = step })) (events-zero sql_base number picks s)
+  run_follows (suc n) number picks s list ordered good enough step later = elim (cases_Bool (is_over s.core)) [
+    | inl over ↦ ap (follows total (record { made = made_in s; asked = s.core.asked; step = step })) (events-over sql_base (suc n) number picks s over)
     | inr going ↦
         let left = steps_left n number total picks s going enough in
         let m : Stepped SqlDatabase = move sql_base (first_pick picks) s in
-        let of : StepOf s m = move_step (first_pick picks) s one in
+        let of : StepOf s m = move_step (first_pick picks) s list ordered going in
         let rest : List Event = events sql_base n (number + 1) (later_picks picks) m.state in
-        let more : Goes (number + 1) m.state.core.asked rest = run_follows n (number + 1) (later_picks picks) m.state of.alone (step_good names s m of good) left.1 in
-        let then_on : Goes (number + 1) (asked_then of.kind s.core.asked) rest = subst (λ (k : ℕ). Goes (number + 1) k rest) of.asked more in
-        let all : events sql_base (suc n) number picks s ≡ events_alone of.kind number s.core.asked s.db of.alone.process.status ++ rest =
+        let next : Ordered m.state.core = move_ordered sql_base (choose (first_pick picks) s.core) s ordered in
+        let more : Goes (number + 1) (made_in m.state) m.state.core.asked rest =
+        run_follows n (number + 1) (later_picks picks) m.state of.good next (step_good names s m of good) left.1 in
+        let made : Goes (number + 1) (made_by (made_in s) of.plain) m.state.core.asked rest =
+        subst (λ (k : ℕ). Goes (number + 1) k m.state.core.asked rest) of.made more in
+        let then_on : Goes (number + 1) (made_by (made_in s) of.plain) (asked_then of.kind s.core.asked) rest =
+        subst (λ (k : ℕ). Goes (number + 1) (made_by (made_in s) of.plain) k rest) of.asked made in
+        let all : events sql_base (suc n) number picks s ≡ events_by_kind of.kind number m.process s.core.asked s.db of.plain ++ rest =
         events-suc sql_base n number picks s going ∙ ap (λ (es : List Event). es ++ rest) (step_events number s m of) in
-        ap (follows total (record { made = 1; asked = s.core.asked; step = step })) all
-        ∙ kind_follows of.kind number s.core.asked s.db of.alone.process.status rest good left.0 then_on step later
+        ap (follows total (record { made = made_in s; asked = s.core.asked; step = step })) all
+        ∙ kind_follows of.kind number m.process (made_in s) s.core.asked s.db of.plain rest good left.0 of.process of.rules then_on step later
   ]
 
 -- ---- what holds of each event
 
 module _ (names : List (List ℕ)) (P : Event → Type 0) (total : ℕ)
-    (asked_good : (number asked : ℕ) (statement : Option Statement) (db : SqlDatabase) → number ≤ total → asked ≤ number → GoodDatabase names asked db → P (event_at number 0 (asked_act asked (lists_of statement db))))
-    (end_good : (number status : ℕ) → number ≤ total → status < 256 → P (event_at number 0 (Ended status))) where
-  ends_good : (number : ℕ) (status : Option ℕ) → number ≤ total → IsStatus status → AllByRecursion P (map (event_at number 0) (status_acts status))
-  ends_good number None within byte = tt
-  ends_good number (Some status) within byte = (end_good number status within byte, tt)
+    (asked_good : (number process asked : ℕ) (statement : Option Statement) (db : SqlDatabase) → number ≤ total → process < 65535 → asked ≤ number → GoodDatabase names asked db → P (event_at number process (asked_act asked (lists_of statement db))))
+    (plain_good : (number process made : ℕ) (act : Act) → number ≤ total → process < 65535 → made ≤ 65535 → PlainAct made act → P (event_at number process act)) where
+  plains_good : (acts : List Act) (number process made : ℕ) → number ≤ total → process < 65535 → made ≤ 65535 → PlainActs made acts
+      → AllByRecursion P (map (event_at number process) acts)
+  plains_good [] number process made within below few rules = tt
+  plains_good (act ∷ acts) number process made within below few rules = (
+    plain_good number process made act within below few rules.0,
+    plains_good acts number process (made_after made act) within below (made_few made act few rules.0) rules.1,
+  )
 
-  kind_events : (kind : Kind) (number asked : ℕ) (db : SqlDatabase) (status : Option ℕ) → number ≤ total → asked + 1 ≤ number → GoodDatabase names asked db → IsStatus status
-      → AllByRecursion P (events_alone kind number asked db status)
-  kind_events Quiet number asked db status within few good byte = ends_good number status within byte
-  kind_events (Asks statement) number asked db status within few good byte = (asked_good number asked statement db within (omega (arith, few)) good, ends_good number status within byte)
+  kind_events : (kind : Kind) (number process made asked : ℕ) (db : SqlDatabase) (plain : List Act) → number ≤ total → process < 65535 → made ≤ 65535
+      → asked + 1 ≤ number → GoodDatabase names asked db → PlainActs made plain
+      → AllByRecursion P (events_by_kind kind number process asked db plain)
+  kind_events Quiet number process made asked db plain within below few little good rules = plains_good plain number process made within below few rules
+  kind_events (Asks statement) number process made asked db plain within below few little good rules =
+      (asked_good number process asked statement db within below (omega (arith, little)) good, plains_good plain number process made within below few rules)
 
   -- each step asks once at most
   asked_few : (kind : Kind) (number asked next : ℕ) → next ≡ asked_then kind asked → asked + 1 ≤ number → next + 1 ≤ number + 1
   asked_few Quiet number asked next is few = omega (arith, is, few)
   asked_few (Asks statement) number asked next is few = omega (arith, is, few)
 
-  pub run_good : (n number : ℕ) (picks : List ℕ) (s : State SqlDatabase) → Alone s.core → GoodDatabase names s.core.asked s.db
+  pub run_good : (n number : ℕ) (picks : List ℕ) (s : State SqlDatabase) → GoodList s.core.processes → Ordered s.core → GoodDatabase names s.core.asked s.db
       → number + steps sql_base n picks s ≤ total + 1 → s.core.asked + 1 ≤ number → AllByRecursion P (events sql_base n number picks s)
-  run_good zero number picks s one good enough few = subst (AllByRecursion P) (sym (events-zero sql_base number picks s)) tt
-  run_good (suc n) number picks s one good enough few = elim (cases_Bool (is_over s.core)) [
+  run_good zero number picks s list ordered good enough few = subst (AllByRecursion P) (sym (events-zero sql_base number picks s)) tt
+  run_good (suc n) number picks s list ordered good enough few = elim (cases_Bool (is_over s.core)) [
     | inl over ↦ subst (AllByRecursion P) (sym (events-over sql_base (suc n) number picks s over)) tt
     | inr going ↦
         let left = steps_left n number total picks s going enough in
         let m : Stepped SqlDatabase = move sql_base (first_pick picks) s in
-        let of : StepOf s m = move_step (first_pick picks) s one in
+        let of : StepOf s m = move_step (first_pick picks) s list ordered going in
         let rest : List Event = events sql_base n (number + 1) (later_picks picks) m.state in
-        let here : AllByRecursion P (events_alone of.kind number s.core.asked s.db of.alone.process.status) = kind_events of.kind number s.core.asked s.db of.alone.process.status left.0 few good of.alone.status in
-        let more : AllByRecursion P rest = run_good n (number + 1) (later_picks picks) m.state of.alone (step_good names s m of good) left.1 (asked_few of.kind number s.core.asked m.state.core.asked of.asked few) in
-        let all : events sql_base (suc n) number picks s ≡ events_alone of.kind number s.core.asked s.db of.alone.process.status ++ rest =
+        let next : Ordered m.state.core = move_ordered sql_base (choose (first_pick picks) s.core) s ordered in
+        let below : m.process < 65535 = omega (arith, of.process, list.few) in
+        let here : AllByRecursion P (events_by_kind of.kind number m.process s.core.asked s.db of.plain) =
+        kind_events of.kind number m.process (made_in s) s.core.asked s.db of.plain left.0 below list.few few good of.rules in
+        let more : AllByRecursion P rest =
+        run_good n (number + 1) (later_picks picks) m.state of.good next (step_good names s m of good) left.1 (asked_few of.kind number s.core.asked m.state.core.asked of.asked few) in
+        let all : events sql_base (suc n) number picks s ≡ events_by_kind of.kind number m.process s.core.asked s.db of.plain ++ rest =
         events-suc sql_base n number picks s going ∙ ap (λ (es : List Event). es ++ rest) (step_events number s m of) in
-        subst (AllByRecursion P) (sym all) (all_append P (events_alone of.kind number s.core.asked s.db of.alone.process.status) rest here more)
+        subst (AllByRecursion P) (sym all) (all_append P (events_by_kind of.kind number m.process s.core.asked s.db of.plain) rest here more)
   ]

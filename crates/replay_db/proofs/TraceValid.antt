@@ -1,5 +1,5 @@
 -- The events of the run of a valid world are a valid trace.
-use Rattle.std.proofs.Common.{◌≡◌, ℕ, zero, suc, ◌≤◌, List, [], ◌∷◌, ◌++◌, refl, sym, ap, ◌∙◌, subst, true, false, arith, inl, inr}
+use Rattle.std.proofs.Common.{◌≡◌, ℕ, zero, suc, ◌<◌, ◌≤◌, List, [], ◌∷◌, ◌++◌, refl, sym, ap, ◌∙◌, subst, true, false, arith, inl, inr}
 use Rattle.std.specs.Prelude.{Option, Some, None, map, slice_get, bytes_eq, IsTrue}
 use Rattle.std.specs.List.{list_all, AllByRecursion}
 use Rattle.std.specs.Str.{IsUtf8}
@@ -7,7 +7,7 @@ use Rattle.std.proofs.lemmas.Bool.{cases_Bool}
 use Rattle.sql_model.specs.Needs.{table_name}
 use Rattle.sql_model.specs.Tables.{tables_test}
 use Rattle.replay_db.specs.Types.{Instr, Started, Event, World}
-use Rattle.run_model.specs.Core.{all_ended, is_over, first_process}
+use Rattle.run_model.specs.Core.{all_ended, is_over}
 use Rattle.run_model.specs.Events.{event_at, events, start_events}
 use Rattle.run_model.specs.Run.{first_pick, later_picks, move, run, steps}
 use Rattle.run_model.specs.Slice.{tables_needed}
@@ -26,9 +26,10 @@ use Rattle.replay_db.proofs.StatementEvents.{RuledNames, GoodDatabase, asked_roo
 use Rattle.replay_db.proofs.Tests.{cases_option, self_text}
 use Rattle.replay_db.proofs.TraceLists.{all_append, test_all}
 use Rattle.replay_db.proofs.TraceReasons.{reasons_asked}
-use Rattle.replay_db.proofs.TraceRun.{run_follows, run_good}
-use Rattle.replay_db.proofs.TraceState.{Alone}
-use Rattle.replay_db.proofs.WorldRules.{Ruled, ruled_by, world_names, texts_of_names}
+use Rattle.run_model.proofs.NeverStuck.{Ordered}
+use Rattle.replay_db.proofs.TraceRun.{plain_room, plain_typed, run_follows, run_good}
+use Rattle.replay_db.proofs.TraceState.{GoodList}
+use Rattle.replay_db.proofs.WorldRules.{ruled_by, world_names, texts_of_names}
 
 -- ---- the number of steps
 
@@ -67,8 +68,11 @@ module _ (n : ℕ) (picks : List ℕ) (w : World) (script : List Instr) (is : st
   abbrev begun : State SqlDatabase
   begun = start_state w script
 
-  start_alone : Alone begun.core
-  start_alone = record { process = first_process w.start script; only = refl; status = tt }
+  start_list : GoodList begun.core.processes
+  start_list = record { each = (record { children = tt; files = tt; status = tt }, tt); few = omega arith }
+
+  start_ordered : Ordered begun.core
+  start_ordered = (tt, tt)
 
   abbrev names : List (List ℕ)
   names = map table_name w.tables
@@ -86,7 +90,7 @@ module _ (n : ℕ) (picks : List ℕ) (w : World) (script : List Instr) (is : st
   events_are = ap (events_in n picks w) is
 
   follows_start : follows (steps sql_base n picks begun) at_start later_events ≡ true
-  follows_start = run_follows names ruled (steps sql_base n picks begun) n 1 picks begun start_alone start_good (omega arith) 1 (omega arith)
+  follows_start = run_follows names ruled (steps sql_base n picks begun) n 1 picks begun start_list start_ordered start_good (omega arith) 1 (omega arith)
 
   starts_run : (words : List (List ℕ)) → start_rule words ≡ true
       → trace_rule words (steps sql_base n picks begun) (start_events (slice_get words 0) ++ later_events) ≡ true
@@ -113,8 +117,9 @@ module _ (n : ℕ) (picks : List ℕ) (w : World) (script : List Instr) (is : st
   run_room : AllByRecursion (λ e. IsTrue (event_room e)) later_events
   run_room =
       run_good names (λ e. IsTrue (event_room e)) (steps sql_base n picks begun)
-      (λ number asked statement db within few good. asked_room names asked db good statement ruled) (λ number status within byte. refl)
-      n 1 picks begun start_alone start_good (omega arith) (omega arith)
+      (λ number process asked statement db within below few good. asked_room names asked db good statement ruled)
+      (λ number process made act within below few plain. plain_room made act plain)
+      n 1 picks begun start_list start_ordered start_good (omega arith) (omega arith)
 
   -- the format has room for each event
   pub room_is : list_all event_room (events_by n picks w) ≡ true
@@ -131,11 +136,11 @@ module _ (n : ℕ) (picks : List ℕ) (w : World) (script : List Instr) (is : st
   run_typed typed small =
       let most : steps sql_base n picks begun ≤ n = few_steps n picks begun in
       let u32 : (number : ℕ) → number ≤ steps sql_base n picks begun → IsU32 number = λ number within. omega arith in
-      let first : IsU32 0 = omega arith in
+      let small_number : (process : ℕ) → process < 65535 → IsU32 process = λ process below. omega (arith, below) in
       run_good names TypedEvent (steps sql_base n picks begun)
-      (λ number asked statement db within few good. (u32 number within, (first, asked_typed names asked db good statement (texts_of_names w typed) (omega arith))))
-      (λ number status within byte. (u32 number within, (first, byte)))
-      n 1 picks begun start_alone start_good (omega arith) (omega arith)
+      (λ number process asked statement db within below few good. (u32 number within, (small_number process below, asked_typed names asked db good statement (texts_of_names w typed) (omega arith))))
+      (λ number process made act within below few plain. (u32 number within, (small_number process below, plain_typed made act few plain)))
+      n 1 picks begun start_list start_ordered start_good (omega arith) (omega arith)
 
   -- numbers are those of their types, and texts are UTF-8
   pub typed_is : TypedWorld w → n ≤ 10000000 → AllByRecursion TypedEvent (events_by n picks w)

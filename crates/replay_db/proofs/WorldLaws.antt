@@ -1,27 +1,25 @@
 -- The law of worlds between, by the cut.
-use Rattle.std.proofs.Common.{◌≡◌, ℕ, List, [], ◌++◌, refl, sym, ap, ◌∙◌, subst, Bool, true, inl, inr}
+use Rattle.std.proofs.Common.{◌≡◌, ℕ, List, [], ◌++◌, refl, sym, ap, ◌∙◌, subst, true, inl, inr}
 use Rattle.std.specs.Prelude.{Option, Some, None, option_and_then, map, filter, slice_get, if◌then◌else◌}
-use Rattle.std.proofs.lemmas.Slice.Eq.{bytes_eq-Decides}
 use Rattle.script_parse.specs.Script.{script_of}
-use Rattle.sql_model.specs.Scope.{same_text}
 use Rattle.sql_model.specs.Tables.{tables_test}
-use Rattle.sql_laws.specs.StatementLaw.{keep_others}
 use Rattle.sql_laws.proofs.OtherRows.{database_same}
-use Rattle.replay_db.specs.Types.{File, Instr, Event, Log, Mode, Included, Excluded, Outcome, PathOutcome, World, Table}
-use Rattle.run_model.specs.Between.{Cut, FileCut, Gone, Same, Other, cut_world, cut_core, cut_state, cut_files, table_stays, KeepsFile, KeepsNeeded, CutOf, slice_of}
+use Rattle.replay_db.specs.Types.{File, Instr, Started, Event, Mode, Included, Excluded, Outcome, World}
+use Rattle.run_model.specs.Between.{Cut, FileCut, Gone, Same, Other, cut_world, cut_files, table_stays, KeepsFile, slice_of}
 use Rattle.run_model.specs.Core.{Core, all_ended}
-use Rattle.run_model.specs.Events.{events, start_events}
+use Rattle.run_model.specs.Events.{event_at, events, start_events}
 use Rattle.run_model.specs.Outcome.{outcome_of_process, outcome_of, outcome_at, by_name}
-use Rattle.run_model.specs.Package.{logs_of_mode, package_by, tables_of}
-use Rattle.run_model.specs.Run.{run}
+use Rattle.run_model.specs.Package.{logs_of_mode, tables_of}
 use Rattle.run_model.specs.Slice.{FileNeed, Whole, file_need, files_needed}
 use Rattle.run_model.specs.SqlDatabase.{SqlDatabase, sql_base}
-use Rattle.ldv_value.specs.FileState.{file_at}
+use Rattle.ldv_value.specs.FileState.{FileState, file_at, untouched}
 use Rattle.run_model.specs.Start.{start_script, start_state}
 use Rattle.run_model.specs.State.{State}
-use Rattle.run_model.specs.WorldRun.{core_after, ends_in, ends_by, outcome_in, outcome_by, steps_in, steps_by, events_in, events_by, logs_of, logs_in, logs_by}
+use Rattle.run_model.specs.WorldRun.{core_after, ends_in, ends_by, outcome_in, outcome_by, steps_in, steps_by, events_in, events_by, logs_of, logs_in}
 use Rattle.replay_db.specs.Laws.{SameRun, BetweenLaw, InterleavingLaw, ReplayLaw}
-use Rattle.replay_db.proofs.FileLaws.{file_same, outcomes_same}
+use Rattle.replay_db.proofs.CoreSame.{with_files}
+use Rattle.replay_db.proofs.FileLaws.{file_same, files_agree}
+use Rattle.replay_db.proofs.FilesAgree.{Agrees, later_agrees, outcomes_agree}
 use Rattle.replay_db.proofs.Keeps.{KeepsEvents, keeps_events_split, others_stay, KeepsAll, others_keep, keeps_events}
 use Rattle.replay_db.proofs.PackageLaws.{files_same, tables_of_same}
 use Rattle.replay_db.proofs.RunSame.{SameRuns, run_law}
@@ -53,21 +51,26 @@ script_law w script is cut events keeps = elim (cases_option (slice_get w.start 
       let told : all ≡ start_events (Some word.0) ++ events = ap (λ (o : Option (List ℕ)). start_events o ++ events) word.1 in
       let need : file_need word.0 all ≡ Some Whole = ap (file_need word.0) told ∙ start_needed word.0 events in
       let stays : cut.file word.0 ≡ Same = whole_stays (file_need word.0 all) (cut.file word.0) need (keeps.files word.0) in
-      let found : file_at word.0 (cut_files cut [] w.files) ≡ file_at word.0 w.files = file_same cut word.0 stays w.files in
+      let found : file_at word.0 (cut_files cut w.files) ≡ file_at word.0 w.files = file_same cut word.0 stays w.files in
       let at_word : (files : List File) → option_and_then (λ p. file_at p files) (slice_get w.start 0) ≡ file_at word.0 files = λ files. ap (option_and_then (λ p. file_at p files)) word.1 in
-      ap (option_and_then (λ (file : File). script_of file.content)) (at_word (cut_files cut [] w.files) ∙ found ∙ sym (at_word w.files)) ∙ is
+      ap (option_and_then (λ (file : File). script_of file.content)) (at_word (cut_files cut w.files) ∙ found ∙ sym (at_word w.files)) ∙ is
 ]
 
 -- ---- outcomes
 
-outcome_cut : (cut : Cut) (c : Core) → outcome_of (cut_core cut c) ≡ outcome_of c
-outcome_cut cut c = λ j. record {
+outcome_same : (files : FileState) (c : Core) → Agrees [] files c.files → outcome_of (with_files files c) ≡ outcome_of c
+outcome_same files c agrees = λ j. record {
   processes = map outcome_of_process (by_name c.processes);
-  paths = outcomes_same cut c.files j;
+  paths = outcomes_agree [] files c.files agrees j;
 }
 
-outcome_at_cut : (cut : Cut) (c : Core) → outcome_at (cut_core cut c) ≡ outcome_at c
-outcome_at_cut cut c = ap (λ (o : Outcome). if all_ended c then Some o else None) (outcome_cut cut c)
+outcome_at_same : (files : FileState) (c : Core) → Agrees [] files c.files → outcome_at (with_files files c) ≡ outcome_at c
+outcome_at_same files c agrees = ap (λ (o : Outcome). if all_ended c then Some o else None) (outcome_same files c agrees)
+
+-- the start changes no file
+start_later : (word : Option (List ℕ)) (es : List Event) (a b : FileState) → Agrees (start_events word ++ es) a b → Agrees es a b
+start_later None es a b agrees = agrees
+start_later (Some path) es a b agrees = later_agrees (event_at 0 0 (Started path)) es a b refl agrees
 
 module _ (n : ℕ) (picks : List ℕ) (w : World) (script : List Instr) (is : start_script w ≡ Some script)
     (valid : tables_test w.tables ≡ true) (cut : Cut) (keeps : KeepsAll cut (events_by n picks w)) where
@@ -89,10 +92,19 @@ module _ (n : ℕ) (picks : List ℕ) (w : World) (script : List Instr) (is : st
   keeps_run : KeepsEvents cut later
   keeps_run = (keeps_events_split cut (start_events (slice_get w.start 0)) later (subst (KeepsEvents cut) events_are (keeps_events (events_by n picks w) cut keeps))).1
 
-  runs : SameRuns n 1 picks cut start
-  runs = run_law n 1 picks cut start valid keeps_run
+  abbrev small_files : FileState
+  small_files = untouched small.files
 
-  core_same : core_after n picks small script ≡ cut_core runs.end (core_after n picks w script)
+  start_agrees : Agrees later small_files start.core.files
+  start_agrees =
+      start_later (slice_get w.start 0) later small_files start.core.files
+      (subst (λ (es : List Event). Agrees es small_files start.core.files) events_are
+      (files_agree cut (events_by n picks w) w.files keeps.files))
+
+  runs : SameRuns n 1 picks cut small_files start
+  runs = run_law n 1 picks cut small_files start valid (tt, tt) keeps_run start_agrees
+
+  core_same : core_after n picks small script ≡ with_files runs.final (core_after n picks w script)
   core_same = ap (λ (s : State SqlDatabase). s.core) runs.state
 
   events_stay : events_by n picks small ≡ events_by n picks w
@@ -111,7 +123,7 @@ module _ (n : ℕ) (picks : List ℕ) (w : World) (script : List Instr) (is : st
   outcome_stays =
       ap (outcome_in n picks small) script_stays
       ∙ ap outcome_at core_same
-      ∙ outcome_at_cut runs.end (core_after n picks w script)
+      ∙ outcome_at_same runs.final (core_after n picks w script) runs.agrees
       ∙ sym (ap (outcome_in n picks w) is)
 
   logs_stay : (mode : Mode) → logs_of_mode mode n picks small ≡ logs_of_mode mode n picks w
@@ -147,7 +159,7 @@ others_same : (cut : Cut) (w : World) → cut_world (others_stay cut w.tables) w
 others_same cut w = λ j. record {
   start = w.start;
   seed = w.seed;
-  files = cut_files cut [] w.files;
+  files = cut_files cut w.files;
   tables = filter (table_stays cut) (database_same cut.row w.tables j);
 }
 

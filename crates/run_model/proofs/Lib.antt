@@ -1,3 +1,4 @@
 pub mod Equations
 pub mod NeverStuck
 pub mod Settled
+pub mod StepKeeps

@@ -1,60 +1,197 @@
 -- While a process hasn't ended, the one that is chosen may run: a process waits for its children alone, and they
 -- were made after it.
 use Rattle.std.proofs.Common.{◌≡◌, ℕ, zero, suc, ◌+◌, ◌-◌, ◌%◌, ◌/◌, ◌^◌, ◌<◌, ◌≤◌, List, [], ◌∷◌, ◌++◌, length, refl, sym, ap, ◌∙◌, subst, Bool, true, false, arith, inl, inr}
-use Rattle.std.specs.Prelude.{Option, Some, None, find, slice_get, slice_set, slice_index, is_some, is_none, not, ◌&&◌, ◌==◌, nat_lt, ◌⊎◌, if◌then◌else◌}
+use Rattle.std.specs.Prelude.{Option, Some, None, find, slice_get, slice_set, slice_index, is_some, is_none, not, ◌&&◌, ◌==◌, nat_lt}
 use Rattle.std.specs.List.{list_all, AllByRecursion}
 use Rattle.std.proofs.lemmas.Bool.{cases_Bool, and_parts, and_from}
-use Rattle.ldv_value.specs.Limits.{printed_limit}
-use Rattle.run_model.specs.Types.{Instr, Print, Exit, Wait, Sql, Reply, File}
-use Rattle.run_model.specs.Core.{Binding, is_bound, lookup, Process, Core, has_ended, all_ended, is_over, with_process}
-use Rattle.run_model.specs.Database.{Question, Answer, Gives, Diverges, Base}
+use Rattle.ldv_value.specs.FileState.{content_at}
+use Rattle.ldv_value.specs.Order.{order, meets}
+use Rattle.script_parse.specs.declared.script.Instr.TheVariants as instr
+use Rattle.run_model.specs.Types.{Instr, Reply, Variable}
+use Rattle.run_model.specs.Core.{Binding, is_bound, lookup, unbind, Process, Core, has_ended, all_ended, is_over, with_process}
+use Rattle.run_model.specs.Database.{Answer, Gives, Diverges, Base}
 use Rattle.run_model.specs.Run.{first_pick, later_picks, chosen, move_of, move, run}
 use Rattle.run_model.specs.RunLaw.{MayRun, started, NeverStuckLaw}
-use Rattle.run_model.specs.Schedule.{still_runs, waits_for, is_waiting, is_runnable, runnable_from, runnable, next_or_least, round_robin, pick_in, at_random, pick_of, moved_x, choose}
-use Rattle.run_model.specs.State.{State, Stepped}
-use Rattle.run_model.specs.Step.{operand_values, printed_line, print_line, Ask, replied, Effect, execute, execute_next, quiet_of, quiet, took_of, took, ask_at, kept_by, told, asking}
+use Rattle.run_model.specs.Schedule.{still_runs, waits_for, is_waiting, is_runnable, runnable_from, runnable, next_or_least, pick_in, pick_of, moved_x, choose}
+use Rattle.run_model.specs.State.{State}
+use Rattle.run_model.specs.Step.{Ask, replied, execute, execute_next, quiet_of, took_of, ask_at, told, asking}
+use Rattle.run_model.specs.StepBase.{operand_value, operand_values, FileEffect, on_files}
+use Rattle.run_model.specs.StepFiles.{path_at, open_for, allows_read, allows_write, open_path, read_next, write_line, copy_rest, remove_path, test_path}
+use Rattle.run_model.specs.StepProcesses.{Spawning, child_of, parent_of, spawn_script, script_within, spawn_file, spawn_path, spawning_of, status_in, wait_until, wait_for}
+use Rattle.run_model.specs.StepReplies.{counted, status_value}
+use Rattle.run_model.specs.StepVariables.{calculated, to_number, printed_line}
 use Rattle.run_model.proofs.Equations.{run-zero, run-over, run-suc}
+use Rattle.run_model.proofs.StepKeeps.{Keeps, keeps_assign, keeps_glue, keeps_cut, keeps_jump, keeps_line, keeps_fetch, keeps_close, keeps_open, keeps_read, keeps_write, keeps_copy, keeps_remove, keeps_test, calculated_byte, to_number_byte, counted_byte, status_value_byte}
 
 -- ---- children are made after their process
 
-abbrev IsAbove : ℕ → Binding ℕ → Type 0
+abbrev pub IsAbove : ℕ → Binding ℕ → Type 0
 IsAbove n b = n < b.bound
 
 -- of processes from a creation number on
-abbrev ChildrenLater : ℕ → List Process → Type 0
+abbrev pub ChildrenLater : ℕ → List Process → Type 0
 ChildrenLater n [] = Unit {0}
 ChildrenLater n (p ∷ ps) = AllByRecursion (IsAbove n) p.children × ChildrenLater (suc n) ps
 
--- a process with the same children in place of another
-set_later : (n k : ℕ) (ps : List Process) (p q : Process) → slice_get ps k ≡ Some p → q.children ≡ p.children
+-- a process whose children were made after it in place of another
+set_later : (n k : ℕ) (ps : List Process) (q : Process) → AllByRecursion (IsAbove (n + k)) q.children
     → ChildrenLater n ps → ChildrenLater n (slice_set ps k q)
-set_later n zero [] p q is same later = tt
-set_later n (suc k) [] p q is same later = tt
-set_later n zero (r ∷ ps) p q is same later =
-    let first : r ≡ p = cc in
-    (subst (AllByRecursion (IsAbove n)) (ap (λ (x : Process). x.children) first ∙ sym same) later.0, later.1)
-set_later n (suc k) (r ∷ ps) p q is same later = (later.0, set_later (suc n) k ps p q is same later.1)
+set_later n zero [] q above later = tt
+set_later n (suc k) [] q above later = tt
+set_later n zero (r ∷ ps) q above later =
+    let same : n + 0 ≡ n = omega arith in
+    (subst (λ (m : ℕ). AllByRecursion (IsAbove m) q.children) same above, later.1)
+set_later n (suc k) (r ∷ ps) q above later =
+    let same : n + suc k ≡ suc n + k = omega arith in
+    (later.0, set_later (suc n) k ps q (subst (λ (m : ℕ). AllByRecursion (IsAbove m) q.children) same above) later.1)
 
-abbrev Ordered : Core → Type 0
+-- the children of a process were made after it
+get_later : (n k : ℕ) (ps : List Process) (p : Process) → slice_get ps k ≡ Some p → ChildrenLater n ps
+    → AllByRecursion (IsAbove (n + k)) p.children
+get_later n zero [] p is later = absurd cc
+get_later n (suc k) [] p is later = absurd cc
+get_later n zero (r ∷ ps) p is later =
+    let first : r ≡ p = cc in
+    let same : n ≡ n + 0 = omega arith in
+    subst (λ (m : ℕ). AllByRecursion (IsAbove m) p.children) same
+    (subst (λ (x : Process). AllByRecursion (IsAbove n) x.children) first later.0)
+get_later n (suc k) (r ∷ ps) p is later =
+    let same : suc n + k ≡ n + suc k = omega arith in
+    subst (λ (m : ℕ). AllByRecursion (IsAbove m) p.children) same (get_later (suc n) k ps p is later.1)
+
+-- a process without children at the end
+append_later : (n : ℕ) (ps : List Process) (q : Process) → q.children ≡ [] → ChildrenLater n ps
+    → ChildrenLater n (ps ++ q ∷ [])
+append_later n [] q none later = (subst (AllByRecursion (IsAbove n)) (sym none) tt, tt)
+append_later n (p ∷ ps) q none later = (later.0, append_later (suc n) ps q none later.1)
+
+abbrev pub Ordered : Core → Type 0
 Ordered c = ChildrenLater 0 c.processes
 
-with_ordered : (number : ℕ) (p q : Process) (c : Core) → slice_get c.processes number ≡ Some p → q.children ≡ p.children → Ordered c
-    → Ordered (with_process number q c)
-with_ordered number p q c is same ordered = set_later 0 number c.processes p q is same ordered
+found_above : (number : ℕ) (p : Process) (c : Core) → slice_get c.processes number ≡ Some p → Ordered c
+    → AllByRecursion (IsAbove (0 + number)) p.children
+found_above number p c is ordered = get_later 0 number c.processes p is ordered
 
-line_children : (text : List ℕ) (p : Process) → (print_line text p).children ≡ p.children
-line_children text p = elim (cases_Bool (nat_lt printed_limit (length p.printed + length text))) [
-  | inl over ↦ rw over refl
-  | inr fits ↦ rw fits refl
+-- a process with the same children in place of another
+with_ordered : (number : ℕ) (p q : Process) (c : Core) → slice_get c.processes number ≡ Some p → q.children ≡ p.children
+    → Ordered c → Ordered (with_process number q c)
+with_ordered number p q c is same ordered =
+    set_later 0 number c.processes q
+    (subst (AllByRecursion (IsAbove (0 + number))) (sym same) (found_above number p c is ordered)) ordered
+
+-- of no file anything is to be known
+abbrev Any : List ℕ → Type 0
+Any path = Unit {0}
+
+kept_ordered : (number : ℕ) (p q : Process) (c : Core) → slice_get c.processes number ≡ Some p → Keeps Any p q → Ordered c
+    → Ordered (with_process number q c)
+kept_ordered number p q c is keeps ordered = with_ordered number p q c is keeps.children ordered
+
+files_ordered : (number : ℕ) (p : Process) (e : FileEffect) (c : Core) → slice_get c.processes number ≡ Some p
+    → Keeps Any p e.process → Ordered c → Ordered (on_files number e c).core
+files_ordered number p e c is keeps ordered = with_ordered number p e.process c is keeps.children ordered
+
+-- the creation number of a process is below the number made
+pub found_below : (ps : List Process) (k : ℕ) (p : Process) → slice_get ps k ≡ Some p → k < length ps
+found_below [] zero p is = absurd cc
+found_below [] (suc k) p is = absurd cc
+found_below (r ∷ ps) zero p is = omega arith
+found_below (r ∷ ps) (suc k) p is = omega (arith, found_below ps k p is)
+
+unbound_above : (m : ℕ) (name : List ℕ) (bs : List (Binding ℕ)) → AllByRecursion (IsAbove m) bs
+    → AllByRecursion (IsAbove m) (unbind name bs)
+unbound_above m name [] above = tt
+unbound_above m name (b ∷ bs) above = elim (cases_Bool (is_bound name b)) [
+  | inl hit ↦ rw hit (unbound_above m name bs above.1)
+  | inr miss ↦ rw miss (above.0, unbound_above m name bs above.1)
 ]
+
+spawned_ordered : (o : Option (List Instr)) (spawning : Spawning) (path : List ℕ) (number : ℕ) (p : Process) (c : Core)
+    → slice_get c.processes number ≡ Some p → Ordered c → Ordered (spawn_script o spawning path number p c).core
+spawned_ordered None spawning path number p c is ordered = with_ordered number p _ c is refl ordered
+spawned_ordered (Some script) spawning path number p c is ordered =
+    let below : 0 + number < length c.processes = omega (arith, found_below c.processes number p is) in
+    let parent : Process = parent_of (length c.processes) spawning.child p in
+    let above : AllByRecursion (IsAbove (0 + number)) parent.children =
+    (below, unbound_above (0 + number) spawning.child p.children (found_above number p c is ordered)) in
+    append_later 0 (slice_set c.processes number parent) (child_of p script spawning.arguments) refl
+    (set_later 0 number c.processes parent above ordered)
+
+file_ordered : (o : Option (List ℕ)) (spawning : Spawning) (path : List ℕ) (number : ℕ) (p : Process) (c : Core)
+    → slice_get c.processes number ≡ Some p → Ordered c → Ordered (spawn_file o spawning path number p c).core
+file_ordered None spawning path number p c is ordered = with_ordered number p _ c is refl ordered
+file_ordered (Some bytes) spawning path number p c is ordered =
+    spawned_ordered (script_within c bytes) spawning path number p c is ordered
+
+path_ordered : (o : Option (List ℕ)) (spawning : Spawning) (number : ℕ) (p : Process) (c : Core)
+    → slice_get c.processes number ≡ Some p → Ordered c → Ordered (spawn_path o spawning number p c).core
+path_ordered None spawning number p c is ordered = with_ordered number p _ c is refl ordered
+path_ordered (Some path) spawning number p c is ordered =
+    file_ordered (content_at c.files path) spawning path number p c is ordered
+
+until_ordered : (o : Option ℕ) (child : ℕ) (to : List ℕ) (number : ℕ) (p : Process) (c : Core)
+    → slice_get c.processes number ≡ Some p → Ordered c → Ordered (wait_until o child to number p c).core
+until_ordered None child to number p c is ordered = ordered
+until_ordered (Some status) child to number p c is ordered = with_ordered number p _ c is refl ordered
+
+wait_ordered : (o : Option ℕ) (to : List ℕ) (number : ℕ) (p : Process) (c : Core)
+    → slice_get c.processes number ≡ Some p → Ordered c → Ordered (wait_for o to number p c).core
+wait_ordered None to number p c is ordered = with_ordered number p _ c is refl ordered
+wait_ordered (Some child) to number p c is ordered =
+    until_ordered (status_in c.processes child) child to number p c is ordered
 
 executes_ordered : (i : Instr) (number : ℕ) (p : Process) (c : Core) → slice_get c.processes number ≡ Some p → Ordered c
     → Ordered (execute i number p c).core
-executes_ordered (Print operands) number p c is ordered =
-    with_ordered number p (print_line (printed_line (operand_values p operands)) p) c is (line_children (printed_line (operand_values p operands)) p) ordered
-executes_ordered (Exit status) number p c is ordered = with_ordered number p _ c is refl ordered
-executes_ordered (Sql cursor text params) number p c is ordered = with_ordered number p _ c is refl ordered
-executes_ordered other number p c is ordered = ordered
+executes_ordered (instr.Let to value) number p c is ordered = with_ordered number p _ c is refl ordered
+executes_ordered (instr.Calc to op left right) number p c is ordered =
+    let v = operand_value p left in
+    let w = operand_value p right in
+    kept_ordered number p _ c is (keeps_assign Any to (calculated op v w) p (calculated_byte op v w)) ordered
+executes_ordered (instr.Glue to left right) number p c is ordered =
+    kept_ordered number p _ c is (keeps_glue Any to (operand_value p left) (operand_value p right) p) ordered
+executes_ordered (instr.ToInt to value) number p c is ordered =
+    let v = operand_value p value in
+    kept_ordered number p _ c is (keeps_assign Any to (to_number v) p (to_number_byte v)) ordered
+executes_ordered (instr.Cut before after by) number p c is ordered =
+    kept_ordered number p _ c is
+    (keeps_cut Any before after (operand_value p by) (operand_value p (Variable after)) p) ordered
+executes_ordered (instr.Jump place) number p c is ordered = with_ordered number p _ c is refl ordered
+executes_ordered (instr.JumpIf op left right place) number p c is ordered =
+    let goes = meets op (order (operand_value p left) (operand_value p right)) in
+    kept_ordered number p _ c is (keeps_jump Any goes place p) ordered
+executes_ordered (instr.Print operands) number p c is ordered =
+    kept_ordered number p _ c is (keeps_line Any (printed_line (operand_values p operands)) p) ordered
+executes_ordered (instr.Exit code) number p c is ordered = with_ordered number p _ c is refl ordered
+executes_ordered (instr.OpenPath file mode path place) number p c is ordered =
+    files_ordered number p (open_path file mode (path_at path p) place p c.files) c is (keeps_open Any file mode (path_at path p) place p c.files (λ q here. tt)) ordered
+executes_ordered (instr.ReadLine to file place) number p c is ordered =
+    files_ordered number p (read_next (open_for allows_read file p) to file place p c.files) c is
+    (keeps_read Any (open_for allows_read file p) to file place p c.files (λ f all here. tt)) ordered
+executes_ordered (instr.WriteLine file operands) number p c is ordered =
+    files_ordered number p (write_line file operands p c.files) c is
+    (keeps_write Any (open_for allows_write file p) (printed_line (operand_values p operands)) p c.files) ordered
+executes_ordered (instr.CopyRest source target) number p c is ordered =
+    files_ordered number p (copy_rest source target p c.files) c is
+    (keeps_copy Any source (open_for allows_read source p) (open_for allows_write target p) p c.files (λ f all here. tt)) ordered
+executes_ordered (instr.Close file) number p c is ordered =
+    kept_ordered number p _ c is (keeps_close Any (lookup file p.files) file p) ordered
+executes_ordered (instr.Remove path place) number p c is ordered =
+    files_ordered number p (remove_path (path_at path p) place p c.files) c is (keeps_remove Any (path_at path p) place p c.files) ordered
+executes_ordered (instr.Exists to path) number p c is ordered =
+    files_ordered number p (test_path to (path_at path p) p c.files) c is (keeps_test Any to (path_at path p) p c.files) ordered
+executes_ordered (instr.Spawn child path arguments place) number p c is ordered =
+    path_ordered (path_at path p) (spawning_of child arguments place p) number p c is ordered
+executes_ordered (instr.Wait to child) number p c is ordered =
+    wait_ordered (lookup child p.children) to number p c is ordered
+executes_ordered (instr.Sql cursor text params) number p c is ordered = with_ordered number p _ c is refl ordered
+executes_ordered (instr.Fetch cursor to place) number p c is ordered =
+    kept_ordered number p _ c is (keeps_fetch Any (lookup cursor p.cursors) cursor to place p) ordered
+executes_ordered (instr.Count to cursor) number p c is ordered =
+    let o = lookup cursor p.cursors in
+    kept_ordered number p _ c is (keeps_assign Any to (counted o) p (counted_byte o)) ordered
+executes_ordered (instr.Status to cursor) number p c is ordered =
+    let o = lookup cursor p.cursors in
+    kept_ordered number p _ c is (keeps_assign Any to (status_value o) p (status_value_byte o)) ordered
 
 next_ordered : (i : Option Instr) (number : ℕ) (p : Process) (c : Core) → slice_get c.processes number ≡ Some p → Ordered c
     → Ordered (execute_next i number p c).core
@@ -80,7 +217,7 @@ module _ {Db : Type 0} (base : Base Db) where
   asking_ordered number s None ordered = quiet_ordered (slice_get s.core.processes number) number s.core refl ordered
   asking_ordered number s (Some a) ordered = told_ordered number a s (base s.db a.question) ordered
 
-  move_ordered : (number : ℕ) (s : State Db) → Ordered s.core → Ordered (move_of base number s).state.core
+  pub move_ordered : (number : ℕ) (s : State Db) → Ordered s.core → Ordered (move_of base number s).state.core
   move_ordered number s ordered = asking_ordered number (chosen number s) (ask_at number (chosen number s).core) ordered
 
   run_ordered : (n : ℕ) (picks : List ℕ) (s : State Db) → Ordered s.core → Ordered (run base n picks s).core
@@ -135,7 +272,7 @@ module _ (all : List Process) where
   last_rests : (i : Option Instr) (n : ℕ) (p : Process) (ps : List Process) → IsRest n (p ∷ ps) → list_all has_ended ps ≡ true
       → AllByRecursion (IsAbove n) p.children → is_waiting i p all ≡ false
   last_rests None n p ps rest ended above = refl
-  last_rests (Some (Wait to child)) n p ps rest ended above =
+  last_rests (Some (instr.Wait to child)) n p ps rest ended above =
       waits_below n p ps rest ended (lookup child p.children) (λ k is. lookup_above n child p.children k above is)
   last_rests (Some other) n p ps rest ended above = refl
 
@@ -210,7 +347,7 @@ module _ (P : ℕ → Type 0) where
     | inr other ↦ rw other (in_round ns (x / 2 ^ 33) all some)
   ]
 
-chosen_runs : (pick : Option ℕ) (c : Core) → Ordered c → all_ended c ≡ false → MayRun (choose pick c) c
+pub chosen_runs : (pick : Option ℕ) (c : Core) → Ordered c → all_ended c ≡ false → MayRun (choose pick c) c
 chosen_runs pick c ordered going =
     let whole : IsRest c.processes 0 c.processes = λ k. let same : 0 + k ≡ k = omega arith in ap (slice_get c.processes) same in
     let all : AllByRecursion (IsNumbered c.processes) (runnable c) = each_runs c.processes 0 c.processes whole in

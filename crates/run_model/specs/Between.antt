@@ -1,15 +1,12 @@
 -- The slice of a world, and the worlds that lie between the slice and the world: by what is in them, and as
 -- the world without what is cut.
-use Rattle.std.specs.Prelude.{◌≡◌, ◌⊎◌, ℕ, ◌==◌, List, [], ◌∷◌, map, filter, Bool, true, ◌&&◌, if◌then◌else◌}
-use Rattle.std.specs.Prelude.{Option, Some, None, is_some, bytes_eq}
+use Rattle.std.specs.Prelude.{◌≡◌, ◌⊎◌, ℕ, ◌==◌, List, [], ◌∷◌, map, filter, Bool, true, ◌&&◌}
+use Rattle.std.specs.Prelude.{Option, Some, None, is_some}
 use Rattle.std.specs.List.{list_any, filter_map}
-use Rattle.ldv_value.specs.FileState.{FileState}
 use Rattle.sql_model.specs.Scope.{is_table}
 use Rattle.run_model.specs.Types.{File, Table, TableRow, Event, World}
-use Rattle.run_model.specs.Core.{Core}
 use Rattle.run_model.specs.Slice.{FileNeed, Whole, Present, file_need, first_reason, is_table_needed}
 use Rattle.run_model.specs.SqlDatabase.{SqlDatabase}
-use Rattle.run_model.specs.State.{State}
 use Rattle.run_model.specs.WorldRun.{events_within}
 
 -- some statement of the run needs the row
@@ -76,13 +73,11 @@ kept_file Gone file = None
 kept_file Same file = Some file
 kept_file (Other bytes) file = Some (with_content file bytes)
 
--- a touched file is the run's own
-abbrev pub cut_file : Cut → List (List ℕ) → File → Option File
-cut_file cut touched file =
-    if list_any (bytes_eq file.path) touched then Some file else kept_file (cut.file file.path) file
+abbrev pub cut_file : Cut → File → Option File
+cut_file cut file = kept_file (cut.file file.path) file
 
-abbrev pub cut_files : Cut → List (List ℕ) → List File → List File
-cut_files cut touched files = filter_map (cut_file cut touched) files
+abbrev pub cut_files : Cut → List File → List File
+cut_files cut files = filter_map (cut_file cut) files
 
 abbrev pub row_stays : Cut → Table → TableRow → Bool
 row_stays cut table row = cut.row table.name row.number
@@ -106,22 +101,13 @@ abbrev pub cut_world : Cut → World → World
 cut_world cut w = record {
   start = w.start;
   seed = w.seed;
-  files = cut_files cut [] w.files;
+  files = cut_files cut w.files;
   tables = cut_tables cut w.tables;
 }
 
--- a state without what is cut
-abbrev pub cut_file_state : Cut → FileState → FileState
-cut_file_state cut f = record { files = cut_files cut f.touched f.files; touched = f.touched }
-
-abbrev pub cut_core : Cut → Core → Core
-cut_core cut c = record c { files = cut_file_state cut c.files }
-
+-- tables without what is cut, and the versions of all rows
 abbrev pub cut_database : Cut → SqlDatabase → SqlDatabase
 cut_database cut db = record { tables = cut_tables cut db.tables; versions = db.versions }
-
-abbrev pub cut_state : Cut → State SqlDatabase → State SqlDatabase
-cut_state cut s = record { core = cut_core cut s.core; db = cut_database cut s.db }
 
 -- ---- cuts that keep what is needed
 

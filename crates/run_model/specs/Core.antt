@@ -19,10 +19,13 @@ module _ {X : Type 0} where
   abbrev pub lookup : List ℕ → List (Binding X) → Option X
   lookup name bindings = option_map (λ binding. binding.bound) (find (is_bound name) bindings)
 
+  -- the name means nothing any more
+  abbrev pub unbind : List ℕ → List (Binding X) → List (Binding X)
+  unbind name bindings = filter (λ binding. not (is_bound name binding)) bindings
+
   -- in place of what the name meant
   abbrev pub bind : List ℕ → X → List (Binding X) → List (Binding X)
-  bind name bound bindings =
-      record { name = name; bound = bound } ∷ filter (λ binding. not (is_bound name binding)) bindings
+  bind name bound bindings = record { name = name; bound = bound } ∷ unbind name bindings
 
 -- ---- processes
 
@@ -48,6 +51,8 @@ pub record Process : Type 0 where
   pub cursors : List (Binding Cursor)
   -- creation numbers
   pub children : List (Binding ℕ)
+  -- how many children it made
+  pub spawned : ℕ
   pub printed : List ℕ
   -- what it asked, with the replies, in order
   pub entries : List Entry
@@ -109,6 +114,7 @@ new_process name script arguments = record {
   files = [];
   cursors = [];
   children = [];
+  spawned = 0;
   printed = [];
   entries = [];
   status = None;

@@ -2,6 +2,8 @@ pub mod Between
 pub mod Core
 pub mod Database
 pub mod Events
+pub mod LogDatabase
+pub mod LogRun
 pub mod Outcome
 pub mod OutcomeText
 pub mod Package
@@ -13,6 +15,11 @@ pub mod SqlDatabase
 pub mod Start
 pub mod State
 pub mod Step
+pub mod StepBase
+pub mod StepFiles
+pub mod StepProcesses
+pub mod StepReplies
+pub mod StepVariables
 pub mod TypedPackage
 pub mod Types
 pub mod ValidPackage

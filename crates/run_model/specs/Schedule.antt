@@ -2,7 +2,8 @@
 use Rattle.std.specs.Prelude.{ℕ, ◌+◌, ◌*◌, ◌/◌, ◌%◌, ◌^◌, ◌==◌, List, [], ◌∷◌, length, find, slice_get}
 use Rattle.std.specs.Prelude.{slice_index, Bool, false, not, ◌&&◌, nat_lt, if◌then◌else◌, Option, Some, None}
 use Rattle.std.specs.Prelude.{is_none}
-use Rattle.run_model.specs.Types.{Instr, Wait}
+use Rattle.script_parse.specs.declared.script.Instr.TheVariants as instr
+use Rattle.run_model.specs.Types.{Instr}
 use Rattle.run_model.specs.Core.{lookup, Process, Core}
 
 -- ---- who may run
@@ -15,10 +16,35 @@ abbrev pub waits_for : Option ℕ → List Process → Bool
 waits_for None processes = false
 waits_for (Some child) processes = still_runs (slice_get processes child)
 
--- a `wait` for a child that hasn't ended
+-- a `wait` for a child that hasn't ended; no other instruction waits
+abbrev pub waits_at : Instr → Process → List Process → Bool
+waits_at (instr.Let to value) p processes = false
+waits_at (instr.Calc to op left right) p processes = false
+waits_at (instr.Glue to left right) p processes = false
+waits_at (instr.ToInt to value) p processes = false
+waits_at (instr.Cut before after by) p processes = false
+waits_at (instr.Jump place) p processes = false
+waits_at (instr.JumpIf op left right place) p processes = false
+waits_at (instr.Print values) p processes = false
+waits_at (instr.Exit status) p processes = false
+waits_at (instr.OpenPath file mode path place) p processes = false
+waits_at (instr.ReadLine to file place) p processes = false
+waits_at (instr.WriteLine file values) p processes = false
+waits_at (instr.CopyRest source target) p processes = false
+waits_at (instr.Close file) p processes = false
+waits_at (instr.Remove path place) p processes = false
+waits_at (instr.Exists to path) p processes = false
+waits_at (instr.Spawn child path arguments place) p processes = false
+waits_at (instr.Wait to child) p processes = waits_for (lookup child p.children) processes
+waits_at (instr.Sql cursor text params) p processes = false
+waits_at (instr.Fetch cursor to place) p processes = false
+waits_at (instr.Count to cursor) p processes = false
+waits_at (instr.Status to cursor) p processes = false
+
+-- after the last instruction `exit 0` is meant
 abbrev pub is_waiting : Option Instr → Process → List Process → Bool
-is_waiting (Some (Wait to child)) p processes = waits_for (lookup child p.children) processes
-is_waiting other p processes = false
+is_waiting None p processes = false
+is_waiting (Some i) p processes = waits_at i p processes
 
 abbrev pub is_runnable : List Process → Process → Bool
 is_runnable processes p = is_none p.status && not (is_waiting (slice_get p.script p.place) p processes)

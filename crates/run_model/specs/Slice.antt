@@ -1,13 +1,12 @@
 -- What a run needs of its world, read off its events: the initial files, tables and rows.
-use Rattle.std.specs.Prelude.{ℕ, ◌==◌, List, [], ◌∷◌, map, filter, Bool, true, false, not, ◌&&◌, ◌||◌}
+use Rattle.std.specs.Prelude.{ℕ, ◌==◌, List, [], ◌∷◌, map, filter, Bool, false, not, ◌&&◌, ◌||◌}
 use Rattle.std.specs.Prelude.{if◌then◌else◌, Option, Some, None, option_map}
 use Rattle.std.specs.List.{list_any, filter_map}
 use Rattle.sql_model.specs.Scope.{same_text}
-use Rattle.run_model.specs.Types.{File, Member, Need, Rule, Table, TableRow, Event, PackedFile, PackedRow}
+use Rattle.run_model.specs.Types.{File, Need, Rule, Table, TableRow, Event, PackedFile, PackedRow}
 use Rattle.run_model.specs.Types.{PackedTable}
 use Rattle.run_model.specs.Types.{Act, Started, Spawned, Unspawned, OpenedRead, OpenedWrite, OpenedAppend}
-use Rattle.run_model.specs.Types.{OpenedNew}
-use Rattle.run_model.specs.Types.{Unopened, Removed, Tested, Asked}
+use Rattle.run_model.specs.Types.{OpenedNew, Unopened, Read, Wrote, Removed, Tested, Waited, Ended, Asked}
 
 -- ---- files
 
@@ -17,23 +16,53 @@ whole_path (Started path) = Some path
 whole_path (Spawned path) = Some path
 whole_path (Unspawned path found) = if found then Some path else None
 whole_path (OpenedRead path) = Some path
+whole_path (OpenedWrite path) = None
 whole_path (OpenedAppend path found) = if found then Some path else None
-whole_path other = None
+whole_path (OpenedNew path) = None
+whole_path (Unopened path found) = None
+whole_path (Read path) = None
+whole_path (Wrote path) = None
+whole_path (Removed path) = None
+whole_path (Tested path found) = None
+whole_path (Waited child) = None
+whole_path (Ended status) = None
+whole_path (Asked statement tables reads made) = None
 
 -- the path of a file that the act finds, whatever is in it
 abbrev pub present_path : Act → Option (List ℕ)
+present_path (Started path) = None
+present_path (Spawned path) = None
+present_path (Unspawned path found) = None
+present_path (OpenedRead path) = None
+present_path (OpenedWrite path) = None
+present_path (OpenedAppend path found) = None
+present_path (OpenedNew path) = None
 present_path (Unopened path found) = if found then Some path else None
-present_path (Tested path found) = if found then Some path else None
+present_path (Read path) = None
+present_path (Wrote path) = None
 present_path (Removed path) = Some path
-present_path other = None
+present_path (Tested path found) = if found then Some path else None
+present_path (Waited child) = None
+present_path (Ended status) = None
+present_path (Asked statement tables reads made) = None
 
 -- the path of a file that is no longer the initial one after the act
 abbrev pub changed_path : Act → Option (List ℕ)
+changed_path (Started path) = None
+changed_path (Spawned path) = None
+changed_path (Unspawned path found) = None
+changed_path (OpenedRead path) = None
 changed_path (OpenedWrite path) = Some path
 changed_path (OpenedAppend path found) = Some path
 changed_path (OpenedNew path) = Some path
+changed_path (Unopened path found) = None
+changed_path (Read path) = None
+changed_path (Wrote path) = None
 changed_path (Removed path) = Some path
-changed_path other = None
+changed_path (Tested path found) = None
+changed_path (Waited child) = None
+changed_path (Ended status) = None
+changed_path (Asked statement tables reads made) = None
 
 abbrev pub is_path : List ℕ → Option (List ℕ) → Bool
 is_path path None = false
@@ -84,8 +113,21 @@ reason_in statement table row (need ∷ needs) =
     else reason_in statement table row needs
 
 abbrev pub act_reason : List ℕ → ℕ → Act → Option Reason
-act_reason table row (Asked statement tables needs made) = reason_in statement table row needs
-act_reason table row other = None
+act_reason table row (Started path) = None
+act_reason table row (Spawned path) = None
+act_reason table row (Unspawned path found) = None
+act_reason table row (OpenedRead path) = None
+act_reason table row (OpenedWrite path) = None
+act_reason table row (OpenedAppend path found) = None
+act_reason table row (OpenedNew path) = None
+act_reason table row (Unopened path found) = None
+act_reason table row (Read path) = None
+act_reason table row (Wrote path) = None
+act_reason table row (Removed path) = None
+act_reason table row (Tested path found) = None
+act_reason table row (Waited child) = None
+act_reason table row (Ended status) = None
+act_reason table row (Asked statement tables reads made) = reason_in statement table row reads
 
 abbrev pub reason_or : Option Reason → Option Reason → Option Reason
 reason_or (Some reason) later = Some reason
@@ -114,8 +156,21 @@ rows_needed events table rows = filter_map (packed_row events table) rows
 -- ---- tables
 
 abbrev pub names_table : List ℕ → Act → Bool
-names_table table (Asked statement tables needs made) = list_any (λ name. same_text name table) tables
-names_table table other = false
+names_table table (Started path) = false
+names_table table (Spawned path) = false
+names_table table (Unspawned path found) = false
+names_table table (OpenedRead path) = false
+names_table table (OpenedWrite path) = false
+names_table table (OpenedAppend path found) = false
+names_table table (OpenedNew path) = false
+names_table table (Unopened path found) = false
+names_table table (Read path) = false
+names_table table (Wrote path) = false
+names_table table (Removed path) = false
+names_table table (Tested path found) = false
+names_table table (Waited child) = false
+names_table table (Ended status) = false
+names_table table (Asked statement tables reads made) = list_any (λ name. same_text name table) tables
 
 abbrev pub is_table_needed : List Event → List ℕ → Bool
 is_table_needed events table = list_any (λ e. names_table table e.act) events

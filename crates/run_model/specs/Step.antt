@@ -1,123 +1,56 @@
--- One step of a process: its next instruction. An `sql` asks the database; every other one is applied to the
--- core only.
---
--- Misuse ends the process with its own status, and nothing else of the instruction takes effect. Supported so
--- far are `print`, `exit` and `sql`: a script with another instruction isn't run yet.
-use Rattle.std.specs.Prelude.{ℕ, ◌+◌, ℤ, pos, negsuc, List, [], ◌∷◌, ◌++◌, length, map, slice_get, nat_lt}
-use Rattle.std.specs.Prelude.{if◌then◌else◌, Option, Some, None}
-use Rattle.std.specs.List.{flat_map}
-use Rattle.ldv_value.specs.Limits.{printed_limit}
-use Rattle.ldv_value.specs.Shown.{shown}
-use Rattle.run_model.specs.Types.{Value, Null, Int, Text, Operand, Constant, Variable, Instr, Print, Exit}
-use Rattle.run_model.specs.Types.{Sql, Reply, Act, Ended, Asked, Entry}
-use Rattle.run_model.specs.Core.{Binding, lookup, bind, Cursor, Process, Diverged, Core, with_process}
-use Rattle.run_model.specs.Database.{Question, Lists, Answer, Gives, Diverges, Base}
+-- One step of a process: its next instruction. An `sql` asks the database; every other instruction is applied to
+-- the core only. What each one does stands in the files that are used here.
+use Rattle.std.specs.Prelude.{ℕ, ◌+◌, List, [], ◌∷◌, ◌++◌, length, slice_get, Option, Some, None}
+use Rattle.script_parse.specs.declared.script.Instr.TheVariants as instr
+use Rattle.run_model.specs.Types.{Instr, Reply, Act, Ended}
+use Rattle.run_model.specs.Core.{Process, Diverged, Core, with_process}
+use Rattle.run_model.specs.Database.{Lists, Answer, Gives, Diverges, Base}
 pub use Rattle.run_model.specs.Database.{asked_act}
 use Rattle.run_model.specs.State.{State, Stepped}
-
--- ---- operands
-
-abbrev pub or_null : Option Value → Value
-or_null None = Null
-or_null (Some v) = v
-
--- a variable that wasn't set is NULL
-abbrev pub operand_value : Process → Operand → Value
-operand_value p (Constant v) = v
-operand_value p (Variable name) = or_null (lookup name p.variables)
-
-abbrev pub operand_values : Process → List Operand → List Value
-operand_values p operands = map (operand_value p) operands
-
--- ---- what becomes of a process
-
-abbrev pub ended : ℕ → Process → Process
-ended status p = record p { status = Some status }
-
-abbrev pub went_on : Process → Process
-went_on p = record p { place = p.place + 1 }
-
--- the statuses of misuse: a value of the wrong kind or a name that means nothing, and too many bytes
-abbrev pub wrong_kind : ℕ
-wrong_kind = 240
-
-abbrev pub too_long : ℕ
-too_long = 242
-
--- ---- print
-
--- the shown values and LF
-abbrev pub printed_line : List Value → List ℕ
-printed_line values = flat_map shown values ++ 10 ∷ []
-
-abbrev pub print_line : List ℕ → Process → Process
-print_line text p =
-    if nat_lt printed_limit (length p.printed + length text) then ended too_long p
-    else went_on (record p { printed = p.printed ++ text })
-
-abbrev pub print : List Operand → Process → Process
-print operands p = print_line (printed_line (operand_values p operands)) p
-
--- ---- exit
-
--- a number from 0 to 255, else misuse
-abbrev pub exit_status : Value → ℕ
-exit_status Null = wrong_kind
-exit_status (Int (pos n)) = if nat_lt n 256 then n else wrong_kind
-exit_status (Int (negsuc n)) = wrong_kind
-exit_status (Text t) = wrong_kind
-
-abbrev pub exit : Operand → Process → Process
-exit status p = ended (exit_status (operand_value p status)) p
-
--- ---- sql
-
--- a question, and the cursor that means the reply
-pub record Ask : Type 0 where
-  pub cursor : List ℕ
-  pub question : Question
-
--- what isn't a text is misuse, and isn't asked
-abbrev pub ask : List ℕ → Value → List Value → Process → Option Ask
-ask cursor Null params p = None
-ask cursor (Int n) params p = None
-ask cursor (Text text) params p = Some (record {
-  cursor = cursor;
-  question = record { process = p.name; text = text; params = params };
-})
-
-abbrev pub entry_of : Question → Reply → Entry
-entry_of q reply = record { text = q.text; params = q.params; reply = reply }
-
--- the cursor means the reply
-abbrev pub replied : Ask → Reply → Process → Process
-replied a reply p = went_on (record p {
-  cursors = bind a.cursor (record { reply = reply; fetched = 0 }) p.cursors;
-  entries = p.entries ++ entry_of a.question reply ∷ [];
-})
+use Rattle.run_model.specs.StepBase.{on_files}
+use Rattle.run_model.specs.StepFiles.{path_at, allows_read, open_for, open_path, read_next, write_line, copy_rest}
+use Rattle.run_model.specs.StepFiles.{close, remove_path, test_path}
+use Rattle.run_model.specs.StepProcesses.{spawn, wait}
+use Rattle.run_model.specs.StepReplies.{fetch, count, status}
+use Rattle.run_model.specs.StepVariables.{let_value, calculate, glue, let_number, cut, jump_if}
+pub use Rattle.run_model.specs.StepBase.{operand_value, operand_values, ended, went_on, went_to, wrong_kind}
+pub use Rattle.run_model.specs.StepBase.{Effect, own}
+pub use Rattle.run_model.specs.StepReplies.{Ask, ask, entry_of, replied}
+pub use Rattle.run_model.specs.StepVariables.{printed_line, print_line, print, exit_status, exit}
 
 -- ---- steps that ask nothing
 
--- the core after it, and what it did, but for the end of the process
-pub record Effect : Type 0 where
-  pub core : Core
-  pub acts : List Act
-
--- only the process changes
-abbrev pub own : ℕ → Process → Core → Effect
-own number p c = record { core = with_process number p c; acts = [] }
-
 -- an `sql` comes here where it asks nothing
 abbrev pub execute : Instr → ℕ → Process → Core → Effect
-execute (Print operands) number p c = own number (print operands p) c
-execute (Exit status) number p c = own number (exit status p) c
-execute (Sql cursor text params) number p c = own number (ended wrong_kind p) c
-execute other number p c = record { core = c; acts = [] }
+execute (instr.Let to value) number p c = own number (let_value to value p) c
+execute (instr.Calc to op left right) number p c = own number (calculate to op left right p) c
+execute (instr.Glue to left right) number p c = own number (glue to left right p) c
+execute (instr.ToInt to value) number p c = own number (let_number to value p) c
+execute (instr.Cut before after by) number p c = own number (cut before after by p) c
+execute (instr.Jump place) number p c = own number (went_to place p) c
+execute (instr.JumpIf op left right place) number p c = own number (jump_if op left right place p) c
+execute (instr.Print operands) number p c = own number (print operands p) c
+execute (instr.Exit code) number p c = own number (exit code p) c
+execute (instr.OpenPath file mode path place) number p c =
+    on_files number (open_path file mode (path_at path p) place p c.files) c
+execute (instr.ReadLine to file place) number p c =
+    on_files number (read_next (open_for allows_read file p) to file place p c.files) c
+execute (instr.WriteLine file operands) number p c = on_files number (write_line file operands p c.files) c
+execute (instr.CopyRest source target) number p c = on_files number (copy_rest source target p c.files) c
+execute (instr.Close file) number p c = own number (close file p) c
+execute (instr.Remove path place) number p c = on_files number (remove_path (path_at path p) place p c.files) c
+execute (instr.Exists to path) number p c = on_files number (test_path to (path_at path p) p c.files) c
+execute (instr.Spawn child path arguments place) number p c = spawn child path arguments place number p c
+execute (instr.Wait to child) number p c = wait to child number p c
+execute (instr.Sql cursor text params) number p c = own number (ended wrong_kind p) c
+execute (instr.Fetch cursor to place) number p c = own number (fetch cursor to place p) c
+execute (instr.Count to cursor) number p c = own number (count to cursor p) c
+execute (instr.Status to cursor) number p c = own number (status to cursor p) c
 
 -- after the last instruction `exit 0` is meant
 abbrev pub execute_next : Option Instr → ℕ → Process → Core → Effect
 execute_next None number p c = own number (ended 0 p) c
-execute_next (Some instr) number p c = execute instr number p c
+execute_next (Some i) number p c = execute i number p c
 
 abbrev pub quiet_of : Option Process → ℕ → Core → Effect
 quiet_of None number c = record { core = c; acts = [] }
@@ -129,9 +62,34 @@ quiet number c = quiet_of (slice_get c.processes number) number c
 
 -- ---- steps that ask
 
+-- what an instruction asks
+abbrev pub asked_by : Instr → Process → Option Ask
+asked_by (instr.Let to value) p = None
+asked_by (instr.Calc to op left right) p = None
+asked_by (instr.Glue to left right) p = None
+asked_by (instr.ToInt to value) p = None
+asked_by (instr.Cut before after by) p = None
+asked_by (instr.Jump place) p = None
+asked_by (instr.JumpIf op left right place) p = None
+asked_by (instr.Print operands) p = None
+asked_by (instr.Exit code) p = None
+asked_by (instr.OpenPath file mode path place) p = None
+asked_by (instr.ReadLine to file place) p = None
+asked_by (instr.WriteLine file operands) p = None
+asked_by (instr.CopyRest source target) p = None
+asked_by (instr.Close file) p = None
+asked_by (instr.Remove path place) p = None
+asked_by (instr.Exists to path) p = None
+asked_by (instr.Spawn child path arguments place) p = None
+asked_by (instr.Wait to child) p = None
+asked_by (instr.Sql cursor text params) p = ask cursor (operand_value p text) (operand_values p params) p
+asked_by (instr.Fetch cursor to place) p = None
+asked_by (instr.Count to cursor) p = None
+asked_by (instr.Status to cursor) p = None
+
 abbrev pub ask_by : Option Instr → Process → Option Ask
-ask_by (Some (Sql cursor text params)) p = ask cursor (operand_value p text) (operand_values p params) p
-ask_by other p = None
+ask_by None p = None
+ask_by (Some i) p = asked_by i p
 
 abbrev pub ask_in : Option Process → Option Ask
 ask_in None = None

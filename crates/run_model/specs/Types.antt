@@ -5,12 +5,19 @@ pub use Rattle.ldv_value.specs.declared.value.Value.{Value}
 pub use Rattle.ldv_value.specs.declared.value.Value.TheVariants.{Null, Int, Text}
 pub use Rattle.script_parse.specs.declared.script.Operand.{Operand}
 pub use Rattle.script_parse.specs.declared.script.Operand.TheVariants.{Constant, Variable}
+pub use Rattle.script_parse.specs.declared.script.CalcOp.{CalcOp}
+pub use Rattle.script_parse.specs.declared.script.CalcOp.TheVariants.{Add, Subtract, Multiply}
 pub use Rattle.script_parse.specs.declared.script.Instr.{Instr}
-pub use Rattle.script_parse.specs.declared.script.Instr.TheVariants.{Print, Exit, Wait, Sql}
+pub use Rattle.script_parse.specs.declared.script.Instr.TheVariants.{Let, Calc, Glue, ToInt, Cut, Jump}
+pub use Rattle.script_parse.specs.declared.script.Instr.TheVariants.{JumpIf, Print, Exit, OpenPath, ReadLine}
+pub use Rattle.script_parse.specs.declared.script.Instr.TheVariants.{WriteLine, CopyRest, Close, Remove}
+pub use Rattle.script_parse.specs.declared.script.Instr.TheVariants.{Exists, Spawn, Wait, Sql, Fetch, Count}
+pub use Rattle.script_parse.specs.declared.script.Instr.TheVariants.{Status}
 pub use Rattle.sql_model.specs.declared.need.Member.{Member}
 pub use Rattle.sql_model.specs.declared.need.Need.{Need}
 pub use Rattle.sql_model.specs.declared.need.Rule.{Rule}
 pub use Rattle.sql_model.specs.declared.reply.Reply.{Reply}
+pub use Rattle.sql_model.specs.declared.reply.Reply.TheVariants.{Rows, Changed, Refused}
 pub use Rattle.sql_model.specs.declared.statement.Statement.{Statement}
 pub use Rattle.sql_model.specs.declared.table.Table.{Table}
 pub use Rattle.sql_model.specs.declared.table.TableRow.{TableRow}

@@ -2,29 +2,13 @@
 use Rattle.std.specs.Prelude.{ℕ, ◌+◌, List, [], ◌∷◌, Bool, true, false, ◌&&◌, ◌==◌, nat_lt, nat_le}
 use Rattle.std.specs.Prelude.{IsTrue, bytes_eq}
 use Rattle.std.specs.List.{list_all}
-use Rattle.std.specs.declared.cmp.Ordering.{Ordering}
-use Rattle.std.specs.declared.cmp.Ordering.TheVariants.{Less, Equal, Greater}
-use Rattle.std.specs.Ordering.{nat_cmp}
-use Rattle.std.specs.Cmp.Lexicographic.{slice_cmp}
 use Rattle.ldv_value.specs.Limits.{max_processes}
 use Rattle.ldv_value.specs.Names.{path_test}
 use Rattle.ldv_value.specs.Sorted.{is_strictly_sorted, text_precedes}
 use Rattle.sql_model.specs.SqlNames.{sql_name_test}
+pub use Rattle.sql_model.specs.MemberOrder.{row_after_table, member_precedes, need_precedes}
 use Rattle.run_model.specs.declared.event.Act.TheVariants as acts
-use Rattle.run_model.specs.Types.{Member, Need, Act, Event}
-
--- ---- the order of rows: by table and then by row
-
-abbrev pub row_after_table : Ordering → ℕ → ℕ → Bool
-row_after_table Less m n = true
-row_after_table Equal m n = nat_lt m n
-row_after_table Greater m n = false
-
-abbrev pub member_precedes : Member → Member → Bool
-member_precedes a b = row_after_table (slice_cmp nat_cmp a.table b.table) a.row b.row
-
-abbrev pub need_precedes : Need → Need → Bool
-need_precedes a b = member_precedes a.member b.member
+use Rattle.run_model.specs.Types.{Act, Event}
 
 -- ---- events
 

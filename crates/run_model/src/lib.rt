@@ -1,17 +1,22 @@
 //! Worlds, runs, events, packages and outcomes.
 //!
-//! A run is defined over any database (`specs/Database.antt`): its core (`specs/Core.antt`), one step
-//! (`specs/Step.antt`), the scheduler (`specs/Schedule.antt`), runs (`specs/Run.antt`), events
+//! A run is defined over any database (`specs/Database.antt`): its core (`specs/Core.antt`), one step of
+//! every instruction (`specs/Step.antt`, with the instructions by subject in the files beside it that begin
+//! with the same word), the scheduler (`specs/Schedule.antt`), runs (`specs/Run.antt`), events
 //! (`specs/Events.antt`) and outcomes (`specs/Outcome.antt`) don't name tables. SQL over tables is one
 //! database (`specs/SqlDatabase.antt`), and the run of a world is the run over its tables
-//! (`specs/WorldRun.antt`). From the events follow what a run needs (`specs/Slice.antt`), its package
-//! (`specs/Package.antt`) and the worlds that lie between what it needs and its own (`specs/Between.antt`).
+//! (`specs/WorldRun.antt`). Recorded replies are another (`specs/LogDatabase.antt`), over which a package
+//! that has them is run (`specs/LogRun.antt`).
+//!
+//! From the events follow what a run needs (`specs/Slice.antt`), its package (`specs/Package.antt`) and
+//! the worlds that lie between what it needs and its own (`specs/Between.antt`).
 //!
 //! It promises to the layers above:
 //! - `never_stuck_law`: over any database, a run that hasn't ended has a process that may run
 //!   (`specs/RunLaw.antt`);
 //! - `Database` and `Tracer`: what a run asks and tells, so that the code that runs is proved once, over every
 //!   database and every tracer; `NullTracer` keeps nothing, and `ListTracer` all events;
+//! - files, tables, rows and logs of a package are in the orders of `specs/ValidPackage.antt`, by `Precedes`;
 //! - `outcome_text`: the text of an outcome (`specs/OutcomeText.antt`).
 #![tactic(auto)]
 
@@ -19,6 +24,7 @@ mod database;
 mod event;
 mod law;
 mod name;
+mod order;
 mod outcome;
 mod package;
 mod text;

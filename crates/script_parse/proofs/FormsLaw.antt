@@ -1,6 +1,6 @@
 -- What the tokens of a line say is what the grammar says.
 use Rattle.std.proofs.Common.{◌≡◌, ◌≢◌, ℕ, suc, ◌+◌, ◌<◌, ◌≤◌, List, [], ◌∷◌, ◌++◌, length, map, take, drop, refl, sym, ap, ◌∙◌, subst, cond, not, ltb, Bool, true, false, inl, inr, Some, None, leb, arith}
-use Rattle.std.specs.Prelude.{Option, codes, find, position}
+use Rattle.std.specs.Prelude.{Option, codes, position}
 use Rattle.std.specs.List.{AllByRecursion, prefix_len}
 use Rattle.std.proofs.lemmas.Bool.{cases_Bool, false≢true, leb-true, ltb-true}
 use Rattle.std.proofs.lemmas.Option.{cond_some}
@@ -28,6 +28,8 @@ use Rattle.script_parse.specs.Lines.{before_colon, worded, form_of}
 use Rattle.script_parse.specs.Grammar.{IsName, written, IsOperand, AreOperands, AreNames, word, tokens_for, HasForm, place_of}
 use Rattle.ldv_value.proofs.Options.{bind-some, only_if-some}
 use Rattle.script_parse.proofs.Colon.{colon_split}
+use Rattle.ldv_value.proofs.Lists.{found-passes}
+use Rattle.ldv_value.proofs.Booleans.{not-false}
 
 -- what a line is, before labels have places
 abbrev pub IsForm : Line → List Token → Type 0
@@ -71,26 +73,19 @@ is_word_sound text (Word w) h = ap Word (text_is w text h)
 is_word_sound text (Number z) h = absurd (false≢true h)
 is_word_sound text (Quoted t) h = absurd (false≢true h)
 
-find_true : {A : Type 0} (p : A → Bool) (xs : List A) (x : A) → find p xs ≡ Some x → p x ≡ true
-find_true p [] x h = cc
-find_true p (y ∷ ys) x h = elim (cases_Bool (p y)) [
-  | inl hit ↦ let h2 : Some y ≡ Some x = rw hit at h in let e : y ≡ x = cc (h2) in subst (λ z. p z ≡ true) e hit
-  | inr miss ↦ let h2 : find p ys ≡ Some x = rw miss at h in find_true p ys x h2
-]
-
 word_sound : (t : Token) (w : List ℕ) → word_of t ≡ Some w → t ≡ Word w
 word_sound (Word v) w h = let e : v ≡ w = cc (h) in ap Word e
 word_sound (Number z) w h = cc
 word_sound (Quoted t) w h = cc
 
 sign_sound : (t : Token) (s : Sign) → sign_in t ≡ Some s → t ≡ Word (sign_text s)
-sign_sound t s h = let p = bind-some (word_of t) sign_of s h in word_sound t p.0 p.1 ∙ ap Word (text_is p.0 (sign_text s) (find_true (λ k. is_text p.0 (sign_text k)) signs s p.2))
+sign_sound t s h = let p = bind-some (word_of t) sign_of s h in word_sound t p.0 p.1 ∙ ap Word (text_is p.0 (sign_text s) (found-passes (λ k. is_text p.0 (sign_text k)) signs s p.2))
 
 comparison_sound : (t : Token) (s : Cmp) → comparison_in t ≡ Some s → t ≡ Word (comparison_text s)
-comparison_sound t s h = let p = bind-some (word_of t) comparison_of s h in word_sound t p.0 p.1 ∙ ap Word (text_is p.0 (comparison_text s) (find_true (λ k. is_text p.0 (comparison_text k)) comparisons s p.2))
+comparison_sound t s h = let p = bind-some (word_of t) comparison_of s h in word_sound t p.0 p.1 ∙ ap Word (text_is p.0 (comparison_text s) (found-passes (λ k. is_text p.0 (comparison_text k)) comparisons s p.2))
 
 mode_sound : (t : Token) (s : OpenMode) → mode_in t ≡ Some s → t ≡ Word (mode_text s)
-mode_sound t s h = let p = bind-some (word_of t) mode_of s h in word_sound t p.0 p.1 ∙ ap Word (text_is p.0 (mode_text s) (find_true (λ k. is_text p.0 (mode_text k)) modes s p.2))
+mode_sound t s h = let p = bind-some (word_of t) mode_of s h in word_sound t p.0 p.1 ∙ ap Word (text_is p.0 (mode_text s) (found-passes (λ k. is_text p.0 (mode_text k)) modes s p.2))
 
 operands_sound : (ts : List Token) (vs : List Operand) → each operand_of ts ≡ Some vs → (ts ≡ map written vs) × AllByRecursion IsOperand vs × (length vs ≡ length ts)
 operands_sound [] vs h = let e : [] ≡ vs = cc (h) in subst (λ vs. ([] ≡ map written vs) × AllByRecursion IsOperand vs × (length vs ≡ length {A = Token} [])) e (refl, tt, refl)
@@ -420,10 +415,6 @@ label_sound [] l h = cc
 label_sound (t ∷ []) l h = let k = name_sound t l h in (ap (λ x. x ∷ []) k.0, k.1)
 label_sound (t ∷ z ∷ zs) l h = cc
 
-not_not : (b : Bool) → not b ≡ false → b ≡ true
-not_not true h = refl
-not_not false h = absurd (false≢true (sym h))
-
 else_sound : (ts front : List Token) (label : List ℕ) → else_of ts ≡ Some (front, label) → (ts ≡ front ++ word "else" ∷ Word label ∷ []) × IsName label
 else_sound ts front label h =
     let s0 = bind-some (position (is_word (codes "else")) ts) (else_at ts) (front, label) h in
@@ -437,7 +428,7 @@ else_sound ts front label h =
     let both : (take s0.0 ts, s1.0) ≡ (front, label) = cc (s1.2) in
     let one : take s0.0 ts ≡ front = ap (λ (p : List Token × List ℕ). p.0) both in
     let two : s1.0 ≡ label = ap (λ (p : List Token × List ℕ). p.1) both in
-    let word_is : r.0 ≡ word "else" = is_word_sound (codes "else") r.0 (not_not (is_word (codes "else") r.0) r.1) in
+    let word_is : r.0 ≡ word "else" = is_word_sound (codes "else") r.0 (not-false (is_word (codes "else") r.0) r.1) in
     let front_is : take (prefix_len q ts) ts ≡ front = ap (λ n. take n ts) (sym at) ∙ one in
     let back_is : drop (suc (prefix_len q ts)) ts ≡ Word label ∷ [] = ap (λ n. drop n ts) (sym next) ∙ k.0 ∙ ap (λ l. Word l ∷ []) two in
     (r.2 ∙ (λ j. (front_is j) ++ (word_is j) ∷ (back_is j)), subst IsName two k.1)
@@ -479,7 +470,7 @@ worded_sound w [] line h =
     subst (λ (l : Line). IsForm l (Word w ∷ [])) e (k.1, ap (λ (x : List ℕ). Word x ∷ []) (colon_split w s0.0 s0.1 ∙ ap (λ (x : List ℕ). x ++ 58 ∷ []) k.0))
 worded_sound w (t ∷ ts) line h =
     let s0 = bind-some (keyword_of w) (λ k. instruction_of k (t ∷ ts)) line h in
-    let is : w ≡ keyword_text s0.0 = text_is w (keyword_text s0.0) (find_true (λ k. is_text w (keyword_text k)) keywords s0.0 s0.1) in
+    let is : w ≡ keyword_text s0.0 = text_is w (keyword_text s0.0) (found-passes (λ k. is_text w (keyword_text k)) keywords s0.0 s0.1) in
     subst (λ (x : List ℕ). IsForm line (Word x ∷ t ∷ ts)) (sym is) (instruction_sound s0.0 (t ∷ ts) line s0.2)
 
 pub forms_sound : (ts : List Token) (line : Line) → form_of ts ≡ Some line → IsForm line ts

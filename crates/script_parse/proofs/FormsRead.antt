@@ -27,17 +27,14 @@ use Rattle.script_parse.specs.Lines.{form_of}
 use Rattle.script_parse.specs.Grammar.{IsName, written, IsOperand, AreOperands, AreNames, word, tokens_for, HasForm, place_of}
 use Rattle.script_parse.proofs.Colon.{colon_found}
 use Rattle.script_parse.proofs.FormsLaw.{IsForm, text_is}
-
-pub is_false : (b : Bool) → (b ≡ true → ⊥) → b ≡ false
-is_false true h = absurd (h refl)
-is_false false h = refl
+use Rattle.ldv_value.proofs.Booleans.{not-so}
 
 name_made : (x : List ℕ) → IsName x → name_of (Word x) ≡ Some x
 name_made x h = let test : name_test x ≡ true = h in ap (λ b. only_if b (Some x)) test
 
 -- a name isn't a word that is none
 not_name : (x w : List ℕ) → IsName x → name_test w ≡ false → is_text x w ≡ false
-not_name x w h none = is_false (is_text x w) (λ same. false≢true (sym none ∙ ap name_test (sym (text_is x w same)) ∙ h))
+not_name x w h none = not-so (is_text x w) (λ same. false≢true (sym none ∙ ap name_test (sym (text_is x w same)) ∙ h))
 
 operand_made : (v : Operand) → IsOperand v → operand_of (written v) ≡ Some v
 operand_made (Constant value.Null) h = refl
@@ -102,7 +99,7 @@ names_one_made (x ∷ xs) h =
     ap (λ b. only_if b (each name_of (map Word (x ∷ xs)))) test ∙ names_made (x ∷ xs) h.1.1
 
 differ_made : (a b : List ℕ) → a ≢ b → not (is_text a b) ≡ true
-differ_made a b h = ap not (is_false (is_text a b) (λ same. h (text_is a b same)))
+differ_made a b h = ap not (not-so (is_text a b) (λ same. h (text_is a b same)))
 
 cut_complete : (a : List ℕ) (b : List ℕ) (d : Operand) → IsName a → IsName b → IsOperand d → a ≢ b → cut_of (Word a ∷ Word b ∷ written d ∷ []) ≡ Some (Plain (instr.Cut a b d))
 cut_complete a b d ha hb hd hg =

@@ -17,7 +17,7 @@ use Rattle.script_parse.specs.Grammar.{Kind, Blank, Names, Does, steps, labels, 
 use Rattle.ldv_value.proofs.Cases.{cases-option}
 use Rattle.ldv_value.proofs.Options.{bind-some, only_if-some}
 use Rattle.script_parse.proofs.FormsLaw.{text_is}
-use Rattle.script_parse.proofs.FormsRead.{is_false}
+use Rattle.ldv_value.proofs.Booleans.{not-so}
 
 -- what a line that isn't bad is, where look finds the labels
 abbrev pub Fits : (List ℕ → Option Definition) → ℕ → Line → Kind → Type 0
@@ -198,7 +198,7 @@ at_complete m n (Blank ∷ before) l after h =
     ∙ ap Some (same_definition (n + 1 + length before) (m + length (steps before)) (n + suc (length before)) (m + length (steps before)) (omega arith) refl)
 at_complete m n (Names x ∷ before) l after h =
     let other : x ≢ l = among (λ y. x ≢ y) before l after h.0 in
-    let miss : is_text x l ≡ false = is_false (is_text x l) (λ same. other (text_is x l same)) in
+    let miss : is_text x l ≡ false = not-so (is_text x l) (λ same. other (text_is x l same)) in
     ap (λ b. cond b (Some (define n m)) (definition_of (labelled m (n + 1) (before ++ Names l ∷ after)) l)) miss
     ∙ at_complete m (n + 1) before l after h.1
     ∙ ap Some (same_definition (n + 1 + length before) (m + length (steps before)) (n + suc (length before)) (m + length (steps before)) (omega arith) refl)

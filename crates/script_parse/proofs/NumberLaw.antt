@@ -1,5 +1,5 @@
 -- The numbers that are read are those of the grammar.
-use Rattle.std.proofs.Common.{◌≡◌, ◌≢◌, ℕ, ◌^◌, ◌<◌, ◌≤◌, List, [], ◌∷◌, refl, sym, ap, ◌∙◌, subst, cond, ◌&&◌, Bool, true, false, inl, inr, Some, None, ltb, leb, arith, pos, neg_ℤ, ℤ}
+use Rattle.std.proofs.Common.{◌≡◌, ◌≢◌, ℕ, ◌^◌, ◌<◌, ◌≤◌, List, [], ◌∷◌, refl, sym, ap, ◌∙◌, subst, cond, ◌&&◌, true, false, inl, inr, Some, None, ltb, leb, arith, pos, neg_ℤ, ℤ}
 use Rattle.std.specs.Prelude.{◌==◌, IsTrue}
 use Rattle.std.specs.List.{AllByRecursion, list_all}
 use Rattle.std.proofs.lemmas.Bool.{cases_Bool, eqb-true, false≢true, leb-true, le-leb, ltb-true, lt-ltb}
@@ -8,14 +8,11 @@ use Rattle.ldv_value.specs.Options.{◌>>=◌}
 use Rattle.script_parse.specs.Number.{is_digit, digits_from, magnitude_of, natural_of, negative_of, number_of}
 use Rattle.script_parse.specs.Grammar.{AreDigits, IsNumber}
 use Rattle.ldv_value.proofs.Options.{bind-some}
-
-and_true : (a b : Bool) → (a && b) ≡ true → (a ≡ true) × (b ≡ true)
-and_true true b h = (refl, h)
-and_true false b h = absurd (false≢true h)
+use Rattle.ldv_value.proofs.Booleans.{and-parts}
 
 all_sound : (ds : List ℕ) → list_all is_digit ds ≡ true → AllByRecursion (λ b. IsTrue (is_digit b)) ds
 all_sound [] h = tt
-all_sound (d ∷ ds) h = let p = and_true (is_digit d) (list_all is_digit ds) h in (p.0, all_sound ds p.1)
+all_sound (d ∷ ds) h = let p = and-parts (is_digit d) (list_all is_digit ds) h in (p.0, all_sound ds p.1)
 
 all_complete : (ds : List ℕ) → AllByRecursion (λ b. IsTrue (is_digit b)) ds → list_all is_digit ds ≡ true
 all_complete [] h = refl
@@ -25,7 +22,7 @@ magnitude_sound : (ds : List ℕ) (n : ℕ) → magnitude_of ds ≡ Some n → A
 magnitude_sound [] n h = cc
 magnitude_sound (d ∷ ds) n h =
     let p = cond_some (list_all is_digit (d ∷ ds) && leb (digits_from 0 (d ∷ ds)) (2 ^ 63)) (digits_from 0 (d ∷ ds)) n h in
-    let q = and_true (list_all is_digit (d ∷ ds)) (leb (digits_from 0 (d ∷ ds)) (2 ^ 63)) p.0 in
+    let q = and-parts (list_all is_digit (d ∷ ds)) (leb (digits_from 0 (d ∷ ds)) (2 ^ 63)) p.0 in
     let within : digits_from 0 (d ∷ ds) ≤ 2 ^ 63 = leb-true _ _ q.1 in
     let some : (d ∷ ds) ≢ [] = λ e. cc in
     ((some, all_sound (d ∷ ds) q.0), sym p.1, subst (λ (m : ℕ). m ≤ 2 ^ 63) p.1 within)

@@ -21,11 +21,12 @@ use Rattle.script_parse.specs.Script.{entries_from, definition_of, with_place, i
 use Rattle.script_parse.specs.Grammar.{Kind, Blank, Names, Does, steps, labels, AllDiffer, AreBlanks, AreTokens, IsName, HasForm, tokens_for, place_of, IsAtPlace, IsComment, IsKind, IsLine, IsAt, IsScript}
 use Rattle.ldv_value.proofs.Options.{bind-some, only_if-some}
 use Rattle.script_parse.proofs.LinesLaw.{lines_sound, lines_complete}
-use Rattle.script_parse.proofs.TokensLaw.{tokens_sound, not_false}
+use Rattle.script_parse.proofs.TokensLaw.{tokens_sound}
 use Rattle.script_parse.proofs.TokensRead.{tokens_complete}
 use Rattle.script_parse.proofs.FormsLaw.{IsForm, forms_sound}
 use Rattle.script_parse.proofs.FormsRead.{forms_complete}
 use Rattle.script_parse.proofs.KindsLaw.{Fits, Reads, reads_sound, reads_complete, labelled, labels_are, at_sound, labels_differ, define, at_complete}
+use Rattle.ldv_value.proofs.Booleans.{not-so}
 
 -- COMMENTS
 
@@ -63,7 +64,7 @@ BeginsPlain (Quoted t ∷ ts) = ⊥
 
 word_no_comment : (piece rest : List ℕ) → AllByRecursion (λ b. ¬ IsTrue (is_blank b)) piece → PlainWord piece → is_comment (piece ++ rest) ≡ false
 word_no_comment [] rest h p = absurd p
-word_no_comment (c ∷ cs) rest h p = ap (λ t. is_comment_start (cond (not t) (Some c) (first_shown (cs ++ rest)))) (not_false (is_blank c) h.0) ∙ p
+word_no_comment (c ∷ cs) rest h p = ap (λ t. is_comment_start (cond (not t) (Some c) (first_shown (cs ++ rest)))) (not-so (is_blank c) h.0) ∙ p
 
 pub no_comment : (ts : List Token) (line : List ℕ) → AreTokens line ts → BeginsPlain ts → is_comment line ≡ false
 no_comment [] line h p = absurd p

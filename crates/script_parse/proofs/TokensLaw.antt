@@ -1,9 +1,9 @@
 -- The tokens that are read are those of the grammar.
-use Rattle.std.proofs.Common.{◌≡◌, ◌≢◌, ℕ, List, [], ◌∷◌, ◌++◌, length, refl, sym, ap, ◌∙◌, subst, cond, Bool, true, false, inl, inr, Some, None, leb, append_assoc}
+use Rattle.std.proofs.Common.{◌≡◌, ◌≢◌, ℕ, List, [], ◌∷◌, ◌++◌, length, refl, sym, ap, ◌∙◌, subst, cond, true, inl, inr, Some, None, leb, append_assoc}
 use Rattle.std.specs.Prelude.{◌==◌, IsTrue, Option, option_to_list}
 use Rattle.std.specs.List.{AllByRecursion}
 use Rattle.std.specs.Str.{is_utf8}
-use Rattle.std.proofs.lemmas.Bool.{cases_Bool, eqb-true, false≢true, leb-true}
+use Rattle.std.proofs.lemmas.Bool.{cases_Bool, eqb-true, leb-true}
 use Rattle.std.proofs.lemmas.Option.{cond_some}
 use Rattle.script_parse.specs.declared.token.Token.{Token}
 use Rattle.script_parse.specs.declared.token.Token.TheVariants.{Word, Number, Quoted}
@@ -19,24 +19,12 @@ use Rattle.ldv_value.proofs.Cases.{cases-option}
 use Rattle.ldv_value.proofs.Options.{bind-some}
 use Rattle.script_parse.proofs.LinesLaw.{eqb_ne}
 use Rattle.script_parse.proofs.NumberLaw.{number_sound, number_complete}
+use Rattle.ldv_value.proofs.Booleans.{false-not}
+use Rattle.ldv_value.proofs.Lists.{append-nil}
+use Rattle.ldv_value.proofs.Scanning.{before-none}
 
 abbrev pub NoBlanks : List ℕ → Type 0
 NoBlanks = AllByRecursion (λ b. ¬ IsTrue (is_blank b))
-
-false_not : (b : Bool) → b ≡ false → ¬ IsTrue b
-false_not b h is = false≢true (sym h ∙ is)
-
-pub not_false : (b : Bool) → ¬ IsTrue b → b ≡ false
-not_false true h = absurd (h refl)
-not_false false h = refl
-
-pub append_nil : (xs : List ℕ) → xs ++ [] ≡ xs
-append_nil [] = refl
-append_nil (x ∷ xs) = ap (λ (l : List ℕ). x ∷ l) (append_nil xs)
-
-pub before_nil : (o : Option (List Token)) → before [] o ≡ o
-before_nil None = refl
-before_nil (Some ts) = refl
 
 before_some : (k : Token) (o : Option (List Token)) (ts : List Token) → before (k ∷ []) o ≡ Some ts → (more : List Token) × (o ≡ Some more) × (ts ≡ k ∷ more)
 before_some k o ts h = let p = bind-some o (λ more. Some (k ∷ more)) ts h in let e : k ∷ p.0 ≡ ts = cc (p.2) in (p.0, p.1, sym e)
@@ -161,7 +149,7 @@ text_escape t bs ts (letter, c, after, from, escape, (text, body, rest, k, more,
 )
 
 text_end : (t bs : List ℕ) (k : Token) (ts : List Token) → text_token t ≡ Some k → ClosedMeans k bs ts → TextMeans t (34 ∷ bs) ts
-text_end t bs k ts is (more, ends, are, tokens) = ([], [], bs, k, more, refl, refl, ends, ap text_token (append_nil t) ∙ is, are, tokens)
+text_end t bs k ts is (more, ends, are, tokens) = ([], [], bs, k, more, refl, refl, ends, ap text_token (append-nil t) ∙ is, are, tokens)
 
 end_sound : (place : LexState) (ts : List Token) → tokens_from [] place ≡ Some ts → Means place [] ts
 end_sound Between ts h = let e : [] ≡ ts = cc (h) in subst (AreTokens []) e tt
@@ -171,7 +159,7 @@ end_sound (InWord w) ts h =
     let o : Some q.0 ≡ p.0 = cc (q.2) in
     let e : option_to_list p.0 ≡ ts = cc (p.2) in
     let are : ts ≡ q.0 ∷ [] = sym e ∙ sym (ap option_to_list o) in
-    ([], [], q.0, [], refl, tt, tt, ap word_token (append_nil w) ∙ q.1, are, tt)
+    ([], [], q.0, [], refl, tt, tt, ap word_token (append-nil w) ∙ q.1, are, tt)
 end_sound (InText t) ts h = cc
 end_sound (Escaped t) ts h = cc
 end_sound (Closed k) ts h = let e : k ∷ [] ≡ ts = cc (h) in ([], tt, sym e, tt)
@@ -181,14 +169,14 @@ tokens_sound [] place ts h = end_sound place ts h
 tokens_sound (b ∷ bs) Between ts h = elim (cases_Bool (is_blank b)) [
   | inl blank ↦
       let h2 : before [] (tokens_from bs Between) ≡ Some ts = rw blank at h in
-      blank_more b bs ts blank (tokens_sound bs Between ts (sym (before_nil (tokens_from bs Between)) ∙ h2))
+      blank_more b bs ts blank (tokens_sound bs Between ts (sym (before-none (tokens_from bs Between)) ∙ h2))
   | inr visible ↦ elim (cases_Bool (b == 34)) [
     | inl quote ↦
         let h2 : before [] (tokens_from bs (InText [])) ≡ Some ts = rw (visible, quote) at h in
-        subst (λ (x : ℕ). AreTokens (x ∷ bs) ts) (sym (eqb-true b 34 quote)) (text_start bs ts (tokens_sound bs (InText []) ts (sym (before_nil (tokens_from bs (InText []))) ∙ h2)))
+        subst (λ (x : ℕ). AreTokens (x ∷ bs) ts) (sym (eqb-true b 34 quote)) (text_start bs ts (tokens_sound bs (InText []) ts (sym (before-none (tokens_from bs (InText []))) ∙ h2)))
     | inr other ↦
         let h2 : before [] (tokens_from bs (InWord (b ∷ []))) ≡ Some ts = rw (visible, other) at h in
-        word_start b bs ts (false_not (is_blank b) visible) (eqb_ne b 34 other) (tokens_sound bs (InWord (b ∷ [])) ts (sym (before_nil (tokens_from bs (InWord (b ∷ [])))) ∙ h2))
+        word_start b bs ts (false-not (is_blank b) visible) (eqb_ne b 34 other) (tokens_sound bs (InWord (b ∷ [])) ts (sym (before-none (tokens_from bs (InWord (b ∷ [])))) ∙ h2))
   ]
 ]
 tokens_sound (b ∷ bs) (InWord w) ts h = elim (cases_Bool (is_blank b)) [
@@ -198,10 +186,10 @@ tokens_sound (b ∷ bs) (InWord w) ts h = elim (cases_Bool (is_blank b)) [
       let q = bind-some (word_token w) (λ t. Some (Between, Some t)) p.0 p.1 in
       let h3 : before (q.0 ∷ []) (tokens_from bs Between) ≡ Some ts = ap (λ o. o >>= λ s. before (option_to_list s.1) (tokens_from bs s.0)) q.2 ∙ p.2 in
       let r = before_some q.0 (tokens_from bs Between) ts h3 in
-      ([], b ∷ bs, q.0, r.0, refl, tt, blank, ap word_token (append_nil w) ∙ q.1, r.2, blank_more b bs r.0 blank (tokens_sound bs Between r.0 r.1))
+      ([], b ∷ bs, q.0, r.0, refl, tt, blank, ap word_token (append-nil w) ∙ q.1, r.2, blank_more b bs r.0 blank (tokens_sound bs Between r.0 r.1))
   | inr visible ↦
       let h2 : before [] (tokens_from bs (InWord (w ++ b ∷ []))) ≡ Some ts = rw visible at h in
-      word_more w b bs ts (false_not (is_blank b) visible) (tokens_sound bs (InWord (w ++ b ∷ [])) ts (sym (before_nil (tokens_from bs (InWord (w ++ b ∷ [])))) ∙ h2))
+      word_more w b bs ts (false-not (is_blank b) visible) (tokens_sound bs (InWord (w ++ b ∷ [])) ts (sym (before-none (tokens_from bs (InWord (w ++ b ∷ [])))) ∙ h2))
 ]
 tokens_sound (b ∷ bs) (InText t) ts h = elim (cases_Bool (b == 34)) [
   | inl quote ↦
@@ -209,21 +197,21 @@ tokens_sound (b ∷ bs) (InText t) ts h = elim (cases_Bool (b == 34)) [
       let p = bind-some (text_token t >>= λ k. Some (Closed k, None)) (λ s. before (option_to_list s.1) (tokens_from bs s.0)) ts h2 in
       let q = bind-some (text_token t) (λ k. Some (Closed k, None)) p.0 p.1 in
       let h3 : before [] (tokens_from bs (Closed q.0)) ≡ Some ts = ap (λ o. o >>= λ s. before (option_to_list s.1) (tokens_from bs s.0)) q.2 ∙ p.2 in
-      subst (λ (x : ℕ). TextMeans t (x ∷ bs) ts) (sym (eqb-true b 34 quote)) (text_end t bs q.0 ts q.1 (tokens_sound bs (Closed q.0) ts (sym (before_nil (tokens_from bs (Closed q.0))) ∙ h3)))
+      subst (λ (x : ℕ). TextMeans t (x ∷ bs) ts) (sym (eqb-true b 34 quote)) (text_end t bs q.0 ts q.1 (tokens_sound bs (Closed q.0) ts (sym (before-none (tokens_from bs (Closed q.0))) ∙ h3)))
   | inr other ↦ elim (cases_Bool (b == 92)) [
     | inl slash ↦
         let h2 : before [] (tokens_from bs (Escaped t)) ≡ Some ts = rw (other, slash) at h in
-        subst (λ (x : ℕ). TextMeans t (x ∷ bs) ts) (sym (eqb-true b 92 slash)) (text_escape t bs ts (tokens_sound bs (Escaped t) ts (sym (before_nil (tokens_from bs (Escaped t))) ∙ h2)))
+        subst (λ (x : ℕ). TextMeans t (x ∷ bs) ts) (sym (eqb-true b 92 slash)) (text_escape t bs ts (tokens_sound bs (Escaped t) ts (sym (before-none (tokens_from bs (Escaped t))) ∙ h2)))
     | inr plain ↦
         let h2 : before [] (tokens_from bs (InText (t ++ b ∷ []))) ≡ Some ts = rw (other, plain) at h in
-        text_more t b bs ts (eqb_ne b 34 other) (eqb_ne b 92 plain) (tokens_sound bs (InText (t ++ b ∷ [])) ts (sym (before_nil (tokens_from bs (InText (t ++ b ∷ [])))) ∙ h2))
+        text_more t b bs ts (eqb_ne b 34 other) (eqb_ne b 92 plain) (tokens_sound bs (InText (t ++ b ∷ [])) ts (sym (before-none (tokens_from bs (InText (t ++ b ∷ [])))) ∙ h2))
   ]
 ]
 tokens_sound (b ∷ bs) (Escaped t) ts h =
     let p = bind-some (escape_of b >>= λ c. Some (InText (t ++ c ∷ []), None)) (λ s. before (option_to_list s.1) (tokens_from bs s.0)) ts h in
     let q = bind-some (escape_of b) (λ c. Some (InText (t ++ c ∷ []), None)) p.0 p.1 in
     let h3 : before [] (tokens_from bs (InText (t ++ q.0 ∷ []))) ≡ Some ts = ap (λ o. o >>= λ s. before (option_to_list s.1) (tokens_from bs s.0)) q.2 ∙ p.2 in
-    (b, q.0, bs, refl, q.1, tokens_sound bs (InText (t ++ q.0 ∷ [])) ts (sym (before_nil (tokens_from bs (InText (t ++ q.0 ∷ [])))) ∙ h3))
+    (b, q.0, bs, refl, q.1, tokens_sound bs (InText (t ++ q.0 ∷ [])) ts (sym (before-none (tokens_from bs (InText (t ++ q.0 ∷ [])))) ∙ h3))
 tokens_sound (b ∷ bs) (Closed k) ts h = elim (cases_Bool (is_blank b)) [
   | inl blank ↦
       let h2 : before (k ∷ []) (tokens_from bs Between) ≡ Some ts = rw blank at h in

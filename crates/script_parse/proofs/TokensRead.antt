@@ -17,9 +17,12 @@ use Rattle.script_parse.specs.Grammar.{AreDigits, IsNumber, Spells, IsBare, IsTo
 use Rattle.ldv_value.proofs.Cases.{cases-option}
 use Rattle.script_parse.proofs.LinesLaw.{ne_eqb}
 use Rattle.script_parse.proofs.NumberLaw.{number_sound, number_complete}
-use Rattle.script_parse.proofs.TokensLaw.{NoBlanks, not_false, append_nil, before_nil, escape_complete}
+use Rattle.script_parse.proofs.TokensLaw.{NoBlanks, escape_complete}
 use Rattle.ldv_value.proofs.Utf8Parts.{utf8-tail, utf8-cut}
 use Rattle.script_parse.proofs.Utf8Law.{spells_utf8}
+use Rattle.ldv_value.proofs.Booleans.{not-so}
+use Rattle.ldv_value.proofs.Lists.{append-nil}
+use Rattle.ldv_value.proofs.Scanning.{before-none}
 
 blank_low : (b : ℕ) → IsTrue (is_blank b) → b < 128
 blank_low b h = elim (cases_Bool (b == 32)) [
@@ -45,62 +48,62 @@ blanks_run : (front line : List ℕ) → AreBlanks front → tokens_from (front 
 blanks_run [] line h = refl
 blanks_run (b ∷ front) line h =
     let blank : is_blank b ≡ true = h.0 in
-    rw blank (before_nil (tokens_from (front ++ line) Between) ∙ blanks_run front line h.1)
+    rw blank (before-none (tokens_from (front ++ line) Between) ∙ blanks_run front line h.1)
 
 blanks_only : (line : List ℕ) → AreBlanks line → tokens_from line Between ≡ Some []
 blanks_only [] h = refl
 blanks_only (b ∷ line) h =
     let blank : is_blank b ≡ true = h.0 in
-    rw blank (before_nil (tokens_from line Between) ∙ blanks_only line h.1)
+    rw blank (before-none (tokens_from line Between) ∙ blanks_only line h.1)
 
 -- the bytes of a token without quotes
 word_run : (piece w rest : List ℕ) (k : Token) → NoBlanks piece → EndsToken rest → word_token (w ++ piece) ≡ Some k → tokens_from (piece ++ rest) (InWord w) ≡ before (k ∷ []) (tokens_from rest Between)
-word_run [] w [] k none ends is = ap (λ o. (o >>= λ t. Some (Some t)) >>= λ t. Some (option_to_list t)) (ap word_token (sym (append_nil w)) ∙ is)
+word_run [] w [] k none ends is = ap (λ o. (o >>= λ t. Some (Some t)) >>= λ t. Some (option_to_list t)) (ap word_token (sym (append-nil w)) ∙ is)
 word_run [] w (b ∷ rest) k none ends is =
     let blank : is_blank b ≡ true = ends in
-    let token : word_token w ≡ Some k = ap word_token (sym (append_nil w)) ∙ is in
-    let right : tokens_from (b ∷ rest) Between ≡ tokens_from rest Between = rw blank (before_nil (tokens_from rest Between)) in
+    let token : word_token w ≡ Some k = ap word_token (sym (append-nil w)) ∙ is in
+    let right : tokens_from (b ∷ rest) Between ≡ tokens_from rest Between = rw blank (before-none (tokens_from rest Between)) in
     let left : tokens_from (b ∷ rest) (InWord w) ≡ on rest (at_word (word_token w)) = rw blank refl in
     left ∙ ap (λ o. on rest (at_word o)) token ∙ ap (before (k ∷ [])) (sym right)
 word_run (b ∷ piece) w rest k none ends is =
-    let visible : is_blank b ≡ false = not_false (is_blank b) none.0 in
+    let visible : is_blank b ≡ false = not-so (is_blank b) none.0 in
     let left : tokens_from (b ∷ piece ++ rest) (InWord w) ≡ before [] (tokens_from (piece ++ rest) (InWord (w ++ b ∷ []))) = rw visible refl in
-    left ∙ before_nil (tokens_from (piece ++ rest) (InWord (w ++ b ∷ []))) ∙ word_run piece (w ++ b ∷ []) rest k none.1 ends (ap word_token (append_assoc w (b ∷ []) piece) ∙ is)
+    left ∙ before-none (tokens_from (piece ++ rest) (InWord (w ++ b ∷ []))) ∙ word_run piece (w ++ b ∷ []) rest k none.1 ends (ap word_token (append_assoc w (b ∷ []) piece) ∙ is)
 
 closed_run : (rest : List ℕ) (k : Token) → EndsToken rest → tokens_from rest (Closed k) ≡ before (k ∷ []) (tokens_from rest Between)
 closed_run [] k ends = refl
 closed_run (b ∷ rest) k ends =
     let blank : is_blank b ≡ true = ends in
-    let right : tokens_from (b ∷ rest) Between ≡ tokens_from rest Between = rw blank (before_nil (tokens_from rest Between)) in
+    let right : tokens_from (b ∷ rest) Between ≡ tokens_from rest Between = rw blank (before-none (tokens_from rest Between)) in
     let left : tokens_from (b ∷ rest) (Closed k) ≡ before (k ∷ []) (tokens_from rest Between) = rw blank refl in
     left ∙ ap (before (k ∷ [])) (sym right)
 
 text_run : (text body t rest : List ℕ) (k : Token) → Spells body text → EndsToken rest → text_token (t ++ text) ≡ Some k → tokens_from (body ++ 34 ∷ rest) (InText t) ≡ before (k ∷ []) (tokens_from rest Between)
 text_run [] body t rest k e ends is =
-    let token : text_token t ≡ Some k = ap text_token (sym (append_nil t)) ∙ is in
+    let token : text_token t ≡ Some k = ap text_token (sym (append-nil t)) ∙ is in
     ap (λ (l : List ℕ). tokens_from (l ++ 34 ∷ rest) (InText t)) e
     ∙ ap (λ o. on rest (at_quote o)) token
-    ∙ before_nil (tokens_from rest (Closed k)) ∙ closed_run rest k ends
+    ∙ before-none (tokens_from rest (Closed k)) ∙ closed_run rest k ends
 text_run (b ∷ text) body t rest k (after, spells, inl (e, quote, slash)) ends is =
     let more : List ℕ = after ++ 34 ∷ rest in
     let left : tokens_from (b ∷ more) (InText t) ≡ before [] (tokens_from more (InText (t ++ b ∷ []))) = rw (ne_eqb b 34 quote, ne_eqb b 92 slash) refl in
-    ap (λ (l : List ℕ). tokens_from (l ++ 34 ∷ rest) (InText t)) e ∙ left ∙ before_nil (tokens_from more (InText (t ++ b ∷ [])))
+    ap (λ (l : List ℕ). tokens_from (l ++ 34 ∷ rest) (InText t)) e ∙ left ∙ before-none (tokens_from more (InText (t ++ b ∷ [])))
     ∙ text_run text after (t ++ b ∷ []) rest k spells ends (ap text_token (append_assoc t (b ∷ []) text) ∙ is)
 text_run (b ∷ text) body t rest k (after, spells, inr (letter, e, escape)) ends is =
     let more : List ℕ = after ++ 34 ∷ rest in
     let inside : tokens_from (letter ∷ more) (Escaped t) ≡ before [] (tokens_from more (InText (t ++ b ∷ []))) =
     ap (λ o. on more (at_letter t o)) (escape_complete letter b escape) in
     ap (λ (l : List ℕ). tokens_from (l ++ 34 ∷ rest) (InText t)) e
-    ∙ before_nil (tokens_from (letter ∷ more) (Escaped t)) ∙ inside ∙ before_nil (tokens_from more (InText (t ++ b ∷ [])))
+    ∙ before-none (tokens_from (letter ∷ more) (Escaped t)) ∙ inside ∙ before-none (tokens_from more (InText (t ++ b ∷ [])))
     ∙ text_run text after (t ++ b ∷ []) rest k spells ends (ap text_token (append_assoc t (b ∷ []) text) ∙ is)
 
 bare_run : (piece rest : List ℕ) (k : Token) → IsBare piece → EndsToken rest → word_token piece ≡ Some k → tokens_from (piece ++ rest) Between ≡ before (k ∷ []) (tokens_from rest Between)
 bare_run [] rest k bare ends is = absurd (bare.0 refl)
 bare_run (b ∷ piece) rest k bare ends is =
-    let visible : is_blank b ≡ false = not_false (is_blank b) bare.1.0 in
+    let visible : is_blank b ≡ false = not-so (is_blank b) bare.1.0 in
     let other : (b == 34) ≡ false = ne_eqb b 34 (λ e. bare.2 piece (ap (λ (x : ℕ). x ∷ piece) e)) in
     let left : tokens_from (b ∷ piece ++ rest) Between ≡ before [] (tokens_from (piece ++ rest) (InWord (b ∷ []))) = rw (visible, other) refl in
-    left ∙ before_nil (tokens_from (piece ++ rest) (InWord (b ∷ []))) ∙ word_run piece (b ∷ []) rest k bare.1.1 ends is
+    left ∙ before-none (tokens_from (piece ++ rest) (InWord (b ∷ []))) ∙ word_run piece (b ∷ []) rest k bare.1.1 ends is
 
 -- a number is no text in quotes, and has no blank
 digit_bare : (b : ℕ) → IsTrue (is_digit b) → (¬ IsTrue (is_blank b)) × (b ≢ 34)
@@ -135,7 +138,7 @@ utf8_blanks [] rest h u = u
 utf8_blanks (b ∷ front) rest h u = utf8_blanks front rest h.1 (utf8-tail b (front ++ rest) (blank_low b h.0) u)
 
 utf8_parts : (piece rest : List ℕ) → EndsToken rest → IsUtf8 (piece ++ rest) → IsUtf8 piece × IsUtf8 rest
-utf8_parts piece [] ends u = (subst IsUtf8 (append_nil piece) u, IsUtf8-nil)
+utf8_parts piece [] ends u = (subst IsUtf8 (append-nil piece) u, IsUtf8-nil)
 utf8_parts piece (b ∷ rest) ends u = utf8-cut piece b rest (blank_low b ends) u
 
 utf8_inside : (body : List ℕ) → IsUtf8 (34 ∷ body ++ 34 ∷ []) → IsUtf8 body
@@ -159,7 +162,7 @@ token_run (Quoted text) piece rest u (body, e, spells, fits) ends =
     let inner : IsUtf8 body = utf8_inside body (subst IsUtf8 e u) in
     let token : text_token text ≡ Some (Quoted text) = text_of-string text (spells_utf8 (length text) body text (omega arith) spells inner) fits in
     ap (λ (l : List ℕ). tokens_from (l ++ rest) Between) e
-    ∙ before_nil (tokens_from ((body ++ 34 ∷ []) ++ rest) (InText []))
+    ∙ before-none (tokens_from ((body ++ 34 ∷ []) ++ rest) (InText []))
     ∙ ap (λ (l : List ℕ). tokens_from l (InText [])) (append_assoc body (34 ∷ []) rest)
     ∙ text_run text body [] rest (Quoted text) spells ends token
 

@@ -10,7 +10,7 @@ use Rattle.std.proofs.lemmas.Map.Text.{btree_map_updates_text}
 use Rattle.std.proofs.lemmas.Slice.Eq.{bytes_eq-Decides}
 use Rattle.sql_model.specs.Scope.{same_text}
 use Rattle.slicer.specs.Marks.{has_name}
-use Rattle.slicer.proofs.Booleans.{or_true, or_false}
+use Rattle.ldv_value.proofs.Booleans.{or-true, or-false}
 
 pub add_name : (m n : BTreeMap (String Global) (Unit {0})) (key : String Global) (name : List ℕ) → string_bytes key ≡ name
     → UpdatesBy string_cmp (λ k. slice_cmp nat_cmp (string_bytes key) (string_bytes k)) m n (Some tt)
@@ -19,8 +19,8 @@ add_name m n key name is updates q =
     let new : get_by_text n q ≡ cond (bytes_eq name q) (Some tt) (get_by_text m q) =
     btree_map_updates_text (string_bytes key) m n (Some tt) updates q ∙ ap (λ (k : List ℕ). cond (bytes_eq k q) (Some tt) (get_by_text m q)) is in
     elim (cases_Bool (bytes_eq name q)) [
-      | inl hit ↦ ap is_some new ∙ rw hit (sym (or_true (has_name m q)))
-      | inr miss ↦ ap is_some new ∙ rw miss (sym (or_false (has_name m q)))
+      | inl hit ↦ ap is_some new ∙ rw hit (sym (or-true (has_name m q)))
+      | inr miss ↦ ap is_some new ∙ rw miss (sym (or-false (has_name m q)))
     ]
 
 -- a name that the set has
@@ -30,5 +30,5 @@ known_name m name known q = elim (cases_Bool (same_text name q)) [
       let same : name ≡ q = (bytes_eq-Decides name q).0 hit in
       let there : has_name m q ≡ true = ap (has_name m) (sym same) ∙ known in
       rw there refl
-  | inr miss ↦ rw miss (sym (or_false (has_name m q)))
+  | inr miss ↦ rw miss (sym (or-false (has_name m q)))
 ]

@@ -7,7 +7,7 @@ use Rattle.std.specs.declared.alloc.Global.{Global}
 use Rattle.std.specs.BTreeMap.{BTreeMap, get, get_by_text, is_at, Updates}
 use Rattle.std.specs.Map.{lookup}
 use Rattle.std.specs.Ordering.{nat_cmp, is_eq}
-use Rattle.std.proofs.lemmas.Bool.{cases_Bool, false≢true}
+use Rattle.std.proofs.lemmas.Bool.{cases_Bool}
 use Rattle.std.proofs.lemmas.Bool.Decides.{nat_tests, Decides-eqb}
 use Rattle.std.proofs.lemmas.Slice.Eq.{bytes_eq-Decides}
 use Rattle.sql_model.specs.Scope.{same_text}
@@ -16,17 +16,9 @@ use Rattle.run_model.specs.Slice.{Reason, is_read, reason_in, reason_or}
 use Rattle.slicer.specs.declared.reasons.Why.{Why}
 use Rattle.slicer.specs.Marks.{reason_from, row_reason, reason_among, reason_at, reason_of_row, reason_of_read, row_because}
 
-pub none_of : {A : Type 0} (o : Option A) → is_some o ≡ false → o ≡ None
-none_of None h = refl
-none_of (Some x) h = absurd (false≢true (sym h))
-
 pub or_none : (o : Option Reason) → reason_or o None ≡ o
 or_none None = refl
 or_none (Some r) = refl
-
-pub reason_or_assoc : (a b c : Option Reason) → reason_or (reason_or a b) c ≡ reason_or a (reason_or b c)
-reason_or_assoc None b c = refl
-reason_or_assoc (Some r) b c = refl
 
 -- a list of reads is its first and the others
 pub reason_step : (statement : ℕ) (need : Need) (needs : List Need) (table : List ℕ) (row : ℕ)

@@ -1,13 +1,11 @@
 -- Places of joined lists, and the last test of a list.
-use Rattle.std.proofs.Common.{◌≡◌, List, [], ◌∷◌, ◌++◌, ap, refl}
-use Rattle.std.specs.Prelude.{Bool, ◌||◌, map}
-use Rattle.std.specs.List.{list_any}
+use Rattle.std.proofs.Common.{◌≡◌, List, ◌++◌}
 use Rattle.sql_model.specs.declared.expr.ColumnName.{ColumnName}
 use Rattle.sql_model.specs.Scope.{InScope, place_of, places_in}
 use Rattle.ldv_value.proofs.Booleans.{and-true, or-false}
-use Rattle.sql_check.proofs.Lists.{append-map}
+use Rattle.std.proofs.lemmas.List.{map-append}
 
 pub places_append : (scope : List InScope) (as_ bs : List ColumnName) → places_in scope (as_ ++ bs) ≡ places_in scope as_ ++ places_in scope bs
-places_append scope as_ bs = append-map (place_of scope) as_ bs
+places_append scope as_ bs = map-append (place_of scope) as_ bs
 
 pub ruleset last_test = (and-true, or-false)

@@ -16,7 +16,8 @@ use Rattle.sql_model.specs.Scope.{InScope, is_meant, place_of, places_in}
 use Rattle.sql_model.proofs.Folds.{fold-Constant, fold-Column, fold-Negate, fold-Not, fold-Both, fold-IsNull, fold-Count, fold-Aggregate}
 use Rattle.sql_check.specs.Sources.{is_among, all_among}
 use Rattle.ldv_value.proofs.Booleans.{and-true}
-use Rattle.sql_check.proofs.Lists.{append-map, all_among-append}
+use Rattle.std.proofs.lemmas.List.{map-append}
+use Rattle.sql_check.proofs.Lists.{all_among-append}
 
 -- ---- kinds
 
@@ -92,7 +93,7 @@ module _ (scope : List InScope) where
   places-Not e = ap (places_in scope) (fold-Not names_step e)
 
   pub places-Both : (op : Operator) (a b : Expr) → places_in scope (names_in (Both op a b)) ≡ places_in scope (names_in a) ++ places_in scope (names_in b)
-  places-Both op a b = ap (places_in scope) (fold-Both names_step op a b) ∙ append-map (place_of scope) (names_in a) (names_in b)
+  places-Both op a b = ap (places_in scope) (fold-Both names_step op a b) ∙ map-append (place_of scope) (names_in a) (names_in b)
 
   pub places-IsNull : (e : Expr) (negative : Bool) → places_in scope (names_in (IsNull e negative)) ≡ places_in scope (names_in e)
   places-IsNull e negative = ap (places_in scope) (fold-IsNull names_step e negative)

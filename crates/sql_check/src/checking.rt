@@ -15,8 +15,8 @@ use std::alloc::Global;
 /// A copy of a statement with the places of its columns, where the catalog has what the statement names
 /// and its kinds fit. The names of the catalog are sorted, each with its schema. The refusals are tried in the
 /// order of `CheckStop`, each over the whole statement: `NoTable`, `NoColumn` and `TypeClash` come exactly
-/// where `specs/Refusals.antt` of `sql_model` has them, as `docs/SQL.md` says in words. `NoMemory`: out of
-/// memory, or a joined row of 2^32 or more columns, whose places aren't `u32`.
+/// where `specs/Refusals.antt` of `sql_model` has them, as `docs/SQL.md` says in words. `NoMemory` may come at
+/// any point.
 pub fn check(alloc: Global, statement: &Statement, catalog: &Catalog) -> Result<Checked, CheckStop>
     ensures { Gives result (checked_of statement.now catalog.now) }
 {

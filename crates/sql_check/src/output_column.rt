@@ -131,12 +131,12 @@ pub(crate) fn is_order_key(titles: &[OutputColumn], key: &OrderKey) -> bool
 }
 
 /// The place of the output column that a key means, from 0.
-pub(crate) fn key_place(titles: &[OutputColumn], key: &OrderKey) -> u64
+pub(crate) fn key_place(titles: &[OutputColumn], key: &OrderKey) -> usize
     ensures { result ≡ key_place titles.now key.now }
 {
     match key {
-        OrderKey::Name(name) => place_or_len(titles, name) as u64,
-        OrderKey::Place(place) => place.saturating_sub(1),
+        OrderKey::Name(name) => place_or_len(titles, name),
+        OrderKey::Place(place) => place.saturating_sub(1) as usize,
     }
 }
 
@@ -146,7 +146,7 @@ fn count_titled(titles: &[OutputColumn], name: &Utf8) -> usize
     titles.iter().filter(|title| title.is_titled(name)).count()
 }
 
-#[tactic(auto, using(crate::proofs::Lists::place_or_len))]
+#[tactic(auto, using(ldv_value::proofs::Places::place_or_len))]
 fn place_or_len(titles: &[OutputColumn], name: &Utf8) -> usize
     ensures { result ≡ position_or_len (is_titled name.now) titles.now }
 {

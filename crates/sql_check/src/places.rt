@@ -10,7 +10,7 @@ ghost use Rattle.sql_model.specs.Scope.{places_in};
 use crate::output_column::{OutputColumn, answer_titles, key_place};
 use crate::part::items_of;
 use crate::scope::{Entry, own_scope, place_of, scope_of};
-use crate::walk::{number, push_places};
+use crate::walk::push_places;
 use ldv_value::{List, PlaceLists, Places};
 use sql_model::{
     Catalog, ColumnName, Core, Delete, Expr, Item, Order, Query, Set, Statement, Update,
@@ -103,7 +103,7 @@ fn delete_places(alloc: Global, scope: &[Entry], delete: &Delete) -> Result<Plac
 }
 
 fn push_item_places(
-    places: &mut Vec<u32>,
+    places: &mut Vec<usize>,
     scope: &[Entry],
     items: &[Item],
 ) -> Result<(), AllocError>
@@ -116,7 +116,7 @@ fn push_item_places(
     Ok(())
 }
 
-fn push_set_places(places: &mut Vec<u32>, scope: &[Entry], sets: &[Set]) -> Result<(), AllocError>
+fn push_set_places(places: &mut Vec<usize>, scope: &[Entry], sets: &[Set]) -> Result<(), AllocError>
     ensures { OnOk result (places.new.items ≡ places.old.items
         ++ places_in scope.now (flat_map (λ set. names_in set.expr) sets.now)) }
 {
@@ -127,7 +127,7 @@ fn push_set_places(places: &mut Vec<u32>, scope: &[Entry], sets: &[Set]) -> Resu
 }
 
 fn push_expr_places(
-    places: &mut Vec<u32>,
+    places: &mut Vec<usize>,
     scope: &[Entry],
     exprs: &[Expr],
 ) -> Result<(), AllocError>
@@ -141,21 +141,21 @@ fn push_expr_places(
 }
 
 fn push_name_places(
-    places: &mut Vec<u32>,
+    places: &mut Vec<usize>,
     scope: &[Entry],
     names: &[ColumnName],
 ) -> Result<(), AllocError>
     ensures { OnOk result (places.new.items ≡ places.old.items ++ places_in scope.now names.now) }
 {
     for name in names {
-        places.push(number(place_of(scope, name) as u64)?)?;
+        places.push(place_of(scope, name))?;
     }
     Ok(())
 }
 
 #[tactic(auto, using(crate::proofs::Placed::optional_places))]
 fn push_optional_places(
-    places: &mut Vec<u32>,
+    places: &mut Vec<usize>,
     scope: &[Entry],
     expr: &Option<Expr>,
 ) -> Result<(), AllocError>
@@ -177,7 +177,7 @@ fn order_places(
 {
     let mut places = Vec::with_capacity(alloc, order.len())?;
     for part in order {
-        places.push(number(key_place(titles, &part.key))?)?;
+        places.push(key_place(titles, &part.key))?;
     }
     Ok(List::of_vec(places))
 }

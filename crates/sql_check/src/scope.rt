@@ -148,7 +148,7 @@ fn count_meant(scope: &[Entry], name: &ColumnName) -> usize
 }
 
 /// The place of the column that a name means, or the number of columns where it means none.
-#[tactic(auto, using(crate::proofs::Lists::place_or_len))]
+#[tactic(auto, using(ldv_value::proofs::Places::place_or_len))]
 pub(crate) fn place_of(scope: &[Entry], name: &ColumnName) -> usize
     ensures { result ≡ place_of scope.now name.now }
 {

@@ -1,6 +1,6 @@
 //! Walks over the column names of expressions.
 
-ghost use Rattle.std.specs.Prelude.{◌≡◌, ◌++◌, IfOk, OnOk};
+ghost use Rattle.std.specs.Prelude.{◌≡◌, ◌++◌, OnOk};
 ghost use Rattle.std.specs.List.{list_all};
 ghost use Rattle.sql_model.specs.Kinds.{names_in, outer_names};
 ghost use Rattle.sql_model.specs.Scope.{resolves, place_of, places_in};
@@ -59,7 +59,7 @@ pub(crate) fn is_among(places: &[usize], place: usize) -> bool
 /// Appends the places of the column names of an expression, left to right.
 #[tactic(auto, using(crate::proofs::Walks::places_forms))]
 pub(crate) fn push_places(
-    places: &mut Vec<u32>,
+    places: &mut Vec<usize>,
     scope: &[Entry],
     expr: &Expr,
 ) -> Result<(), AllocError>
@@ -68,7 +68,7 @@ pub(crate) fn push_places(
     match expr {
         Expr::Constant(_) => Ok(()),
         Expr::Column(name) => {
-            places.push(number(place_of(scope, name) as u64)?)?;
+            places.push(place_of(scope, name))?;
             Ok(())
         }
         Expr::Negate(inner) => push_places(places, scope, inner.get()),
@@ -80,16 +80,5 @@ pub(crate) fn push_places(
         Expr::IsNull(inner, _) => push_places(places, scope, inner.get()),
         Expr::Aggregate(_, None) => Ok(()),
         Expr::Aggregate(_, Some(inner)) => push_places(places, scope, inner.get()),
-    }
-}
-
-/// A place as the number that a list of places holds. A place of 2^32 and
-/// more isn't a `u32`, and counts as out of memory.
-pub(crate) fn number(place: u64) -> Result<u32, AllocError>
-    ensures { IfOk result (λ n. n ≡ place) }
-{
-    match u32::try_from(place) {
-        Ok(number) => Ok(number),
-        Err(_) => Err(AllocError),
     }
 }

@@ -11,7 +11,7 @@ use Rattle.sql_laws.specs.Types.{Catalog, SqlRefusal, Syntax, Statement, TheQuer
 use Rattle.sql_laws.proofs.ChangedTables.{check-parts, else-parts, changed-valid}
 use Rattle.sql_laws.proofs.SortedLists.{sorted-map}
 use Rattle.sql_laws.proofs.TableNames.{change_named, all-changed, map-changed}
-use Rattle.sql_model.proofs.Equations.{after_is, table_schema, schema_found}
+use Rattle.sql_model.proofs.Equations.{after_is, table_schema, schema_found, changed_name}
 use Rattle.sql_model.specs.Changes.{changed, target_of, changed_in, change_refusal}
 use Rattle.sql_model.specs.Refusals.{is_missing, check_refusal}
 use Rattle.sql_model.specs.Scope.{is_table, table_at, catalog_of, schema_at}
@@ -20,12 +20,6 @@ use Rattle.sql_model.specs.Statements.{target, refusal_of, after_unless, after}
 use Rattle.sql_model.specs.Tables.{are_distinct, column_names_test, column_count_test, key_places_test, key_not_null_test, schema_test, is_valid_table, table_precedes, is_database, is_described}
 
 -- ---- what a statement keeps of each table
-
-changed_name : (s : Statement) (catalog : Catalog) (t : Table) → (changed s catalog t).name ≡ t.name
-changed_name (TheQuery query) catalog t = refl
-changed_name (TheInsert insert) catalog t = refl
-changed_name (TheUpdate update) catalog t = refl
-changed_name (TheDelete delete) catalog t = refl
 
 changed_schema : (s : Statement) (catalog : Catalog) (t : Table) → (changed s catalog t).schema ≡ t.schema
 changed_schema (TheQuery query) catalog t = refl

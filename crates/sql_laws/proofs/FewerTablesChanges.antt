@@ -13,6 +13,7 @@ use Rattle.sql_laws.specs.StatementLaw.{KeepTables}
 use Rattle.sql_model.specs.Statements.{target, refusal_of, matched_count, after_unless}
 use Rattle.sql_laws.proofs.FewerTables.{fewer, Agrees, own_same, check_same}
 use Rattle.sql_laws.proofs.StatementParts.{Same, same_by, refusal_at, needs_at, IsChange, settled_by}
+use Rattle.sql_model.proofs.Equations.{changed_name}
 
 -- the table that a statement changes is the same
 target_same : (tables : KeepTables) (statement : Statement) (db : List Table)
@@ -117,21 +118,12 @@ module _ (tables : KeepTables) (statement : Statement) (db : List Table) (k : Ag
 
   -- ---- the tables after
 
-  changed_name : (table : Table) → (changed statement c1 table).name ≡ table.name
-  changed_name table = by statement
-    where
-      by : (s : Statement) → (changed s c1 table).name ≡ table.name
-      by (TheQuery query) = refl
-      by (TheInsert insert) = refl
-      by (TheUpdate update) = refl
-      by (TheDelete delete) = refl
-
   abbrev change_one : List ℕ → Catalog → Table → Table
   change_one name catalog table = if is_table name table then changed statement catalog table else table
 
   one_name : (name : List ℕ) (table : Table) → (change_one name c2 table).name ≡ table.name
   one_name name table = elim (cases-bool (is_table name table)) [
-    | inl hit ↦ rw hit (sym (ap (λ (t : Table). t.name) (same.changes table)) ∙ changed_name table)
+    | inl hit ↦ rw hit (sym (ap (λ (t : Table). t.name) (same.changes table)) ∙ changed_name statement c1 table)
     | inr miss ↦ rw miss refl
   ]
 

@@ -89,12 +89,6 @@ module _ (keep : Keep) (t : Table) where
   -- ---- the table after, over any catalog
 
   module _ (catalog : Catalog) where
-    pub changed_name : (s : Statement) → (changed s catalog t).name ≡ t.name
-    changed_name (TheQuery query) = refl
-    changed_name (TheInsert insert) = refl
-    changed_name (TheUpdate update) = refl
-    changed_name (TheDelete delete) = refl
-
     pub changed_safe : (s : Statement) → KeepsNew → list_all safe (changed s catalog t).rows ≡ true
     changed_safe (TheQuery query) new = stood_safe
     changed_safe (TheInsert insert) new = list_all-append safe t.rows (inserted insert t) ∙ (λ j. stood_safe j && inserted_safe insert new j)

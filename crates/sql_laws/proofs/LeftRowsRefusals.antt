@@ -10,9 +10,10 @@ use Rattle.sql_model.specs.Needs.{matched_row, matched_rows, stood, clash_rows, 
 use Rattle.sql_laws.specs.QueryLaw.{Keep, stays, KeepsNeeded}
 use Rattle.sql_model.specs.Statements.{matched_count}
 use Rattle.sql_laws.proofs.KeptClash.{key_kept, key_among}
-use Rattle.sql_laws.proofs.LeftRows.{KeepsNew, small, safe, changed_name, changed_safe, changed_cut, matched_same, matched_full, lacks_same, full_same, stood_same}
+use Rattle.sql_laws.proofs.LeftRows.{KeepsNew, small, safe, changed_safe, changed_cut, matched_same, matched_full, lacks_same, full_same, stood_same}
 use Rattle.sql_laws.proofs.QueryKeeps.{needed_split}
 use Rattle.sql_laws.proofs.StatementParts.{needs_at}
+use Rattle.sql_model.proofs.Equations.{changed_name}
 
 -- where there is no refusal
 abbrev pub OnNone : Option SqlRefusal → Type 0 → Type 0
@@ -61,7 +62,7 @@ module _ (keep : Keep) (t : Table) (catalog : Catalog) (s : Statement) (new : Ke
       → key_clash (changed s catalog less) ≡ clash
   clash_same kept =
       ap key_clash (changed_cut keep t catalog s new)
-      ∙ key_kept (stays keep whole) whole.schema.key whole.rows ((λ j. list_all (λ row. keep (changed_name keep t catalog s j) row.number) (clash_rows clash)) ∙ kept)
+      ∙ key_kept (stays keep whole) whole.schema.key whole.rows ((λ j. list_all (λ row. keep (changed_name s catalog t j) row.number) (clash_rows clash)) ∙ kept)
 
   -- the rows that stood are needed, and the others stay
   safe_kept : (rows : List TableRow) → list_all (safe keep t) rows ≡ true

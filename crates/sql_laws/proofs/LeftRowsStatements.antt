@@ -12,7 +12,7 @@ use Rattle.sql_model.specs.Scope.{is_table, table_at, catalog_of}
 use Rattle.sql_model.specs.Statements.{target, refusal_of, matched_count, after_unless}
 use Rattle.sql_laws.proofs.LeftRows.{KeepsNew, changed_cut}
 use Rattle.sql_laws.proofs.LeftRowsRefusals.{OnNone, SameAt, alike}
-use Rattle.sql_laws.proofs.QueryCombinations.{catalog_same}
+use Rattle.sql_laws.proofs.QueryCombinations.{catalog_same, table_cut}
 use Rattle.sql_laws.proofs.QueryKeeps.{rising_kept}
 use Rattle.sql_laws.proofs.StatementParts.{need_parts, Same, Settled, same_by, refusal_at, needs_at, IsChange, settled_refused, settled_by}
 
@@ -23,14 +23,6 @@ module _ (keep : Keep) where
   KeepsAllNew (t ∷ ts) = KeepsNew keep t × KeepsAllNew ts
 
   -- ---- the table that a statement changes
-
-  table_cut : (name : List ℕ) (db : List Table)
-      → table_at name (cut_tables keep db) ≡ option_map (cut_table keep) (table_at name db)
-  table_cut name [] = refl
-  table_cut name (t ∷ ts) = elim (cases-bool (is_table name t)) [
-    | inl hit ↦ rw hit refl
-    | inr miss ↦ rw miss (table_cut name ts)
-  ]
 
   table_new : (name : List ℕ) (db : List Table) → KeepsAllNew db → (t : Table) → table_at name db ≡ Some t
       → KeepsNew keep t
@@ -43,9 +35,9 @@ module _ (keep : Keep) where
   target_cut : (s : Statement) (db : List Table)
       → target s (cut_tables keep db) ≡ option_map (cut_table keep) (target s db)
   target_cut (TheQuery query) db = refl
-  target_cut (TheInsert insert) db = table_cut insert.table db
-  target_cut (TheUpdate update) db = table_cut update.table db
-  target_cut (TheDelete delete) db = table_cut delete.table db
+  target_cut (TheInsert insert) db = table_cut keep insert.table db
+  target_cut (TheUpdate update) db = table_cut keep update.table db
+  target_cut (TheDelete delete) db = table_cut keep delete.table db
 
   target_new : (s : Statement) (db : List Table) → KeepsAllNew db → (t : Table) → target s db ≡ Some t
       → KeepsNew keep t

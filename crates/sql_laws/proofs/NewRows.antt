@@ -4,7 +4,7 @@ use Rattle.std.proofs.Common.{◌≡◌, ℕ, suc, pred, List, [], ◌∷◌, re
 use Rattle.std.specs.Prelude.{Option, Some, None, unwrap_or, map, find, length, zip, not, ◌==◌, if◌then◌else◌}
 use Rattle.std.specs.List.{list_any, list_all}
 use Rattle.std.proofs.lemmas.Bool.Decides.{Decides-eqb}
-use Rattle.ldv_value.proofs.Booleans.{and-parts, and-from, and-true, or-parts}
+use Rattle.ldv_value.proofs.Booleans.{and-parts, and-from, and-true, or-parts, not-true}
 use Rattle.ldv_value.proofs.Cases.{cases-bool}
 use Rattle.ldv_value.proofs.Lists.{found-passes, found-all, length-map}
 use Rattle.ldv_value.proofs.Options.{same-some, none-some}
@@ -106,11 +106,7 @@ first_by (c ∷ cs) is =
     (rw (bytes_eq-itself c.name) refl, more_first c cs cs parts.0 (first_by cs parts.1))
 
 pub all_first : (columns : List Column) → are_distinct columns ≡ true → AllFirst columns columns
-all_first columns is = first_by columns (by (repeats same_text (column_names columns)) is)
-  where
-    by : (b : Bool) → not b ≡ true → b ≡ false
-    by true is = cc
-    by false is = refl
+all_first columns is = first_by columns (not-true (repeats same_text (column_names columns)) is)
 
 any_found : {X : Type 0} (p : X → Bool) (xs : List X) → list_any p xs ≡ true → (x : X) × (find p xs ≡ Some x)
 any_found p [] is = cc

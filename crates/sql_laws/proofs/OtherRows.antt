@@ -3,7 +3,7 @@
 use Rattle.std.proofs.Common.{◌≡◌, ℕ, ◌<◌, ◌≤◌, List, [], ◌∷◌, refl, ap, ◌∙◌, Bool, true, false, arith}
 use Rattle.std.specs.Prelude.{filter, not, ◌&&◌, ◌||◌, ◌==◌, nat_lt, if◌then◌else◌}
 use Rattle.std.specs.List.{list_any, list_all}
-use Rattle.std.proofs.lemmas.Bool.{ne_eqb}
+use Rattle.std.proofs.lemmas.Bool.{ne_eqb, and_right}
 use Rattle.ldv_value.proofs.Booleans.{and-parts, or-left, or-right, or-false}
 use Rattle.ldv_value.specs.Sorted.{is_strictly_sorted}
 use Rattle.std.proofs.lemmas.Bool.Decides.{Decides-eqb, Decides-ltb}
@@ -83,10 +83,6 @@ abbrev AllFree : List Table → List Table → Type 0
 AllFree all [] = Unit {0}
 AllFree all (t ∷ ts) = FreeFrom all t × AllFree all ts
 
-and_false : (a b : Bool) → b ≡ false → (a && b) ≡ false
-and_false true b is = is
-and_false false b is = refl
-
 -- no other table has the name
 none_named : (t : Table) (n : ℕ) (ts : List Table) → AllLess t ts → list_any (has_row t.name n) ts ≡ false
 none_named t n [] less = refl
@@ -113,7 +109,7 @@ all_free [] valid sorted = tt
 all_free (t ∷ ts) valid sorted =
     let fits = and-parts (is_valid_table t) (list_all is_valid_table ts) valid in
     let less : AllLess t ts = sorted-all table_precedes table-trans t ts sorted in
-    let own : FreeFrom (t ∷ ts) t = λ n over j. and_false (is_table t.name t) (has_number t.rows n) (table_free t fits.0 n over) j || none_named t n ts less j in
+    let own : FreeFrom (t ∷ ts) t = λ n over j. and_right (is_table t.name t) (has_number t.rows n) (table_free t fits.0 n over) j || none_named t n ts less j in
     (own, free_after t ts ts less (all_free ts fits.1 (sorted-tail table_precedes table-trans t ts sorted)))
 
 module _ (keep : Keep) (db : List Table) where

@@ -43,7 +43,7 @@ module _ (keep : Keep) where
   abbrev pub kept_combination : List FromItem → Combination → Bool
   kept_combination from rows = all_kept keep (combination_rows from rows)
 
-  table_cut : (name : List ℕ) (db : List Table)
+  pub table_cut : (name : List ℕ) (db : List Table)
       → table_at name (cut_tables keep db) ≡ option_map (cut_table keep) (table_at name db)
   table_cut name [] = refl
   table_cut name (t ∷ ts) = elim (cases-bool (is_table name t)) [

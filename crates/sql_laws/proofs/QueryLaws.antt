@@ -1,7 +1,7 @@
 -- A query is refused, answers and needs the same over tables from which rows were left out that it doesn't
 -- need.
 use Rattle.std.proofs.Common.{◌≡◌, ℕ, List, [], ◌∷◌, ◌++◌, refl, sym, ap, ◌∙◌, subst, Bool, true, false, inl, inr}
-use Rattle.std.specs.Prelude.{Option, Some, None, map, filter, not, ◌||◌, if◌then◌else◌}
+use Rattle.std.specs.Prelude.{Option, Some, None, map, filter, ◌||◌, if◌then◌else◌}
 use Rattle.std.specs.List.{flat_map, list_all, list_any}
 use Rattle.ldv_value.proofs.Cases.{cases-bool}
 use Rattle.sql_laws.specs.Types.{L, H, Rows, SqlRefusal, Syntax, NoTable, NoColumn, TypeClash, NotNull, KeyTaken, Full, Core, Query, TheQuery, Table}
@@ -14,8 +14,10 @@ use Rattle.sql_model.specs.Statements.{refusal_of, reply_or}
 use Rattle.sql_model.proofs.Equations.{reply_is, need_is}
 use Rattle.sql_laws.proofs.QueryCombinations.{catalog_same, refusal_same}
 use Rattle.sql_laws.proofs.QueryKeeps.{all_kept, kept_row, lineage_kept, needed_kept, needed_split, rising_kept}
-use Rattle.sql_laws.proofs.QueryRows.{or_parts, rejects_none, union_whole, union_part}
-use Rattle.sql_laws.proofs.QuerySorting.{sorted_all, sorted_part, rows_total, first_part, limit_all}
+use Rattle.sql_laws.proofs.QueryRows.{rejects_none, union_whole, union_part}
+use Rattle.sql_laws.proofs.QuerySorting.{rows_total, first_part, limit_all}
+use Rattle.sql_model.proofs.StableSorting.{sorted_all, sorted_part}
+use Rattle.ldv_value.proofs.Booleans.{or-parts, not-false}
 
 -- a query that is refused needs no row
 refused_needs : (query : Query) (db : List Table) (refusal : SqlRefusal)
@@ -28,17 +30,13 @@ refused_needs query db NotNull = refl
 refused_needs query db (KeyTaken table key) = refl
 refused_needs query db Full = refl
 
-not_false : (b : Bool) → not b ≡ false → b ≡ true
-not_false true is = refl
-not_false false is = cc
-
 -- a core that sums up no rows groups none
 groups_none : (cores : List Core) → list_any (λ core. groups core || core.distinct) cores ≡ false
     → list_any groups cores ≡ false
 groups_none [] each = refl
 groups_none (core ∷ cores) each =
-    let parts = or_parts (groups core || core.distinct) (list_any (λ other. groups other || other.distinct) cores) each in
-    let here : groups core ≡ false = (or_parts (groups core) core.distinct parts.0).0 in
+    let parts = or-parts (groups core || core.distinct) (list_any (λ other. groups other || other.distinct) cores) each in
+    let here : groups core ≡ false = (or-parts (groups core) core.distinct parts.0).0 in
     (λ j. here j || groups_none cores parts.1 j)
 
 module _ (query : Query) (db : List Table) (keep : Keep) where
@@ -79,8 +77,8 @@ module _ (query : Query) (db : List Table) (keep : Keep) where
       → union_rows small cores ≡ filter (kept_row keep) (union_rows db cores)
   union_some [] each = refl
   union_some (core ∷ cores) each =
-      let parts = or_parts (list_any (λ other. groups other || other.distinct) (core ∷ cores)) (has_merging (core ∷ cores)) each in
-      union_part keep db core cores parts.0 (not_false (list_all (λ other. other.joined_all) cores) parts.1)
+      let parts = or-parts (list_any (λ other. groups other || other.distinct) (core ∷ cores)) (has_merging (core ∷ cores)) each in
+      union_part keep db core cores parts.0 (not-false (list_all (λ other. other.joined_all) cores) parts.1)
 
   answer_part : sums_up query.cores ≡ false → Stay (answer query db) → answer query small ≡ answer query db
   answer_part each answered =
@@ -115,7 +113,7 @@ module _ (query : Query) (db : List Table) (keep : Keep) where
 
   accepted_part : sums_up query.cores ≡ false → Stay (answer query db) → SameAccepted
   accepted_part each answered =
-      let plain : list_any groups query.cores ≡ false = groups_none query.cores (or_parts (list_any (λ core. groups core || core.distinct) query.cores) (has_merging query.cores) each).0 in
+      let plain : list_any groups query.cores ≡ false = groups_none query.cores (or-parts (list_any (λ core. groups core || core.distinct) query.cores) (has_merging query.cores) each).0 in
       record {
         answered = answer_part each answered;
         gone = rejects_none small query.cores plain ∙ sym (rejects_none db query.cores plain);

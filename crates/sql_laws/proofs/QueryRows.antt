@@ -4,7 +4,7 @@ use Rattle.std.proofs.Common.{◌≡◌, List, [], ◌∷◌, ◌++◌, refl, sy
 use Rattle.std.specs.Prelude.{map, filter, not, ◌&&◌, ◌||◌, if◌then◌else◌}
 use Rattle.std.specs.List.{flat_map, list_all, list_any}
 use Rattle.std.proofs.lemmas.List.Elements.{filter-append}
-use Rattle.ldv_value.proofs.Booleans.{and-parts}
+use Rattle.ldv_value.proofs.Booleans.{and-parts, or-parts}
 use Rattle.ldv_value.proofs.Cases.{cases-bool}
 use Rattle.ldv_value.proofs.Lists.{list_all-append, list_all-map}
 use Rattle.sql_laws.specs.Types.{Value, ColumnName, Core, FromItem, Table}
@@ -16,10 +16,6 @@ use Rattle.sql_laws.proofs.QueryCombinations.{scope_same, kept_combination, pick
 use Rattle.sql_laws.proofs.QueryKeeps.{all_flat, kept_origin, all_kept, kept_row}
 use Rattle.sql_laws.proofs.QueryMerging.{parts_pass, merged_kept}
 use Rattle.sql_laws.proofs.QuerySorting.{filter_all}
-
-pub or_parts : (a b : Bool) → (a || b) ≡ false → (a ≡ false) × (b ≡ false)
-or_parts true b none = (none, cc)
-or_parts false b none = (refl, none)
 
 -- all pass that pass a second test, and all that don't
 either_kept : {X : Type 0} (p q : X → Bool) (xs : List X) → list_all p (filter q xs) ≡ true
@@ -53,7 +49,7 @@ pub rejects_none : (db : List Table) (cores : List Core) → list_any groups cor
     → flat_map (rejected db) cores ≡ []
 rejects_none db [] plain = refl
 rejects_none db (core ∷ cores) plain =
-    let both = or_parts (groups core) (list_any groups cores) plain in
+    let both = or-parts (groups core) (list_any groups cores) plain in
     let here : rejected db core ≡ [] = none core both.0 in
     (λ j. here j ++ rejects_none db cores both.1 j)
   where
@@ -238,8 +234,8 @@ module _ (keep : Keep) where
         → rows_after (cut_tables keep db) (filter (kept_row keep) rows) cores ≡ filter (kept_row keep) (rows_after db rows cores)
     after_part rows [] plain joined = refl
     after_part rows (core ∷ cores) plain joined =
-        let parts = or_parts (sums_rows core) (list_any sums_rows cores) plain in
-        let own = or_parts (groups core) core.distinct parts.0 in
+        let parts = or-parts (sums_rows core) (list_any sums_rows cores) plain in
+        let own = or-parts (groups core) core.distinct parts.0 in
         let joins = and-parts core.joined_all (list_all (λ other. other.joined_all) cores) joined in
         let more : List AnswerRow = core_rows db core in
         let here : core_rows (cut_tables keep db) core ≡ filter (kept_row keep) more = core_part core own.0 own.1 in
@@ -255,6 +251,6 @@ module _ (keep : Keep) where
         → list_all (λ other. other.joined_all) cores ≡ true
         → union_rows (cut_tables keep db) (core ∷ cores) ≡ filter (kept_row keep) (union_rows db (core ∷ cores))
     union_part core cores plain joined =
-        let parts = or_parts (sums_rows core) (list_any sums_rows cores) plain in
-        let own = or_parts (groups core) core.distinct parts.0 in
+        let parts = or-parts (sums_rows core) (list_any sums_rows cores) plain in
+        let own = or-parts (groups core) core.distinct parts.0 in
         (λ j. rows_after (cut_tables keep db) (core_part core own.0 own.1 j) cores) ∙ after_part (core_rows db core) cores parts.1 joined

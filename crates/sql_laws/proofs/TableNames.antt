@@ -2,8 +2,7 @@
 use Rattle.std.proofs.Common.{◌≡◌, ℕ, List, [], ◌∷◌, refl, sym, ap, ◌∙◌, Bool, true, false, inl, inr}
 use Rattle.std.specs.Prelude.{Some, find, map, if◌then◌else◌}
 use Rattle.std.specs.List.{list_all}
-use Rattle.std.specs.declared.cmp.Ordering.{Ordering}
-use Rattle.std.specs.declared.cmp.Ordering.TheVariants.{Less, Equal, Greater}
+use Rattle.std.specs.declared.cmp.Ordering.TheVariants.{Less}
 use Rattle.std.specs.Cmp.Lexicographic.{slice_cmp}
 use Rattle.std.specs.Ordering.{nat_cmp, is_lt, is_eq, ordering_reverse}
 use Rattle.std.proofs.lemmas.Cmp.{nat_list_cmp_total}
@@ -17,22 +16,18 @@ use Rattle.sql_laws.specs.Types.{Table}
 use Rattle.sql_laws.proofs.SortedLists.{sorted-all, sorted-tail}
 use Rattle.sql_model.specs.Scope.{same_text, is_table}
 use Rattle.sql_model.specs.Tables.{table_precedes}
-
-less_is : (o : Ordering) → is_lt o ≡ true → o ≡ Less
-less_is Less is = refl
-less_is Equal is = cc
-less_is Greater is = cc
+use Rattle.ldv_value.proofs.Orderings.{is_lt-true}
 
 pub text-trans : (a b c : List ℕ) → text_precedes a b ≡ true → text_precedes b c ≡ true → text_precedes a c ≡ true
 text-trans a b c first second =
-    ap is_lt (nat_list_cmp_total.trans a b c (less_is (slice_cmp nat_cmp a b) first) (less_is (slice_cmp nat_cmp b c) second))
+    ap is_lt (nat_list_cmp_total.trans a b c (is_lt-true (slice_cmp nat_cmp a b) first) (is_lt-true (slice_cmp nat_cmp b c) second))
 
 pub less-differs : (a b : List ℕ) → text_precedes a b ≡ true → same_text a b ≡ false
-less-differs a b is = sym (is_eq-slice_cmp a b) ∙ ap is_eq (less_is (slice_cmp nat_cmp a b) is)
+less-differs a b is = sym (is_eq-slice_cmp a b) ∙ ap is_eq (is_lt-true (slice_cmp nat_cmp a b) is)
 
 pub more-differs : (a b : List ℕ) → text_precedes a b ≡ true → same_text b a ≡ false
 more-differs a b is =
-    let less : slice_cmp nat_cmp a b ≡ Less = less_is (slice_cmp nat_cmp a b) is in
+    let less : slice_cmp nat_cmp a b ≡ Less = is_lt-true (slice_cmp nat_cmp a b) is in
     sym (is_eq-slice_cmp b a) ∙ ap is_eq (nat_list_cmp_total.antisymm b a ∙ ap ordering_reverse less)
 
 pub table-trans : (a b c : Table) → table_precedes a b ≡ true → table_precedes b c ≡ true → table_precedes a c ≡ true

@@ -1,10 +1,11 @@
 -- What definitions that are closed elsewhere are, and what is found by a name.
 use Rattle.std.proofs.Common.{◌≡◌, ℕ, List, [], ◌∷◌, refl, Bool, true, false}
 use Rattle.std.specs.Prelude.{Option, Some, option_map, map, find, zip, if◌then◌else◌}
+use Rattle.sql_model.specs.Changes.{changed}
 use Rattle.sql_model.specs.Needs.{needs_of_reading, need_of, Versions, made_unless, made_by, updated_unless, updated_rows}
 use Rattle.sql_model.specs.Scope.{table_at, is_table, catalog_of, is_schema, schema_in, schema_at}
 use Rattle.sql_model.specs.Statements.{refusal_of, reply_or, reply_of, after_unless, after}
-use Rattle.sql_model.specs.Types.{Schema, Statement, Table}
+use Rattle.sql_model.specs.Types.{Catalog, Schema, Statement, TheQuery, TheInsert, TheUpdate, TheDelete, Table}
 
 pub reply_is : (statement : Option Statement) (db : List Table)
     → reply_of statement db ≡ reply_or (refusal_of statement db) statement db
@@ -29,6 +30,14 @@ pub updated_is : (statement : Option Statement) (db : List Table)
     → updated_rows statement db ≡ updated_unless (refusal_of statement db) statement db
 unfolding updated_rows
 updated_is statement db = refl
+
+-- ---- a change keeps a table's name
+
+pub changed_name : (s : Statement) (catalog : Catalog) (table : Table) → (changed s catalog table).name ≡ table.name
+changed_name (TheQuery query) catalog table = refl
+changed_name (TheInsert insert) catalog table = refl
+changed_name (TheUpdate update) catalog table = refl
+changed_name (TheDelete delete) catalog table = refl
 
 -- ---- the schema of a name is that of the table of the name
 

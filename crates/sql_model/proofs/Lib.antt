@@ -6,6 +6,7 @@ pub mod Neighbours
 pub mod OriginSets
 pub mod RepeatedNames
 pub mod Seen
+pub mod StableSorting
 pub mod ValidTables
 pub mod WorkedDatabases
 pub mod WorkedRefusals

@@ -2,19 +2,12 @@
 use Rattle.std.proofs.Common.{◌≡◌, List, [], ◌∷◌, Bool, true, false, ◌&&◌, ◌||◌, not, cond, map, refl, sym, ap, ◌∙◌}
 use Rattle.std.specs.List.{list_any}
 use Rattle.sql_model.specs.Keys.{repeats}
-
-any_map : {X Y : Type 0} (p : Y → Bool) (f : X → Y) (xs : List X) → list_any p (map f xs) ≡ list_any (λ x. p (f x)) xs
-any_map p f [] = refl
-any_map p f (x ∷ xs) = ap (λ b. p (f x) || b) (any_map p f xs)
+use Rattle.ldv_value.proofs.Lists.{list_any-map, list_any-false}
 
 -- the same over what f gives
 pub repeats_map : {X Y : Type 0} (same : Y → Y → Bool) (f : X → Y) (xs : List X) → repeats same (map f xs) ≡ repeats (λ a b. same (f a) (f b)) xs
 repeats_map same f [] = refl
-repeats_map same f (x ∷ xs) = λ i. any_map (same (f x)) f xs i || repeats_map same f xs i
-
-any_none : {X : Type 0} (xs : List X) → list_any (λ x. false) xs ≡ false
-any_none [] = refl
-any_none (x ∷ xs) = any_none xs
+repeats_map same f (x ∷ xs) = λ i. list_any-map (same (f x)) f xs i || repeats_map same f xs i
 
 either_first : (p q a b : Bool) → (cond p true q || (a || b)) ≡ ((p || a) || (q || b))
 either_first true q a b = refl
@@ -39,7 +32,7 @@ IsRest same all seen rest = all ≡ (list_any seen rest || repeats same rest)
 
 -- nothing was seen yet
 pub none_seen : {X : Type 0} (same : X → X → Bool) (xs : List X) → IsRest same (repeats same xs) (λ x. false) xs
-none_seen same xs = ap (λ b. b || repeats same xs) (sym (any_none xs))
+none_seen same xs = ap (λ b. b || repeats same xs) (sym (list_any-false xs))
 
 -- the next one wasn't seen, and is now
 pub one_more : {X : Type 0} (same : X → X → Bool) (all : Bool) (seen now : X → Bool) (x : X) (rest : List X) → IsRest same all seen (x ∷ rest) → seen x ≡ false

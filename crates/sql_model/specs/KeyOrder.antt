@@ -1,5 +1,5 @@
 -- The order of values is total, and so is the order of keys, which goes value by value.
-use Rattle.std.specs.Prelude.{◌≡◌, refl}
+use Rattle.std.specs.Prelude.{◌≡◌, List, refl}
 use Rattle.std.specs.declared.cmp.Ordering.{Ordering}
 use Rattle.std.specs.declared.cmp.Ordering.TheVariants.{Less, Equal}
 use Rattle.std.specs.Cmp.{IsTotalOrder, int_cmp_total, on_total}
@@ -58,8 +58,15 @@ order_congr (Text s) (Text t) (Text u) a = nat_list_cmp_total.congr s t u a
 pub order_total : IsTotalOrder order
 order_total = record { antisymm = order_antisymm; trans = order_trans; congr = order_congr }
 
+-- rows of values, value by value
+abbrev pub values_order : List Value → List Value → Ordering
+values_order a b = slice_cmp order a b
+
+pub values_total : IsTotalOrder values_order
+values_total = lists_total order_total
+
 abbrev pub key_order : RowKey → RowKey → Ordering
-key_order a b = slice_cmp order a.values b.values
+key_order a b = values_order a.values b.values
 
 pub key_order_total : IsTotalOrder key_order
-key_order_total = on_total (λ key. key.values) (lists_total order_total)
+key_order_total = on_total (λ key. key.values) values_total

@@ -10,6 +10,7 @@ pub mod Keys
 pub mod Kinds
 pub mod Levels
 pub mod Meaning
+pub mod MemberOrder
 pub mod Needs
 pub mod Origins
 pub mod Places

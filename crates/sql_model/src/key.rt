@@ -58,7 +58,8 @@ impl Ord for RowKey {
     }
 }
 
-fn compare_values(a: &[Value], b: &[Value]) -> Ordering
+/// How two rows of values are ordered: value by value, a row that is at its end first.
+pub fn compare_values(a: &[Value], b: &[Value]) -> Ordering
     ensures { result ≡ slice_cmp order a.now b.now }
 {
     let mut left = a;

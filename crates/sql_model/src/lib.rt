@@ -7,9 +7,10 @@
 //! - `Catalog::of` copies the names and the schemas of tables;
 //! - `value_of` and `truth_of` give exactly what `specs/Meaning.antt` says that an expression means over a
 //!   row, where its columns are given by places (`specs/Evaluation.antt`);
-//! - `has_twice` says whether a list has an item twice, and `has_key_twice` whether two rows have one key,
-//!   without a copy of a key (`specs/Keys.antt`);
-//! - `meets_schema` and its parts are the rules of a schema (`specs/Tables.antt`).
+//! - `has_twice` says whether a list has an item twice, and `has_key_twice` whether two rows have one key;
+//!   `KeyOf` is the key of a row without a copy (`specs/Keys.antt`);
+//! - `meets_schema` and its parts are the rules of a schema (`specs/Tables.antt`);
+//! - members and needs are in the order of `specs/MemberOrder.antt`, by `Precedes`.
 //!
 //! `specs/` defines which texts are which statements: as a grammar (`GrammarOfTokens`, `Grammar` of
 //! expressions, `GrammarOfStatements`), and as a function from left to right (`Texts`, over `Tokens`,
@@ -46,7 +47,7 @@ mod value;
 
 pub use catalog::{Catalog, Checked};
 pub use expr::{ColumnName, ColumnNames, Expr, ExprRows, Exprs, Fold, Operator};
-pub use key::{RowKey, value_at};
+pub use key::{RowKey, compare_values, value_at};
 pub use kind::Kind;
 pub use names::is_sql_name;
 pub use need::{Member, Members, Need, Needs, Rule};
@@ -61,5 +62,5 @@ pub use statement::{
 };
 pub use table::{Column, Columns, Schema, Schemas, Table, TableRow, TableRows, Tables};
 pub use token::Token;
-pub use unique::{HasValues, has_key_twice};
+pub use unique::{HasValues, KeyOf, has_key_twice, value_or};
 pub use value::{truth_of, value_of};

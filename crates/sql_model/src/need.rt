@@ -1,7 +1,11 @@
 //! Rows of tables at a version, and the rows that a statement needs.
 
-use ldv_value::{CopyItem, List, Utf8};
+ghost use Rattle.std.specs.Prelude.{◌≡◌};
+ghost use Rattle.sql_model.specs.MemberOrder.{row_after_table};
+
+use ldv_value::{CopyItem, List, Precedes, Utf8};
 use std::alloc::{AllocError, Global};
+use std::cmp::Ordering;
 
 /// Why a statement needs a row. Where several hold, the first is the rule.
 #[derive(Clone, Copy, Debug, PartialEq, Eq)]
@@ -51,5 +55,36 @@ impl CopyItem for Need {
             member: self.member.copy_item(alloc)?,
             rule: self.rule,
         })
+    }
+}
+
+impl Precedes for Member {
+    ghost use Rattle.sql_model.specs.MemberOrder.{member_precedes};
+
+    ghost is_before = { member_precedes };
+
+    fn precedes(&self, other: &Member) -> bool {
+        let between = self.table.as_str().cmp(other.table.as_str());
+        row_after_table(between, self.row, other.row)
+    }
+}
+
+fn row_after_table(between: Ordering, m: u32, n: u32) -> bool
+    ensures { result ≡ row_after_table between m n }
+{
+    match between {
+        Ordering::Less => true,
+        Ordering::Equal => m < n,
+        Ordering::Greater => false,
+    }
+}
+
+impl Precedes for Need {
+    ghost use Rattle.sql_model.specs.MemberOrder.{need_precedes};
+
+    ghost is_before = { need_precedes };
+
+    fn precedes(&self, other: &Need) -> bool {
+        self.member.precedes(&other.member)
     }
 }

@@ -80,16 +80,14 @@ fn are_places(columns: &Columns, key: &Places) -> bool
     ensures { result ≡ list_all (λ place. nat_lt place (length columns.now)) key.now }
 {
     let count = columns.len();
-    key.items().iter().all(|place| (*place as usize) < count)
+    key.items().iter().all(|place| *place < count)
 }
 
 /// Whether each column of a key, given by its places, is NOT NULL.
 pub fn is_key_not_null(columns: &Columns, key: &Places) -> bool
     ensures { result ≡ key_not_null_test columns.now key.now }
 {
-    key.items()
-        .iter()
-        .all(|place| is_not_null(columns, *place as usize))
+    key.items().iter().all(|place| is_not_null(columns, *place))
 }
 
 fn is_not_null(columns: &Columns, place: usize) -> bool

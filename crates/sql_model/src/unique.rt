@@ -8,8 +8,8 @@ ghost use Rattle.std.specs.Ordering.{eq_by_cmp};
 ghost use Rattle.std.proofs.Common.{rules};
 ghost use Rattle.ldv_value.specs.Order.{order};
 ghost use Rattle.ldv_value.specs.declared.value.Value.{Value};
-ghost use Rattle.sql_model.specs.Keys.{first_same, has_same_neighbours, has_two_of_a_key, key_at, repeats};
-ghost use Rattle.sql_model.specs.KeyOrder.{key_order, key_order_total};
+ghost use Rattle.sql_model.specs.Keys.{first_same, has_same_neighbours, has_two_of_a_key, repeats, values_at};
+ghost use Rattle.sql_model.specs.KeyOrder.{values_order, values_total};
 ghost use Rattle.sql_model.specs.Scope.{value_at};
 ghost use Rattle.ldv_value.specs.declared.value.Value.TheVariants.{Null};
 
@@ -45,26 +45,37 @@ impl HasValues for TableRow {
     }
 }
 
-// The key of a row, whose columns have these places; contracts see the key's values.
+/// The values of a row at some places, from 0, as a key of a set or a map, without a copy. Keys are ordered
+/// value by value, and NULL is the same as NULL. A place past the end of the row has NULL.
 #[derive(Drop)]
-struct KeyOf<'a> {
+pub struct KeyOf<'a> {
     row: &'a Values,
     places: &'a Places,
 }
 
 impl<'a> Model for KeyOf<'a> {
+    ghost use Rattle.ldv_value.specs.declared.value.Value.{Value as Seen};
     ghost use Rattle.sql_model.specs.Keys.{values_at};
-    ghost use Rattle.sql_model.specs.declared.key.RowKey.{RowKey};
+    ghost use Rattle.std.specs.Prelude.{List as Items};
 
-    ghost Value = { RowKey };
+    ghost Value = { Items Seen };
 
-    ghost view = { λ k. record { values = values_at k.places.now k.row.now } };
+    ghost view = { λ k. values_at k.places.now k.row.now };
+}
+
+impl<'a> KeyOf<'a> {
+    /// The values of a row at some places.
+    pub fn of(row: &'a Values, places: &'a Places) -> KeyOf<'a>
+        ensures { result ≡ values_at places.now row.now }
+    {
+        KeyOf { row, places }
+    }
 }
 
 impl<'a> PartialEq for KeyOf<'a> {
-    ghost eq = { λ x y. eq_by_cmp key_order x y };
+    ghost eq = { λ x y. eq_by_cmp values_order x y };
 
-    ghost laws = { partial_equiv_from_equiv (eq_by_cmp_equiv key_order_total) };
+    ghost laws = { partial_equiv_from_equiv (eq_by_cmp_equiv values_total) };
 
     fn eq(&self, other: &KeyOf<'a>) -> bool {
         self.cmp(other).is_eq()
@@ -72,13 +83,13 @@ impl<'a> PartialEq for KeyOf<'a> {
 }
 
 impl<'a> Eq for KeyOf<'a> {
-    ghost laws = { eq_by_cmp_equiv key_order_total };
+    ghost laws = { eq_by_cmp_equiv values_total };
 }
 
 impl<'a> PartialOrd for KeyOf<'a> {
-    ghost partial_cmp = { λ x y. Some (key_order x y) };
+    ghost partial_cmp = { λ x y. Some (values_order x y) };
 
-    ghost laws = { partial_order_from_agreeing_total key_order key_order_total (λ x y. refl) (λ x y. refl) };
+    ghost laws = { partial_order_from_agreeing_total values_order values_total (λ x y. refl) (λ x y. refl) };
 
     fn partial_cmp(&self, other: &KeyOf<'a>) -> Option<Ordering> {
         Some(self.cmp(other))
@@ -86,9 +97,9 @@ impl<'a> PartialOrd for KeyOf<'a> {
 }
 
 impl<'a> Ord for KeyOf<'a> {
-    ghost cmp = { λ x y. key_order x y };
+    ghost cmp = { λ x y. values_order x y };
 
-    ghost total = { key_order_total };
+    ghost total = { values_total };
 
     ghost matches_partial_cmp = { Prim.search (comparing, rules) };
 
@@ -104,7 +115,7 @@ impl<'a> Ord for KeyOf<'a> {
     }
 }
 
-fn compare_keys(row: &Values, places: &[u32], other: &Values, others: &[u32]) -> Ordering
+fn compare_keys(row: &Values, places: &[usize], other: &Values, others: &[usize]) -> Ordering
     ensures { let key = map (value_at row.now) places.now in
         result ≡ slice_cmp order key (map (value_at other.now) others.now) }
 {
@@ -129,7 +140,7 @@ fn compare_keys(row: &Values, places: &[u32], other: &Values, others: &[u32]) ->
 }
 
 // No places against some.
-fn compare_length(places: &[u32]) -> Ordering
+fn compare_length(places: &[usize]) -> Ordering
     ensures { (row : List Value) → result ≡ slice_cmp order [] (map (value_at row) places.now) }
 {
     match places {
@@ -138,18 +149,15 @@ fn compare_length(places: &[u32]) -> Ordering
     }
 }
 
-fn compare_at(row: &Values, place: u32, other: &Values, at: u32) -> Ordering
+fn compare_at(row: &Values, place: usize, other: &Values, at: usize) -> Ordering
     ensures { result ≡ order (value_at row.now place) (value_at other.now at) }
 {
     let null = Value::Null;
-    compare(
-        value_or(row, place as usize, &null),
-        value_or(other, at as usize, &null),
-    )
+    compare(value_or(row, place, &null), value_or(other, at, &null))
 }
 
-// The value of a row at a place, or a given NULL where the row has none there.
-fn value_or<'a>(row: &'a Values, place: usize, null: &'a Value) -> &'a Value
+/// The value of a row at a place, from 0, or a given NULL where the row has none there.
+pub fn value_or<'a>(row: &'a Values, place: usize, null: &'a Value) -> &'a Value
     requires { null.now ≡ Null }
     ensures { result.now ≡ value_at row.now place }
 {
@@ -180,14 +188,11 @@ fn keys_of<'a, R: HasValues>(
     places: &'a Places,
     rows: &'a [R],
 ) -> Result<Vec<KeyOf<'a>>, AllocError>
-    ensures { IfOk result (λ keys. keys.items ≡ map (λ row. key_at places.now (R.cells row)) rows.now) }
+    ensures { IfOk result (λ keys. keys.items ≡ map (λ row. values_at places.now (R.cells row)) rows.now) }
 {
     let mut keys = Vec::with_capacity(alloc, rows.len())?;
     for row in rows {
-        keys.push(KeyOf {
-            row: row.values(),
-            places,
-        })?;
+        keys.push(KeyOf::of(row.values(), places))?;
     }
     Ok(keys)
 }

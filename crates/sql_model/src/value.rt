@@ -181,7 +181,7 @@ fn next_value(
     match places.get(*at) {
         None => Ok(Value::Null),
         Some(place) => {
-            let value = value_at(alloc, row, *place as usize)?;
+            let value = value_at(alloc, row, *place)?;
             *at += 1;
             Ok(value)
         }

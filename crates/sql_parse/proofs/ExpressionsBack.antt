@@ -29,11 +29,12 @@ use Rattle.ldv_value.specs.Options.{◌>>=◌, only_if}
 use Rattle.sql_model.specs.Grammar.{word, fold_word, GoesNotOn, GoesOnWith, Writes, IsName, IsConstant, IsColumn, IsExpr}
 use Rattle.sql_model.specs.Levels.{operator_level, operator_left, right_of}
 use Rattle.sql_parse.specs.Operators.{joint_of, level_of, left_of, may_join, joins}
-use Rattle.sql_parse.specs.Reader.{starts, tail, reads_name, repeat}
+use Rattle.sql_parse.specs.Reader.{starts, tail, repeat}
 use Rattle.sql_parse.proofs.ExpressionsLaw.{JointWrites, begins, form_level, joint_sound, starts_is, text_is}
 use Rattle.ldv_value.proofs.Options.{same-some}
 use Rattle.sql_parse.proofs.Repeat.{after, repeat_suc}
 use Rattle.sql_parse.proofs.Within.{within_suc}
+use Rattle.sql_parse.proofs.Laws.{name_read}
 
 -- ---- what stands after an expression
 
@@ -236,9 +237,6 @@ alone_opens c no_table named least rest no_dot =
     name_opens least c.name rest named
     ∙ ap (λ o. o >>= λ d. Some (Leaf (expr.Column d.0), d.1)) (if_false (starts (codes ".") rest) _ (Some (record { table = None; name = c.name }, rest)) no_dot)
     ∙ ap (λ t. Some (Leaf (expr.Column (record { table = t; name = c.name })), rest)) (sym no_table)
-
-name_read : (w : List ℕ) (ts : List Token) → IsName w → reads_name (Word w ∷ ts) ≡ Some (w, ts)
-name_read w ts named = ap (λ b. only_if b (Some w) >>= λ n. Some (n, ts)) named
 
 abbrev dotted : List ℕ → List ℕ × List Token → Option (ColumnName × List Token)
 dotted source r = Some (record { table = Some source; name = r.0 }, r.1)

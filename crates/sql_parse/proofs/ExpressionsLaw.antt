@@ -1,5 +1,5 @@
 -- What is read as an expression is one by the grammar.
-use Rattle.std.proofs.Common.{◌≡◌, ◌&&◌, ℕ, zero, suc, ◌+◌, ◌≤◌, List, [], ◌∷◌, ◌++◌, append-nil, append_assoc, refl, sym, ap, ◌∙◌, subst, Bool, true, false, Some, None, inl, inr, arith}
+use Rattle.std.proofs.Common.{◌≡◌, ℕ, zero, suc, ◌+◌, ◌≤◌, List, [], ◌∷◌, ◌++◌, append-nil, append_assoc, refl, sym, ap, ◌∙◌, subst, Bool, true, false, Some, None, inl, inr, arith}
 use Rattle.std.specs.Prelude.{Option, codes, nat_le, nat_eq, if◌then◌else◌}
 use Rattle.std.specs.Cmp.Lexicographic.{pointwise}
 use Rattle.std.proofs.lemmas.Bool.{cases_Bool, leb-true}
@@ -35,6 +35,7 @@ use Rattle.sql_parse.proofs.Repeat.{after, repeat_none, repeat_suc}
 use Rattle.sql_parse.proofs.ExpressionsDepth.{within_depth}
 use Rattle.sql_parse.proofs.Within.{within_none, within_suc}
 use Rattle.ldv_value.proofs.Options.{bind-some, only_if-some, if-some, same-some}
+use Rattle.ldv_value.proofs.Booleans.{and-parts}
 
 pub text_is : (a b : List ℕ) → pointwise nat_eq a b ≡ true → a ≡ b
 text_is a b h = (bytes_eq-Decides a b).0 h
@@ -251,10 +252,6 @@ joint_sound (Number z ∷ ts) j h = cc
 joint_sound (Quoted t ∷ ts) j h = cc
 joint_sound (Given v ∷ ts) j h = cc
 
-and_true : (a b : Bool) → (a && b) ≡ true → (a ≡ true) × (b ≡ true)
-and_true true b h = (refl, h)
-and_true false b h = cc
-
 -- what stands next joins an operand of this level
 pub record Joins (least level : ℕ) (ts : List Token) (j : Infix) : Type 0 where
   pub sign : Token
@@ -268,7 +265,7 @@ joins_sound least level ts j h =
     let b : (i : Infix) × (joint_of ts ≡ Some i) × (only_if (may_join least level i) (Some i) ≡ Some j) = bind-some (joint_of ts) (λ i. only_if (may_join least level i) (Some i)) j h in
     let c : (may_join least level b.0 ≡ true) × (Some b.0 ≡ Some j) = only_if-some (may_join least level b.0) (Some b.0) j b.2 in
     let s : (t : Token) × (ts ≡ t ∷ tail ts) × JointWrites b.0 t = joint_sound ts b.0 b.1 in
-    let m : (nat_le least (level_of b.0) ≡ true) × (nat_le (left_of b.0) level ≡ true) = and_true _ _ c.0 in
+    let m : (nat_le least (level_of b.0) ≡ true) × (nat_le (left_of b.0) level ≡ true) = and-parts _ _ c.0 in
     subst (Joins least level ts) (same-some _ _ c.1) (record { sign = s.0; cut = s.1; writes = s.2; least_holds = leb-true _ _ m.0; left_holds = leb-true _ _ m.1 })
 
 right_bound : (op : Operator) → right_of op ≤ 7

@@ -12,8 +12,9 @@ use Rattle.sql_model.specs.GrammarOfStatements.{Then, After, Optionally, Repeate
 use Rattle.sql_parse.specs.Queries.{names}
 use Rattle.ldv_value.specs.Options.{only_if}
 use Rattle.sql_parse.specs.Reader.{starts, passed, after_word}
-use Rattle.sql_parse.proofs.Choices.{or_go, and_true}
+use Rattle.sql_parse.proofs.Choices.{or_go}
 use Rattle.sql_parse.proofs.ExpressionsLaw.{text_is}
+use Rattle.ldv_value.proofs.Booleans.{and-parts}
 
 pub self_text : (a : List ℕ) → pointwise nat_eq a a ≡ true
 self_text a = (bytes_eq-Decides a a).1 refl
@@ -31,7 +32,7 @@ all_words P (v ∷ vs) = P v && all_words P vs
 pub among_all : (P : List ℕ → Bool) (ws : List (List ℕ)) (w : List ℕ) → all_words P ws ≡ true → among ws w ≡ true → P w ≡ true
 among_all P [] w all h = absurd (false≢true h)
 among_all P (v ∷ vs) w all h =
-    let both : (P v ≡ true) × (all_words P vs ≡ true) = and_true (P v) (all_words P vs) all in
+    let both : (P v ≡ true) × (all_words P vs ≡ true) = and-parts (P v) (all_words P vs) all in
     or_go (pointwise nat_eq w v) (among vs w) h (λ e. ap P (text_is w v e) ∙ both.0) (λ e. among_all P vs w both.1 e)
 
 -- ---- tokens that are none, or begin with one of these words

@@ -24,12 +24,13 @@ use Rattle.sql_parse.specs.Parts.{listed, reads_tuple}
 use Rattle.sql_parse.specs.Queries.{reads_item, reads_items}
 use Rattle.sql_parse.specs.Reader.{starts, after_word}
 use Rattle.sql_parse.specs.Texts.{reads_columns}
-use Rattle.sql_parse.proofs.Choices.{or_left}
 use Rattle.sql_parse.proofs.ExpressionsBack.{goes_not_on, expression_back}
 use Rattle.sql_parse.proofs.ExpressionsLaw.{expression_sound, text_is}
 use Rattle.sql_parse.proofs.Follows.{among, among_all, all_words, ends_by, lacks, ends_lack, follows_after, follows_optional}
 use Rattle.sql_parse.proofs.Laws.{Law, state_law, nothing_law, after_law, then_law, made_law, either_law, optional_law, name_law, named_law}
 use Rattle.sql_parse.proofs.RepeatLaws.{separated_law}
+use Rattle.ldv_value.proofs.Booleans.{or-left}
+use Rattle.ldv_value.proofs.Options.{is_none-true}
 
 -- ---- expressions
 
@@ -37,13 +38,9 @@ use Rattle.sql_parse.proofs.RepeatLaws.{separated_law}
 abbrev pub no_joint : List ℕ → Bool
 no_joint w = is_none (joint_in w)
 
-none_is : {A : Type 0} (o : Option A) → is_none o ≡ true → o ≡ None
-none_is None h = refl
-none_is (Some x) h = absurd (false≢true h)
-
 ends_joint : (ws : List (List ℕ)) (rest : List Token) → all_words no_joint ws ≡ true → ends_by ws rest ≡ true → joint_of rest ≡ None
 ends_joint ws [] all h = refl
-ends_joint ws (Word w ∷ ts) all h = none_is (joint_in w) (among_all no_joint ws w all h)
+ends_joint ws (Word w ∷ ts) all h = is_none-true (joint_in w) (among_all no_joint ws w all h)
 ends_joint ws (Number z ∷ ts) all h = absurd (false≢true h)
 ends_joint ws (Quoted t ∷ ts) all h = absurd (false≢true h)
 ends_joint ws (Given v ∷ ts) all h = absurd (false≢true h)
@@ -72,7 +69,7 @@ BeginsExpr [] = ⊥
 BeginsExpr (t ∷ ts) = OpensExpr t
 
 opens_name : (x : List ℕ) → IsName x → OpensExpr (Word x)
-opens_name x h = or_left (sql_name_test x) (among openers x) h
+opens_name x h = or-left (sql_name_test x) (among openers x) h
 
 opens_constant : (t : Token) (v : Value) → IsConstant t v → OpensExpr t
 opens_constant (Word w) v h = subst (λ (u : List ℕ). OpensExpr (Word u)) (sym h.0) refl

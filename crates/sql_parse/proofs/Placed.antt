@@ -9,6 +9,7 @@ use Rattle.ldv_value.specs.Options.{◌>>=◌, only_if}
 use Rattle.sql_parse.specs.Gives.{Fails}
 use Rattle.sql_parse.specs.Texts.{placed_token, placed}
 use Rattle.ldv_value.specs.Scan.{before}
+use Rattle.ldv_value.proofs.Scanning.{before-none}
 
 joined_one : (front : List Token) (t : Token) (o : Option (List Token)) → before front (o >>= λ rest. Some (t ∷ rest)) ≡ before (front ++ t ∷ []) o
 joined_one front t None = refl
@@ -30,8 +31,4 @@ placed_ends params place front is = ap (λ b. before front (only_if b (Some []))
 pub placed_lacks : (params : List Value) (place : ℕ) (front : List Token) → (place == length params) ≡ false → before front (placed params place []) ≡ None
 placed_lacks params place front is = ap (λ b. before front (only_if b (Some []))) is
 
-pub placed_begins : (o : Option (List Token)) → before [] o ≡ o
-placed_begins None = refl
-placed_begins (Some ts) = refl
-
-pub ruleset placed_rules = (placed_fails, placed_goes, placed_ends, placed_lacks, placed_begins)
+pub ruleset placed_rules = (placed_fails, placed_goes, placed_ends, placed_lacks, before-none)

@@ -3,9 +3,10 @@ use Rattle.std.proofs.Common.{◌≡◌, ℕ, ◌<◌, List, [], ◌∷◌, refl
 use Rattle.std.specs.Prelude.{◌==◌}
 use Rattle.std.specs.List.{AllByRecursion}
 use Rattle.std.proofs.lemmas.Bool.{eqb-true}
-use Rattle.sql_parse.proofs.Choices.{or_go, and_true as and_parts}
+use Rattle.sql_parse.proofs.Choices.{or_go}
 use Rattle.sql_model.specs.GrammarOfTokens.{symbols, IsOneOf, IsSymbol}
 use Rattle.sql_parse.specs.Tokens.{is_whole_symbol, begins_symbol, is_pair}
+use Rattle.ldv_value.proofs.Booleans.{and-parts}
 
 at : (P : ℕ → Type 0) (b c : ℕ) → P c → (b == c) ≡ true → P b
 at P b c p h = subst P (sym (eqb-true b c h)) p
@@ -29,7 +30,7 @@ more_symbol = (inr (inr (inr (inr (inr (inr (inr (inr (inr (inl refl))))))))))
 pub pair_symbol : (a b : ℕ) → begins_symbol a ≡ true → is_pair a b ≡ true → IsSymbol (a ∷ b ∷ [])
 pair_symbol a b h p = or_go _ _ p
     (λ e. at (λ c. IsSymbol (a ∷ c ∷ [])) b 61 (begins_cases (λ c. IsSymbol (c ∷ 61 ∷ [])) a h (inr (inr (inr (inr (inr (inr (inr (inr (inl refl))))))))) (inr (inr (inr (inr (inr (inr (inr (inr (inr (inr (inl refl))))))))))) (inr (inr (inr (inr (inr (inr (inl refl)))))))) e)
-    (λ both. let parts : (a == 60 ≡ true) × (b == 62 ≡ true) = and_parts (a == 60) (b == 62) both in
+    (λ both. let parts : (a == 60 ≡ true) × (b == 62 ≡ true) = and-parts (a == 60) (b == 62) both in
     at (λ c. IsSymbol (c ∷ b ∷ [])) a 60 (at (λ c. IsSymbol (60 ∷ c ∷ [])) b 62 (inr (inr (inr (inr (inr (inl refl)))))) parts.1) parts.0)
 
 -- a symbol has one byte, or is such a pair

@@ -17,17 +17,18 @@ use Rattle.sql_model.specs.TextBytes.{is_blank, is_letter, is_upper, is_digit, f
 use Rattle.ldv_value.specs.Texts.{text_of}
 use Rattle.ldv_value.specs.Scan.{before}
 use Rattle.sql_parse.specs.Tokens.{begins_symbol, is_pair, longer, word_token, number_token, text_token, symbol_token, short_symbol, start, tokens_from, tokens_of}
-use Rattle.sql_parse.proofs.Choices.{or_go, and_true, not_false}
+use Rattle.sql_parse.proofs.Choices.{or_go}
 use Rattle.sql_parse.proofs.Symbols.{pair_symbol, symbol_low}
 use Rattle.sql_parse.proofs.TokensSteps.{put, start_goes, word_closes, number_closes, quote_closes, symbol_closes, ended_closes, word_goes, number_goes, text_goes, text_quote, quote_quote, pair_goes}
 use Rattle.sql_parse.proofs.TokensSound.{LIMIT, AreInside, AreAllDigits, longer_is}
 use Rattle.ldv_value.proofs.Utf8Parts.{utf8-tail, utf8-cut, utf8-rest}
 use Rattle.sql_parse.proofs.Quotes.{doubled_utf8}
+use Rattle.ldv_value.proofs.Booleans.{and-parts, not-so}
 
 -- ---- which bytes they are
 
 within : (a b c : ℕ) → (nat_le a c && nat_le c b) ≡ true → (a ≤ c) × (c ≤ b)
-within a b c h = let p = and_true (nat_le a c) (nat_le c b) h in (leb-true a c p.0, leb-true c b p.1)
+within a b c h = let p = and-parts (nat_le a c) (nat_le c b) h in (leb-true a c p.0, leb-true c b p.1)
 
 at_most : (b c : ℕ) → c ≤ 32 → (b == c) ≡ true → b ≤ 32
 at_most b c low e = omega (arith, eqb-true b c e, low)
@@ -45,13 +46,13 @@ digit_range : (b : ℕ) → is_digit b ≡ true → (48 ≤ b) × (b ≤ 57)
 digit_range b h = within 48 57 b h
 
 letter_no_blank : (b : ℕ) → is_letter b ≡ true → is_blank b ≡ false
-letter_no_blank b h = not_false (is_blank b) (λ is. omega (arith, blank_low b is, (letter_range b h).0))
+letter_no_blank b h = not-so (is_blank b) (λ is. omega (arith, blank_low b is, (letter_range b h).0))
 
 digit_no_blank : (b : ℕ) → is_digit b ≡ true → is_blank b ≡ false
-digit_no_blank b h = not_false (is_blank b) (λ is. omega (arith, blank_low b is, (digit_range b h).0))
+digit_no_blank b h = not-so (is_blank b) (λ is. omega (arith, blank_low b is, (digit_range b h).0))
 
 digit_no_letter : (b : ℕ) → is_digit b ≡ true → is_letter b ≡ false
-digit_no_letter b h = not_false (is_letter b) (λ is. omega (arith, (letter_range b is).0, (digit_range b h).1))
+digit_no_letter b h = not-so (is_letter b) (λ is. omega (arith, (letter_range b is).0, (digit_range b h).1))
 
 inside_low : (b : ℕ) → IsTrue (is_inside b) → b ≤ 122
 inside_low b h = or_go _ _ h (λ e. (letter_range b e).1) (λ e. omega (arith, (digit_range b e).1))

@@ -15,10 +15,11 @@ use Rattle.sql_model.specs.GrammarOfTokens.{BeginsNot, is_inside, is_quote, digi
 use Rattle.sql_model.specs.TextBytes.{is_blank, is_letter, is_digit, folded}
 use Rattle.ldv_value.specs.Texts.{text_of}
 use Rattle.sql_parse.specs.Tokens.{is_whole_symbol, begins_symbol, is_pair, longer, word_token, number_token, text_token, symbol_token, short_symbol, start, tokens_from}
-use Rattle.sql_parse.proofs.Choices.{choose, and_true, false_not}
+use Rattle.sql_parse.proofs.Choices.{choose}
 use Rattle.ldv_value.proofs.Options.{bind-some, same-some}
 use Rattle.sql_parse.proofs.Symbols.{symbol_form, whole_cases, begins_cases, whole_symbol, less_symbol, more_symbol, pair_symbol}
 use Rattle.sql_parse.proofs.TokensSteps.{put_some, start_goes, word_closes, number_closes, quote_closes, symbol_closes, ended_closes, word_goes, number_goes, number_stops, text_goes, text_quote, quote_quote, pair_goes}
+use Rattle.ldv_value.proofs.Booleans.{and-parts, false-not}
 
 -- ---- one token
 
@@ -120,7 +121,7 @@ word_starts b bs ts letter (piece, rest, k, more, e, all, ends, is, are, spells)
 
 number_starts : (b : ℕ) (bs : List ℕ) (ts : List Token) → is_digit b ≡ true → NumberMeans (b - 48) bs ts → Spells (b ∷ bs) ts
 number_starts b bs ts digit means =
-    let below : b ≤ 57 = leb-true b 57 (and_true (nat_le 48 b) (nat_le b 57) digit).1 in
+    let below : b ≤ 57 = leb-true b 57 (and-parts (nat_le 48 b) (nat_le b 57) digit).1 in
     let small : b - 48 ≡ min (0 * 10 + (b - 48)) LIMIT = omega (arith, below) in
     let m = means (0 * 10 + (b - 48)) small in
     number_made b bs ts digit m.0 m.1 m.2 m.3 m.4 m.5 m.6 m.7 m.8 m.9
@@ -251,13 +252,13 @@ more_sound : (b : ℕ) (bs : List ℕ) → Sound bs → Sound (b ∷ bs)
 more_sound b bs ih Between ts h = between_sound b bs ih ts h
 more_sound b bs ih (InWord w) ts h = elim (cases_Bool (is_inside b)) [
   | inl inside ↦ word_more w b bs ts inside (ih (InWord (w ++ folded b ∷ [])) ts (sym (word_goes w b bs inside) ∙ h))
-  | inr outside ↦ word_ends w (b ∷ bs) ts (false_not (is_inside b) outside) (between_sound b bs ih) h
+  | inr outside ↦ word_ends w (b ∷ bs) ts (false-not (is_inside b) outside) (between_sound b bs ih) h
 ]
 more_sound b bs ih (InNumber n) ts h = elim (cases_Bool (is_digit b)) [
   | inl digit ↦ number_more n b bs ts digit (ih (InNumber (longer n b)) ts (sym (number_goes n b bs digit) ∙ h))
   | inr other ↦ elim (cases_Bool (is_letter b)) [
     | inl letter ↦ let none : None ≡ Some ts = sym (number_stops n b bs other letter) ∙ h in absurd cc
-    | inr outside ↦ number_ends n (b ∷ bs) ts (false_not (is_inside b) (rw (outside, other) refl)) (between_sound b bs ih) h
+    | inr outside ↦ number_ends n (b ∷ bs) ts (false-not (is_inside b) (rw (outside, other) refl)) (between_sound b bs ih) h
   ]
 ]
 more_sound b bs ih (InText t) ts h = elim (cases_Bool (is_quote b)) [
@@ -272,13 +273,13 @@ more_sound b bs ih (AfterQuote t) ts h = elim (cases_Bool (is_quote b)) [
       let is : b ≡ 39 = eqb-true b 39 quote in
       let h2 : tokens_from (39 ∷ bs) (AfterQuote t) ≡ Some ts = subst (λ (c : ℕ). tokens_from (c ∷ bs) (AfterQuote t) ≡ Some ts) is h in
       inr (bs, ap (λ (c : ℕ). c ∷ bs) is, ih (InText (t ++ 39 ∷ [])) ts (sym (quote_quote t bs) ∙ h2))
-  | inr other ↦ quote_ends t (b ∷ bs) ts (false_not (is_quote b) other) (between_sound b bs ih) h
+  | inr other ↦ quote_ends t (b ∷ bs) ts (false-not (is_quote b) other) (between_sound b bs ih) h
 ]
 more_sound b bs ih (InSymbol a) ts h = elim (cases_Bool (is_pair a b)) [
   | inl pair ↦
       let p = put_some (symbol_token (a ∷ b ∷ [])) bs ts (sym (pair_goes a b bs pair) ∙ h) in
       inr (b, bs, refl, pair, (p.0, p.2, p.1, p.3, ih Between p.2 p.4))
-  | inr other ↦ symbol_ends a (b ∷ bs) ts (false_not (is_pair a b) other) (between_sound b bs ih) h
+  | inr other ↦ symbol_ends a (b ∷ bs) ts (false-not (is_pair a b) other) (between_sound b bs ih) h
 ]
 more_sound b bs ih (Ended k) ts h = ended_ends k (b ∷ bs) ts (between_sound b bs ih) h
 

@@ -9,12 +9,9 @@ use Rattle.sql_model.specs.GrammarOfTokens.{BeginsNot, is_inside, is_quote}
 use Rattle.sql_model.specs.TextBytes.{is_letter, is_digit, folded}
 use Rattle.ldv_value.specs.Scan.{before}
 use Rattle.sql_parse.specs.Tokens.{is_pair, longer, word_token, number_token, text_token, symbol_token, short_symbol, start, ends, tokens_from}
-use Rattle.sql_parse.proofs.Choices.{not_false, or_false}
 use Rattle.ldv_value.proofs.Options.{bind-some, same-some}
-
-pub before_nil : (o : Option (List Token)) → before [] o ≡ o
-before_nil None = refl
-before_nil (Some ts) = refl
+use Rattle.ldv_value.proofs.Booleans.{not-so, or-parts}
+use Rattle.ldv_value.proofs.Scanning.{before-none}
 
 -- what follows a step
 abbrev pub on : List ℕ → Option (LexState × Option Token) → Option (List Token)
@@ -35,7 +32,7 @@ put_some o rest ts h =
 
 onward : (o : Option LexState) (bs : List ℕ) → on bs (o >>= λ p. Some (p, None)) ≡ (o >>= λ p. tokens_from bs p)
 onward None bs = refl
-onward (Some p) bs = before_nil (tokens_from bs p)
+onward (Some p) bs = before-none (tokens_from bs p)
 
 onward_with : (k : Token) (o : Option LexState) (bs : List ℕ) → on bs (o >>= λ p. Some (p, Some k)) ≡ before (k ∷ []) (o >>= λ p. tokens_from bs p)
 onward_with k None bs = refl
@@ -55,24 +52,24 @@ ends_here (Some k) = refl
 pub word_closes : (w bs : List ℕ) → BeginsNot is_inside bs → tokens_from bs (InWord w) ≡ put (word_token w) bs
 word_closes w [] h = ends_here (word_token w)
 word_closes w (b ∷ bs) h =
-    ap (λ t. on bs (cond t (Some (InWord (w ++ folded b ∷ []), None)) (word_token w >>= λ k. ends k b))) (not_false (is_inside b) h) ∙ ends_goes (word_token w) b bs
+    ap (λ t. on bs (cond t (Some (InWord (w ++ folded b ∷ []), None)) (word_token w >>= λ k. ends k b))) (not-so (is_inside b) h) ∙ ends_goes (word_token w) b bs
 
 pub number_closes : (n : ℕ) (bs : List ℕ) → BeginsNot is_inside bs → tokens_from bs (InNumber n) ≡ put (number_token n) bs
 number_closes n [] h = ends_here (number_token n)
 number_closes n (b ∷ bs) h =
-    let both : (is_letter b ≡ false) × (is_digit b ≡ false) = or_false (is_letter b) (is_digit b) (not_false (is_inside b) h) in
+    let both : (is_letter b ≡ false) × (is_digit b ≡ false) = or-parts (is_letter b) (is_digit b) (not-so (is_inside b) h) in
     ap (λ t. on bs (cond t (Some (InNumber (longer n b), None)) (cond (is_letter b) None (number_token n >>= λ k. ends k b)))) both.1
     ∙ ap (λ t. on bs (cond t None (number_token n >>= λ k. ends k b))) both.0 ∙ ends_goes (number_token n) b bs
 
 pub quote_closes : (t bs : List ℕ) → BeginsNot is_quote bs → tokens_from bs (AfterQuote t) ≡ put (text_token t) bs
 quote_closes t [] h = ends_here (text_token t)
 quote_closes t (b ∷ bs) h =
-    ap (λ c. on bs (cond c (Some (InText (t ++ b ∷ []), None)) (text_token t >>= λ k. ends k b))) (not_false (is_quote b) h) ∙ ends_goes (text_token t) b bs
+    ap (λ c. on bs (cond c (Some (InText (t ++ b ∷ []), None)) (text_token t >>= λ k. ends k b))) (not-so (is_quote b) h) ∙ ends_goes (text_token t) b bs
 
 pub symbol_closes : (a : ℕ) (bs : List ℕ) → BeginsNot (is_pair a) bs → tokens_from bs (InSymbol a) ≡ put (short_symbol a) bs
 symbol_closes a [] h = ends_here (short_symbol a)
 symbol_closes a (b ∷ bs) h =
-    ap (λ c. on bs (cond c (symbol_token (a ∷ b ∷ []) >>= λ k. Some (Ended k, None)) (short_symbol a >>= λ k. ends k b))) (not_false (is_pair a b) h)
+    ap (λ c. on bs (cond c (symbol_token (a ∷ b ∷ []) >>= λ k. Some (Ended k, None)) (short_symbol a >>= λ k. ends k b))) (not-so (is_pair a b) h)
     ∙ ends_goes (short_symbol a) b bs
 
 pub ended_closes : (k : Token) (bs : List ℕ) → tokens_from bs (Ended k) ≡ put (Some k) bs
@@ -83,11 +80,11 @@ ended_closes k (b ∷ bs) = ends_goes (Some k) b bs
 
 pub word_goes : (w : List ℕ) (b : ℕ) (bs : List ℕ) → is_inside b ≡ true → tokens_from (b ∷ bs) (InWord w) ≡ tokens_from bs (InWord (w ++ folded b ∷ []))
 word_goes w b bs h =
-    ap (λ t. on bs (cond t (Some (InWord (w ++ folded b ∷ []), None)) (word_token w >>= λ k. ends k b))) h ∙ before_nil (tokens_from bs (InWord (w ++ folded b ∷ [])))
+    ap (λ t. on bs (cond t (Some (InWord (w ++ folded b ∷ []), None)) (word_token w >>= λ k. ends k b))) h ∙ before-none (tokens_from bs (InWord (w ++ folded b ∷ [])))
 
 pub number_goes : (n b : ℕ) (bs : List ℕ) → is_digit b ≡ true → tokens_from (b ∷ bs) (InNumber n) ≡ tokens_from bs (InNumber (longer n b))
 number_goes n b bs h =
-    ap (λ t. on bs (cond t (Some (InNumber (longer n b), None)) (cond (is_letter b) None (number_token n >>= λ k. ends k b)))) h ∙ before_nil (tokens_from bs (InNumber (longer n b)))
+    ap (λ t. on bs (cond t (Some (InNumber (longer n b), None)) (cond (is_letter b) None (number_token n >>= λ k. ends k b)))) h ∙ before-none (tokens_from bs (InNumber (longer n b)))
 
 -- a word doesn't follow a number
 pub number_stops : (n b : ℕ) (bs : List ℕ) → is_digit b ≡ false → is_letter b ≡ true → tokens_from (b ∷ bs) (InNumber n) ≡ None
@@ -96,17 +93,17 @@ number_stops n b bs h l =
     ∙ ap (λ t. on bs (cond t None (number_token n >>= λ k. ends k b))) l
 
 pub text_goes : (t : List ℕ) (b : ℕ) (bs : List ℕ) → is_quote b ≡ false → tokens_from (b ∷ bs) (InText t) ≡ tokens_from bs (InText (t ++ b ∷ []))
-text_goes t b bs h = ap (λ c. on bs (cond c (Some (AfterQuote t, None)) (Some (InText (t ++ b ∷ []), None)))) h ∙ before_nil (tokens_from bs (InText (t ++ b ∷ [])))
+text_goes t b bs h = ap (λ c. on bs (cond c (Some (AfterQuote t, None)) (Some (InText (t ++ b ∷ []), None)))) h ∙ before-none (tokens_from bs (InText (t ++ b ∷ [])))
 
 pub text_quote : (t bs : List ℕ) → tokens_from (39 ∷ bs) (InText t) ≡ tokens_from bs (AfterQuote t)
-text_quote t bs = before_nil (tokens_from bs (AfterQuote t))
+text_quote t bs = before-none (tokens_from bs (AfterQuote t))
 
 pub quote_quote : (t bs : List ℕ) → tokens_from (39 ∷ bs) (AfterQuote t) ≡ tokens_from bs (InText (t ++ 39 ∷ []))
-quote_quote t bs = before_nil (tokens_from bs (InText (t ++ 39 ∷ [])))
+quote_quote t bs = before-none (tokens_from bs (InText (t ++ 39 ∷ [])))
 
 ended_on : (o : Option Token) (bs : List ℕ) → on bs (o >>= λ k. Some (Ended k, None)) ≡ put o bs
 ended_on None bs = refl
-ended_on (Some k) bs = before_nil (tokens_from bs (Ended k)) ∙ ended_closes k bs
+ended_on (Some k) bs = before-none (tokens_from bs (Ended k)) ∙ ended_closes k bs
 
 pub pair_goes : (a b : ℕ) (bs : List ℕ) → is_pair a b ≡ true → tokens_from (b ∷ bs) (InSymbol a) ≡ put (symbol_token (a ∷ b ∷ [])) bs
 pair_goes a b bs h =

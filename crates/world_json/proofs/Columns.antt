@@ -1,15 +1,11 @@
 -- Columns by their names, beside the sets that the code keeps and the places that it finds.
-use Rattle.std.proofs.Common.{◌≡◌, ℕ, ◌+◌, ◌<◌, ◌≤◌, List, length, take, get_or, Bool, true, false, ◌||◌, cond, ltb, not, Bor, BTreeSet, refl, sym, ap, ◌∙◌, arith}
-use Rattle.std.proofs.lemmas.Bool.Decides.{nat_tests}
+use Rattle.std.proofs.Common.{◌≡◌, ℕ, ◌+◌, ◌<◌, List, length, take, get_or, Bool, true, false, ◌||◌, cond, Bor, BTreeSet, refl, sym, ap, ◌∙◌}
 use Rattle.std.proofs.lemmas.List.Folds.{list_any_more}
-use Rattle.std.proofs.lemmas.List.Sums.{prefix_len-le-length}
 use Rattle.std.proofs.lemmas.Map.Text.{is_eq-slice_cmp}
 use Rattle.std.specs.BTreeMap.{is_at}
 use Rattle.std.specs.BTreeSet.{contains, contains_by}
 use Rattle.std.specs.Cmp.Lexicographic.{slice_cmp}
-use Rattle.std.specs.List.{position_or_len}
 use Rattle.std.specs.Ordering.{nat_cmp, is_eq}
-use Rattle.std.specs.Prelude.{Some, None, position}
 use Rattle.sql_model.proofs.RepeatedNames.{text_order}
 use Rattle.sql_model.specs.Scope.{same_text, is_column, has_column}
 use Rattle.sql_model.specs.declared.table.Column.{Column}
@@ -38,10 +34,3 @@ known_more old new key columns i column within item text updates before name =
     ∙ or_swap (is_eq (slice_cmp nat_cmp key.now name)) (is_known old name)
     ∙ (λ j. before name j || (test ∙ last) j)
     ∙ sym (list_any_more (is_column name) columns i column within)
-
--- where no column is found, its place is the number of columns
-pub none_placed : (p : Column → Bool) (columns : List Column) → None ≡ position p columns → length columns ≡ position_or_len p columns
-none_placed p columns is = at (position_or_len p columns) (length columns) (prefix_len-le-length (λ x. not (p x)) columns) is
-  where
-    at : (n m : ℕ) → n ≤ m → None ≡ cond (ltb n m) (Some n) None → m ≡ n
-    at n m h is = grind (arith, nat_tests)

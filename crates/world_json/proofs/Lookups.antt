@@ -1,19 +1,14 @@
 -- Members by their names, beside the map that holds them.
-use Rattle.std.proofs.Common.{◌≡◌, ℕ, List, [], ◌∷◌, Bool, true, false, ◌||◌, map, Option, None, option_map, String, BTreeMap, Global, string_bytes, bytes_eq, cond, refl, sym, ap, ◌∙◌}
+use Rattle.std.proofs.Common.{◌≡◌, ℕ, List, Bool, true, false, Option, None, option_map, String, BTreeMap, Global, string_bytes, bytes_eq, cond, refl, sym, ap, ◌∙◌}
 use Rattle.std.proofs.lemmas.Map.Text.{btree_map_updates_text}
 use Rattle.std.specs.BTreeMap.{UpdatesBy, get_by_text}
 use Rattle.std.specs.String.{string_cmp}
-use Rattle.std.specs.List.{list_any}
 use Rattle.std.specs.Ordering.{nat_cmp}
 use Rattle.std.specs.Cmp.Lexicographic.{slice_cmp}
 use Rattle.serde_json.specs.Find.{get_member}
 use Rattle.serde_json.specs.View.{view, members_view}
 use Rattle.serde_json.specs.declared.value.Value.{Value}
 use Rattle.serde_json.proofs.Views.{view-lookup}
-
-pub any_map : {X Y : Type 0} (p : Y → Bool) (f : X → Y) (xs : List X) → list_any p (map f xs) ≡ list_any (λ x. p (f x)) xs
-any_map p f [] = refl
-any_map p f (x ∷ xs) = ap (λ b. p (f x) || b) (any_map p f xs)
 
 -- what a text finds in the map is the member of that name
 pub member_of_text : (m : BTreeMap (String Global) Value) (name : List ℕ) → option_map view (get_by_text m name) ≡ get_member name (members_view m.entries)

@@ -1,11 +1,10 @@
 //! The fault Key: a key column that may be NULL, or two rows of the same key.
 
-ghost use Rattle.std.specs.Prelude.{◌≡◌, ◌≤◌, ◌<◌, IfOk, IfSome, length, position, true};
+ghost use Rattle.std.specs.Prelude.{◌≡◌, IfOk, position};
 ghost use Rattle.std.specs.List.{list_all, position_or_len};
-ghost use Rattle.ldv_value.specs.Limits.{max_columns};
 ghost use Rattle.sql_model.specs.Scope.{is_column};
 ghost use Rattle.sql_model.specs.Tables.{places_named};
-ghost use Rattle.world_json.specs.Faults.{is_keyed, is_table_keyed, is_within, is_table_within};
+ghost use Rattle.world_json.specs.Faults.{is_keyed, is_table_keyed};
 
 use crate::document::{Document, Draft, Drafts};
 use ldv_value::{List, Names, Places, Utf8};
@@ -15,14 +14,12 @@ use std::alloc::{AllocError, Global};
 /// Whether every key column is NOT NULL, and no two rows of a table have the same key. `AllocError` means
 /// out of memory only.
 pub(crate) fn meets_keys(alloc: Global, document: &Document) -> Result<bool, AllocError>
-    requires { is_within document.now ≡ true }
     ensures { IfOk result (λ holds. holds ≡ is_keyed document.now) }
 {
     tables_meet_keys(alloc, &document.tables)
 }
 
 fn tables_meet_keys(alloc: Global, tables: &Drafts) -> Result<bool, AllocError>
-    requires { list_all is_table_within tables.now ≡ true }
     ensures { IfOk result (λ holds. holds ≡ list_all is_table_keyed tables.now) }
 {
     for table in tables.items() {
@@ -34,7 +31,6 @@ fn tables_meet_keys(alloc: Global, tables: &Drafts) -> Result<bool, AllocError>
 }
 
 fn table_meets_key(alloc: Global, table: &Draft) -> Result<bool, AllocError>
-    requires { is_table_within table.now ≡ true }
     ensures { IfOk result (λ holds. holds ≡ is_table_keyed table.now) }
 {
     let places = places_of_key(alloc, &table.columns, &table.key)?;
@@ -50,29 +46,24 @@ pub(crate) fn places_of_key(
     columns: &Columns,
     key: &Names,
 ) -> Result<Places, AllocError>
-    requires { length columns.now ≤ max_columns }
     ensures { IfOk result (λ places. places ≡ places_named columns.now key.now) }
 {
     let mut places = List::with_capacity(alloc, key.len())?;
     for name in key.items() {
-        places.push(place_of_column(columns, name) as u32)?;
+        places.push(place_of_column(columns, name))?;
     }
     Ok(places)
 }
 
+#[tactic(auto, using(ldv_value::proofs::Places::place_or_len))]
 fn place_of_column(columns: &Columns, name: &Utf8) -> usize
-    ensures place { result ≡ position_or_len (is_column name.now) columns.now }
-    ensures within { result ≤ length columns.now }
+    ensures { result ≡ position_or_len (is_column name.now) columns.now }
 {
-    match find_column(columns, name) {
-        Some(place) => place,
-        None => columns.len(),
-    }
+    find_column(columns, name).unwrap_or(columns.len())
 }
 
 fn find_column(columns: &Columns, name: &Utf8) -> Option<usize>
-    ensures place { result ≡ position (is_column name.now) columns.now }
-    ensures within { IfSome result (λ place. place < length columns.now) }
+    ensures { result ≡ position (is_column name.now) columns.now }
 {
     columns
         .items()

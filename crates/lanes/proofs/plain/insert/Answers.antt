@@ -1,4 +1,4 @@
-use Rattle.lanes.proofs.PlainLaws.{inserted}
+use Rattle.lanes.proofs.BitLaws.{inserted}
 use Rattle.lanes.proofs.plain.insert.Goals as goal
 
 pub returns : goal.returns

@@ -1,7 +1,7 @@
 use Rattle.std.proofs.Common.{◌∙◌, ap, ◌/◌, ◌%◌, ◌*◌, ◌^◌, ℕ, List, get_or, bit_and, set, w64}
 use Rattle.std.specs.Int.{bit_not}
 use Rattle.lanes.specs.Sets.{member}
-use Rattle.lineage.proofs.Bits.{cleared}
+use Rattle.lanes.proofs.BitLaws.{cleared}
 use Rattle.lineage.proofs.blocks.clear_bit.Goals as goal
 
 pub returns-clause-bits : goal.returns-clause-bits

@@ -1,6 +1,6 @@
 use Rattle.std.proofs.Common.{◌∙◌, ap, ◌/◌, ◌%◌, ◌*◌, ◌^◌, ℕ, List, get_or, bit_or, set}
 use Rattle.lanes.specs.Sets.{member}
-use Rattle.lanes.proofs.PlainLaws.{inserted}
+use Rattle.lanes.proofs.BitLaws.{inserted}
 use Rattle.lineage.proofs.blocks.set_bit.Goals as goal
 
 pub returns-clause-bits : goal.returns-clause-bits

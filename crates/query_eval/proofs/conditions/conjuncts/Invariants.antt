@@ -1,7 +1,7 @@
 use Rattle.std.proofs.Common.{◌≡◌, ℕ, List, ◌++◌, ◌&&◌, drop}
 use Rattle.std.specs.List.{flat_map}
 use Rattle.query_eval.specs.Joining.{meets}
-use Rattle.query_eval.specs.Placing.{AllPlaced}
+use Rattle.core_parts.specs.Placing.{AllPlaced}
 use Rattle.query_eval.specs.Types.{Value}
 use Rattle.sql_model.specs.Kinds.{names_in}
 use Rattle.sql_model.specs.QueryAnswer.{meets_all}

@@ -3,8 +3,8 @@ use Rattle.query_eval.specs.Types.{Item}
 use Rattle.sql_model.specs.Kinds.{names_in}
 use Rattle.sql_model.specs.Refusals.{names_of_items}
 use Rattle.sql_model.specs.Scope.{places_in}
-use Rattle.query_eval.proofs.Lists.{drop-step}
-use Rattle.query_eval.proofs.Places.{places-append, others-front}
+use Rattle.core_parts.proofs.Lists.{drop-step}
+use Rattle.core_parts.proofs.Places.{places-append, others-front}
 use Rattle.query_eval.proofs.conditions.skip_items.Goals as goal
 
 pub loop-item-preserved : goal.loop-item-preserved

@@ -1,7 +1,7 @@
 use Rattle.std.proofs.Common.{rules, ◌≡◌, ◌∙◌, ap, sym, cond, true, false, ◌++◌, not, Bool}
 use Rattle.std.specs.BTreeSet as treeset
 use Rattle.std.specs.BTreeMap.{is_at}
-use Rattle.query_eval.specs.KeyOrders.{values_order}
+use Rattle.sql_model.specs.KeyOrder.{values_order}
 use Rattle.sql_model.specs.QueryAnswer.{distinct}
 use Rattle.query_eval.specs.Merging.{unseen}
 use Rattle.query_eval.proofs.Onces.{seen_first, seen_again, not_true, not_false}

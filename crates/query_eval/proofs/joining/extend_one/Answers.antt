@@ -1,7 +1,7 @@
 use Rattle.std.proofs.Common.{◌∙◌, ap, ◌++◌, ◌∷◌, [], List, map}
 use Rattle.query_eval.specs.Joining.{tests}
 use Rattle.query_eval.specs.declared.source.SourceRow.{SourceRow}
-use Rattle.query_eval.proofs.Lists.{kept-one, left-one}
+use Rattle.core_parts.proofs.Lists.{kept-one, left-one}
 use Rattle.query_eval.proofs.joining.extend_one.Goals as goal
 
 pub returns-in_ok-push : goal.returns-in_ok-push

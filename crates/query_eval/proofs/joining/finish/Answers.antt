@@ -1,6 +1,6 @@
 use Rattle.std.proofs.Common.{◌≡◌, ◌==◌, ◌∙◌, sym, length, true}
 use Rattle.query_eval.proofs.Levels.{no-conditions}
-use Rattle.query_eval.proofs.Lists.{none-counted}
+use Rattle.core_parts.proofs.Lists.{none-counted}
 use Rattle.query_eval.proofs.joining.finish.Goals as goal
 
 pub returns-then-is_empty : goal.returns-then-is_empty

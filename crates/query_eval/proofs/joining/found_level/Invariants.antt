@@ -1,6 +1,6 @@
 use Rattle.std.proofs.Common.{◌≡◌, ◌++◌, List, drop}
 use Rattle.query_eval.specs.Joining.{looked_up}
-use Rattle.query_eval.specs.Placing.{AllPlaced}
+use Rattle.core_parts.specs.Placing.{AllPlaced}
 use Rattle.sql_model.specs.Scope.{InScope}
 use Rattle.query_eval.proofs.joining.found_level.Given as goal
 

@@ -1,7 +1,7 @@
 use Rattle.std.proofs.Common.{◌≡◌, ◌==◌, ◌∙◌, ap, sym, ◌++◌, ◌∷◌, [], List, length, true}
 use Rattle.query_eval.specs.Joining.{tests}
-use Rattle.query_eval.specs.declared.placed.Placed.{Placed}
-use Rattle.query_eval.proofs.Lists.{none-counted}
+use Rattle.core_parts.specs.declared.placed.Placed.{Placed}
+use Rattle.core_parts.proofs.Lists.{none-counted}
 use Rattle.query_eval.proofs.joining.is_extension_met.Goals as goal
 
 pub returns-then-is_empty : goal.returns-then-is_empty

@@ -1,9 +1,9 @@
 use Rattle.std.proofs.Common.{rules, ◌≡◌, ◌+◌, ◌∷◌, [], ◌&&◌, List, drop, subst, ap, sym, ◌∙◌, true, false, arith}
 use Rattle.std.proofs.lemmas.List.{drop_all}
 use Rattle.query_eval.specs.Joining.{meets}
-use Rattle.query_eval.specs.Placing.{AllPlaced}
-use Rattle.query_eval.specs.declared.placed.Placed.{Placed}
-use Rattle.query_eval.proofs.Lists.{drop-step}
+use Rattle.core_parts.specs.Placing.{AllPlaced}
+use Rattle.core_parts.specs.declared.placed.Placed.{Placed}
+use Rattle.core_parts.proofs.Lists.{drop-step}
 use Rattle.query_eval.proofs.joining.is_met_all.Goals as goal
 
 pub returns-then-not-met : goal.returns-then-not-met

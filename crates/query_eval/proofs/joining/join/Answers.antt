@@ -3,12 +3,12 @@ use Rattle.std.specs.Prelude.{filter}
 use Rattle.std.proofs.lemmas.List.{drop_all}
 use Rattle.std.proofs.lemmas.Result.{IfOk-weaker}
 use Rattle.query_eval.specs.Joining.{combos, tests, remaining, EachHas}
-use Rattle.query_eval.specs.Placing.{AllPlaced}
+use Rattle.core_parts.specs.Placing.{AllPlaced}
 use Rattle.query_eval.specs.Sourcing.{source_rows, SourcesAreWide}
 use Rattle.query_eval.specs.declared.source.Source.{Source}
 use Rattle.sql_model.specs.Scope.{InScope}
 use Rattle.query_eval.proofs.Levels.{first-step, last-step}
-use Rattle.query_eval.proofs.Lists.{drop-step}
+use Rattle.core_parts.proofs.Lists.{drop-step}
 use Rattle.query_eval.proofs.joining.join.Goals as goal
 
 pub loop-source-init : goal.loop-source-init

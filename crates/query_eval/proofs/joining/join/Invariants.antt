@@ -1,7 +1,7 @@
 use Rattle.std.proofs.Common.{◌≡◌, List, drop, map}
 use Rattle.std.specs.Prelude.{filter}
 use Rattle.query_eval.specs.Joining.{combos, tests, remaining, EachHas}
-use Rattle.query_eval.specs.Placing.{AllPlaced}
+use Rattle.core_parts.specs.Placing.{AllPlaced}
 use Rattle.query_eval.specs.Sourcing.{source_rows, SourcesAreWide}
 use Rattle.sql_model.specs.Scope.{InScope}
 use Rattle.query_eval.proofs.joining.join.Given as goal

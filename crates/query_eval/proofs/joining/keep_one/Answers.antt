@@ -1,5 +1,5 @@
 use Rattle.query_eval.specs.Joining.{tests}
-use Rattle.query_eval.proofs.Lists.{kept-one, left-one}
+use Rattle.core_parts.proofs.Lists.{kept-one, left-one}
 use Rattle.query_eval.proofs.joining.keep_one.Goals as goal
 
 pub returns-in_ok-push : goal.returns-in_ok-push

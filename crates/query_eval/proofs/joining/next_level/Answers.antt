@@ -1,6 +1,6 @@
 use Rattle.std.proofs.Common.{◌∙◌, subst, List}
 use Rattle.query_eval.specs.Joining.{HasProbe}
-use Rattle.query_eval.specs.declared.placed.Placed.{Placed}
+use Rattle.core_parts.specs.declared.placed.Placed.{Placed}
 use Rattle.query_eval.proofs.Levels.{others-placed, probe-within, tied-level}
 use Rattle.query_eval.proofs.joining.next_level.Goals as goal
 

@@ -1,6 +1,6 @@
 use Rattle.std.proofs.Common.{rules, ◌≡◌, ◌+◌, ◌∙◌, ap, sym, subst, ℕ}
 use Rattle.query_eval.specs.Joining.{ready, later, remaining, all_extended, EachHas}
-use Rattle.query_eval.specs.Placing.{AllPlaced}
+use Rattle.core_parts.specs.Placing.{AllPlaced}
 use Rattle.query_eval.proofs.Levels.{ready-placed, later-placed, step-long, step-same}
 use Rattle.query_eval.proofs.joining.step.Goals as goal
 

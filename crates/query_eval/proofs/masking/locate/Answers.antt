@@ -3,7 +3,7 @@ use Rattle.query_eval.specs.Masking.{HaveWidths}
 use Rattle.sql_model.specs.QueryAnswer.{Combination, joined_values}
 use Rattle.sql_model.specs.Scope.{value_at}
 use Rattle.query_eval.proofs.ColumnTests.{here-located, later-located, drop-more}
-use Rattle.query_eval.proofs.Lists.{drop-number}
+use Rattle.core_parts.proofs.Lists.{drop-number}
 use Rattle.query_eval.proofs.masking.locate.Goals as goal
 
 pub returns-then-left-width : goal.returns-then-left-width

@@ -4,9 +4,9 @@ use Rattle.std.proofs.lemmas.Result.{IfOk-weaker}
 use Rattle.query_eval.specs.Conditions.{AreConditions}
 use Rattle.query_eval.specs.Joining.{meets}
 use Rattle.query_eval.specs.Masking.{HaveWidths, passes, AreMasks}
-use Rattle.query_eval.specs.Placing.{AllPlaced}
+use Rattle.core_parts.specs.Placing.{AllPlaced}
 use Rattle.query_eval.specs.Types.{Core}
-use Rattle.query_eval.specs.declared.placed.Placed.{Placed}
+use Rattle.core_parts.specs.declared.placed.Placed.{Placed}
 use Rattle.sql_model.specs.QueryAnswer.{Combination, joined_values}
 use Rattle.sql_model.specs.Refusals.{core_names}
 use Rattle.sql_model.specs.Scope.{InScope, places_in, scope_of}

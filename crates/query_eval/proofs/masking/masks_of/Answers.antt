@@ -1,12 +1,12 @@
 use Rattle.std.proofs.Common.{◌≡◌, ◌+◌, ◌∷◌, ◌∙◌, ap, sym, subst, List, drop, true}
 use Rattle.query_eval.specs.Joining.{meets}
-use Rattle.query_eval.specs.Placing.{AllPlaced}
-use Rattle.query_eval.specs.declared.placed.Placed.{Placed}
+use Rattle.core_parts.specs.Placing.{AllPlaced}
+use Rattle.core_parts.specs.declared.placed.Placed.{Placed}
 use Rattle.sql_model.specs.Meaning.{is_true, truth}
 use Rattle.sql_model.specs.QueryAnswer.{joined_values}
 use Rattle.sql_model.specs.Scope.{environment}
 use Rattle.query_eval.proofs.Levels.{both-of}
-use Rattle.query_eval.proofs.Lists.{drop-step}
+use Rattle.core_parts.proofs.Lists.{drop-step}
 use Rattle.query_eval.proofs.masking.masks_of.Goals as goal
 
 pub loop-cond-preserved : goal.loop-cond-preserved

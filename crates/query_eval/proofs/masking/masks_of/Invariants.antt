@@ -2,7 +2,7 @@ use Rattle.std.proofs.Common.{◌≡◌, List, drop, true}
 use Rattle.std.specs.List.{AllByRecursion}
 use Rattle.query_eval.specs.Joining.{meets}
 use Rattle.query_eval.specs.Masking.{HaveWidths, passes}
-use Rattle.query_eval.specs.Placing.{AllPlaced}
+use Rattle.core_parts.specs.Placing.{AllPlaced}
 use Rattle.sql_model.specs.QueryAnswer.{Combination, joined_values}
 use Rattle.sql_model.specs.Scope.{InScope}
 use Rattle.query_eval.proofs.masking.masks_of.Given as goal

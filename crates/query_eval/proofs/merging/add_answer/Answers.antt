@@ -2,7 +2,7 @@ use Rattle.std.proofs.Common.{◌∙◌, cond}
 use Rattle.std.specs.Prelude.{Some}
 use Rattle.std.specs.BTreeMap as tree
 use Rattle.std.specs.BTreeMap.{is_at}
-use Rattle.query_eval.specs.KeyOrders.{values_order}
+use Rattle.sql_model.specs.KeyOrder.{values_order}
 use Rattle.query_eval.proofs.Merges.{put_answer}
 use Rattle.query_eval.proofs.merging.add_answer.Goals as goal
 

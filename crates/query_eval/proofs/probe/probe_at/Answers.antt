@@ -1,4 +1,4 @@
-use Rattle.query_eval.proofs.Lists.{drop-step}
+use Rattle.core_parts.proofs.Lists.{drop-step}
 use Rattle.query_eval.proofs.probe.probe_at.Goals as goal
 
 pub returns-in-Some : goal.returns-in-Some

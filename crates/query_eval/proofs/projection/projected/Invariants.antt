@@ -1,5 +1,5 @@
 use Rattle.std.proofs.Common.{◌≡◌, List, ◌++◌, map}
-use Rattle.query_eval.specs.Placing.{AllPlaced}
+use Rattle.core_parts.specs.Placing.{AllPlaced}
 use Rattle.query_eval.specs.Projecting.{projected}
 use Rattle.sql_model.specs.Scope.{InScope}
 use Rattle.query_eval.proofs.projection.projected.Given as goal

@@ -7,7 +7,7 @@ use Rattle.std.proofs.lemmas.Fn.{always_returns_same}
 use Rattle.lineage.specs.declared.answer.Answer.{Answer}
 use Rattle.query_eval.specs.Finishing.{as_key, by_columns}
 use Rattle.sql_model.specs.Sorting.{sorted_by}
-use Rattle.query_eval.proofs.Sorts.{sorted-is, order_by_total}
+use Rattle.sql_model.proofs.StableSorting.{sorted-is, order_by_total}
 use Rattle.query_eval.proofs.sort.sorted.Goals as goal
 
 pub returns : goal.returns

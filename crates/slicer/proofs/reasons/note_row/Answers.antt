@@ -1,11 +1,12 @@
 use Rattle.std.proofs.Common.{◌∙◌, sym}
 use Rattle.std.specs.BTreeMap.{get}
 use Rattle.std.specs.Ordering.{nat_cmp}
-use Rattle.slicer.proofs.ReasonLaws.{put_row, none_of}
+use Rattle.ldv_value.proofs.Options.{is_some-false}
+use Rattle.slicer.proofs.ReasonLaws.{put_row}
 use Rattle.slicer.proofs.reasons.note_row.Goals as goal
 
 pub returns : goal.returns
 returns c =
     put_row c.args.rows.now c.insert.new.self c.args.row c.args.why
-    (none_of (get nat_cmp c.args.rows.now c.args.row) (sym c.contains_key.ensures ∙ c.if-contains_key.false))
+    (is_some-false (get nat_cmp c.args.rows.now c.args.row) (sym c.contains_key.ensures ∙ c.if-contains_key.false))
     c.in_ok-insert.ensures.updates

@@ -1,0 +1,5 @@
+pub mod Listings
+pub mod Lists
+pub mod Names
+pub mod Places
+pub mod SameValues

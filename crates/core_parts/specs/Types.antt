@@ -1,0 +1,15 @@
+-- The types of the crates below, under one name each.
+pub use Rattle.sql_model.specs.declared.catalog.Catalog.{Catalog}
+pub use Rattle.sql_model.specs.declared.catalog.Checked.{Checked}
+pub use Rattle.sql_model.specs.declared.expr.ColumnName.{ColumnName}
+pub use Rattle.sql_model.specs.declared.expr.Expr.{Expr}
+pub use Rattle.sql_model.specs.declared.expr.Fold.{Fold}
+pub use Rattle.sql_model.specs.declared.expr.Operator.{Operator}
+pub use Rattle.sql_model.specs.declared.statement.Core.{Core}
+pub use Rattle.sql_model.specs.declared.statement.Item.{Item}
+pub use Rattle.sql_model.specs.declared.statement.Query.{Query}
+pub use Rattle.sql_model.specs.declared.statement.Statement.{Statement}
+pub use Rattle.sql_model.specs.declared.statement.Statement.TheVariants.{Query as TheQuery}
+pub use Rattle.sql_model.specs.declared.statement.Statement.TheVariants.{Insert as TheInsert}
+pub use Rattle.sql_model.specs.declared.statement.Statement.TheVariants.{Update as TheUpdate}
+pub use Rattle.sql_model.specs.declared.statement.Statement.TheVariants.{Delete as TheDelete}

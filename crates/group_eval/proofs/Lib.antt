@@ -1,0 +1,4 @@
+pub mod AddLaws
+pub mod CoreLaws
+pub mod GroupLaws
+pub mod SettleLaws

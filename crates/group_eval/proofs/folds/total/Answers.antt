@@ -1,0 +1,17 @@
+use Rattle.std.proofs.Common.{rules, ◌≡◌, ◌+◌, ◌∷◌, ap, ◌∙◌, sym, drop, arith, ℤ, pos, ◌+ℤ◌, ◌*◌, ◌≤ℤ◌, neg_ℤ, w64, SFits, ◌<◌, ◌^◌, length}
+use Rattle.std.proofs.lemmas.Int.{ints, to_z-of_z}
+use Rattle.ldv_value.specs.declared.value.Value.{Value}
+use Rattle.sql_model.specs.Meaning.{total, number_in}
+use Rattle.core_parts.proofs.Lists.{drop-step}
+use Rattle.group_eval.proofs.folds.total.Goals as goal
+
+pub loop-value-preserved : goal.loop-value-preserved
+loop-value-preserved c =
+    let values = c.args.values.now in
+    let i = c.loop-value.value-index in
+    let value = c.value-item.result in
+    let split : drop i values ≡ value ∷ drop (i + 1) values = drop-step values i value c.loop-value-test.true c.value-item.is in
+    let fits : SFits w64 c.number_in.result = search rules in
+    let more : total (drop i values) ≡ c.number_in.result +ℤ total (drop (i + 1) values) =
+    ap total split ∙ ap (λ n. n +ℤ total (drop (i + 1) values)) (sym c.number_in.ensures) in
+    record { sum = omega (arith, ints); above = omega (arith, ints); below = omega (arith, ints) }

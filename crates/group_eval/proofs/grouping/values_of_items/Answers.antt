@@ -1,0 +1,35 @@
+use Rattle.std.proofs.Common.{◌≡◌, ◌+◌, ◌++◌, ◌∷◌, [], List, map, drop, subst, ap, sym, ◌∙◌, append-nil, arith}
+use Rattle.std.proofs.lemmas.List.{drop_all}
+use Rattle.lineage.specs.declared.answer.Pick.{Pick}
+use Rattle.core_parts.proofs.Lists.{drop-step, moved-one}
+use Rattle.group_eval.specs.Evaluating.{item_values}
+use Rattle.group_eval.specs.Folding.{group_meaning}
+use Rattle.core_parts.specs.Placing.{AllPlaced}
+use Rattle.group_eval.specs.Types.{Value}
+use Rattle.core_parts.specs.declared.placed.Placed.{Placed}
+use Rattle.group_eval.proofs.grouping.values_of_items.Goals as goal
+
+pub loop-item-preserved : goal.loop-item-preserved
+loop-item-preserved c = λ scope all.
+    let picks : List Pick = map (λ r. r.now) c.args.group.now in
+    let items = c.args.items.now in
+    let i = c.loop-item.item-index in
+    let item : Placed = c.item-item.result in
+    let split : drop i items ≡ item ∷ drop (i + 1) items = drop-step items i item c.loop-item-test.true c.item-item.is in
+    let before = c.loop-item.invariant scope all in
+    let placed : AllPlaced scope (item ∷ drop (i + 1) items) = subst (AllPlaced scope) split before.0 in (
+      placed.1,
+      ap (λ (values : List Value). values ++ item_values scope picks (drop (i + 1) items)) c.in_ok-push.ensures.ok
+          ∙ moved-one c.loop-item.values (item_values scope picks (drop (i + 1) items)) c.in_ok-group_value.field-0 (group_meaning scope picks item.expr).value (c.in_ok-group_value.ensures scope placed.0)
+          ∙ ap (λ (ps : List Placed). c.loop-item.values ++ item_values scope picks ps) (sym split)
+          ∙ before.1,
+    )
+
+pub returns : goal.returns
+returns c = λ scope all.
+    let picks : List Pick = map (λ r. r.now) c.args.group.now in
+    let items = c.args.items.now in
+    let done : drop c.loop-item.item-index items ≡ [] = drop_all c.loop-item.item-index items (omega (arith, c.loop-item-test.false)) in
+    sym (append-nil c.loop-item.values)
+    ∙ ap (λ (ps : List Placed). c.loop-item.values ++ item_values scope picks ps) (sym done)
+    ∙ (c.loop-item.invariant scope all).1

@@ -1,0 +1,27 @@
+-- Expressions over a group whose aggregates are constants.
+use Rattle.std.specs.Prelude.{◌≡◌, ℕ, List, [], ◌∷◌, ◌++◌}
+use Rattle.lineage.specs.declared.answer.Pick.{Pick}
+use Rattle.group_eval.specs.Folding.{first_row, group_meaning}
+use Rattle.core_parts.specs.Placing.{IsPlaced}
+use Rattle.group_eval.specs.Types.{Expr}
+use Rattle.core_parts.specs.declared.placed.Placed.{Placed}
+use Rattle.sql_model.specs.Kinds.{names_in}
+use Rattle.sql_model.specs.Meaning.{Meaning, eval}
+use Rattle.sql_model.specs.Scope.{InScope, places_in, environment}
+
+-- over the first row of a group
+abbrev pub first_meaning : List InScope → List Pick → Expr → Meaning
+first_meaning scope picks expr = eval expr (environment scope (first_row picks) ∷ [])
+
+-- in each scope: its places are taken from the front, those of the settled expression are appended, and the
+-- settled expression means over the first row what the expression means over the group
+abbrev pub SettlesTo : List Pick → Expr → List ℕ → List ℕ → Expr → List ℕ → List ℕ → Type 0
+SettlesTo picks expr places own settled new left =
+    (scope : List InScope) (more : List ℕ) → places ≡ places_in scope (names_in expr) ++ more
+    → (left ≡ more)
+    × (new ≡ own ++ places_in scope (names_in settled))
+    × (first_meaning scope picks settled ≡ group_meaning scope picks expr)
+
+pub record IsSettled (scope : List InScope) (picks : List Pick) (expr : Expr) (settled : Placed) : Type 0 where
+  pub placed : IsPlaced scope settled
+  pub same : first_meaning scope picks settled.expr ≡ group_meaning scope picks expr

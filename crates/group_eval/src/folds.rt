@@ -1,0 +1,176 @@
+//! Aggregates over the values of a group.
+
+ghost use Rattle.std.specs.Prelude.{◌≡◌, ◌++◌, ◌∷◌, [], List as Items, map, length, pos, IfOk, OnOk};
+ghost use Rattle.std.specs.List.{fold};
+ghost use Rattle.group_eval.specs.Types.{Value as Seen};
+ghost use Rattle.group_eval.specs.Folding.{value_over};
+ghost use Rattle.sql_model.specs.Kinds.{names_in};
+ghost use Rattle.sql_model.specs.Meaning.{folded, known_values, lesser, greater, number_in, number_value, total, or_null};
+ghost use Rattle.sql_model.specs.declared.expr.Fold.TheVariants.{Sum, Min, Max};
+ghost use Rattle.sql_model.specs.Scope.{InScope, places_in};
+
+use ldv_value::{CopyItem, List, Places, Value, Values, compare};
+use lineage::Pick;
+use sql_model::{Expr, Fold, value_of};
+use std::alloc::{AllocError, Global};
+
+/// A count as a value: NULL outside 64 bits with a sign.
+pub(crate) fn count_value(count: usize) -> Value
+    ensures { result ≡ number_value (pos count) }
+{
+    if count < 0x8000_0000_0000_0000 {
+        Value::Int(count as i64)
+    } else {
+        Value::Null
+    }
+}
+
+// A sum as a value: NULL outside 64 bits with a sign.
+fn sum_value(sum: i128) -> Value
+    ensures { result ≡ number_value sum }
+{
+    if sum < -0x8000_0000_0000_0000 {
+        return Value::Null;
+    }
+    if sum > 0x7fff_ffff_ffff_ffff {
+        return Value::Null;
+    }
+    Value::Int(sum as i64)
+}
+
+// The number in a value, 0 where there is none.
+fn number_in(value: &Value) -> i64
+    ensures { result ≡ number_in value.now }
+{
+    match value {
+        Value::Null => 0,
+        Value::Int(number) => *number,
+        Value::Text(_) => 0,
+    }
+}
+
+// The exact sum of fewer than 2^64 numbers of 64 bits stays within 128 bits.
+fn total(values: &[Value]) -> i128
+    ensures { result ≡ total values.now }
+{
+    let mut sum: i128 = 0;
+    for value in values {
+        sum += number_in(value) as i128;
+    }
+    sum
+}
+
+fn sum_of(values: &[Value]) -> Value
+    ensures { result ≡ folded Sum values.now }
+{
+    match values {
+        [] => Value::Null,
+        [_first, ..] => sum_value(total(values)),
+    }
+}
+
+fn lesser<'a>(a: &'a Value, b: &'a Value) -> &'a Value
+    ensures { result.now ≡ lesser a.now b.now }
+{
+    if compare(b, a).is_lt() { b } else { a }
+}
+
+fn greater<'a>(a: &'a Value, b: &'a Value) -> &'a Value
+    ensures { result.now ≡ greater a.now b.now }
+{
+    if compare(b, a).is_gt() { b } else { a }
+}
+
+fn least<'a>(first: &'a Value, others: &'a [Value]) -> &'a Value
+    ensures { result.now ≡ fold lesser first.now others.now }
+{
+    let mut best = first;
+    for value in others {
+        best = lesser(best, value);
+    }
+    best
+}
+
+fn greatest<'a>(first: &'a Value, others: &'a [Value]) -> &'a Value
+    ensures { result.now ≡ fold greater first.now others.now }
+{
+    let mut best = first;
+    for value in others {
+        best = greater(best, value);
+    }
+    best
+}
+
+fn least_of(alloc: Global, values: &[Value]) -> Result<Value, AllocError>
+    ensures { IfOk result (λ value. value ≡ folded Min values.now) }
+{
+    match values {
+        [] => Ok(Value::Null),
+        [first, others @ ..] => least(first, others).copy_item(alloc),
+    }
+}
+
+fn greatest_of(alloc: Global, values: &[Value]) -> Result<Value, AllocError>
+    ensures { IfOk result (λ value. value ≡ folded Max values.now) }
+{
+    match values {
+        [] => Ok(Value::Null),
+        [first, others @ ..] => greatest(first, others).copy_item(alloc),
+    }
+}
+
+// An aggregate of values that aren't NULL.
+fn fold_known(alloc: Global, fold: Fold, values: &[Value]) -> Result<Value, AllocError>
+    ensures { IfOk result (λ value. value ≡ folded fold values.now) }
+{
+    match fold {
+        Fold::Count => Ok(count_value(values.len())),
+        Fold::Sum => Ok(sum_of(values)),
+        Fold::Min => least_of(alloc, values),
+        Fold::Max => greatest_of(alloc, values),
+    }
+}
+
+// Appends a value that isn't NULL.
+fn push_known(values: &mut Values, value: Value) -> Result<(), AllocError>
+    ensures { OnOk result (values.new ≡ values.old ++ known_values (value ∷ [])) }
+{
+    match value {
+        Value::Null => Ok(()),
+        Value::Int(number) => values.push(Value::Int(number)),
+        Value::Text(text) => values.push(Value::Text(text)),
+    }
+}
+
+// The values of an expression over the picks of a group, without NULL.
+fn values_over(
+    alloc: Global,
+    expr: &Expr,
+    places: &Places,
+    group: &[&Pick],
+) -> Result<Values, AllocError>
+    ensures { IfOk result (λ values. (scope : Items InScope) → places_in scope (names_in expr.now) ≡ places.now
+        → values ≡ known_values (map (value_over scope expr.now) (map (λ r. r.now) group.now))) }
+{
+    let mut values = List::new(alloc);
+    for pick in group {
+        push_known(&mut values, value_of(alloc, expr, &pick.values, places)?)?;
+    }
+    Ok(values)
+}
+
+/// An aggregate of an expression over the picks of a group, where `places` gives the place in the joined
+/// row of each column that the expression names, left to right, from 0. NULLs are left out.
+pub(crate) fn aggregate(
+    alloc: Global,
+    fold: Fold,
+    expr: &Expr,
+    places: &Places,
+    group: &[&Pick],
+) -> Result<Value, AllocError>
+    ensures { IfOk result (λ value. (scope : Items InScope) → places_in scope (names_in expr.now) ≡ places.now
+        → value ≡ folded fold (known_values (map (value_over scope expr.now) (map (λ r. r.now) group.now)))) }
+{
+    let values = values_over(alloc, expr, places, group)?;
+    fold_known(alloc, fold, values.items())
+}

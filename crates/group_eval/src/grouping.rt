@@ -1,0 +1,256 @@
+//! The answer rows of a core that groups.
+
+ghost use Rattle.std.specs.FinMap as finmap;
+ghost use Rattle.std.specs.Prelude.{◌≡◌, ◌++◌, ◌∷◌, [], List as Items, map, IfOk, OnOk};
+ghost use Rattle.core_parts.specs.Checking.{HasCore};
+ghost use Rattle.group_eval.specs.Evaluating.{item_values, group_values, group_answer, is_group_kept, ArePlaced, IsHavingPlaced};
+ghost use Rattle.group_eval.specs.Evaluating.{IsPlacedPlan, AddsGroup, groups_listed, IsGroupedBy, IsGrouped};
+ghost use Rattle.group_eval.specs.Folding.{first_row};
+ghost use Rattle.group_eval.specs.Grouping.{key_of, listed, pick_groups, keyed_groups};
+ghost use Rattle.core_parts.specs.Placing.{AllPlaced};
+ghost use Rattle.sql_model.specs.Scope.{InScope};
+
+use crate::groups::{Groups, groups_of};
+use crate::lineages::{add_lineages, united};
+use crate::plan::{Plan, plan_of};
+use crate::settled::{group_truth, group_value};
+use core_parts::{Placed, Refs, core_of, is_certain, places_or};
+use ldv_value::{List, Values};
+use lineage::{Answer, Answers, LineageSet, Pick, Picks};
+use sql_model::Checked;
+use std::alloc::{AllocError, Global};
+
+/// The answer rows of the groups that HAVING keeps, and the lineage of those that it rejects.
+#[derive(Drop)]
+pub struct Grouped {
+    pub answers: Answers,
+    pub rejected: LineageSet,
+}
+
+// Nothing.
+fn no_group(alloc: Global) -> Grouped
+    ensures answers { result.answers ≡ [] }
+    ensures rejected { result.rejected ≡ finmap.empty }
+{
+    Grouped {
+        answers: List::new(alloc),
+        rejected: LineageSet::empty(alloc),
+    }
+}
+
+// The values of items over a group.
+fn values_of_items(
+    alloc: Global,
+    items: &[Placed],
+    group: &[&Pick],
+    first: &Values,
+) -> Result<Values, AllocError>
+    requires { first.now ≡ first_row (map (λ r. r.now) group.now) }
+    ensures { IfOk result (λ values. (scope : Items InScope) → AllPlaced scope items.now
+        → values ≡ item_values scope (map (λ r. r.now) group.now) items.now) }
+{
+    let mut values = List::with_capacity(alloc, items.len())?;
+    for item in items {
+        values.push(group_value(alloc, item, group, first)?)?;
+    }
+    Ok(values)
+}
+
+// The values of the first pick of a group; none where it has no pick.
+fn first_values(alloc: Global, group: &[&Pick]) -> Result<Values, AllocError>
+    ensures { IfOk result (λ values. values ≡ first_row (map (λ r. r.now) group.now)) }
+{
+    match group {
+        [] => Ok(List::new(alloc)),
+        [first, ..] => first.values.copy(),
+    }
+}
+
+// The values of the answer row of a group.
+fn group_values(
+    alloc: Global,
+    items: &Option<List<Placed>>,
+    group: &[&Pick],
+    first: &Values,
+) -> Result<Values, AllocError>
+    requires { first.now ≡ first_row (map (λ r. r.now) group.now) }
+    ensures { IfOk result (λ values. (scope : Items InScope) → ArePlaced scope items.now
+        → values ≡ group_values scope items.now (map (λ r. r.now) group.now)) }
+{
+    match items {
+        None => first.copy(),
+        Some(items) => values_of_items(alloc, items.items(), group, first),
+    }
+}
+
+// Whether HAVING is True for a group, or missing.
+fn is_kept(
+    alloc: Global,
+    having: &Option<Placed>,
+    group: &[&Pick],
+    first: &Values,
+) -> Result<bool, AllocError>
+    requires { first.now ≡ first_row (map (λ r. r.now) group.now) }
+    ensures { IfOk result (λ kept. (scope : Items InScope) → IsHavingPlaced scope having.now
+        → kept ≡ is_group_kept scope having.now (map (λ r. r.now) group.now)) }
+{
+    match having {
+        None => Ok(true),
+        Some(having) => Ok(is_certain(group_truth(alloc, having, group, first)?)),
+    }
+}
+
+// The answer row of a group, from all rows of the group.
+fn group_answer(
+    alloc: Global,
+    plan: &Plan,
+    group: &[&Pick],
+    first: &Values,
+) -> Result<Answer, AllocError>
+    requires { first.now ≡ first_row (map (λ r. r.now) group.now) }
+    ensures { IfOk result (λ answer. (scope : Items InScope) → ArePlaced scope plan.now.items
+        → answer ≡ group_answer scope plan.now (map (λ r. r.now) group.now)) }
+{
+    Ok(Answer {
+        values: group_values(alloc, &plan.items, group, first)?,
+        lineage: united(alloc, group)?,
+    })
+}
+
+// Adds the answer row of a group.
+fn add_answer(
+    alloc: Global,
+    plan: &Plan,
+    group: &[&Pick],
+    first: &Values,
+    answers: &mut Answers,
+) -> Result<(), AllocError>
+    requires { first.now ≡ first_row (map (λ r. r.now) group.now) }
+    ensures { OnOk result ((scope : Items InScope) → ArePlaced scope plan.now.items
+        → answers.new ≡ answers.old ++ group_answer scope plan.now (map (λ r. r.now) group.now) ∷ []) }
+{
+    answers.push(group_answer(alloc, plan, group, first)?)?;
+    Ok(())
+}
+
+// Adds a group: its answer row, or its lineage to that of the rejected ones.
+fn add_group_from(
+    alloc: Global,
+    plan: &Plan,
+    group: &[&Pick],
+    first: &Values,
+    grouped: &mut Grouped,
+) -> Result<(), AllocError>
+    requires { first.now ≡ first_row (map (λ r. r.now) group.now) }
+    ensures { OnOk result ((scope : Items InScope) → IsPlacedPlan scope plan.now
+        → AddsGroup scope plan.now (map (λ r. r.now) group.now) grouped.old grouped.new) }
+{
+    if is_kept(alloc, &plan.having, group, first)? {
+        add_answer(alloc, plan, group, first, &mut grouped.answers)
+    } else {
+        add_lineages(&mut grouped.rejected, group)
+    }
+}
+
+// The same, where the values of its first pick aren't at hand.
+fn add_group(
+    alloc: Global,
+    plan: &Plan,
+    group: &[&Pick],
+    grouped: &mut Grouped,
+) -> Result<(), AllocError>
+    ensures { OnOk result ((scope : Items InScope) → IsPlacedPlan scope plan.now
+        → AddsGroup scope plan.now (map (λ r. r.now) group.now) grouped.old grouped.new) }
+{
+    let first = first_values(alloc, group)?;
+    add_group_from(alloc, plan, group, &first, grouped)
+}
+
+// References to all picks.
+fn refs_of<'a>(alloc: Global, picks: &'a [Pick]) -> Result<Refs<'a, Pick>, AllocError>
+    ensures { IfOk result (λ refs. refs ≡ picks.now) }
+{
+    let mut refs = Refs::new(alloc);
+    for pick in picks {
+        refs.push(pick)?;
+    }
+    Ok(refs)
+}
+
+// All picks as one group.
+fn grouped_whole(alloc: Global, plan: &Plan, picks: &[Pick]) -> Result<Grouped, AllocError>
+    ensures { IfOk result (λ grouped. (scope : Items InScope) → IsPlacedPlan scope plan.now
+        → IsGroupedBy scope plan.now (picks.now ∷ []) grouped) }
+{
+    let mut grouped = no_group(alloc);
+    let all = refs_of(alloc, picks)?;
+    add_group(alloc, plan, all.items(), &mut grouped)?;
+    Ok(grouped)
+}
+
+// Adds the group of a pick.
+fn add_group_of<'a>(
+    alloc: Global,
+    plan: &'a Plan,
+    groups: &Groups<'a>,
+    first: &'a Pick,
+    grouped: &mut Grouped,
+) -> Result<(), AllocError>
+    ensures { OnOk result ((scope : Items InScope) → IsPlacedPlan scope plan.now
+        → AddsGroup scope plan.now (listed groups.now.map (key_of plan.now.group first.now)) grouped.old grouped.new) }
+{
+    match groups.group_of(&plan.group, first) {
+        None => add_group(alloc, plan, &[], grouped),
+        Some(group) => add_group(alloc, plan, group.items(), grouped),
+    }
+}
+
+// Groups one by one.
+fn grouped_each<'a>(
+    alloc: Global,
+    plan: &'a Plan,
+    groups: &Groups<'a>,
+) -> Result<Grouped, AllocError>
+    ensures { IfOk result (λ grouped. (scope : Items InScope) → IsPlacedPlan scope plan.now
+        → IsGroupedBy scope plan.now (groups_listed plan.now.group groups.now.map groups.now.firsts) grouped) }
+{
+    let mut grouped = no_group(alloc);
+    for first in groups.firsts() {
+        add_group_of(alloc, plan, groups, *first, &mut grouped)?;
+    }
+    Ok(grouped)
+}
+
+// Groups by the values of the GROUP BY columns.
+fn grouped_by_keys(alloc: Global, plan: &Plan, picks: &[Pick]) -> Result<Grouped, AllocError>
+    ensures { IfOk result (λ grouped. (scope : Items InScope) → IsPlacedPlan scope plan.now
+        → IsGroupedBy scope plan.now (keyed_groups plan.now.group picks.now) grouped) }
+{
+    let groups = groups_of(alloc, &plan.group, picks)?;
+    grouped_each(alloc, plan, &groups)
+}
+
+fn grouped_picks(alloc: Global, plan: &Plan, picks: &[Pick]) -> Result<Grouped, AllocError>
+    ensures { IfOk result (λ grouped. (scope : Items InScope) → IsPlacedPlan scope plan.now
+        → IsGroupedBy scope plan.now (pick_groups plan.now.group picks.now) grouped) }
+{
+    if plan.group.is_empty() {
+        grouped_whole(alloc, plan, picks)
+    } else {
+        grouped_by_keys(alloc, plan, picks)
+    }
+}
+
+/// The answer rows of a core that groups, whose picked combinations these are. `core` is the core's place,
+/// from 0. A group has the rows of the same values in the GROUP BY columns, NULL being the same as NULL, and
+/// the groups come in order of first appearance. Without GROUP BY there is one group, also of no row.
+pub fn group(checked: &Checked, core: usize, picks: Picks) -> Result<Grouped, AllocError>
+    requires { HasCore checked.now core }
+    ensures { IfOk result (IsGrouped checked.now core picks) }
+{
+    let alloc = picks.allocator();
+    let none = List::new(alloc);
+    let places = places_or(checked, core, &none);
+    let plan = plan_of(alloc, core_of(checked, core), places)?;
+    grouped_picks(alloc, &plan, picks.items())
+}

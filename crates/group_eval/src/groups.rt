@@ -1,0 +1,116 @@
+//! Picked combinations of the same values, found by a map over these.
+
+ghost use Rattle.std.specs.Prelude.{◌≡◌, ◌++◌, ◌∷◌, [], List as Items, map, filter, length, ◌==◌, cond, IfOk, OnOk, None, unwrap_or};
+ghost use Rattle.std.specs.Option.{option_map};
+ghost use Rattle.std.specs.BTreeMap as tree;
+ghost use Rattle.std.specs.BTreeMap.{is_at};
+ghost use Rattle.group_eval.specs.Grouping.{key_of, picks_under, listed, pick_added, first_noted};
+ghost use Rattle.sql_model.specs.KeyOrder.{values_order};
+ghost use Rattle.group_eval.specs.Types.{Value as Seen};
+ghost use Rattle.sql_model.specs.QueryAnswer.{distinct};
+
+use core_parts::Refs;
+use ldv_value::Places;
+use lineage::Pick;
+use sql_model::KeyOf;
+use std::alloc::{AllocError, Global};
+use std::collections::BTreeMap;
+
+/// The groups of picks, each under the values that its picks have at some places.
+#[derive(Drop)]
+pub(crate) struct Groups<'a> {
+    // Of each group its first pick, in order of first appearance.
+    firsts: Refs<'a, Pick>,
+    map: BTreeMap<KeyOf<'a>, Refs<'a, Pick>>,
+}
+
+// Takes the picks under the values of a pick out.
+fn taken<'a>(
+    alloc: Global,
+    map: &mut BTreeMap<KeyOf<'a>, Refs<'a, Pick>>,
+    places: &'a Places,
+    pick: &'a Pick,
+) -> Refs<'a, Pick>
+    ensures picks { result ≡ listed map.old (key_of places.now pick.now) }
+    ensures others { (v : Items Seen) → tree.get values_order map.new v
+        ≡ cond (is_at (values_order (key_of places.now pick.now)) v) None (tree.get values_order map.old v) }
+{
+    match map.remove(&KeyOf::of(&pick.values, places)) {
+        Some(picks) => picks,
+        None => Refs::new(alloc),
+    }
+}
+
+// Notes the first pick of a group that has none so far.
+fn note_first<'a>(
+    firsts: &mut Refs<'a, Pick>,
+    group: &Refs<'a, Pick>,
+    pick: &'a Pick,
+) -> Result<(), AllocError>
+    ensures { OnOk result (firsts.new ≡ first_noted group.now pick.now firsts.old) }
+{
+    if group.len() == 0 {
+        firsts.push(pick)?;
+    }
+    Ok(())
+}
+
+// Adds a pick under its values.
+fn add_pick<'a>(
+    alloc: Global,
+    map: &mut BTreeMap<KeyOf<'a>, Refs<'a, Pick>>,
+    firsts: &mut Refs<'a, Pick>,
+    places: &'a Places,
+    pick: &'a Pick,
+) -> Result<(), AllocError>
+    ensures picks { OnOk result ((v : Items Seen)
+        → listed map.new v ≡ pick_added (key_of places.now pick.now) pick.now v (listed map.old v)) }
+    ensures firsts { OnOk result
+        (firsts.new ≡ first_noted (listed map.old (key_of places.now pick.now)) pick.now firsts.old) }
+{
+    let mut group = taken(alloc, map, places, pick);
+    note_first(firsts, &group, pick)?;
+    group.push(pick)?;
+    match map.insert(KeyOf::of(&pick.values, places), group) {
+        Ok(_) => Ok(()),
+        Err(_) => Err(AllocError),
+    }
+}
+
+/// The groups of picks by their values at some places.
+#[tactic(auto, using(crate::proofs::GroupLaws::group_steps))]
+pub(crate) fn groups_of<'a>(
+    alloc: Global,
+    places: &'a Places,
+    picks: &'a [Pick],
+) -> Result<Groups<'a>, AllocError>
+    ensures picks { IfOk result (λ groups. (v : Items Seen) → listed groups.map v ≡ picks_under places.now picks.now v) }
+    ensures firsts { IfOk result (λ groups. map (key_of places.now) groups.firsts ≡ distinct (map (key_of places.now) picks.now)) }
+{
+    let mut map = BTreeMap::new(alloc);
+    let mut firsts = Refs::new(alloc);
+    for pick in picks {
+        add_pick(alloc, &mut map, &mut firsts, places, pick)?;
+    }
+    Ok(Groups { firsts, map })
+}
+
+impl<'a> Groups<'a> {
+    /// Of each group its first pick, in order of first appearance.
+    pub(crate) fn firsts(&self) -> &[&'a Pick]
+        ensures { map (λ r. r.now) result.now ≡ self.now.firsts }
+    {
+        self.firsts.items()
+    }
+
+    /// The picks that have the same values as a pick, where there are some.
+    pub(crate) fn group_of<'b>(
+        &'b self,
+        places: &'a Places,
+        pick: &'a Pick,
+    ) -> Option<&'b Refs<'a, Pick>>
+        ensures { unwrap_or (option_map (λ r. r.now) result) [] ≡ listed self.now.map (key_of places.now pick.now) }
+    {
+        self.map.get(&KeyOf::of(&pick.values, places))
+    }
+}

@@ -1,0 +1,146 @@
+//! Expressions over a group.
+//!
+//! Over a group a column outside an aggregate has its value in the first row. So an expression whose aggregates
+//! are constants means over the first row what the expression means over the group.
+
+ghost use Rattle.std.specs.Prelude.{◌≡◌, List as Items, ℕ, map, drop, IfOk, Some};
+ghost use Rattle.sql_model.specs.declared.expr.Expr.TheVariants.{Aggregate};
+ghost use Rattle.group_eval.specs.Folding.{first_row, group_meaning};
+ghost use Rattle.core_parts.specs.Placing.{IsPlaced};
+ghost use Rattle.group_eval.specs.Settling.{SettlesTo, IsSettled};
+ghost use Rattle.sql_model.specs.Scope.{InScope};
+
+use crate::folds::{aggregate, count_value};
+use core_parts::{Placed, take_place, take_places};
+use ldv_value::{CopyItem, List, Places, Truth, Value, Values};
+use lineage::Pick;
+use sql_model::{Expr, Fold, truth_of, value_of};
+use sqlite_items::Boxed;
+use std::alloc::{AllocError, Global};
+
+// An aggregate of an expression over a group as a constant. The expression takes its places of those from `at` on;
+// afterwards `at` is after them.
+fn settled_fold(
+    alloc: Global,
+    fold: Fold,
+    argument: &Expr,
+    group: &[&Pick],
+    places: &Places,
+    at: &mut usize,
+) -> Result<Expr, AllocError>
+    ensures { IfOk result (λ settled. (own : Items ℕ) → SettlesTo (map (λ r. r.now) group.now)
+        (Aggregate fold (Some argument.now)) (drop at.old places.now) own settled own (drop at.new places.now)) }
+{
+    let mut taken = List::new(alloc);
+    take_places(argument, places, at, &mut taken)?;
+    Ok(Expr::Constant(aggregate(alloc, fold, argument, &taken, group)?))
+}
+
+// An aggregate over a group as a constant; COUNT(*) has no argument.
+fn settled_aggregate(
+    alloc: Global,
+    fold: Fold,
+    argument: &Option<Boxed<Expr>>,
+    group: &[&Pick],
+    places: &Places,
+    at: &mut usize,
+) -> Result<Expr, AllocError>
+    ensures { IfOk result (λ settled. (own : Items ℕ) → SettlesTo (map (λ r. r.now) group.now)
+        (Aggregate fold argument.now) (drop at.old places.now) own settled own (drop at.new places.now)) }
+{
+    match argument {
+        None => Ok(Expr::Constant(count_value(group.len()))),
+        Some(argument) => settled_fold(alloc, fold, argument.get(), group, places, at),
+    }
+}
+
+// The expression with its aggregates over a group as constants. It takes its places of those from `at` on, and
+// appends to `own` those of the columns outside aggregates; afterwards `at` is after its places.
+fn settle(
+    alloc: Global,
+    expr: &Expr,
+    group: &[&Pick],
+    places: &Places,
+    at: &mut usize,
+    own: &mut Places,
+) -> Result<Expr, AllocError>
+    ensures { IfOk result (λ settled.
+        SettlesTo (map (λ r. r.now) group.now) expr.now (drop at.old places.now) own.old settled own.new (drop at.new places.now)) }
+{
+    match expr {
+        Expr::Constant(value) => Ok(Expr::Constant(value.copy_item(alloc)?)),
+        Expr::Column(name) => {
+            take_place(places, at, own)?;
+            Ok(Expr::Column(name.copy_item(alloc)?))
+        }
+        Expr::Negate(inner) => {
+            let inner = settle(alloc, inner.get(), group, places, at, own)?;
+            Ok(Expr::Negate(Boxed::new(alloc, inner)?))
+        }
+        Expr::Not(inner) => {
+            let inner = settle(alloc, inner.get(), group, places, at, own)?;
+            Ok(Expr::Not(Boxed::new(alloc, inner)?))
+        }
+        Expr::Both(operator, left, right) => {
+            let left = settle(alloc, left.get(), group, places, at, own)?;
+            let right = settle(alloc, right.get(), group, places, at, own)?;
+            let left = Boxed::new(alloc, left)?;
+            Ok(Expr::Both(*operator, left, Boxed::new(alloc, right)?))
+        }
+        Expr::IsNull(inner, negative) => {
+            let inner = settle(alloc, inner.get(), group, places, at, own)?;
+            Ok(Expr::IsNull(Boxed::new(alloc, inner)?, *negative))
+        }
+        Expr::Aggregate(fold, argument) => {
+            settled_aggregate(alloc, *fold, argument, group, places, at)
+        }
+    }
+}
+
+// The expression with its aggregates over a group as constants.
+fn settled(alloc: Global, placed: &Placed, group: &[&Pick]) -> Result<Placed, AllocError>
+    ensures { IfOk result (λ settled. (scope : Items InScope)
+        → IsPlaced scope placed.now → IsSettled scope (map (λ r. r.now) group.now) placed.now.expr settled) }
+{
+    let mut at = 0;
+    let mut own = List::new(alloc);
+    let expr = settle(
+        alloc,
+        &placed.expr,
+        group,
+        &placed.places,
+        &mut at,
+        &mut own,
+    )?;
+    Ok(Placed { expr, places: own })
+}
+
+/// The value of an expression over a group. `first` are the values of its first pick.
+pub(crate) fn group_value(
+    alloc: Global,
+    placed: &Placed,
+    group: &[&Pick],
+    first: &Values,
+) -> Result<Value, AllocError>
+    requires { first.now ≡ first_row (map (λ r. r.now) group.now) }
+    ensures { IfOk result (λ value. (scope : Items InScope)
+        → IsPlaced scope placed.now → value ≡ (group_meaning scope (map (λ r. r.now) group.now) placed.now.expr).value) }
+{
+    let settled = settled(alloc, placed, group)?;
+    value_of(alloc, &settled.expr, first, &settled.places)
+}
+
+/// The truth of an expression over a group. `first` are the values of its first pick.
+pub(crate) fn group_truth(
+    alloc: Global,
+    placed: &Placed,
+    group: &[&Pick],
+    first: &Values,
+) -> Result<Truth, AllocError>
+    requires { first.now ≡ first_row (map (λ r. r.now) group.now) }
+    ensures { IfOk result (λ truth. (scope : Items InScope)
+        → IsPlaced scope placed.now → truth ≡ (group_meaning scope (map (λ r. r.now) group.now) placed.now.expr).truth) }
+{
+    let settled = settled(alloc, placed, group)?;
+    truth_of(alloc, &settled.expr, first, &settled.places)
+}

@@ -1,0 +1,20 @@
+-- What an order is of which it is known that it's less, or equal.
+use Rattle.std.proofs.Common.{◌≡◌, refl, true, T}
+use Rattle.std.specs.declared.cmp.Ordering.{Ordering}
+use Rattle.std.specs.declared.cmp.Ordering.TheVariants.{Less, Equal, Greater}
+use Rattle.std.specs.Ordering.{is_lt, is_eq}
+use Rattle.ldv_value.proofs.Booleans.{t-to}
+
+pub is_lt-true : (r : Ordering) → is_lt r ≡ true → r ≡ Less
+is_lt-true Less h = refl
+is_lt-true Equal h = cc
+is_lt-true Greater h = cc
+
+pub is_eq-true : (r : Ordering) → is_eq r ≡ true → r ≡ Equal
+is_eq-true Less h = cc
+is_eq-true Equal h = refl
+is_eq-true Greater h = cc
+
+-- the same over `T`
+pub t-less : (r : Ordering) → T (is_lt r) → r ≡ Less
+t-less r h = is_lt-true r (t-to (is_lt r) h)

@@ -1,8 +1,0 @@
-use Rattle.std.proofs.Common.{◌≡◌, List, ◌++◌, drop}
-use Rattle.query_eval.specs.Placing.{AllPlaced, values_over}
-use Rattle.sql_model.specs.Scope.{InScope}
-use Rattle.query_eval.proofs.placed.row_values.Given as goal
-
-abbrev pub invariant-loop-placed : goal.invariant-loop-placed
-invariant-loop-placed l = (scope : List InScope) → AllPlaced scope l.exprs
-    → AllPlaced scope (drop l.placed-index l.exprs) × (l.values ++ values_over scope l.row (drop l.placed-index l.exprs) ≡ values_over scope l.row l.exprs)

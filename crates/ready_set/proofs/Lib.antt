@@ -1,0 +1,5 @@
+pub mod TreeLaws
+pub mod WayLaws
+pub mod NumberLaws
+pub mod SeenLaws
+pub mod FlagLaws

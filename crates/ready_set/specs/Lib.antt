@@ -1,0 +1,5 @@
+pub mod Ready
+pub mod Tree
+pub mod Seen
+pub mod Flags
+pub mod FlagsLaw
