@@ -41,7 +41,6 @@ pub enum WriteStop {
 ///
 /// `Fault` comes where a read failed, `TooLong` where more than `limit` bytes were left. On `Err` some
 /// bytes may have been consumed.
-#[tactic(auto, using(crate::proofs::WholeLemmas::reads_whole))]
 pub fn read_all<S: Source>(alloc: Global, source: &mut S, limit: u64) -> Result<Bytes, ReadStop>
     ensures whole { IfOk result (λ bytes. Consumes (S.left source.old) (S.left source.new) bytes) }
     ensures end { OnOk result (IsAtEnd (S.left source.new)) }
@@ -54,19 +53,6 @@ pub fn read_all<S: Source>(alloc: Global, source: &mut S, limit: u64) -> Result<
     // Where no read failed, each result comes exactly where it is due.
     ensures exact { (bytes : List ℕ) → S.left source.old ≡ Some bytes
         → (¬ Rose (S.faults source.old) (S.faults source.new)) → ReadsWhole result bytes limit }
-{
-    read_to_end(alloc, source, limit)
-}
-
-fn read_to_end<S: Source>(alloc: Global, source: &mut S, limit: u64) -> Result<Bytes, ReadStop>
-    ensures whole { IfOk result (λ bytes. Consumes (S.left source.old) (S.left source.new) bytes) }
-    ensures end { OnOk result (IsAtEnd (S.left source.new)) }
-    ensures within { IfOk result (λ bytes. length bytes ≤ limit) }
-    ensures rest { OnErr result ((front : List ℕ) × Consumes (S.left source.old) (S.left source.new) front) }
-    ensures later { S.faults source.old ≤ S.faults source.new }
-    ensures fault { IsErrOf result ReadStop.Fault → Rose (S.faults source.old) (S.faults source.new) }
-    ensures too_long { IsErrOf result ReadStop.TooLong
-        → IfSome (S.left source.old) (λ bytes. limit < length bytes) }
 {
     let mut buf = buffer(alloc)?;
     let mut bytes = Vec::new(alloc);

@@ -1,5 +1,5 @@
 use Rattle.std.proofs.KnownBytes.{Consumes-trans}
-use Rattle.ldv_io.proofs.whole.read_to_end.Goals as goal
+use Rattle.ldv_io.proofs.whole.read_all.Goals as goal
 
 pub returns-then-count-limit-clause-rest : goal.returns-then-count-limit-clause-rest
 returns-then-count-limit-clause-rest g c = (_, Consumes-trans _ _ _ _ _ c.loop-count.invariant.read c.in-Ok.ensures.bytes.0)

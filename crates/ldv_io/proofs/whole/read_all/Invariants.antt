@@ -1,7 +1,7 @@
 use Rattle.std.proofs.Common.{◌≡◌, ◌-◌, ◌≤◌, length, vec_len}
 use Rattle.std.specs.Io.KnownBytes.{Consumes}
 use Rattle.ldv_io.specs.declared.whole.TheConstants.{PIECE}
-use Rattle.ldv_io.proofs.whole.read_to_end.Given as goal
+use Rattle.ldv_io.proofs.whole.read_all.Given as goal
 
 abbrev pub invariant-loop-count : goal.invariant-loop-count
 invariant-loop-count g l = record {
