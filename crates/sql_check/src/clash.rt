@@ -9,7 +9,7 @@ ghost use Rattle.sql_model.specs.Refusals.{is_limit, query_clashes, takes, set_f
 ghost use Rattle.sql_model.specs.Refusals.{update_clashes, clashes};
 
 use crate::aggregate::counts;
-use crate::duplicate::has_duplicate_column;
+use crate::duplicate::has_duplicate;
 use crate::kinds::{comparable, group_kind, is_logical, kind_of_column, row_kind};
 use crate::part::items_of;
 use crate::scope::{Entry, column_at, columns_of, own_scope};
@@ -156,7 +156,7 @@ fn update_clashes(
 ) -> Result<bool, AllocError>
     ensures { IfOk result (λ clash. clash ≡ update_clashes update.now columns.now scope.now) }
 {
-    if has_duplicate_column(alloc, update.sets.items())? {
+    if has_duplicate(alloc, update.sets.items())? {
         return Ok(true);
     }
     Ok(!update_fits(update, columns, scope))

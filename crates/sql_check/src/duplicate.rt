@@ -1,6 +1,6 @@
 //! Names that occur twice.
 
-ghost use Rattle.std.specs.Prelude.{◌≡◌, IfOk, map};
+ghost use Rattle.std.specs.Prelude.{◌≡◌, IfOk, List, map, ℕ};
 ghost use Rattle.sql_model.specs.Keys.{repeats};
 ghost use Rattle.sql_model.specs.Scope.{same_text};
 
@@ -8,59 +8,55 @@ use ldv_value::Utf8;
 use sql_model::{FromItem, Set, has_twice};
 use std::alloc::{AllocError, Global};
 
-/// Whether two sources have one name.
-pub(crate) fn has_duplicate_source(alloc: Global, from: &[FromItem]) -> Result<bool, AllocError>
-    ensures { IfOk result (λ twice. twice ≡ repeats same_text (map (λ item. item.name) from.now)) }
-{
-    let names = source_names(alloc, from)?;
-    let twice = has_twice(alloc, names)?;
-    Ok(twice)
+/// What has a name.
+pub(crate) trait Named {
+    /// The bytes of its name.
+    ghost name: { Self → List ℕ };
+
+    /// Its name.
+    fn named(&self) -> &str
+        ensures { result.now ≡ name self.now };
 }
 
-fn source_names<'a>(alloc: Global, from: &'a [FromItem]) -> Result<Vec<&'a str>, AllocError>
-    ensures { IfOk result (λ names. map (λ name. name.now) names.items ≡ map (λ item. item.name) from.now) }
-{
-    let mut names = Vec::with_capacity(alloc, from.len())?;
-    for item in from {
-        names.push(item.name.as_str())?;
+impl Named for Utf8 {
+    ghost name = { λ text. text };
+
+    fn named(&self) -> &str {
+        self.as_str()
     }
-    Ok(names)
+}
+
+impl Named for FromItem {
+    ghost name = { λ item. item.name };
+
+    fn named(&self) -> &str {
+        self.name.as_str()
+    }
+}
+
+impl Named for Set {
+    ghost name = { λ set. set.column };
+
+    fn named(&self) -> &str {
+        self.column.as_str()
+    }
 }
 
 /// Whether a name occurs twice.
-pub(crate) fn has_duplicate_name(alloc: Global, names: &[Utf8]) -> Result<bool, AllocError>
-    ensures { IfOk result (λ twice. twice ≡ repeats same_text names.now) }
+pub(crate) fn has_duplicate<N: Named>(alloc: Global, items: &[N]) -> Result<bool, AllocError>
+    ensures { IfOk result (λ twice. twice ≡ repeats same_text (map N.name items.now)) }
 {
-    let texts = texts_of(alloc, names)?;
-    let twice = has_twice(alloc, texts)?;
-    Ok(twice)
-}
-
-fn texts_of<'a>(alloc: Global, names: &'a [Utf8]) -> Result<Vec<&'a str>, AllocError>
-    ensures { IfOk result (λ texts. map (λ text. text.now) texts.items ≡ names.now) }
-{
-    let mut texts = Vec::with_capacity(alloc, names.len())?;
-    for name in names {
-        texts.push(name.as_str())?;
-    }
-    Ok(texts)
-}
-
-/// Whether a column is set twice.
-pub(crate) fn has_duplicate_column(alloc: Global, sets: &[Set]) -> Result<bool, AllocError>
-    ensures { IfOk result (λ twice. twice ≡ repeats same_text (map (λ set. set.column) sets.now)) }
-{
-    let names = set_columns(alloc, sets)?;
+    let names = all_names(alloc, items)?;
     let twice = has_twice(alloc, names)?;
     Ok(twice)
 }
 
-fn set_columns<'a>(alloc: Global, sets: &'a [Set]) -> Result<Vec<&'a str>, AllocError>
-    ensures { IfOk result (λ names. map (λ name. name.now) names.items ≡ map (λ set. set.column) sets.now) }
+fn all_names<'a, N: Named>(alloc: Global, items: &'a [N]) -> Result<Vec<&'a str>, AllocError>
+    ensures { IfOk result (λ names. map (λ name. name.now) names.items ≡ map N.name items.now) }
 {
-    let mut names = Vec::with_capacity(alloc, sets.len())?;
-    for set in sets {
-        names.push(set.column.as_str())?;
+    let mut names = Vec::with_capacity(alloc, items.len())?;
+    for item in items {
+        names.push(item.named())?;
     }
     Ok(names)
 }

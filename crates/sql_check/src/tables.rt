@@ -4,7 +4,7 @@ ghost use Rattle.std.specs.Prelude.{◌≡◌, ◌||◌, IfOk};
 ghost use Rattle.std.specs.List.{flat_map, list_any};
 ghost use Rattle.sql_model.specs.Refusals.{tables_of_core, is_missing, doubles_source, lacks_table};
 
-use crate::duplicate::has_duplicate_source;
+use crate::duplicate::has_duplicate;
 use crate::scope::schema_at;
 use ldv_value::Utf8;
 use sql_model::{Catalog, Core, Statement};
@@ -68,7 +68,7 @@ fn have_duplicate_source(alloc: Global, cores: &[Core]) -> Result<bool, AllocErr
     ensures { IfOk result (λ twice. twice ≡ list_any doubles_source cores.now) }
 {
     for core in cores {
-        if has_duplicate_source(alloc, core.from.items())? {
+        if has_duplicate(alloc, core.from.items())? {
             return Ok(true);
         }
     }

@@ -7,7 +7,7 @@ ghost use Rattle.sql_model.specs.Refusals.{insert_clashes};
 ghost use Rattle.sql_model.specs.Scope.{is_column};
 
 use crate::clash::takes;
-use crate::duplicate::has_duplicate_name;
+use crate::duplicate::has_duplicate;
 use crate::kinds::row_kind;
 use crate::part::names_of;
 use crate::scope::column_at;
@@ -41,6 +41,7 @@ impl<'a> Target<'a> {
 
 /// Whether an INSERT names a column twice, or has a row of more or fewer values than columns, or a value
 /// of another kind than its column.
+#[tactic(auto, using(crate::proofs::Mapped::own_names))]
 pub(crate) fn insert_clashes(
     alloc: Global,
     insert: &Insert,
@@ -48,7 +49,7 @@ pub(crate) fn insert_clashes(
 ) -> Result<bool, AllocError>
     ensures { IfOk result (λ clash. clash ≡ insert_clashes insert.now columns.now) }
 {
-    if has_duplicate_name(alloc, names_of(&insert.columns))? {
+    if has_duplicate(alloc, names_of(&insert.columns))? {
         return Ok(true);
     }
     let targets = target_columns(alloc, &insert.columns, columns)?;

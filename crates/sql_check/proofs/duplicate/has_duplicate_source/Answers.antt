@@ -1,8 +1,0 @@
-use Rattle.std.proofs.Common.{◌∙◌, map}
-use Rattle.sql_model.specs.declared.statement.FromItem.{FromItem}
-use Rattle.sql_model.proofs.RepeatedNames.{repeats_texts}
-use Rattle.sql_check.proofs.duplicate.has_duplicate_source.Goals as goal
-
-pub returns : goal.returns
-returns c =
-    c.in_ok-twice.ensures ∙ repeats_texts c.in_ok-names.names.items (map (λ (item : FromItem). item.name) c.args.from.now) c.in_ok-names.ensures
