@@ -30,6 +30,7 @@ mod scan;
 mod select;
 mod source;
 mod state;
+mod steps;
 mod stop;
 mod token;
 

@@ -6,11 +6,12 @@ ghost use Rattle.sql_parse.specs.Columns.{reads_column};
 ghost use Rattle.sql_parse.specs.Expressions.{reads_expr};
 ghost use Rattle.sql_parse.specs.Gives.{Reads};
 ghost use Rattle.sql_parse.specs.Parts.{another, listed, reads_tuple, reads_optional};
-ghost use Rattle.sql_parse.specs.Reader.{repeat, reads_name};
+ghost use Rattle.sql_parse.specs.Reader.{reads_name};
 
 use crate::column::column;
 use crate::expression::expression;
 use crate::reader::Reader;
+use crate::steps::{Steps, all_steps};
 use crate::stop::ParseStop;
 use ldv_value::{List, Utf8};
 use sql_model::{ColumnName, Expr, Exprs};
@@ -34,46 +35,23 @@ pub(crate) fn listed<P: Part>(alloc: Global, reader: &mut Reader) -> Result<List
     let first = P::read(alloc, reader)?;
     let mut parts = List::new(alloc);
     parts.push(first)?;
-    more(alloc, reader, most, parts)
-}
-
-// The parts that follow, at most so many.
-#[tactic(auto, using(crate::proofs::Repeat::repeat_rules))]
-fn more<P: Part>(
-    alloc: Global,
-    reader: &mut Reader,
-    most: usize,
-    parts: List<P>,
-) -> Result<List<P>, ParseStop>
-    ensures { Reads result reader.new (repeat (another P.reads) most parts reader.old) }
-{
-    let mut made = parts;
-    for _count in 0..most {
-        let (next, going) = another(alloc, reader, made)?;
-        made = next;
-        if !going {
-            return Ok(made);
-        }
-    }
-    Err(ParseStop::Syntax)
+    all_steps(alloc, reader, most, parts)
 }
 
 // One more part, where a comma follows.
-fn another<P: Part>(
-    alloc: Global,
-    reader: &mut Reader,
-    made: List<P>,
-) -> Result<(List<P>, bool), ParseStop>
-    ensures { Reads result reader.new (another P.reads made reader.old) }
-{
-    if !reader.starts(",") {
-        return Ok((made, false));
+impl<P: Part> Steps for List<P> {
+    ghost reads = { another P.reads };
+
+    fn read_step(self, alloc: Global, reader: &mut Reader) -> Result<(Self, bool), ParseStop> {
+        if !reader.starts(",") {
+            return Ok((self, false));
+        }
+        reader.skip();
+        let part = P::read(alloc, reader)?;
+        let mut made = self;
+        made.push(part)?;
+        Ok((made, true))
     }
-    reader.skip();
-    let part = P::read(alloc, reader)?;
-    let mut made = made;
-    made.push(part)?;
-    Ok((made, true))
 }
 
 impl Part for Utf8 {

@@ -5,11 +5,12 @@ ghost use Rattle.sql_parse.specs.Gives.{Gives, Reads};
 ghost use Rattle.sql_parse.specs.Queries.{another_core, reads_cores, place_of, key_of, reads_key, directed};
 ghost use Rattle.sql_parse.specs.Queries.{reads_order, reads_orders, bound_of, reads_bound, reads_limit};
 ghost use Rattle.sql_parse.specs.Queries.{reads_query};
-ghost use Rattle.sql_parse.specs.Reader.{repeat, starts};
+ghost use Rattle.sql_parse.specs.Reader.{starts};
 
 use crate::part::{Part, listed};
 use crate::reader::{Reader, name_in};
 use crate::select::core;
+use crate::steps::{Steps, all_steps};
 use crate::stop::ParseStop;
 use ldv_value::Value;
 use sql_model::{Cores, Order, OrderKey, Orders, Query, Token};
@@ -36,27 +37,7 @@ fn cores(alloc: Global, reader: &mut Reader) -> Result<Cores, ParseStop>
     let first = core(alloc, reader, false)?;
     let mut cores = Cores::new(alloc);
     cores.push(first)?;
-    more_cores(alloc, reader, most, cores)
-}
-
-#[tactic(auto, using(crate::proofs::Repeat::repeat_rules))]
-fn more_cores(
-    alloc: Global,
-    reader: &mut Reader,
-    most: usize,
-    first: Cores,
-) -> Result<Cores, ParseStop>
-    ensures { Reads result reader.new (repeat another_core most first reader.old) }
-{
-    let mut made = first;
-    for _count in 0..most {
-        let (next, going) = another_core(alloc, reader, made)?;
-        made = next;
-        if !going {
-            return Ok(made);
-        }
-    }
-    Err(ParseStop::Syntax)
+    all_steps(alloc, reader, most, cores)
 }
 
 // One more core, where UNION follows.
@@ -72,6 +53,14 @@ fn another_core(alloc: Global, reader: &mut Reader, made: Cores) -> Result<(Core
     let mut made = made;
     made.push(core)?;
     Ok((made, true))
+}
+
+impl Steps for Cores {
+    ghost reads = { another_core };
+
+    fn read_step(self, alloc: Global, reader: &mut Reader) -> Result<(Self, bool), ParseStop> {
+        another_core(alloc, reader, self)
+    }
 }
 
 fn orders(alloc: Global, reader: &mut Reader) -> Result<Orders, ParseStop>

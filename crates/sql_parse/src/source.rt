@@ -4,11 +4,11 @@ ghost use Rattle.std.specs.Prelude.{◌≡◌};
 ghost use Rattle.sql_parse.specs.Gives.{Reads};
 ghost use Rattle.sql_parse.specs.Queries.{is_name, names, second_name, reads_source, plain_source};
 ghost use Rattle.sql_parse.specs.Queries.{joined_source, another_source, reads_sources};
-ghost use Rattle.sql_parse.specs.Reader.{repeat};
 
 use crate::expression::expression;
 use crate::reader::Reader;
 use crate::state::Sources;
+use crate::steps::{Steps, all_steps};
 use crate::stop::ParseStop;
 use ldv_value::Utf8;
 use sql_model::{Exprs, FromItem, FromItems, Token, is_sql_name};
@@ -29,27 +29,15 @@ pub(crate) fn all_sources(
         from,
         picks: Exprs::new(alloc),
     };
-    more_sources(alloc, reader, most, first)
+    all_steps(alloc, reader, most, first)
 }
 
-#[tactic(auto, using(crate::proofs::Repeat::repeat_rules))]
-fn more_sources(
-    alloc: Global,
-    reader: &mut Reader,
-    most: usize,
-    first: Sources,
-) -> Result<Sources, ParseStop>
-    ensures { Reads result reader.new (repeat another_source most first reader.old) }
-{
-    let mut made = first;
-    for _count in 0..most {
-        let (next, going) = another_source(alloc, reader, made)?;
-        made = next;
-        if !going {
-            return Ok(made);
-        }
+impl Steps for Sources {
+    ghost reads = { another_source };
+
+    fn read_step(self, alloc: Global, reader: &mut Reader) -> Result<(Self, bool), ParseStop> {
+        another_source(alloc, reader, self)
     }
-    Err(ParseStop::Syntax)
 }
 
 fn another_source(

@@ -1,9 +1,0 @@
-use Rattle.sql_parse.specs.Parts.{another}
-use Rattle.sql_parse.proofs.Repeat.{steps_go, steps_stop}
-use Rattle.sql_parse.proofs.part.more.Goals as goal
-
-pub returns-then-not-going : goal.returns-then-not-going
-returns-then-not-going g c = steps_stop (another g.P.Part.reads) _ _ _ _ _ _ _ _ c.loop-count.invariant c.loop-count-test.true c.if-not-going.true c.in_ok-next.ensures
-
-pub loop-count-preserved : goal.loop-count-preserved
-loop-count-preserved g c = steps_go (another g.P.Part.reads) _ _ _ _ _ _ _ _ c.loop-count.invariant c.loop-count-test.true c.if-not-going.false c.in_ok-next.ensures

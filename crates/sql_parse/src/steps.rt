@@ -1,0 +1,41 @@
+//! Reading step by step.
+
+ghost use Rattle.std.specs.Prelude.{Bool, List, Option};
+ghost use Rattle.sql_model.specs.declared.token.Token.{Token};
+ghost use Rattle.sql_parse.specs.Gives.{Reads};
+ghost use Rattle.sql_parse.specs.Reader.{repeat};
+
+use crate::reader::Reader;
+use crate::stop::ParseStop;
+use std::alloc::Global;
+
+/// What is read step by step.
+pub(crate) trait Steps: Drop {
+    /// What a step at the front of tokens makes of what is made so far, and whether another step follows.
+    ghost reads: { Self → List Token → Option ((Self × Bool) × List Token) };
+
+    /// Reads one step.
+    fn read_step(self, alloc: Global, reader: &mut Reader) -> Result<(Self, bool), ParseStop>
+        ensures { Reads result reader.new (reads self reader.old) };
+}
+
+/// What is made by all steps that follow, at most so many.
+#[tactic(auto, using(crate::proofs::Repeat::repeat_rules))]
+pub(crate) fn all_steps<S: Steps>(
+    alloc: Global,
+    reader: &mut Reader,
+    most: usize,
+    first: S,
+) -> Result<S, ParseStop>
+    ensures { Reads result reader.new (repeat S.reads most first reader.old) }
+{
+    let mut made = first;
+    for _count in 0..most {
+        let (next, going) = made.read_step(alloc, reader)?;
+        made = next;
+        if !going {
+            return Ok(made);
+        }
+    }
+    Err(ParseStop::Syntax)
+}
