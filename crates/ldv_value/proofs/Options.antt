@@ -1,5 +1,5 @@
 -- What an option that is known to be there, or not to be, came from.
-use Rattle.std.proofs.Common.{◌≡◌, Bool, true, false, refl, Some, None, inl, inr, ◌⊎◌, is_some}
+use Rattle.std.proofs.Common.{◌≡◌, Bool, true, false, refl, subst, Some, None, inl, inr, ◌⊎◌, is_some}
 use Rattle.std.specs.Prelude.{Option, is_none, if◌then◌else◌}
 use Rattle.std.specs.Option.{option_or}
 pub use Rattle.std.proofs.lemmas.Option.{same_Some as same-some, none-some}
@@ -12,6 +12,13 @@ bind-some (Some x) f y h = (x, refl, h)
 pub only_if-some : {A : Type 0} (b : Bool) (o : Option A) (y : A) → only_if b o ≡ Some y → (b ≡ true) × (o ≡ Some y)
 only_if-some true o y h = (refl, h)
 only_if-some false o y h = cc
+
+-- a value that passes a test
+pub tested-some : {A : Type 0} (test : A → Bool) (w x : A) → only_if (test w) (Some w) ≡ Some x → (w ≡ x) × (test x ≡ true)
+tested-some test w x h =
+    let p = only_if-some (test w) (Some w) x h in
+    let same : w ≡ x = same-some w x p.1 in
+    (same, subst (λ v. test v ≡ true) same p.0)
 
 pub if-some : {A : Type 0} (b : Bool) (o p : Option A) (y : A) → (if b then o else p) ≡ Some y → ((b ≡ true) × (o ≡ Some y)) ⊎ (p ≡ Some y)
 if-some true o p y h = inl (refl, h)

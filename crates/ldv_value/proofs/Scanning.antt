@@ -1,6 +1,7 @@
 -- A scanner byte by byte, as a loop over the bytes runs it.
-use Rattle.std.proofs.Common.{◌≡◌, ℕ, ◌+◌, ◌<◌, List, [], ◌++◌, refl, length, get_or, drop, drop-cons, append_assoc, add-one, ap, ◌∙◌, sym, Some, None}
+use Rattle.std.proofs.Common.{◌≡◌, ℕ, ◌+◌, ◌<◌, List, [], ◌++◌, refl, length, get_or, drop, drop-cons, append_assoc, append-nil, add-one, ap, ◌∙◌, sym, Some, None}
 use Rattle.std.specs.Prelude.{Option, option_to_list}
+use Rattle.std.specs.List.{AllByRecursion}
 use Rattle.ldv_value.specs.Options.{◌>>=◌}
 use Rattle.ldv_value.specs.Scan.{Stepping, Finishing, before, tokens_from}
 
@@ -34,3 +35,16 @@ module _ {State Token : Type 0} (step : Stepping State Token) (finish : Finishin
       ap (before front) (tokens_from-drop state bs i h
       ∙ ap (λ o. o >>= λ s. before (option_to_list s.1) (tokens_from step finish (drop (i + 1) bs) s.0)) some)
       ∙ before-before front (option_to_list token) (tokens_from step finish (drop (i + 1) bs) next)
+
+  -- bytes that leave a state as it is, and end no token there
+  pub stays-run : (Stays : ℕ → Type 0) (state : State) (stays : (b : ℕ) → Stays b → step state b ≡ Some (state, None)) (front rest : List ℕ) → AllByRecursion Stays front
+      → tokens_from step finish (front ++ rest) state ≡ tokens_from step finish rest state
+  stays-run Stays state stays [] rest h = refl
+  stays-run Stays state stays (b ∷ front) rest h =
+      ap (λ o. o >>= λ s. before (option_to_list s.1) (tokens_from step finish (front ++ rest) s.0)) (stays b h.0)
+      ∙ before-none (tokens_from step finish (front ++ rest) state) ∙ stays-run Stays state stays front rest h.1
+
+  -- the same, where no other byte follows
+  pub stays-only : (Stays : ℕ → Type 0) (state : State) (stays : (b : ℕ) → Stays b → step state b ≡ Some (state, None)) (bs : List ℕ) → AllByRecursion Stays bs
+      → tokens_from step finish bs state ≡ tokens_from step finish [] state
+  stays-only Stays state stays bs h = ap (λ (l : List ℕ). tokens_from step finish l state) (sym (append-nil bs)) ∙ stays-run Stays state stays bs [] h

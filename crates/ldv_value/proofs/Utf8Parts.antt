@@ -1,11 +1,12 @@
 -- Parts of UTF-8, and the test for it.
-use Rattle.std.proofs.Common.{◌≡◌, ℕ, ◌<◌, List, [], ◌∷◌, ◌++◌, length, get_or, refl, subst, inl, inr, false, Some, arith, length-append}
-use Rattle.std.specs.Prelude.{IsUtf8, String, string_bytes}
+use Rattle.std.proofs.Common.{◌≡◌, ℕ, ◌<◌, ◌≤◌, List, [], ◌∷◌, ◌++◌, length, get_or, refl, ap, ◌∙◌, cond, subst, inl, inr, false, None, Some, arith, length-append}
+use Rattle.std.specs.Prelude.{IsUtf8, String, if◌then◌else◌, nat_le, string_bytes}
 use Rattle.std.specs.List.{AllByRecursion}
 use Rattle.std.specs.Str.{is_utf8}
-use Rattle.std.proofs.lemmas.Bool.{cases_Bool}
+use Rattle.std.proofs.lemmas.Bool.{cases_Bool, le-leb}
 use Rattle.std.proofs.lemmas.Str.{IsUtf8-append, IsUtf8-take, IsUtf8-drop, IsUtf8-from_ascii, IsUtf8-from_is_utf8, is_utf8-from_IsUtf8, IsUtf8-string_bytes, IsCharBoundary-before_ascii, IsCharBoundary-after_ascii}
 use Rattle.std.proofs.lemmas.Str.Ascii.{IsAscii-nil, IsAscii-cons}
+use Rattle.ldv_value.specs.Options.{◌>>=◌}
 use Rattle.ldv_value.specs.Texts.{text_of}
 use Rattle.ldv_value.proofs.Lists.{take-front, drop-front, get_or-front}
 
@@ -45,3 +46,11 @@ pub ruleset text_rules = (not-utf8, is_utf8-from_IsUtf8)
 -- what a `String` holds is a text
 pub text_of-string : {Y : Type 0} (t : String Y) (bytes : List ℕ) → string_bytes t ≡ bytes → text_of bytes ≡ Some (string_bytes t)
 text_of-string t bytes e = subst (λ (b : List ℕ). text_of b ≡ Some (string_bytes t)) e (rw (is_utf8-from_IsUtf8 _ (IsUtf8-string_bytes t)) refl)
+
+-- what is made of bytes that are UTF-8, of any number or of few enough
+module _ {A : Type 0} (make : List ℕ → A) (t : List ℕ) (u : IsUtf8 t) where
+  pub text-made : (text_of t >>= λ x. Some (make x)) ≡ Some (make t)
+  text-made = ap (λ c. cond c (Some t) None >>= λ x. Some (make x)) (is_utf8-from_IsUtf8 t u)
+
+  pub short_text-made : (most : ℕ) → length t ≤ most → (if nat_le (length t) most then (text_of t >>= λ x. Some (make x)) else None) ≡ Some (make t)
+  short_text-made most short = ap (λ c. cond c (text_of t >>= λ x. Some (make x)) None) (le-leb (length t) most short) ∙ text-made

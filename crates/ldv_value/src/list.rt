@@ -1,7 +1,8 @@
 //! One list type for all lists of the product: a `Vec` that contracts see as the list of its items.
 
 ghost use Rattle.std.specs.Prelude.{◌≡◌, ◌==◌, ◌+◌, ◌^◌, ◌<◌, ◌++◌, ◌∷◌, [], drop, length};
-ghost use Rattle.std.specs.Prelude.{IfOk, OnOk, OnErr, OnSome, MatchOption, slice_get, slice_set};
+ghost use Rattle.std.specs.Prelude.{IfOk, OnOk, OnErr, OnSome, MatchOption, option_to_list, slice_get};
+ghost use Rattle.std.specs.Prelude.{slice_set};
 ghost use Rattle.std.specs.Option.{option_map};
 
 use std::alloc::{AllocError, Global};
@@ -112,6 +113,17 @@ impl<X: Drop> List<X> {
         ensures err { OnErr result (self.new ≡ self.old) }
     {
         self.held.push(item)?;
+        Ok(())
+    }
+
+    /// Appends the item, where there is one. On `AllocError` the list is as it was.
+    pub fn push_some(&mut self, item: Option<X>) -> Result<(), AllocError>
+        ensures ok { OnOk result (self.new ≡ self.old ++ option_to_list item) }
+        ensures err { OnErr result (self.new ≡ self.old) }
+    {
+        if let Some(item) = item {
+            self.push(item)?;
+        }
         Ok(())
     }
 
