@@ -26,7 +26,7 @@ use Rattle.script_parse.specs.Keywords.{keyword_text, sign_text, comparison_text
 use Rattle.script_parse.specs.Forms.{each, word_of, is_word, name_in, name_of, operand_of, operands_of, operands_from_one, names_from_one, sign_in, comparison_in, mode_in, signed, let_value, let_of, cut_of, goto_of, if_of, print_of, exit_of, write_of, copy_of, close_of, exists_of, wait_of, sql_of, count_of, status_of, last_label, else_at, else_of, open_of, readline_of, remove_of, spawn_of, fetch_of, with_else, instruction_of}
 use Rattle.script_parse.specs.Lines.{before_colon, worded, form_of}
 use Rattle.script_parse.specs.Grammar.{IsName, written, IsOperand, AreOperands, AreNames, word, tokens_for, HasForm, place_of}
-use Rattle.ldv_value.proofs.Options.{bind-some, only_if-some}
+use Rattle.ldv_value.proofs.Options.{bind-some, only_if-some, same-some, tested-some}
 use Rattle.script_parse.proofs.Colon.{colon_split}
 use Rattle.ldv_value.proofs.Lists.{found-passes}
 use Rattle.ldv_value.proofs.Booleans.{not-false}
@@ -41,14 +41,8 @@ IsForm (Jumping i l) ts = (place_of i ≡ Some 0) × HasForm i × IsName l × (t
 pub text_is : (a b : List ℕ) → is_text a b ≡ true → a ≡ b
 text_is a b h = (bytes_eq-Decides a b).0 h
 
-name_in_sound : (w x : List ℕ) → name_in w ≡ Some x → (w ≡ x) × IsName x
-name_in_sound w x h =
-    let p = only_if-some (name_test w) (Some w) x h in
-    let e : w ≡ x = cc (p.1) in
-    (e, subst IsName e p.0)
-
 name_sound : (t : Token) (x : List ℕ) → name_of t ≡ Some x → (t ≡ Word x) × IsName x
-name_sound (Word w) x h = let p = name_in_sound w x h in (ap Word p.0, p.1)
+name_sound (Word w) x h = let p = tested-some name_test w x h in (ap Word p.0, p.1)
 name_sound (Number z) x h = cc
 name_sound (Quoted t) x h = cc
 
@@ -61,7 +55,7 @@ operand_sound (Word w) v h = elim (cases_Bool (is_text w (codes "null"))) [
   | inr not_null ↦
       let h2 : (name_in w >>= λ x. Some (Variable x)) ≡ Some v = sym (ap (λ b. cond b (Some (Constant value.Null)) (name_in w >>= λ x. Some (Variable x))) not_null) ∙ h in
       let p = bind-some (name_in w) (λ x. Some (Variable x)) v h2 in
-      let q = name_in_sound w p.0 p.1 in
+      let q = tested-some name_test w p.0 p.1 in
       let e : Variable p.0 ≡ v = cc (p.2) in
       subst (λ v. (Word w ≡ written v) × IsOperand v) e (ap Word q.0, q.1)
 ]
@@ -136,6 +130,17 @@ names_one_sound (t ∷ ts) xs h =
 
 differ_is : (a b : List ℕ) → not (is_text a b) ≡ true → a ≢ b
 differ_is a b h e = false≢true (sym (ap not ((bytes_eq-Decides a b).1 e)) ∙ h)
+
+-- a line that is made of two names
+two_names : (made : List ℕ → List ℕ → Line) (tokens : Token → Token → List Token) (x y : Token) (line : Line) → (name_of x >>= λ a. name_of y >>= λ b. Some (made a b)) ≡ Some line
+    → ((a b : List ℕ) → IsName a → IsName b → IsForm (made a b) (tokens (Word a) (Word b))) → IsForm line (tokens x y)
+two_names made tokens x y line h form =
+    let s0 = bind-some (name_of x) (λ a. name_of y >>= λ b. Some (made a b)) line h in
+    let k0 = name_sound x s0.0 s0.1 in
+    let s1 = bind-some (name_of y) (λ b. Some (made s0.0 b)) line s0.2 in
+    let k1 = name_sound y s1.0 s1.1 in
+    let same : tokens x y ≡ tokens (Word s0.0) (Word s1.0) = λ j. tokens (k0.0 j) (k1.0 j) in
+    subst (λ (l : Line). IsForm l (tokens x y)) (same-some _ _ s1.2) (subst (IsForm (made s0.0 s1.0)) (sym same) (form s0.0 s1.0 k0.1 k1.1))
 
 cut_sound : (ts : List Token) (line : Line) → cut_of ts ≡ Some line → IsForm line (word "cut" ∷ ts)
 cut_sound [] line h = cc
@@ -212,13 +217,7 @@ write_sound (f ∷ ts) line h =
 copy_sound : (ts : List Token) (line : Line) → copy_of ts ≡ Some line → IsForm line (word "copy" ∷ ts)
 copy_sound [] line h = cc
 copy_sound (f ∷ []) line h = cc
-copy_sound (f ∷ g ∷ []) line h =
-    let s0 = bind-some (name_of f) (λ a. (name_of g >>= λ b. Some (Plain (instr.CopyRest a b)))) line h in
-    let k0 = name_sound f s0.0 s0.1 in
-    let s1 = bind-some (name_of g) (λ b. Some (Plain (instr.CopyRest s0.0 b))) line s0.2 in
-    let k1 = name_sound g s1.0 s1.1 in
-    let e : Plain (instr.CopyRest s0.0 s1.0) ≡ line = cc (s1.2) in
-    subst (λ (made : Line). IsForm made (word "copy" ∷ f ∷ g ∷ [])) e (refl, (k0.1, k1.1), λ j. word "copy" ∷ (k0.0 j) ∷ (k1.0 j) ∷ [])
+copy_sound (f ∷ g ∷ []) line h = two_names (λ a b. Plain (instr.CopyRest a b)) (λ t u. word "copy" ∷ t ∷ u ∷ []) f g line h (λ a b p q. (refl, (p, q), refl))
 copy_sound (f ∷ g ∷ z ∷ zs) line h = cc
 
 close_sound : (ts : List Token) (line : Line) → close_of ts ≡ Some line → IsForm line (word "close" ∷ ts)
@@ -245,13 +244,7 @@ exists_sound (x ∷ v ∷ z ∷ zs) line h = cc
 wait_sound : (ts : List Token) (line : Line) → wait_of ts ≡ Some line → IsForm line (word "wait" ∷ ts)
 wait_sound [] line h = cc
 wait_sound (x ∷ []) line h = cc
-wait_sound (x ∷ p ∷ []) line h =
-    let s0 = bind-some (name_of x) (λ a. (name_of p >>= λ b. Some (Plain (instr.Wait a b)))) line h in
-    let k0 = name_sound x s0.0 s0.1 in
-    let s1 = bind-some (name_of p) (λ b. Some (Plain (instr.Wait s0.0 b))) line s0.2 in
-    let k1 = name_sound p s1.0 s1.1 in
-    let e : Plain (instr.Wait s0.0 s1.0) ≡ line = cc (s1.2) in
-    subst (λ (made : Line). IsForm made (word "wait" ∷ x ∷ p ∷ [])) e (refl, (k0.1, k1.1), λ j. word "wait" ∷ (k0.0 j) ∷ (k1.0 j) ∷ [])
+wait_sound (x ∷ p ∷ []) line h = two_names (λ a b. Plain (instr.Wait a b)) (λ t u. word "wait" ∷ t ∷ u ∷ []) x p line h (λ a b p q. (refl, (p, q), refl))
 wait_sound (x ∷ p ∷ z ∷ zs) line h = cc
 
 sql_sound : (ts : List Token) (line : Line) → sql_of ts ≡ Some line → IsForm line (word "sql" ∷ ts)
@@ -270,25 +263,13 @@ sql_sound (c ∷ v ∷ ts) line h =
 count_sound : (ts : List Token) (line : Line) → count_of ts ≡ Some line → IsForm line (word "count" ∷ ts)
 count_sound [] line h = cc
 count_sound (x ∷ []) line h = cc
-count_sound (x ∷ c ∷ []) line h =
-    let s0 = bind-some (name_of x) (λ a. (name_of c >>= λ b. Some (Plain (instr.Count a b)))) line h in
-    let k0 = name_sound x s0.0 s0.1 in
-    let s1 = bind-some (name_of c) (λ b. Some (Plain (instr.Count s0.0 b))) line s0.2 in
-    let k1 = name_sound c s1.0 s1.1 in
-    let e : Plain (instr.Count s0.0 s1.0) ≡ line = cc (s1.2) in
-    subst (λ (made : Line). IsForm made (word "count" ∷ x ∷ c ∷ [])) e (refl, (k0.1, k1.1), λ j. word "count" ∷ (k0.0 j) ∷ (k1.0 j) ∷ [])
+count_sound (x ∷ c ∷ []) line h = two_names (λ a b. Plain (instr.Count a b)) (λ t u. word "count" ∷ t ∷ u ∷ []) x c line h (λ a b p q. (refl, (p, q), refl))
 count_sound (x ∷ c ∷ z ∷ zs) line h = cc
 
 status_sound : (ts : List Token) (line : Line) → status_of ts ≡ Some line → IsForm line (word "status" ∷ ts)
 status_sound [] line h = cc
 status_sound (x ∷ []) line h = cc
-status_sound (x ∷ c ∷ []) line h =
-    let s0 = bind-some (name_of x) (λ a. (name_of c >>= λ b. Some (Plain (instr.Status a b)))) line h in
-    let k0 = name_sound x s0.0 s0.1 in
-    let s1 = bind-some (name_of c) (λ b. Some (Plain (instr.Status s0.0 b))) line s0.2 in
-    let k1 = name_sound c s1.0 s1.1 in
-    let e : Plain (instr.Status s0.0 s1.0) ≡ line = cc (s1.2) in
-    subst (λ (made : Line). IsForm made (word "status" ∷ x ∷ c ∷ [])) e (refl, (k0.1, k1.1), λ j. word "status" ∷ (k0.0 j) ∷ (k1.0 j) ∷ [])
+status_sound (x ∷ c ∷ []) line h = two_names (λ a b. Plain (instr.Status a b)) (λ t u. word "status" ∷ t ∷ u ∷ []) x c line h (λ a b p q. (refl, (p, q), refl))
 status_sound (x ∷ c ∷ z ∷ zs) line h = cc
 
 open_sound : (ts : List Token) (label : List ℕ) (line : Line) → open_of ts label ≡ Some line → IsName label → IsForm line (word "open" ∷ ts ++ word "else" ∷ Word label ∷ [])
@@ -310,12 +291,7 @@ readline_sound : (ts : List Token) (label : List ℕ) (line : Line) → readline
 readline_sound [] label line h ok = cc
 readline_sound (x ∷ []) label line h ok = cc
 readline_sound (x ∷ f ∷ []) label line h ok =
-    let s0 = bind-some (name_of x) (λ a. (name_of f >>= λ b. Some (Jumping (instr.ReadLine a b 0) label))) line h in
-    let k0 = name_sound x s0.0 s0.1 in
-    let s1 = bind-some (name_of f) (λ b. Some (Jumping (instr.ReadLine s0.0 b 0) label)) line s0.2 in
-    let k1 = name_sound f s1.0 s1.1 in
-    let e : Jumping (instr.ReadLine s0.0 s1.0 0) label ≡ line = cc (s1.2) in
-    subst (λ (made : Line). IsForm made (word "readline" ∷ x ∷ f ∷ [] ++ word "else" ∷ Word label ∷ [])) e (refl, (k0.1, k1.1), ok, λ j. word "readline" ∷ (k0.0 j) ∷ (k1.0 j) ∷ word "else" ∷ Word label ∷ [])
+    two_names (λ a b. Jumping (instr.ReadLine a b 0) label) (λ t u. word "readline" ∷ t ∷ u ∷ [] ++ word "else" ∷ Word label ∷ []) x f line h (λ a b p q. (refl, (p, q), ok, refl))
 readline_sound (x ∷ f ∷ z ∷ zs) label line h ok = cc
 
 remove_sound : (ts : List Token) (label : List ℕ) (line : Line) → remove_of ts label ≡ Some line → IsName label → IsForm line (word "remove" ∷ ts ++ word "else" ∷ Word label ∷ [])
@@ -465,7 +441,7 @@ worded_sound : (w : List ℕ) (ts : List Token) (line : Line) → worded w ts �
 worded_sound w [] line h =
     let s0 = bind-some (before_colon w) (λ front. (name_in front >>= λ name. Some (Label name))) line h in
     let s1 = bind-some (name_in s0.0) (λ name. Some (Label name)) line s0.2 in
-    let k = name_in_sound s0.0 s1.0 s1.1 in
+    let k = tested-some name_test s0.0 s1.0 s1.1 in
     let e : Label s1.0 ≡ line = cc (s1.2) in
     subst (λ (l : Line). IsForm l (Word w ∷ [])) e (k.1, ap (λ (x : List ℕ). Word x ∷ []) (colon_split w s0.0 s0.1 ∙ ap (λ (x : List ℕ). x ++ 58 ∷ []) k.0))
 worded_sound w (t ∷ ts) line h =

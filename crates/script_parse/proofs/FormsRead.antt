@@ -32,6 +32,10 @@ use Rattle.ldv_value.proofs.Booleans.{not-so}
 name_made : (x : List ℕ) → IsName x → name_of (Word x) ≡ Some x
 name_made x h = let test : name_test x ≡ true = h in ap (λ b. only_if b (Some x)) test
 
+two_names_made : (made : List ℕ → List ℕ → Line) (x y : List ℕ) → IsName x → IsName y → (name_of (Word x) >>= λ a. name_of (Word y) >>= λ b. Some (made a b)) ≡ Some (made x y)
+two_names_made made x y hx hy =
+    ap (λ o. o >>= λ a. name_of (Word y) >>= λ b. Some (made a b)) (name_made x hx) ∙ ap (λ o. o >>= λ b. Some (made x b)) (name_made y hy)
+
 -- a name isn't a word that is none
 not_name : (x w : List ℕ) → IsName x → name_test w ≡ false → is_text x w ≡ false
 not_name x w h none = not-so (is_text x w) (λ same. false≢true (sym none ∙ ap name_test (sym (text_is x w same)) ∙ h))
@@ -133,9 +137,7 @@ write_complete a b ha hb =
     ∙ ap (λ o. o >>= λ b′. Some (Plain (instr.WriteLine a b′))) (operands_one_made b hb)
 
 copy_complete : (a : List ℕ) (b : List ℕ) → IsName a → IsName b → copy_of (Word a ∷ Word b ∷ []) ≡ Some (Plain (instr.CopyRest a b))
-copy_complete a b ha hb =
-    ap (λ o. o >>= λ a′. (name_of (Word b) >>= λ b′. Some (Plain (instr.CopyRest a′ b′)))) (name_made a ha)
-    ∙ ap (λ o. o >>= λ b′. Some (Plain (instr.CopyRest a b′))) (name_made b hb)
+copy_complete a b ha hb = two_names_made (λ x y. Plain (instr.CopyRest x y)) a b ha hb
 
 close_complete : (a : List ℕ) → IsName a → close_of (Word a ∷ []) ≡ Some (Plain (instr.Close a))
 close_complete a ha =
@@ -147,9 +149,7 @@ exists_complete a b ha hb =
     ∙ ap (λ o. o >>= λ b′. Some (Plain (instr.Exists a b′))) (operand_made b hb)
 
 wait_complete : (a : List ℕ) (b : List ℕ) → IsName a → IsName b → wait_of (Word a ∷ Word b ∷ []) ≡ Some (Plain (instr.Wait a b))
-wait_complete a b ha hb =
-    ap (λ o. o >>= λ a′. (name_of (Word b) >>= λ b′. Some (Plain (instr.Wait a′ b′)))) (name_made a ha)
-    ∙ ap (λ o. o >>= λ b′. Some (Plain (instr.Wait a b′))) (name_made b hb)
+wait_complete a b ha hb = two_names_made (λ x y. Plain (instr.Wait x y)) a b ha hb
 
 sql_complete : (a : List ℕ) (b : Operand) (d : List Operand) → IsName a → IsOperand b → AreOperands 255 d → sql_of (Word a ∷ written b ∷ map written d) ≡ Some (Plain (instr.Sql a b d))
 sql_complete a b d ha hb hd =
@@ -158,14 +158,10 @@ sql_complete a b d ha hb hd =
     ∙ ap (λ o. o >>= λ d′. Some (Plain (instr.Sql a b d′))) (operands_most_made d hd)
 
 count_complete : (a : List ℕ) (b : List ℕ) → IsName a → IsName b → count_of (Word a ∷ Word b ∷ []) ≡ Some (Plain (instr.Count a b))
-count_complete a b ha hb =
-    ap (λ o. o >>= λ a′. (name_of (Word b) >>= λ b′. Some (Plain (instr.Count a′ b′)))) (name_made a ha)
-    ∙ ap (λ o. o >>= λ b′. Some (Plain (instr.Count a b′))) (name_made b hb)
+count_complete a b ha hb = two_names_made (λ x y. Plain (instr.Count x y)) a b ha hb
 
 status_complete : (a : List ℕ) (b : List ℕ) → IsName a → IsName b → status_of (Word a ∷ Word b ∷ []) ≡ Some (Plain (instr.Status a b))
-status_complete a b ha hb =
-    ap (λ o. o >>= λ a′. (name_of (Word b) >>= λ b′. Some (Plain (instr.Status a′ b′)))) (name_made a ha)
-    ∙ ap (λ o. o >>= λ b′. Some (Plain (instr.Status a b′))) (name_made b hb)
+status_complete a b ha hb = two_names_made (λ x y. Plain (instr.Status x y)) a b ha hb
 
 open_complete : (a : List ℕ) (b : OpenMode) (d : Operand) (label : List ℕ) → IsName a → IsOperand d → open_of (Word a ∷ Word (mode_text b) ∷ written d ∷ []) label ≡ Some (Jumping (instr.OpenPath a b d 0) label)
 open_complete a b d label ha hd =
@@ -174,9 +170,7 @@ open_complete a b d label ha hd =
     ∙ ap (λ o. o >>= λ d′. Some (Jumping (instr.OpenPath a b d′ 0) label)) (operand_made d hd)
 
 readline_complete : (a : List ℕ) (b : List ℕ) (label : List ℕ) → IsName a → IsName b → readline_of (Word a ∷ Word b ∷ []) label ≡ Some (Jumping (instr.ReadLine a b 0) label)
-readline_complete a b label ha hb =
-    ap (λ o. o >>= λ a′. (name_of (Word b) >>= λ b′. Some (Jumping (instr.ReadLine a′ b′ 0) label))) (name_made a ha)
-    ∙ ap (λ o. o >>= λ b′. Some (Jumping (instr.ReadLine a b′ 0) label)) (name_made b hb)
+readline_complete a b label ha hb = two_names_made (λ x y. Jumping (instr.ReadLine x y 0) label) a b ha hb
 
 remove_complete : (a : Operand) (label : List ℕ) → IsOperand a → remove_of (written a ∷ []) label ≡ Some (Jumping (instr.Remove a 0) label)
 remove_complete a label ha =

@@ -11,7 +11,6 @@ pub mod LookUp
 pub mod Magnitude
 pub mod NumberLaw
 pub mod ScriptLaw
-pub mod TokensFrom
 pub mod TokensLaw
 pub mod TokensRead
 pub mod Utf8Law

@@ -1,28 +1,28 @@
 -- The tokens of the grammar are those that are read.
-use Rattle.std.proofs.Common.{◌≡◌, ◌≢◌, ℕ, ◌<◌, ◌≤◌, List, [], ◌∷◌, ◌++◌, length, refl, sym, ap, ◌∙◌, subst, cond, true, false, inl, inr, Some, None, leb, arith, append_assoc, ℤ}
+use Rattle.std.proofs.Common.{◌≡◌, ◌≢◌, ℕ, ◌<◌, List, [], ◌∷◌, ◌++◌, length, refl, sym, ap, ◌∙◌, subst, true, false, inl, inr, Some, None, arith, append_assoc, ℤ}
 use Rattle.std.specs.Prelude.{◌==◌, IsTrue, IsUtf8, Option, option_to_list}
 use Rattle.std.specs.List.{AllByRecursion}
-use Rattle.std.proofs.lemmas.Bool.{cases_Bool, eqb-true, eq-eqb, false≢true, le-leb}
-use Rattle.std.proofs.lemmas.Str.{is_utf8-from_IsUtf8, IsUtf8-nil}
+use Rattle.std.proofs.lemmas.Bool.{cases_Bool, eqb-true, eq-eqb, false≢true}
+use Rattle.std.proofs.lemmas.Str.{IsUtf8-nil}
 use Rattle.script_parse.specs.declared.token.Token.{Token}
 use Rattle.script_parse.specs.declared.token.Token.TheVariants.{Word, Number, Quoted}
 use Rattle.script_parse.specs.declared.scan.LexState.{LexState}
 use Rattle.script_parse.specs.declared.scan.LexState.TheVariants.{Between, InWord, InText, Escaped, Closed}
 use Rattle.ldv_value.specs.Options.{◌>>=◌}
 use Rattle.script_parse.specs.Number.{is_digit, number_of}
-use Rattle.ldv_value.specs.Texts.{text_of}
+use Rattle.ldv_value.specs.Limits.{text_limit}
 use Rattle.ldv_value.specs.Scan.{before}
-use Rattle.script_parse.specs.Tokens.{is_blank, word_or_number, word_token, text_token, tokens_from, tokens_of}
+use Rattle.script_parse.specs.Tokens.{is_blank, word_or_number, word_token, text_token, step, finish, tokens_from, tokens_of}
 use Rattle.script_parse.specs.Grammar.{AreDigits, IsNumber, Spells, IsBare, IsToken, AreBlanks, EndsToken, AreTokens}
 use Rattle.ldv_value.proofs.Cases.{cases-option}
 use Rattle.script_parse.proofs.LinesLaw.{ne_eqb}
 use Rattle.script_parse.proofs.NumberLaw.{number_sound, number_complete}
 use Rattle.script_parse.proofs.TokensLaw.{NoBlanks, escape_complete}
-use Rattle.ldv_value.proofs.Utf8Parts.{utf8-tail, utf8-cut}
+use Rattle.ldv_value.proofs.Utf8Parts.{utf8-tail, utf8-cut, text-made, short_text-made}
 use Rattle.script_parse.proofs.Utf8Law.{spells_utf8}
 use Rattle.ldv_value.proofs.Booleans.{not-so}
 use Rattle.ldv_value.proofs.Lists.{append-nil}
-use Rattle.ldv_value.proofs.Scanning.{before-none}
+use Rattle.ldv_value.proofs.Scanning.{before-none, stays-run, stays-only}
 
 blank_low : (b : ℕ) → IsTrue (is_blank b) → b < 128
 blank_low b h = elim (cases_Bool (b == 32)) [
@@ -44,17 +44,11 @@ abbrev on : List ℕ → Option (LexState × Option Token) → Option (List Toke
 on rest o = o >>= λ s. before (option_to_list s.1) (tokens_from rest s.0)
 
 -- blanks are passed over
-blanks_run : (front line : List ℕ) → AreBlanks front → tokens_from (front ++ line) Between ≡ tokens_from line Between
-blanks_run [] line h = refl
-blanks_run (b ∷ front) line h =
-    let blank : is_blank b ≡ true = h.0 in
-    rw blank (before-none (tokens_from (front ++ line) Between) ∙ blanks_run front line h.1)
+abbrev IsBlank : ℕ → Type 0
+IsBlank b = IsTrue (is_blank b)
 
-blanks_only : (line : List ℕ) → AreBlanks line → tokens_from line Between ≡ Some []
-blanks_only [] h = refl
-blanks_only (b ∷ line) h =
-    let blank : is_blank b ≡ true = h.0 in
-    rw blank (before-none (tokens_from line Between) ∙ blanks_only line h.1)
+blank_stays : (b : ℕ) → IsTrue (is_blank b) → step Between b ≡ Some (Between, None)
+blank_stays b h = let blank : is_blank b ≡ true = h in rw blank refl
 
 -- the bytes of a token without quotes
 word_run : (piece w rest : List ℕ) (k : Token) → NoBlanks piece → EndsToken rest → word_token (w ++ piece) ≡ Some k → tokens_from (piece ++ rest) (InWord w) ≡ before (k ∷ []) (tokens_from rest Between)
@@ -146,30 +140,25 @@ utf8_inside body u = (utf8-cut body 34 [] (omega arith) (utf8-tail 34 (body ++ 3
 
 word_made : (w : List ℕ) → IsUtf8 w → ((z : ℤ) → ¬ IsNumber w z) → word_token w ≡ Some (Word w)
 word_made w u not = elim (cases-option (number_of w)) [
-  | inl none ↦ ap (word_or_number w) none ∙ ap (λ b. cond b (Some w) None >>= λ t. Some (Word t)) (is_utf8-from_IsUtf8 w u)
+  | inl none ↦ ap (word_or_number w) none ∙ text-made Word w u
   | inr some ↦ absurd (not some.0 (number_sound w some.0 some.1))
 ]
-
-text_of-string : (text : List ℕ) → IsUtf8 text → length text ≤ 65536 → text_token text ≡ Some (Quoted text)
-text_of-string text u fits =
-    let test : leb (length text) 65536 ≡ true = le-leb _ _ fits in
-    ap (λ b. cond b (text_of text >>= λ t. Some (Quoted t)) None) test ∙ ap (λ b. cond b (Some text) None >>= λ t. Some (Quoted t)) (is_utf8-from_IsUtf8 text u)
 
 token_run : (t : Token) (piece rest : List ℕ) → IsUtf8 piece → IsToken piece t → EndsToken rest → tokens_from (piece ++ rest) Between ≡ before (t ∷ []) (tokens_from rest Between)
 token_run (Word w) piece rest u (e, bare, not) ends = bare_run piece rest (Word w) bare ends (word_made piece u not ∙ ap (λ (l : List ℕ). Some (Word l)) e)
 token_run (Number z) piece rest u is ends = bare_run piece rest (Number z) (number_bare piece z is) ends (ap (word_or_number piece) (number_complete piece z is))
 token_run (Quoted text) piece rest u (body, e, spells, fits) ends =
     let inner : IsUtf8 body = utf8_inside body (subst IsUtf8 e u) in
-    let token : text_token text ≡ Some (Quoted text) = text_of-string text (spells_utf8 (length text) body text (omega arith) spells inner) fits in
+    let token : text_token text ≡ Some (Quoted text) = short_text-made Quoted text (spells_utf8 (length text) body text (omega arith) spells inner) text_limit fits in
     ap (λ (l : List ℕ). tokens_from (l ++ rest) Between) e
     ∙ before-none (tokens_from ((body ++ 34 ∷ []) ++ rest) (InText []))
     ∙ ap (λ (l : List ℕ). tokens_from l (InText [])) (append_assoc body (34 ∷ []) rest)
     ∙ text_run text body [] rest (Quoted text) spells ends token
 
 pub tokens_complete : (ts : List Token) (line : List ℕ) → IsUtf8 line → AreTokens line ts → tokens_of line ≡ Some ts
-tokens_complete [] line u h = blanks_only line h
+tokens_complete [] line u h = stays-only step finish IsBlank Between blank_stays line h
 tokens_complete (t ∷ ts) line u (front, piece, rest, e, blanks, is, ends, more) =
     let behind : IsUtf8 (piece ++ rest) = utf8_blanks front (piece ++ rest) blanks (subst IsUtf8 e u) in
     let parts = utf8_parts piece rest ends behind in
-    ap (λ (l : List ℕ). tokens_from l Between) e ∙ blanks_run front (piece ++ rest) blanks ∙ token_run t piece rest parts.0 is ends
+    ap (λ (l : List ℕ). tokens_from l Between) e ∙ stays-run step finish IsBlank Between blank_stays front (piece ++ rest) blanks ∙ token_run t piece rest parts.0 is ends
     ∙ ap (before (t ∷ [])) (tokens_complete ts rest parts.1 more)

@@ -1,6 +1,6 @@
 //! From the bytes of a line to its tokens.
 
-ghost use Rattle.std.specs.Prelude.{◌≡◌, ◌++◌, OnErr, OnOk, option_to_list};
+ghost use Rattle.std.specs.Prelude.{◌≡◌};
 ghost use Rattle.script_parse.specs.Gives.{Gives};
 ghost use Rattle.script_parse.specs.Tokens.{is_blank, escape_of, step_between, step_in_word, step_in_text};
 ghost use Rattle.script_parse.specs.Tokens.{step_escaped, step_closed, step, finish, tokens_of};
@@ -8,7 +8,7 @@ ghost use Rattle.script_parse.specs.Tokens.{step_escaped, step_closed, step, fin
 use crate::line_error::LineError;
 use crate::token::{Token, Tokens, text_token, word_token};
 use ldv_value::Bytes;
-use std::alloc::{AllocError, Global};
+use std::alloc::Global;
 
 /// The state of the scanner of a line.
 #[derive(Drop)]
@@ -33,21 +33,12 @@ pub(crate) fn tokens(alloc: Global, line: &[u8]) -> Result<Tokens, LineError>
     let mut place = LexState::Between;
     for b in line {
         let (next, token) = step(alloc, place, *b)?;
-        add(&mut tokens, token)?;
+        tokens.push_some(token)?;
         place = next;
     }
     let token = finish(place)?;
-    add(&mut tokens, token)?;
+    tokens.push_some(token)?;
     Ok(tokens)
-}
-
-fn add(tokens: &mut Tokens, token: Option<Token>) -> Result<(), AllocError>
-    ensures { OnOk result (tokens.new ≡ tokens.old ++ option_to_list token) }
-{
-    if let Some(token) = token {
-        tokens.push(token)?;
-    }
-    Ok(())
 }
 
 fn step(alloc: Global, place: LexState, b: u8) -> Result<(LexState, Option<Token>), LineError>
