@@ -31,10 +31,11 @@ use Rattle.sql_parse.specs.Columns.{column_after}
 use Rattle.ldv_value.specs.Options.{◌>>=◌, only_if}
 use Rattle.sql_model.specs.Grammar.{word, fold_word, Writes, IsName, IsConstant, IsColumn, IsExpr}
 use Rattle.sql_parse.specs.Reader.{starts, tail, after_word, name_in, reads_name, repeat}
+use Rattle.sql_parse.proofs.Named.{name_taken}
 use Rattle.sql_parse.proofs.Repeat.{after, repeat_none, repeat_suc}
 use Rattle.sql_parse.proofs.ExpressionsDepth.{within_depth}
 use Rattle.sql_parse.proofs.Within.{within_none, within_suc}
-use Rattle.ldv_value.proofs.Options.{bind-some, only_if-some, if-some, same-some}
+use Rattle.ldv_value.proofs.Options.{bind-some, only_if-some, if-some, same-some, tested-some}
 use Rattle.ldv_value.proofs.Booleans.{and-parts}
 
 pub text_is : (a b : List ℕ) → pointwise nat_eq a b ≡ true → a ≡ b
@@ -121,22 +122,12 @@ count_sound least ts p le h =
       | inr more ↦ around_sound least (FoldOf fold.Count) (word "count" ∷ ts) b.0 p (ap (λ l. word "count" ∷ l) begun) (omega (arith, le)) more
     ]
 
-name_sound : (ts : List Token) (r : List ℕ × List Token) → reads_name ts ≡ Some r → (ts ≡ Word r.0 ∷ r.1) × IsName r.0
-name_sound [] r h = cc
-name_sound (Word w ∷ ts) r h =
-    let b : (n : List ℕ) × (name_in w ≡ Some n) × (Some (n, ts) ≡ Some r) = bind-some (name_in w) (λ n. Some (n, ts)) r h in
-    let c : (sql_name_test w ≡ true) × (Some w ≡ Some b.0) = only_if-some (sql_name_test w) (Some w) b.0 b.1 in
-    subst (λ (q : List ℕ × List Token). (Word w ∷ ts ≡ Word q.0 ∷ q.1) × IsName q.0) (same-some _ _ (ap (λ n. Some (n, ts)) (same-some _ _ c.1) ∙ b.2)) (refl, c.0)
-name_sound (Number z ∷ ts) r h = cc
-name_sound (Quoted t ∷ ts) r h = cc
-name_sound (Given v ∷ ts) r h = cc
-
 column_sound : (n : List ℕ) (ts : List Token) (p : ColumnName × List Token) → IsName n → column_after n ts ≡ Some p → (front : List Token) × (Word n ∷ ts ≡ front ++ p.1) × IsColumn front p.0
 column_sound n ts p named h =
     elim (if-some (starts (codes ".") ts) (reads_name (tail ts) >>= λ r. Some (record { table = Some n; name = r.0 }, r.1)) (Some (record { table = None; name = n }, ts)) p h) [
       | inl dot ↦
           let b : (r : List ℕ × List Token) × (reads_name (tail ts) ≡ Some r) × (Some (record { table = Some n; name = r.0 }, r.1) ≡ Some p) = bind-some (reads_name (tail ts)) (λ r. Some (record { table = Some n; name = r.0 }, r.1)) p dot.1 in
-          let second : (tail ts ≡ Word b.0.0 ∷ b.0.1) × IsName b.0.0 = name_sound (tail ts) b.0 b.1 in
+          let second : (tail ts ≡ Word b.0.0 ∷ b.0.1) × IsName b.0.0 = name_taken (tail ts) b.0.0 b.0.1 b.1 in
           subst (λ (q : ColumnName × List Token). (front : List Token) × (Word n ∷ ts ≡ front ++ q.1) × IsColumn front q.0) (same-some _ _ b.2)
           (Word n ∷ word "." ∷ Word b.0.0 ∷ [], ap (λ l. Word n ∷ l) (starts_is (codes ".") ts dot.0 ∙ ap (λ l. word "." ∷ l) second.0), inr (n, refl, refl, named, second.1))
       | inr alone ↦
@@ -149,11 +140,10 @@ at_word least w v ts p is opened = subst (λ (u : List ℕ). Opened least (Word 
 column_opened : (least : ℕ) (w : List ℕ) (ts : List Token) (p : Opening × List Token) → column_opening w ts ≡ Some p → Opened least (Word w ∷ ts) p
 column_opened least w ts p h =
     let b : (n : List ℕ) × (name_in w ≡ Some n) × ((column_after n ts >>= λ c. Some (Leaf (expr.Column c.0), c.1)) ≡ Some p) = bind-some (name_in w) (λ n. column_after n ts >>= λ c. Some (Leaf (expr.Column c.0), c.1)) p h in
-    let c : (sql_name_test w ≡ true) × (Some w ≡ Some b.0) = only_if-some (sql_name_test w) (Some w) b.0 b.1 in
-    let same : w ≡ b.0 = same-some _ _ c.1 in
+    let named : (w ≡ b.0) × IsName b.0 = tested-some sql_name_test w b.0 b.1 in
     let d : (q : ColumnName × List Token) × (column_after b.0 ts ≡ Some q) × (Some (Leaf (expr.Column q.0), q.1) ≡ Some p) = bind-some (column_after b.0 ts) (λ c. Some (Leaf (expr.Column c.0), c.1)) p b.2 in
-    let made : (front : List Token) × (Word b.0 ∷ ts ≡ front ++ d.0.1) × IsColumn front d.0.0 = column_sound b.0 ts d.0 (subst IsName same c.0) d.1 in
-    subst (Opened least (Word w ∷ ts)) (same-some _ _ d.2) (made.0, ap (λ u. Word u ∷ ts) same ∙ made.1, IsExpr.AColumn made.0 d.0.0 made.2)
+    let made : (front : List Token) × (Word b.0 ∷ ts ≡ front ++ d.0.1) × IsColumn front d.0.0 = column_sound b.0 ts d.0 named.1 d.1 in
+    subst (Opened least (Word w ∷ ts)) (same-some _ _ d.2) (made.0, ap (λ u. Word u ∷ ts) named.0 ∙ made.1, IsExpr.AColumn made.0 d.0.0 made.2)
 
 choose : {A G : Type 0} (b : Bool) (o q : Option A) (y : A) → (if b then o else q) ≡ Some y → (b ≡ true → o ≡ Some y → G) → (q ≡ Some y → G) → G
 choose true o q y h f g = f refl h

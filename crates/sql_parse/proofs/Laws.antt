@@ -3,16 +3,16 @@ use Rattle.std.proofs.Common.{◌≡◌, ℕ, List, [], ◌∷◌, ◌++◌, ref
 use Rattle.std.specs.Prelude.{Option, if◌then◌else◌, codes}
 use Prim.Native.String.{String}
 use Rattle.sql_model.specs.declared.token.Token.{Token}
-use Rattle.sql_model.specs.declared.token.Token.TheVariants.{Word, Number, Quoted, Given}
+use Rattle.sql_model.specs.declared.token.Token.TheVariants.{Word}
 use Rattle.ldv_value.specs.Options.{◌>>=◌, only_if}
-use Rattle.sql_model.specs.SqlNames.{sql_name_test}
 use Rattle.sql_model.specs.Grammar.{word, IsName}
 use Rattle.sql_model.specs.GrammarOfStatements.{Then, After, Flag, Optionally, Named}
-use Rattle.sql_parse.specs.Reader.{starts, tail, passed, after_word, reads_token, name_of, reads_name}
+use Rattle.sql_parse.specs.Reader.{starts, tail, passed, after_word, reads_token, reads_name}
 use Rattle.sql_parse.proofs.Choices.{choose}
 use Rattle.sql_parse.proofs.ExpressionsLaw.{starts_is, after_is}
+use Rattle.sql_parse.proofs.Named.{name_taken}
 use Rattle.sql_parse.proofs.Follows.{all_words, among, ends_by, lacks, ends_lack, ends_more, Follows, starts_self, after_self}
-use Rattle.ldv_value.proofs.Options.{bind-some, only_if-some, same-some}
+use Rattle.ldv_value.proofs.Options.{bind-some, same-some}
 
 -- What is read from the front of tokens has the form, and what has the form is read from the front, where
 -- what stands after it is nothing or begins with one of the words.
@@ -181,25 +181,8 @@ flag_law {X = X} {Form = Form} {ws = ws} {next = next} s laws apart = record { s
 
 -- ---- names
 
-pub name_is : (t : Token) (x : List ℕ) → name_of t ≡ Some x → (t ≡ Word x) × IsName x
-name_is (Word w) x h =
-    let p : (sql_name_test w ≡ true) × (Some w ≡ Some x) = only_if-some (sql_name_test w) (Some w) x h in
-    let same : w ≡ x = same-some w x p.1 in
-    (ap Word same, subst IsName same p.0)
-name_is (Number z) x h = cc
-name_is (Quoted t) x h = cc
-name_is (Given v) x h = cc
-
 pub name_read : (x : List ℕ) (rest : List Token) → IsName x → reads_name (Word x ∷ rest) ≡ Some (x, rest)
 name_read x rest is = ap (λ b. only_if b (Some x) >>= λ n. Some (n, rest)) is
-
-pub name_taken : (ts : List Token) (x : List ℕ) (rest : List Token) → reads_name ts ≡ Some (x, rest) → (ts ≡ Word x ∷ rest) × IsName x
-name_taken [] x rest h = cc
-name_taken (t ∷ ts) x rest h =
-    let p : (n : List ℕ) × (name_of t ≡ Some n) × (Some (n, ts) ≡ Some (x, rest)) = bind-some (name_of t) (λ n. Some (n, ts)) (x, rest) h in
-    let is : (t ≡ Word p.0) × IsName p.0 = name_is t p.0 p.1 in
-    let same : (p.0, ts) ≡ (x, rest) = same-some _ _ p.2 in
-    (ap (λ u. u ∷ ts) is.0 ∙ ap (λ (q : List ℕ × List Token). Word q.0 ∷ q.1) same, subst IsName (ap (λ (q : List ℕ × List Token). q.0) same) is.1)
 
 pub name_law : (ws : List (List ℕ)) → Law Named ws reads_name
 name_law ws = record {

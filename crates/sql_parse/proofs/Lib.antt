@@ -5,6 +5,7 @@ pub mod ExpressionsDepth
 pub mod ExpressionsLaw
 pub mod Follows
 pub mod Laws
+pub mod Named
 pub mod PartsLaw
 pub mod Placed
 pub mod QueriesLaw

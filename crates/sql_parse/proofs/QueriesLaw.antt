@@ -17,7 +17,8 @@ use Rattle.sql_parse.specs.Queries.{place_of, key_of, reads_key, directed, reads
 use Rattle.sql_parse.specs.Reader.{starts, tail, passed, name_in}
 use Rattle.sql_parse.proofs.ExpressionsLaw.{starts_is}
 use Rattle.sql_parse.proofs.Follows.{ends_by, ends_lack, Follows, follows_after, follows_nothing, follows_optional, follows_then}
-use Rattle.sql_parse.proofs.Laws.{Law, state_law, same_law, nothing_law, token_law, token_read, after_law, then_law, made_law, either_law, name_is}
+use Rattle.sql_parse.proofs.Laws.{Law, state_law, same_law, nothing_law, token_law, token_read, after_law, then_law, made_law, either_law}
+use Rattle.sql_parse.proofs.Named.{name_is}
 use Rattle.ldv_value.proofs.Options.{bind-some, same-some}
 use Rattle.sql_parse.proofs.PartsLaw.{comma, listed_law, then_filled}
 use Rattle.sql_parse.proofs.CoresLaw.{after_cores, cores_law, cores_start}

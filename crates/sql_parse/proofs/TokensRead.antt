@@ -3,9 +3,9 @@ use Rattle.std.proofs.Common.{◌≡◌, ℕ, ◌+◌, ◌-◌, ◌*◌, ◌^◌
 use Rattle.std.specs.Prelude.{◌==◌, ◌&&◌, IsTrue, IsUtf8, nat_le}
 use Rattle.std.specs.List.{AllByRecursion}
 use Rattle.std.specs.Str.{IsAscii}
-use Rattle.std.proofs.lemmas.Bool.{cases_Bool, eqb-true, leb-true, le-leb, lt-ltb}
+use Rattle.std.proofs.lemmas.Bool.{cases_Bool, eqb-true, leb-true, lt-ltb}
 use Rattle.std.proofs.lemmas.List.{length-map}
-use Rattle.std.proofs.lemmas.Str.{is_utf8-from_IsUtf8, IsUtf8-from_ascii}
+use Rattle.std.proofs.lemmas.Str.{IsUtf8-from_ascii}
 use Rattle.std.proofs.lemmas.Str.Ascii.{IsAscii-nil, IsAscii-cons}
 use Rattle.sql_model.specs.declared.token.Token.{Token}
 use Rattle.sql_model.specs.declared.token.Token.TheVariants.{Word, Number, Quoted, Given}
@@ -14,14 +14,15 @@ use Rattle.sql_parse.specs.declared.state.LexState.TheVariants.{Between, InWord,
 use Rattle.ldv_value.specs.Options.{◌>>=◌}
 use Rattle.sql_model.specs.GrammarOfTokens.{AreBlanks, BeginsNot, is_inside, is_quote, digits_from, doubled, IsSymbol, IsWhole, IsToken, Spells}
 use Rattle.sql_model.specs.TextBytes.{is_blank, is_letter, is_upper, is_digit, folded}
-use Rattle.ldv_value.specs.Texts.{text_of}
+use Rattle.ldv_value.specs.Limits.{text_limit}
 use Rattle.ldv_value.specs.Scan.{before}
-use Rattle.sql_parse.specs.Tokens.{begins_symbol, is_pair, longer, word_token, number_token, text_token, symbol_token, short_symbol, start, tokens_from, tokens_of}
+use Rattle.sql_parse.specs.Tokens.{begins_symbol, is_pair, longer, word_token, number_token, text_token, symbol_token, short_symbol, start, step, finish, tokens_from, tokens_of}
+use Rattle.ldv_value.proofs.Scanning.{stays-run, stays-only}
 use Rattle.sql_parse.proofs.Choices.{or_go}
 use Rattle.sql_parse.proofs.Symbols.{pair_symbol, symbol_low}
 use Rattle.sql_parse.proofs.TokensSteps.{put, start_goes, word_closes, number_closes, quote_closes, symbol_closes, ended_closes, word_goes, number_goes, text_goes, text_quote, quote_quote, pair_goes}
 use Rattle.sql_parse.proofs.TokensSound.{LIMIT, AreInside, AreAllDigits, longer_is}
-use Rattle.ldv_value.proofs.Utf8Parts.{utf8-tail, utf8-cut, utf8-rest}
+use Rattle.ldv_value.proofs.Utf8Parts.{utf8-tail, utf8-cut, utf8-rest, text-made, short_text-made}
 use Rattle.sql_parse.proofs.Quotes.{doubled_utf8}
 use Rattle.ldv_value.proofs.Booleans.{and-parts, not-so}
 
@@ -69,9 +70,6 @@ all_ascii (b ∷ piece) h = IsAscii-cons (folded b) (map folded piece) (folded_l
 
 -- ---- where a token begins
 
-blank_starts : (b : ℕ) → IsTrue (is_blank b) → start b ≡ Some Between
-blank_starts b h = let is : is_blank b ≡ true = h in rw is refl
-
 letter_starts : (b : ℕ) → is_letter b ≡ true → start b ≡ Some (InWord (folded b ∷ []))
 letter_starts b h = rw (letter_no_blank b h, h) refl
 
@@ -81,13 +79,11 @@ digit_starts b h = rw (digit_no_blank b h, digit_no_letter b h, h) refl
 begin : (b : ℕ) (bs : List ℕ) (p : LexState) → start b ≡ Some p → tokens_from (b ∷ bs) Between ≡ tokens_from bs p
 begin b bs p h = start_goes b bs ∙ ap (λ o. o >>= λ p. tokens_from bs p) h
 
-blanks_run : (front line : List ℕ) → AreBlanks front → tokens_from (front ++ line) Between ≡ tokens_from line Between
-blanks_run [] line h = refl
-blanks_run (b ∷ front) line h = begin b (front ++ line) Between (blank_starts b h.0) ∙ blanks_run front line h.1
+abbrev IsBlank : ℕ → Type 0
+IsBlank b = IsTrue (is_blank b)
 
-blanks_only : (line : List ℕ) → AreBlanks line → tokens_from line Between ≡ Some []
-blanks_only [] h = refl
-blanks_only (b ∷ line) h = begin b line Between (blank_starts b h.0) ∙ blanks_only line h.1
+blank_stays : (b : ℕ) → IsTrue (is_blank b) → step Between b ≡ Some (Between, None)
+blank_stays b h = let blank : is_blank b ≡ true = h in rw blank refl
 
 -- ---- the bytes of a token
 
@@ -121,13 +117,7 @@ text_run (b ∷ text) t rest ends = elim (cases_Bool (is_quote b)) [
 
 word_made : (w : List ℕ) → IsAscii w → length w ≤ 63 → word_token w ≡ Some (Word w)
 word_made w ascii short =
-    ap (λ c. cond c (text_of w >>= λ t. Some (Word t)) None) (le-leb (length w) 63 short)
-    ∙ ap (λ c. cond c (Some w) None >>= λ t. Some (Word t)) (is_utf8-from_IsUtf8 w (IsUtf8-from_ascii w ascii))
-
-text_of-string : (t : List ℕ) → IsUtf8 t → length t ≤ 65536 → text_token t ≡ Some (Quoted t)
-text_of-string t u short =
-    ap (λ c. cond c (text_of t >>= λ u. Some (Quoted u)) None) (le-leb (length t) 65536 short)
-    ∙ ap (λ c. cond c (Some t) None >>= λ u. Some (Quoted u)) (is_utf8-from_IsUtf8 t u)
+    short_text-made Word w (IsUtf8-from_ascii w ascii) 63 short
 
 number_made : (n : ℕ) → n ≤ 9223372036854775807 → number_token (min n LIMIT) ≡ Some (Number (pos n))
 number_made n fits =
@@ -138,7 +128,7 @@ number_made n fits =
 -- ---- symbols
 
 symbol_made : (s : List ℕ) → IsAscii s → symbol_token s ≡ Some (Word s)
-symbol_made s ascii = ap (λ c. cond c (Some s) None >>= λ t. Some (Word t)) (is_utf8-from_IsUtf8 s (IsUtf8-from_ascii s ascii))
+symbol_made s ascii = text-made Word s (IsUtf8-from_ascii s ascii)
 
 one_made : (b : ℕ) → b < 128 → symbol_token (b ∷ []) ≡ Some (Word (b ∷ []))
 one_made b low = symbol_made (b ∷ []) (IsAscii-cons b [] low IsAscii-nil)
@@ -205,7 +195,7 @@ token_run (Quoted text) piece rest u (e, short, ends) =
     ap (λ (l : List ℕ). tokens_from (l ++ rest) Between) e
     ∙ begin 39 ((doubled text ++ 39 ∷ []) ++ rest) (InText []) refl
     ∙ ap (λ (l : List ℕ). tokens_from l (InText [])) (append_assoc (doubled text) (39 ∷ []) rest)
-    ∙ text_run text [] rest ends ∙ ap (λ o. put o rest) (text_of-string text (doubled_utf8 text inner) short)
+    ∙ text_run text [] rest ends ∙ ap (λ o. put o rest) (short_text-made Quoted text (doubled_utf8 text inner) text_limit short)
 token_run (Given v) piece rest u is = absurd is
 
 -- ---- what stands after a token is UTF-8
@@ -235,8 +225,8 @@ after_token (Given v) piece rest u is = absurd is
 -- ---- all of them
 
 pub tokens_complete : (ts : List Token) (bytes : List ℕ) → IsUtf8 bytes → Spells bytes ts → tokens_of bytes ≡ Some ts
-tokens_complete [] bytes u h = blanks_only bytes h
+tokens_complete [] bytes u h = stays-only step finish IsBlank Between blank_stays bytes h
 tokens_complete (t ∷ ts) bytes u (front, piece, rest, e, blanks, is, more) =
     let after_word : IsUtf8 (piece ++ rest) = utf8-rest front (piece ++ rest) (blank_bytes front blanks) (subst IsUtf8 e u) in
-    ap (λ (l : List ℕ). tokens_from l Between) e ∙ blanks_run front (piece ++ rest) blanks ∙ token_run t piece rest after_word is
+    ap (λ (l : List ℕ). tokens_from l Between) e ∙ stays-run step finish IsBlank Between blank_stays front (piece ++ rest) blanks ∙ token_run t piece rest after_word is
     ∙ ap (before (t ∷ [])) (tokens_complete ts rest (after_token t piece rest after_word is) more)

@@ -1,6 +1,6 @@
 //! From the bytes of a text to its tokens.
 
-ghost use Rattle.std.specs.Prelude.{◌≡◌, ◌-◌, ◌++◌, OnOk, IsTrue, option_to_list};
+ghost use Rattle.std.specs.Prelude.{◌≡◌, ◌-◌, IsTrue};
 ghost use Rattle.sql_parse.specs.Gives.{Gives};
 ghost use Rattle.sql_model.specs.TextBytes.{is_blank, is_digit, is_upper, is_letter, folded};
 ghost use Rattle.sql_parse.specs.Tokens.{is_whole_symbol, begins_symbol, is_pair, short_symbol, longer};
@@ -13,7 +13,7 @@ use crate::stop::ParseStop;
 use crate::token::{Tokens, number_token, symbol_token, text_token, word_token};
 use ldv_value::Bytes;
 use sql_model::Token;
-use std::alloc::{AllocError, Global};
+use std::alloc::Global;
 
 /// The tokens of a text.
 #[tactic(auto, using(crate::proofs::TokensFrom::scan_rules))]
@@ -24,21 +24,12 @@ pub(crate) fn tokens(alloc: Global, text: &[u8]) -> Result<Tokens, ParseStop>
     let mut place = LexState::Between;
     for b in text {
         let (next, token) = step(alloc, place, *b)?;
-        add(&mut tokens, token)?;
+        tokens.push_some(token)?;
         place = next;
     }
     let token = finish(alloc, place)?;
-    add(&mut tokens, token)?;
+    tokens.push_some(token)?;
     Ok(tokens)
-}
-
-fn add(tokens: &mut Tokens, token: Option<Token>) -> Result<(), AllocError>
-    ensures { OnOk result (tokens.new ≡ tokens.old ++ option_to_list token) }
-{
-    if let Some(token) = token {
-        tokens.push(token)?;
-    }
-    Ok(())
 }
 
 fn step(alloc: Global, place: LexState, b: u8) -> Result<(LexState, Option<Token>), ParseStop>
