@@ -1,5 +1,5 @@
 -- A scanner byte by byte, as a loop over the bytes runs it.
-use Rattle.std.proofs.Common.{◌≡◌, ℕ, ◌+◌, ◌<◌, List, [], ◌++◌, refl, length, get_or, drop, drop-cons, append_assoc, append-nil, add-one, ap, ◌∙◌, sym, Some, None}
+use Rattle.std.proofs.Common.{◌≡◌, ℕ, ◌+◌, ◌<◌, List, [], ◌∷◌, ◌++◌, refl, length, get_or, drop, drop-cons, append_assoc, append-nil, add-one, ap, ◌∙◌, sym, Some, None}
 use Rattle.std.specs.Prelude.{Option, option_to_list}
 use Rattle.std.specs.List.{AllByRecursion}
 use Rattle.ldv_value.specs.Options.{◌>>=◌}
