@@ -4,6 +4,8 @@ use Rattle.std.specs.Prelude.{Option, Some, None, is_some, map, pos, slice_get, 
 use Rattle.std.specs.List.{AllByRecursion}
 use Rattle.ldv_value.specs.FileState.{FileState, content_at}
 use Rattle.ldv_value.specs.Order.{order, meets}
+use Rattle.ldv_value.proofs.SameBytes.{bytes_eq-itself}
+use Rattle.ldv_value.proofs.Lists.{all-weaker}
 use Rattle.script_parse.specs.declared.script.Instr.TheVariants as instr
 use Rattle.replay_db.specs.Types.{Value, Int, Variable, Instr, Act, Spawned, Unspawned, Waited, Ended, Event}
 use Rattle.run_model.specs.Core.{Binding, lookup, OpenFile, Process, Core}
@@ -17,8 +19,7 @@ use Rattle.run_model.specs.StepVariables.{calculated, to_number, printed_line, e
 use Rattle.run_model.proofs.StepKeeps.{AllFiles, open_holds, Keeps, keeps_place, keeps_variable, keeps_end, keeps_assign, keeps_glue, keeps_cut, keeps_jump, keeps_line, keeps_fetch, keeps_close, calculated_byte, to_number_byte, counted_byte, status_value_byte, exit_byte}
 use Rattle.replay_db.proofs.FilesAgree.{Agrees, SameAt, later_agrees, whole_at, absent_at}
 use Rattle.replay_db.proofs.FilesSame.{FileSame, open_same, read_same, write_same, copy_same, remove_same, test_same}
-use Rattle.replay_db.proofs.Tests.{self_text}
-use Rattle.replay_db.proofs.TraceLists.{all_append, all_weaker}
+use Rattle.replay_db.proofs.TraceLists.{all_append}
 use Rattle.replay_db.proofs.TraceState.{set_all}
 
 -- the core with other files
@@ -42,11 +43,11 @@ found_open a b (q ∷ ps) (suc k) p all is = found_open a b ps k p all.1 is
 module _ (a b c d : FileState) (follows : (path : List ℕ) → SameAt a b path → SameAt c d path) where
   still_open : (p : Process) → OpenSame a b p → OpenSame c d p
   still_open p all =
-      all_weaker (λ (f : Binding OpenFile). SameAt a b f.bound.path) (λ (f : Binding OpenFile). SameAt c d f.bound.path)
+      all-weaker (λ (f : Binding OpenFile). SameAt a b f.bound.path) (λ (f : Binding OpenFile). SameAt c d f.bound.path)
       (λ f same. follows f.bound.path same) p.files all
 
   still_all : (ps : List Process) → AllOpen a b ps → AllOpen c d ps
-  still_all ps all = all_weaker (OpenSame a b) (OpenSame c d) (λ p here. still_open p here) ps all
+  still_all ps all = all-weaker (OpenSame a b) (OpenSame c d) (λ p here. still_open p here) ps all
 
 -- ---- a step
 
@@ -114,9 +115,9 @@ module _ (step number : ℕ) (later : List Event) where
   script_whole : (o : Option (List Instr)) (spawning : Spawning) (path : List ℕ) (p : Process) (a : FileState) (c : Core)
       → Agrees (acted (spawn_script o spawning path number p c).acts) a c.files → SameAt a c.files path
   script_whole None spawning path p a c agrees =
-      whole_at path (event_at step number (Unspawned path true)) later a c.files (self_text path) agrees
+      whole_at path (event_at step number (Unspawned path true)) later a c.files (bytes_eq-itself path) agrees
   script_whole (Some script) spawning path p a c agrees =
-      whole_at path (event_at step number (Spawned path)) later a c.files (self_text path) agrees
+      whole_at path (event_at step number (Spawned path)) later a c.files (bytes_eq-itself path) agrees
 
   file_same : (o : Option (List ℕ)) (spawning : Spawning) (path : List ℕ) (p : Process) (a : FileState) (c : Core)
       → content_at c.files path ≡ o → OpenSame a c.files p → AllOpen a c.files c.processes

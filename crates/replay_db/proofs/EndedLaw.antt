@@ -1,6 +1,8 @@
 -- A run that has ended yields the same with more steps.
 use Rattle.std.proofs.Common.{◌≡◌, ℕ, ◌+◌, ◌-◌, ◌≤◌, List, ◌++◌, refl, sym, ap, ◌∙◌, Bool, true, false, arith, inl, inr}
 use Rattle.std.specs.Prelude.{Option, Some, None, slice_get, is_some, ◌||◌}
+use Rattle.ldv_value.proofs.Cases.{cases-option}
+use Rattle.ldv_value.proofs.Booleans.{or-right}
 use Rattle.replay_db.specs.Types.{Instr, Event, Mode, Included, Excluded, World}
 use Rattle.run_model.specs.Core.{Core, all_ended, is_over}
 use Rattle.run_model.specs.Events.{events, start_events}
@@ -11,14 +13,13 @@ use Rattle.run_model.specs.Slice.{files_needed}
 use Rattle.run_model.specs.SqlDatabase.{SqlDatabase, sql_base}
 use Rattle.run_model.specs.Start.{start_script, start_state}
 use Rattle.run_model.specs.State.{State}
-use Rattle.run_model.specs.WorldRun.{core_after, ends_in, outcome_in, outcome_by, steps_in, steps_by, events_in, events_by, logs_of, logs_in}
+use Rattle.run_model.specs.WorldRun.{core_after, ends_in, ends_by, outcome_in, outcome_by, steps_in, steps_by, events_in, events_by, logs_of, logs_in}
 use Rattle.run_model.proofs.Settled.{IsSettled, settled}
 use Rattle.replay_db.specs.Laws.{SettledRun, EndedLaw}
-use Rattle.replay_db.proofs.Tests.{cases_option, or_second}
 
 -- an ended run is over
-ended_over : (c : Core) → all_ended c ≡ true → is_over c ≡ true
-ended_over c ended = or_second (is_some c.diverged) (all_ended c) ended
+pub ended_over : (c : Core) → all_ended c ≡ true → is_over c ≡ true
+ended_over c ended = or-right (is_some c.diverged) (all_ended c) ended
 
 module _ (n budget : ℕ) (picks : List ℕ) (w : World) (script : List Instr) (is : start_script w ≡ Some script)
     (ended : all_ended (core_after n picks w script) ≡ true) (enough : n ≤ budget) where
@@ -70,10 +71,15 @@ module _ (n budget : ℕ) (picks : List ℕ) (w : World) (script : List Instr) (
     };
   }
 
-pub ended_law : EndedLaw
-ended_law n budget picks w ended enough = elim (cases_option (start_script w)) [
-  | inl none ↦ let never : false ≡ true = sym (ap (ends_in n picks w) none) ∙ ended in cc
-  | inr script ↦
-      let all : all_ended (core_after n picks w script.0) ≡ true = sym (ap (ends_in n picks w) script.1) ∙ ended in
-      settles n budget picks w script.0 script.1 all enough
+-- and had a script
+pub ended_starts : (n : ℕ) (picks : List ℕ) (w : World) → ends_by n picks w ≡ true → (script : List Instr) × (start_script w ≡ Some script)
+ended_starts n picks w ended = elim (cases-option (start_script w)) [
+  | inl none ↦ let never : false ≡ true = sym (ap (ends_in n picks w) none) ∙ ended in absurd cc
+  | inr script ↦ script
 ]
+
+pub ended_law : EndedLaw
+ended_law n budget picks w ended enough =
+    let script = ended_starts n picks w ended in
+    let all : all_ended (core_after n picks w script.0) ≡ true = sym (ap (ends_in n picks w) script.1) ∙ ended in
+    settles n budget picks w script.0 script.1 all enough

@@ -8,11 +8,12 @@ use Rattle.std.proofs.lemmas.Bool.{cases_Bool, and_from}
 use Rattle.std.proofs.lemmas.Slice.Eq.{bytes_eq-Decides}
 use Rattle.ldv_value.specs.FileState.{FileState, content_at, is_there, is_touched, put, touch, removed, add_path}
 use Rattle.ldv_value.proofs.FileLaws.{content-put_same, content-put_other, content-removed_same, content-removed_other, touched-touch_other, touched-removed_other}
+use Rattle.ldv_value.proofs.Booleans.{or-left, or-right}
+use Rattle.ldv_value.proofs.SameBytes.{bytes_eq-true}
 use Rattle.sql_model.specs.Scope.{same_text}
 use Rattle.replay_db.specs.Types.{Act, Event}
 use Rattle.run_model.specs.Outcome.{outcome_of_path, outcomes_of_paths}
 use Rattle.run_model.specs.Slice.{whole_path, present_path, changed_path, is_path, names_initial, FileNeed, Whole, Present, file_need}
-use Rattle.replay_db.proofs.Tests.{or_first, or_second, same_text_is}
 
 -- of the bytes at a path in the larger state, what is needed of it, and the bytes in the smaller
 abbrev pub ContentAgrees : Option (List ℕ) → Option FileNeed → Option (List ℕ) → Type 0
@@ -93,7 +94,7 @@ weaker false w v p q small whole wider more agrees = weaker_content w v p q whol
 names_later : (path_in : Act → Option (List ℕ)) (path : List ℕ) (e : Event) (es : List Event)
     → is_path path (changed_path e.act) ≡ false → names_initial path_in path es ≡ true → names_initial path_in path (e ∷ es) ≡ true
 names_later path_in path e es still named =
-    or_second (is_path path (path_in e.act)) (not (is_path path (changed_path e.act)) && names_initial path_in path es)
+    or-right (is_path path (path_in e.act)) (not (is_path path (changed_path e.act)) && names_initial path_in path es)
     (and_from (not (is_path path (changed_path e.act))) (names_initial path_in path es) (ap not still) named)
 
 later_path : (path : List ℕ) (e : Event) (es : List Event) (t : Bool) (small whole : Option (List ℕ))
@@ -116,7 +117,7 @@ later_agrees e es a b still agrees = record {
 first_whole : (path : List ℕ) (e : Event) (es : List Event) → is_path path (whole_path e.act) ≡ true → file_need path (e ∷ es) ≡ Some Whole
 first_whole path e es here =
     let named : names_initial whole_path path (e ∷ es) ≡ true =
-    or_first (is_path path (whole_path e.act)) (not (is_path path (changed_path e.act)) && names_initial whole_path path es) here in
+    or-left (is_path path (whole_path e.act)) (not (is_path path (changed_path e.act)) && names_initial whole_path path es) here in
     ap (λ (w : Bool). need_by w (names_initial present_path path (e ∷ es))) named
 
 needed_by : (w p : Bool) → p ≡ true → IsNeeded (need_by w p)
@@ -127,7 +128,7 @@ needed_by false false named = absurd cc
 first_present : (path : List ℕ) (e : Event) (es : List Event) → is_path path (present_path e.act) ≡ true → IsNeeded (file_need path (e ∷ es))
 first_present path e es here =
     needed_by (names_initial whole_path path (e ∷ es)) (names_initial present_path path (e ∷ es))
-    (or_first (is_path path (present_path e.act)) (not (is_path path (changed_path e.act)) && names_initial present_path path es) here)
+    (or-left (is_path path (present_path e.act)) (not (is_path path (changed_path e.act)) && names_initial present_path path es) here)
 
 pub whole_at : (path : List ℕ) (e : Event) (es : List Event) (a b : FileState) → is_path path (whole_path e.act) ≡ true
     → Agrees (e ∷ es) a b → SameAt a b path
@@ -153,7 +154,7 @@ apart q path miss same = let hit : bytes_eq q path ≡ true = (bytes_eq-Decides 
 
 apart_text : (q path : List ℕ) → bytes_eq q path ≡ false → same_text path q ≡ false
 apart_text q path miss = elim (cases_Bool (same_text path q)) [
-  | inl hit ↦ absurd (apart q path miss (sym (same_text_is path q hit)))
+  | inl hit ↦ absurd (apart q path miss (sym (bytes_eq-true path q hit)))
   | inr other ↦ other
 ]
 
@@ -256,9 +257,9 @@ module _ (es : List Event) (a b : FileState) (agrees : Agrees es a b) where
   outcomes_part [] among = refl
   outcomes_part (path ∷ paths) among =
       let self : bytes_eq path path ≡ true = (bytes_eq-Decides path path).1 refl in
-      let found : SameAt a b path = touched_same path (among path (or_first (bytes_eq path path) (list_any (bytes_eq path) paths) self)) in
+      let found : SameAt a b path = touched_same path (among path (or-left (bytes_eq path path) (list_any (bytes_eq path) paths) self)) in
       let head : outcome_of_path a path ≡ outcome_of_path b path = λ j. record { path = path; content = found j } in
-      λ j. head j ∷ outcomes_part paths (λ q more. among q (or_second (bytes_eq q path) (list_any (bytes_eq q) paths) more)) j
+      λ j. head j ∷ outcomes_part paths (λ q more. among q (or-right (bytes_eq q path) (list_any (bytes_eq q) paths) more)) j
 
   pub outcomes_agree : outcomes_of_paths a ≡ outcomes_of_paths b
   outcomes_agree = ap (map (outcome_of_path a)) agrees.touched ∙ outcomes_part b.touched (λ path more. more)

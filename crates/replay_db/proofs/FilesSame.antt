@@ -6,6 +6,7 @@ use Rattle.ldv_value.specs.FileState.{FileState, is_there, bytes_at, rest_at, pu
 use Rattle.ldv_value.specs.Limits.{file_limit}
 use Rattle.ldv_value.specs.declared.file.OpenMode.TheVariants as modes
 use Rattle.ldv_value.proofs.FileLaws.{content-put_same}
+use Rattle.ldv_value.proofs.SameBytes.{bytes_eq-itself}
 use Rattle.replay_db.specs.Types.{OpenMode, Act, OpenedRead, OpenedWrite, OpenedAppend, OpenedNew, Unopened, Read, Wrote, Removed, Tested, Event}
 use Rattle.run_model.specs.Core.{OpenFile, Process}
 use Rattle.run_model.specs.Events.{event_at}
@@ -14,7 +15,6 @@ use Rattle.run_model.specs.StepBase.{ended, went_on, FileEffect}
 use Rattle.run_model.specs.StepFiles.{misused, at_place, opened_file, open_found, open_path, take_line, read_next, write_where, write_text, copy_where, copy_between, remove_found, remove_path, exists_where, test_path}
 use Rattle.run_model.proofs.StepKeeps.{Keeps, keeps_place, keeps_next, keeps_end, keeps_bound, keeps_read}
 use Rattle.replay_db.proofs.FilesAgree.{Agrees, SameAt, later_agrees, whole_at, there_at, absent_at, put_agrees, made_agrees, removed_agrees, put_follows, removed_follows}
-use Rattle.replay_db.proofs.Tests.{self_text}
 
 -- ---- two states after a step
 
@@ -90,7 +90,7 @@ module _ (step number : ℕ) (later : List Event) where
       → Agrees (told (open_found found name mode path place p b).acts) a b
       → FileSame later p a b (open_found (is_there a path) name mode path place p a) (open_found found name mode path place p b)
   open_at modes.Read true name path place p a b is agrees =
-      let same : SameAt a b path = whole_at path (ev (OpenedRead path)) later a b (self_text path) agrees in
+      let same : SameAt a b path = whole_at path (ev (OpenedRead path)) later a b (bytes_eq-itself path) agrees in
       let there : is_there a path ≡ true = ap is_some same ∙ is in
       subst (λ (f : Bool). FileSame later p a b (open_found f name modes.Read path place p a) (open_found true name modes.Read path place p b)) (sym there)
       (record {
@@ -118,13 +118,13 @@ module _ (step number : ℕ) (later : List Event) where
         (λ all. content-put_same a path [] ∙ sym (content-put_same b path []));
   }
   open_at modes.Append true name path place p a b is agrees =
-      let same : SameAt a b path = whole_at path (ev (OpenedAppend path true)) later a b (self_text path) agrees in
+      let same : SameAt a b path = whole_at path (ev (OpenedAppend path true)) later a b (bytes_eq-itself path) agrees in
       appended_open true name path place p a b is same agrees
   open_at modes.Append false name path place p a b is agrees =
       let same : SameAt a b path = absent_at path (told (OpenedAppend path false ∷ [])) a b agrees is in
       appended_open false name path place p a b is same agrees
   open_at modes.New true name path place p a b is agrees =
-      let there : is_there a path ≡ true = there_at path (ev (Unopened path true)) later a b (self_text path) agrees is in
+      let there : is_there a path ≡ true = there_at path (ev (Unopened path true)) later a b (bytes_eq-itself path) agrees is in
       subst (λ (f : Bool). FileSame later p a b (open_found f name modes.New path place p a) (open_found true name modes.New path place p b)) (sym there)
       (record {
         process = refl;
@@ -257,7 +257,7 @@ module _ (step number : ℕ) (later : List Event) where
         keeps = keeps_place (SameAt a b) place p;
       })
   remove_at true path place p a b is agrees =
-      let there : is_there a path ≡ true = there_at path (ev (Removed path)) later a b (self_text path) agrees is in
+      let there : is_there a path ≡ true = there_at path (ev (Removed path)) later a b (bytes_eq-itself path) agrees is in
       subst (λ (f : Bool). FileSame later p a b (remove_found f path place p a) (remove_found true path place p b)) (sym there)
       (record {
         process = refl;
@@ -296,7 +296,7 @@ module _ (step number : ℕ) (later : List Event) where
   exists_at false to path p a b is agrees =
       exists_idle false to path p a b (ap is_some (absent_at path (ev (Tested path false) ∷ later) a b agrees is) ∙ is) agrees
   exists_at true to path p a b is agrees =
-      exists_idle true to path p a b (there_at path (ev (Tested path true)) later a b (self_text path) agrees is) agrees
+      exists_idle true to path p a b (there_at path (ev (Tested path true)) later a b (bytes_eq-itself path) agrees is) agrees
 
   pub test_same : (to : List ℕ) (o : Option (List ℕ)) (p : Process) (a b : FileState)
       → Agrees (told (test_path to o p b).acts) a b

@@ -2,7 +2,9 @@
 use Rattle.std.proofs.Common.{◌≡◌, ℕ, List, [], ◌∷◌, ◌++◌, refl, sym, ap, ◌∙◌, Bool, true, false, inl, inr}
 use Rattle.std.specs.Prelude.{Option, Some, None, is_some, map, not, ◌||◌, ◌==◌}
 use Rattle.std.specs.List.{list_any}
-use Rattle.std.proofs.lemmas.Bool.{cases_Bool}
+use Rattle.std.proofs.lemmas.Bool.{cases_Bool, eq-eqb}
+use Rattle.ldv_value.proofs.Booleans.{or-left, or-right}
+use Rattle.ldv_value.proofs.SameBytes.{bytes_eq-itself}
 use Rattle.sql_model.specs.Needs.{Versions, NeededRow}
 use Rattle.sql_model.specs.Scope.{same_text}
 use Rattle.sql_laws.specs.QueryLaw.{Keep}
@@ -13,7 +15,6 @@ use Rattle.run_model.specs.Between.{Cut, KeepsFile, KeepsNeeded, is_initial, is_
 use Rattle.run_model.specs.Events.{event_at}
 use Rattle.run_model.specs.Slice.{Reason, is_read, reason_in, act_reason, reason_or, first_reason, names_table, is_table_needed, file_need}
 use Rattle.run_model.specs.SqlDatabase.{read_of}
-use Rattle.replay_db.proofs.Tests.{or_first, or_second, self_text, self_number}
 
 module _ (cut : Cut) where
   abbrev pub KeepsTables : List (List ℕ) → Type 0
@@ -55,7 +56,7 @@ module _ (cut : Cut) (tables : List Table) where
   reads_more : (needs : List Need) → KeepsReads cut needs → KeepsReads more needs
   reads_more [] k = tt
   reads_more (need ∷ needs) k =
-      (or_first (cut.row need.member.table need.member.row) (not (is_initial tables need.member.table need.member.row)) k.0, reads_more needs k.1)
+      (or-left (cut.row need.member.table need.member.row) (not (is_initial tables need.member.table need.member.row)) k.0, reads_more needs k.1)
 
   act_more : (act : Act) → KeepsAct cut act → KeepsAct more act
   act_more (Asked statement names needs made) k = (names_more names k.0, reads_more needs k.1)
@@ -82,8 +83,8 @@ others_keep cut tables events keeps = record {
   files = keeps.files;
   tables = keeps.tables;
   rows = λ name number needed. elim (cases_Bool (is_initial tables name number)) [
-    | inl first ↦ or_first (cut.row name number) (not (is_initial tables name number)) (keeps.rows name number first needed)
-    | inr made ↦ or_second (cut.row name number) (not (is_initial tables name number)) (ap not made)
+    | inl first ↦ or-left (cut.row name number) (not (is_initial tables name number)) (keeps.rows name number first needed)
+    | inr made ↦ or-right (cut.row name number) (not (is_initial tables name number)) (ap not made)
   ];
 }
 
@@ -93,8 +94,8 @@ module _ (all : List Event) (cut : Cut) (keeps : KeepsAll cut all) where
       → KeepsTables cut names
   tables_part [] among = tt
   tables_part (name ∷ names) among = (
-    keeps.tables name (among name (or_first (same_text name name) (list_any (λ other. same_text other name) names) (self_text name))),
-    tables_part names (λ other more. among other (or_second (same_text name other) (list_any (λ n. same_text n other) names) more)),
+    keeps.tables name (among name (or-left (same_text name name) (list_any (λ other. same_text other name) names) (bytes_eq-itself name))),
+    tables_part names (λ other more. among other (or-right (same_text name other) (list_any (λ n. same_text n other) names) more)),
   )
 
   some_later : (statement : ℕ) (table : List ℕ) (row : ℕ) (need : Need) (needs : List Need)
@@ -110,7 +111,7 @@ module _ (all : List Event) (cut : Cut) (keeps : KeepsAll cut all) where
       → KeepsReads cut needs
   reads_part statement [] among = tt
   reads_part statement (need ∷ needs) among =
-      let self : is_read need.member.table need.member.row need ≡ true = rw (self_text need.member.table, self_number need.member.row) refl in (
+      let self : is_read need.member.table need.member.row need ≡ true = rw (bytes_eq-itself need.member.table, eq-eqb need.member.row need.member.row refl) refl in (
         keeps.rows need.member.table need.member.row (among need.member.table need.member.row (rw self refl)),
         reads_part statement needs (λ table row more. among table row (some_later statement table row need needs more)),
       )
@@ -135,10 +136,10 @@ module _ (all : List Event) (cut : Cut) (keeps : KeepsAll cut all) where
   events_part [] tables_among rows_among = tt
   events_part (e ∷ es) tables_among rows_among = (
     act_part e.act
-        (λ table here. tables_among table (or_first (names_table table e.act) (is_table_needed es table) here))
+        (λ table here. tables_among table (or-left (names_table table e.act) (is_table_needed es table) here))
         (λ table row here. rows_among table row (first_some (act_reason table row e.act) (first_reason table row es) here)),
     events_part es
-        (λ table more. tables_among table (or_second (names_table table e.act) (is_table_needed es table) more))
+        (λ table more. tables_among table (or-right (names_table table e.act) (is_table_needed es table) more))
         (λ table row more. rows_among table row (later_some (act_reason table row e.act) (first_reason table row es) more)),
   )
 

@@ -11,7 +11,6 @@ mod SortedNeeds
 mod StatementSame
 mod StatementVersions
 mod Targets
-pub mod Tests
 mod WorldLaws
 mod SortedLists
 mod TraceLists

@@ -2,8 +2,10 @@
 use Rattle.std.proofs.Common.{◌≡◌, ℕ, List, [], ◌∷◌, refl, sym, ap, ◌∙◌, subst, Bool, true, false, cond, arith, inl, inr}
 use Rattle.std.specs.Prelude.{Option, Some, None, is_some, is_none, filter, map, ◌||◌, ◌⊎◌, ◌==◌, nat_lt}
 use Rattle.std.specs.List.{filter_map, cons_option, list_any}
-use Rattle.std.proofs.lemmas.Bool.{cases_Bool, and_parts, and_from}
+use Rattle.std.proofs.lemmas.Bool.{cases_Bool, and_parts, and_from, eq-eqb}
 use Rattle.std.proofs.lemmas.Bool.Decides.{nat_tests}
+use Rattle.ldv_value.proofs.Booleans.{or-left, or-right}
+use Rattle.ldv_value.proofs.SameBytes.{bytes_eq-true, bytes_eq-itself, nat_eq-true}
 use Rattle.sql_model.specs.Scope.{same_text, is_table}
 use Rattle.replay_db.specs.Types.{File, Table, TableRow, Event, World}
 use Rattle.run_model.specs.Between.{IsIn, is_row_needed, with_content, IsPresent, TableBetween, LiesBetween, FileCut, Gone, Same, Other, Cut, kept_file, cut_files, row_stays, cut_table, table_stays, cut_tables, cut_world, KeepsFile, has_row, is_initial, KeepsNeeded, CutOf}
@@ -11,8 +13,7 @@ use Rattle.run_model.specs.Slice.{FileNeed, Whole, Present, file_need, is_table_
 use Rattle.package_layout.specs.Order.{rises, is_below}
 use Rattle.replay_db.specs.Laws.{MembershipLaw}
 use Rattle.replay_db.proofs.SortedLists.{found_in, none_in, any_in, in_any, in_filter, filter_in, in_filter_map, filter_map_in, same_item, at, at_key, at_item, found_all}
-use Rattle.replay_db.proofs.Tests.{or_first, or_second, same_text_is, self_text, number_is, self_number}
-use Rattle.replay_db.proofs.TraceLists.{below_next, below_itself}
+use Rattle.replay_db.proofs.TraceLists.{below_next, below_itself, less_next}
 use Rattle.replay_db.proofs.WorldRules.{SortedWorld, sorted_world}
 
 -- ---- files, tables and rows by their keys
@@ -26,20 +27,20 @@ name_of t = t.name
 abbrev number_of : TableRow → ℕ
 number_of r = r.number
 
+itself : (n : ℕ) → (n == n) ≡ true
+itself n = eq-eqb n n refl
+
 lt_itself : (n : ℕ) → nat_lt n n ≡ false
 lt_itself n = grind (arith, nat_tests)
 
-lt_chain : (a b c : ℕ) → nat_lt a b ≡ true → nat_lt b c ≡ true → nat_lt a c ≡ true
-lt_chain a b c h k = grind (arith, nat_tests)
-
 abbrev file_found : List ℕ → List File → Option File
-file_found = at path_of is_below below_itself below_next same_text same_text_is self_text
+file_found = at path_of is_below below_itself below_next same_text bytes_eq-true bytes_eq-itself
 
 abbrev table_found : List ℕ → List Table → Option Table
-table_found = at name_of is_below below_itself below_next same_text same_text_is self_text
+table_found = at name_of is_below below_itself below_next same_text bytes_eq-true bytes_eq-itself
 
 abbrev row_found : ℕ → List TableRow → Option TableRow
-row_found = at number_of nat_lt lt_itself lt_chain (λ a b. a == b) number_is self_number
+row_found = at number_of nat_lt lt_itself less_next (λ a b. a == b) nat_eq-true itself
 
 -- ---- from what is in them to what was cut
 
@@ -90,16 +91,16 @@ module _ (events : List Event) (v w : World) (sv : SortedWorld v) (sw : SortedWo
   file_becomes : (f : File) → IsIn f w.files → (need : Option FileNeed) → file_need f.path events ≡ need
       → (there : Option File) → file_found f.path v.files ≡ there → kept_file (file_as need there) f ≡ there
   file_becomes f in_f (Some Whole) is there found =
-      sym (at_item path_of is_below below_itself below_next same_text same_text_is self_text v.files sv.files f (l.whole f in_f is)) ∙ found
+      sym (at_item path_of is_below below_itself below_next same_text bytes_eq-true bytes_eq-itself v.files sv.files f (l.whole f in_f is)) ∙ found
   file_becomes f in_f (Some Present) is (Some g) found =
-      let same : g.path ≡ f.path = at_key path_of is_below below_itself below_next same_text same_text_is self_text f.path v.files g found in
+      let same : g.path ≡ f.path = at_key path_of is_below below_itself below_next same_text bytes_eq-true bytes_eq-itself f.path v.files g found in
       λ j. Some (record { path = sym same j; content = g.content })
   file_becomes f in_f (Some Present) is None none =
       let there = l.present f in_f is in
-      let never : true ≡ false = sym (self_text f.path) ∙ none_in (λ (x : File). same_text x.path f.path) v.files (with_content f there.0) none there.1 in cc
+      let never : true ≡ false = sym (bytes_eq-itself f.path) ∙ none_in (λ (x : File). same_text x.path f.path) v.files (with_content f there.0) none there.1 in cc
   file_becomes f in_f None is (Some g) found =
       let in_g : IsIn g v.files = found_in (λ (x : File). same_text x.path f.path) v.files g found in
-      let same : g.path ≡ f.path = at_key path_of is_below below_itself below_next same_text same_text_is self_text f.path v.files g found in
+      let same : g.path ≡ f.path = at_key path_of is_below below_itself below_next same_text bytes_eq-true bytes_eq-itself f.path v.files g found in
       ap Some (other_is f g in_f is same (l.others g in_g))
   file_becomes f in_f None is None none = refl
 
@@ -118,7 +119,7 @@ module _ (events : List Event) (v w : World) (sv : SortedWorld v) (sw : SortedWo
   files_same : cut_files made_cut w.files ≡ v.files
   files_same =
       files_become w.files (λ f is. is)
-      ∙ found_all path_of is_below below_itself below_next same_text same_text_is self_text v.files w.files sv.files sw.files (λ g is. file_covered g (l.others g is))
+      ∙ found_all path_of is_below below_itself below_next same_text bytes_eq-true bytes_eq-itself v.files w.files sv.files sw.files (λ g is. file_covered g (l.others g is))
 
   -- ---- rows
 
@@ -134,10 +135,10 @@ module _ (events : List Event) (v w : World) (sv : SortedWorld v) (sw : SortedWo
         → cons_option there [] ≡ filter (λ (r : TableRow). list_any (λ (s : TableRow). s.number == r.number) small.rows) (row ∷ [])
     row_becomes row is (Some s) found =
         let in_s : IsIn s small.rows = found_in (λ (x : TableRow). x.number == row.number) small.rows s found in
-        let number : s.number ≡ row.number = at_key number_of nat_lt lt_itself lt_chain (λ a b. a == b) number_is self_number row.number small.rows s found in
-        let same : s ≡ row = same_item number_of nat_lt lt_itself lt_chain table.rows sorted_table s row (b.rows s in_s) is number in
+        let number : s.number ≡ row.number = at_key number_of nat_lt lt_itself less_next (λ a b. a == b) nat_eq-true itself row.number small.rows s found in
+        let same : s ≡ row = same_item number_of nat_lt lt_itself less_next table.rows sorted_table s row (b.rows s in_s) is number in
         let hit : list_any (λ (x : TableRow). x.number == row.number) small.rows ≡ true =
-        in_any (λ (x : TableRow). x.number == row.number) small.rows s in_s (ap (λ n. n == row.number) number ∙ self_number row.number) in
+        in_any (λ (x : TableRow). x.number == row.number) small.rows s in_s (ap (λ n. n == row.number) number ∙ itself row.number) in
         rw hit (ap (λ (r : TableRow). r ∷ []) same)
     row_becomes row is None none = elim (cases_Bool (list_any (λ (x : TableRow). x.number == row.number) small.rows)) [
       | inr miss ↦ rw miss refl
@@ -167,7 +168,7 @@ module _ (events : List Event) (v w : World) (sv : SortedWorld v) (sw : SortedWo
     rows_same : filter (λ (r : TableRow). list_any (λ (s : TableRow). s.number == r.number) small.rows) table.rows ≡ small.rows
     rows_same =
         rows_become table.rows (λ row is. is)
-        ∙ found_all number_of nat_lt lt_itself lt_chain (λ a b. a == b) number_is self_number small.rows table.rows sorted_small sorted_table (λ row is. (row, (b.rows row is, refl)))
+        ∙ found_all number_of nat_lt lt_itself less_next (λ a b. a == b) nat_eq-true itself small.rows table.rows sorted_small sorted_table (λ row is. (row, (b.rows row is, refl)))
 
   -- ---- tables
 
@@ -186,12 +187,12 @@ module _ (events : List Event) (v w : World) (sv : SortedWorld v) (sw : SortedWo
       → cond (table_as there (table_found table.name w.tables)) (Some (cut_table made_cut table)) None ≡ there
   table_becomes table is (Some small) found =
       let in_small : IsIn small v.tables = found_in (λ (x : Table). same_text x.name table.name) v.tables small found in
-      let name : small.name ≡ table.name = at_key name_of is_below below_itself below_next same_text same_text_is self_text table.name v.tables small found in
+      let name : small.name ≡ table.name = at_key name_of is_below below_itself below_next same_text bytes_eq-true bytes_eq-itself table.name v.tables small found in
       let of = l.tables small in_small in
       let same : of.0 ≡ table = same_table of.0 table of.1 is (sym of.2.name ∙ name) in
       ap Some (table_is small table found in_small is (subst (TableBetween events small) same of.2))
   table_becomes table is None none =
-      let there : table_found table.name w.tables ≡ Some table = at_item name_of is_below below_itself below_next same_text same_text_is self_text w.tables sw.tables table is in
+      let there : table_found table.name w.tables ≡ Some table = at_item name_of is_below below_itself below_next same_text bytes_eq-true bytes_eq-itself w.tables sw.tables table is in
       ap (λ (o : Option Table). cond (is_none o) (Some (cut_table made_cut table)) None) there
 
   tables_become : (ts : List Table) → ((t : Table) → IsIn t ts → IsIn t w.tables)
@@ -214,7 +215,7 @@ module _ (events : List Event) (v w : World) (sv : SortedWorld v) (sw : SortedWo
   tables_same : cut_tables made_cut w.tables ≡ v.tables
   tables_same =
       tables_become w.tables (λ t is. is)
-      ∙ found_all name_of is_below below_itself below_next same_text same_text_is self_text v.tables w.tables sv.tables sw.tables
+      ∙ found_all name_of is_below below_itself below_next same_text bytes_eq-true bytes_eq-itself v.tables w.tables sv.tables sw.tables
       (λ small is. let of = l.tables small is in (of.0, (of.1, sym of.2.name)))
 
   -- ---- what is needed stays
@@ -225,32 +226,32 @@ module _ (events : List Event) (v w : World) (sv : SortedWorld v) (sw : SortedWo
       by : (o : Option Table) → table_found name v.tables ≡ o → is_some (table_found name v.tables) ≡ true
       by (Some t) found = ap is_some found
       by None none =
-          let never : true ≡ false = sym (self_text name) ∙ ap (λ (k : List ℕ). same_text k name) (sym same) ∙ none_in (λ (x : Table). same_text x.name name) v.tables small none is in cc
+          let never : true ≡ false = sym (bytes_eq-itself name) ∙ ap (λ (k : List ℕ). same_text k name) (sym same) ∙ none_in (λ (x : Table). same_text x.name name) v.tables small none is in cc
 
   table_stays_here : (name : List ℕ) → is_table_needed events name ≡ true → made_cut.table name ≡ true
   table_stays_here name needed = by (table_found name w.tables) refl
     where
       by : (o : Option Table) → table_found name w.tables ≡ o → made_cut.table name ≡ true
-      by None none = or_second (is_some (table_found name v.tables)) (is_none (table_found name w.tables)) (ap is_none none)
+      by None none = or-right (is_some (table_found name v.tables)) (is_none (table_found name w.tables)) (ap is_none none)
       by (Some t) found =
           let is : IsIn t w.tables = found_in (λ (x : Table). same_text x.name name) w.tables t found in
-          let same : t.name ≡ name = at_key name_of is_below below_itself below_next same_text same_text_is self_text name w.tables t found in
+          let same : t.name ≡ name = at_key name_of is_below below_itself below_next same_text bytes_eq-true bytes_eq-itself name w.tables t found in
           let there = l.needed t is (ap (is_table_needed events) same ∙ needed) in
-          or_first (is_some (table_found name v.tables)) (is_none (table_found name w.tables)) (table_there name there.0 there.1 (there.2 ∙ same))
+          or-left (is_some (table_found name v.tables)) (is_none (table_found name w.tables)) (table_there name there.0 there.1 (there.2 ∙ same))
 
   row_in : (name : List ℕ) (number : ℕ) (small : Table) → table_found name v.tables ≡ Some small → is_initial w.tables name number ≡ true
       → is_row_needed events name number ≡ true → list_any (λ (r : TableRow). r.number == number) small.rows ≡ true
   row_in name number small found first needed =
       let in_small : IsIn small v.tables = found_in (λ (x : Table). same_text x.name name) v.tables small found in
-      let named : small.name ≡ name = at_key name_of is_below below_itself below_next same_text same_text_is self_text name v.tables small found in
+      let named : small.name ≡ name = at_key name_of is_below below_itself below_next same_text bytes_eq-true bytes_eq-itself name v.tables small found in
       let of = l.tables small in_small in
       let b : TableBetween events small of.0 = of.2 in
       let some = any_in (has_row name number) w.tables first in
       let parts = and_parts (is_table name some.0) (list_any (λ (r : TableRow). r.number == number) some.0.rows) some.1.1 in
-      let same : some.0 ≡ of.0 = same_table some.0 of.0 some.1.0 of.1 (same_text_is some.0.name name parts.0 ∙ sym named ∙ b.name) in
+      let same : some.0 ≡ of.0 = same_table some.0 of.0 some.1.0 of.1 (bytes_eq-true some.0.name name parts.0 ∙ sym named ∙ b.name) in
       let row = any_in (λ (r : TableRow). r.number == number) some.0.rows parts.1 in
       let in_table : IsIn row.0 of.0.rows = subst (λ (t : Table). IsIn row.0 t.rows) same row.1.0 in
-      let numbered : row.0.number ≡ number = number_is row.0.number number row.1.1 in
+      let numbered : row.0.number ≡ number = nat_eq-true row.0.number number row.1.1 in
       let wanted : is_row_needed events of.0.name row.0.number ≡ true = (λ j. is_row_needed events ((sym b.name ∙ named) j) (numbered j)) ∙ needed in
       in_any (λ (r : TableRow). r.number == number) small.rows row.0 (b.needed row.0 in_table wanted) row.1.1
 
@@ -329,8 +330,8 @@ module _ (events : List Event) (w : World) (cut : Cut) (keeps : KeepsNeeded cut 
     next = refl;
     rows = λ row there. (filter_in (row_stays cut t) t.rows row there).0;
     needed = λ row there needed.
-        let has : has_row t.name row.number t ≡ true = and_from (is_table t.name t) (list_any (λ (r : TableRow). r.number == row.number) t.rows) (self_text t.name)
-        (in_any (λ (r : TableRow). r.number == row.number) t.rows row there (self_number row.number)) in
+        let has : has_row t.name row.number t ≡ true = and_from (is_table t.name t) (list_any (λ (r : TableRow). r.number == row.number) t.rows) (bytes_eq-itself t.name)
+        (in_any (λ (r : TableRow). r.number == row.number) t.rows row there (itself row.number)) in
         let first : is_initial w.tables t.name row.number ≡ true = in_any (has_row t.name row.number) w.tables t is has in
         in_filter (row_stays cut t) t.rows row there (keeps.rows t.name row.number first needed);
   }

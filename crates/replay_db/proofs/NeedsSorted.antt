@@ -2,24 +2,26 @@
 use Rattle.std.proofs.Common.{◌≡◌, ℕ, List, [], ◌∷◌, refl, sym, ap, ◌∙◌, Bool, true, false, arith, inl, inr}
 use Rattle.std.specs.Prelude.{Option, Some, None, map, ◌&&◌, ◌==◌, nat_lt, if◌then◌else◌}
 use Rattle.std.specs.declared.cmp.Ordering.{Ordering}
-use Rattle.std.specs.declared.cmp.Ordering.TheVariants.{Less, Equal, Greater}
-use Rattle.std.specs.Ordering.{nat_cmp, is_lt, is_eq, ordering_reverse}
+use Rattle.std.specs.declared.cmp.Ordering.TheVariants.{Less, Equal}
+use Rattle.std.specs.Ordering.{nat_cmp, is_lt, is_eq}
 use Rattle.std.specs.Cmp.Lexicographic.{slice_cmp}
 use Rattle.std.proofs.lemmas.Bool.{cases_Bool}
 use Rattle.std.proofs.lemmas.Bool.Decides.{nat_tests}
 use Rattle.std.proofs.lemmas.Cmp.{nat_list_cmp_total}
 use Rattle.std.proofs.lemmas.Map.Text.{is_eq-slice_cmp}
+use Rattle.std.proofs.lemmas.List.Kept.{above_reversed}
+use Rattle.ldv_value.proofs.Booleans.{and-first, and-second, and-parts, and-from}
+use Rattle.ldv_value.proofs.SameBytes.{bytes_eq-true, nat_eq-true}
+use Rattle.ldv_value.proofs.Orderings.{is_lt-true}
 use Rattle.sql_model.specs.Needs.{Versions, NeededRow, is_same_row, is_earlier_row, put_row, sorted_needs, needs_by, need_of}
 use Rattle.sql_model.specs.Scope.{same_text}
 use Rattle.sql_model.specs.Statements.{refusal_of}
+use Rattle.sql_model.proofs.Equations.{need_is}
 use Rattle.sql_laws.proofs.StatementParts.{need_parts}
 use Rattle.run_model.specs.SqlDatabase.{read_of}
 use Rattle.package_layout.specs.Order.{is_below_next, rises, row_after_table, need_below}
-use Rattle.package_layout.proofs.Laws.{both_true, and_true}
 use Rattle.replay_db.specs.Types.{Statement, Table}
-use Rattle.replay_db.proofs.NeedsSound.{needs_none}
-use Rattle.replay_db.proofs.Tests.{and_first, and_second, same_text_is, number_is}
-use Rattle.replay_db.proofs.TraceLists.{less_of, equal_itself, rises_map}
+use Rattle.replay_db.proofs.TraceLists.{equal_itself, rises_map}
 
 -- ---- one row below another
 
@@ -38,11 +40,6 @@ less_number m n h = grind (arith, nat_tests)
 greater_number : (m n : ℕ) → is_lt (nat_cmp m n) ≡ false → (m == n) ≡ false → nat_lt n m ≡ true
 greater_number m n h k = grind (arith, nat_tests)
 
-back_less : (o : Ordering) → is_lt o ≡ false → is_eq o ≡ false → ordering_reverse o ≡ Less
-back_less Less h k = cc
-back_less Equal h k = cc
-back_less Greater h k = refl
-
 -- a row that is earlier, and one that is neither the same nor earlier
 module _ (n m : NeededRow) (differ : is_same_row n m ≡ false) where
   abbrev earlier_by : Bool → Bool
@@ -52,10 +49,10 @@ module _ (n m : NeededRow) (differ : is_same_row n m ≡ false) where
   earlier_under earlier = elim (cases_Bool (same_text n.table m.table)) [
     | inl same ↦
         let numbers : is_lt (nat_cmp n.row m.row) ≡ true = sym (ap earlier_by same) ∙ earlier in
-        under_in_table n m (same_text_is n.table m.table same) ∙ less_number n.row m.row numbers
+        under_in_table n m (bytes_eq-true n.table m.table same) ∙ less_number n.row m.row numbers
     | inr other ↦
         let tables : is_lt (slice_cmp nat_cmp n.table m.table) ≡ true = sym (ap earlier_by other) ∙ earlier in
-        ap (λ (o : Ordering). row_after_table o n.row m.row) (less_of (slice_cmp nat_cmp n.table m.table) tables)
+        ap (λ (o : Ordering). row_after_table o n.row m.row) (is_lt-true (slice_cmp nat_cmp n.table m.table) tables)
   ]
 
   later_under : is_earlier_row n m ≡ false → row_under m n ≡ true
@@ -63,19 +60,19 @@ module _ (n m : NeededRow) (differ : is_same_row n m ≡ false) where
     | inl same ↦
         let numbers : is_lt (nat_cmp n.row m.row) ≡ false = sym (ap earlier_by same) ∙ later in
         let apart : (n.row == m.row) ≡ false = sym (ap (λ (b : Bool). b && (n.row == m.row)) same) ∙ differ in
-        under_in_table m n (sym (same_text_is n.table m.table same)) ∙ greater_number n.row m.row numbers apart
+        under_in_table m n (sym (bytes_eq-true n.table m.table same)) ∙ greater_number n.row m.row numbers apart
     | inr other ↦
         let tables : is_lt (slice_cmp nat_cmp n.table m.table) ≡ false = sym (ap earlier_by other) ∙ later in
         let apart : is_eq (slice_cmp nat_cmp n.table m.table) ≡ false = is_eq-slice_cmp n.table m.table ∙ other in
-        let less : slice_cmp nat_cmp m.table n.table ≡ Less = nat_list_cmp_total.antisymm m.table n.table ∙ back_less (slice_cmp nat_cmp n.table m.table) tables apart in
+        let less : slice_cmp nat_cmp m.table n.table ≡ Less = nat_list_cmp_total.antisymm m.table n.table ∙ above_reversed (slice_cmp nat_cmp n.table m.table) tables apart in
         ap (λ (o : Ordering). row_after_table o m.row n.row) less
   ]
 
 -- the same row is below the same rows
 same_under : (n m k : NeededRow) → is_same_row n m ≡ true → row_under m k ≡ true → row_under n k ≡ true
 same_under n m k same under =
-    let tables : n.table ≡ m.table = same_text_is n.table m.table (and_first (same_text n.table m.table) (n.row == m.row) same) in
-    let rows : n.row ≡ m.row = number_is n.row m.row (and_second (same_text n.table m.table) (n.row == m.row) same) in
+    let tables : n.table ≡ m.table = bytes_eq-true n.table m.table (and-first (same_text n.table m.table) (n.row == m.row) same) in
+    let rows : n.row ≡ m.row = nat_eq-true n.row m.row (and-second (same_text n.table m.table) (n.row == m.row) same) in
     (λ j. row_after_table (slice_cmp nat_cmp (tables j) k.table) (rows j) k.row) ∙ under
 
 -- ---- rising lists
@@ -97,12 +94,12 @@ put_after m n under (k ∷ ks) h = elim (cases_Bool (is_same_row n k)) [
 put_rises : (n : NeededRow) (ms : List NeededRow) → rises row_under ms ≡ true → rises row_under (put_row n ms) ≡ true
 put_rises n [] h = refl
 put_rises n (m ∷ ms) h =
-    let both = both_true (is_below_next row_under m ms) (rises row_under ms) h in
+    let both = and-parts (is_below_next row_under m ms) (rises row_under ms) h in
     elim (cases_Bool (is_same_row n m)) [
-      | inl same ↦ rw same (and_true (is_below_next row_under n ms) (rises row_under ms) (same_first n m same ms both.0) both.1)
+      | inl same ↦ rw same (and-from (is_below_next row_under n ms) (rises row_under ms) (same_first n m same ms both.0) both.1)
       | inr differ ↦ elim (cases_Bool (is_earlier_row n m)) [
-        | inl earlier ↦ rw (differ, earlier) (and_true (row_under n m) (rises row_under (m ∷ ms)) (earlier_under n m differ earlier) h)
-        | inr later ↦ rw (differ, later) (and_true (is_below_next row_under m (put_row n ms)) (rises row_under (put_row n ms)) (put_after m n (later_under n m differ later) ms both.0) (put_rises n ms both.1))
+        | inl earlier ↦ rw (differ, earlier) (and-from (row_under n m) (rises row_under (m ∷ ms)) (earlier_under n m differ earlier) h)
+        | inr later ↦ rw (differ, later) (and-from (is_below_next row_under m (put_row n ms)) (rises row_under (put_row n ms)) (put_after m n (later_under n m differ later) ms both.0) (put_rises n ms both.1))
       ]
     ]
 
@@ -111,7 +108,7 @@ rows_rise [] = refl
 rows_rise (n ∷ ns) = put_rises n (sorted_needs ns) (rows_rise ns)
 
 pub needs_rise : (statement : Option Statement) (db : List Table) → rises row_under (need_of statement db) ≡ true
-needs_rise None db = ap (rises row_under) (needs_none db)
+needs_rise None db = ap (rises row_under) (need_is None db)
 needs_rise (Some s) db = ap (rises row_under) (need_parts s db) ∙ rows_rise (needs_by (refusal_of (Some s) db) s db)
 
 -- what an event reads is sorted

@@ -6,6 +6,8 @@ use Rattle.std.specs.declared.cmp.Ordering.{Ordering}
 use Rattle.std.specs.Ordering.{is_gt}
 use Rattle.std.proofs.lemmas.Bool.{cases_Bool}
 use Rattle.ldv_value.specs.declared.value.Value.{Value}
+use Rattle.ldv_value.proofs.SameBytes.{bytes_eq-true, nat_eq-true}
+use Rattle.ldv_value.proofs.Lists.{found-passes}
 use Rattle.sql_model.specs.declared.catalog.Catalog.{Catalog}
 use Rattle.sql_model.specs.declared.expr.ColumnName.{ColumnName}
 use Rattle.sql_model.specs.declared.need.Rule.{Rule}
@@ -23,14 +25,10 @@ use Rattle.sql_model.specs.Refusals.{groups, answer_titles}
 use Rattle.sql_model.specs.Scope.{InScope, table_at, is_table, rows_of, catalog_of, scope_of, own_scope}
 use Rattle.sql_model.specs.Sorting.{put_sorted, sorted_by}
 use Rattle.sql_model.specs.Statements.{target, refusal_of}
+use Rattle.sql_model.proofs.Equations.{need_is}
 use Rattle.sql_laws.proofs.StatementParts.{need_parts}
 use Rattle.replay_db.specs.Types.{Statement, Table, TableRow}
-use Rattle.replay_db.proofs.Tests.{same_text_is, found_passes, number_is}
 use Rattle.replay_db.proofs.TraceLists.{all_append, all_filter, all_map, all_flat_map}
-
-pub needs_none : (db : List Table) → need_of None db ≡ []
-unfolding need_of
-needs_none db = refl
 
 -- ---- lists
 
@@ -244,7 +242,7 @@ module _ (P : List ℕ → ℕ → Type 0) (db : List Table) (sound : (name : Li
       by : (o : Option Table) → table_at name db ≡ o → TableGood o
       by None is = tt
       by (Some t) is =
-          let same : t.name ≡ name = same_text_is t.name name (found_passes (is_table name) db t is) in
+          let same : t.name ≡ name = bytes_eq-true t.name name (found-passes (is_table name) db t is) in
           let rows : AllByRecursion (λ row. P name row.number) t.rows = subst (λ (o : Option Table). AllByRecursion (λ row. P name row.number) (rows_of o)) is (sound name) in
           subst (λ (n : List ℕ). AllByRecursion (λ row. P n row.number) t.rows) (sym same) rows
 
@@ -276,7 +274,7 @@ module _ (P : List ℕ → ℕ → Type 0) (db : List Table) (sound : (name : Li
   stood_good t (row ∷ rows) h = elim (cases_Bool (stood t row)) [
     | inl there ↦
         let one : P t.name row.number = all_any (λ old. P t.name old.number) (λ old. old.number == row.number) (P t.name row.number)
-        (λ old same good. subst (P t.name) (number_is old.number row.number same) good) t.rows h there in
+        (λ old same good. subst (P t.name) (nat_eq-true old.number row.number same) good) t.rows h there in
         rw there (one, stood_good t rows h)
     | inr new ↦ rw new (stood_good t rows h)
   ]
@@ -320,5 +318,5 @@ module _ (P : List ℕ → ℕ → Type 0) (db : List Table) (sound : (name : Li
   rising_good (n ∷ ns) h = put_good n h.0 (sorted_needs ns) (rising_good ns h.1)
 
   pub needs_good : (statement : Option Statement) → AllByRecursion Needed (need_of statement db)
-  needs_good None = subst (AllByRecursion Needed) (sym (needs_none db)) tt
+  needs_good None = subst (AllByRecursion Needed) (sym (need_is None db)) tt
   needs_good (Some s) = subst (AllByRecursion Needed) (sym (need_parts s db)) (rising_good (needs_by (refusal_of (Some s) db) s db) (by_refusal (refusal_of (Some s) db) s))

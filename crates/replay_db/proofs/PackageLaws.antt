@@ -3,12 +3,12 @@ use Rattle.std.proofs.Common.{◌≡◌, ℕ, List, [], ◌∷◌, refl, ap, tru
 use Rattle.std.specs.Prelude.{Option, Some, None, option_map, is_some, filter}
 use Rattle.std.specs.List.{cons_option, filter_map}
 use Rattle.std.proofs.lemmas.Bool.{cases_Bool}
+use Rattle.ldv_value.proofs.Cases.{cases-option}
 use Rattle.replay_db.specs.Types.{File, Table, TableRow, Event, Mode, Included, Excluded, PackedRow}
 use Rattle.run_model.specs.Between.{Cut, FileCut, Gone, Same, Other, kept_file, with_content, cut_files, cut_table, cut_tables, KeepsFile}
 use Rattle.run_model.specs.Package.{tables_of}
 use Rattle.run_model.specs.Slice.{FileNeed, Whole, Present, file_need, packed_as, packed_file, files_needed, first_reason, packed_because, rows_needed, is_table_needed, packed_table, tables_needed}
 use Rattle.replay_db.proofs.Keeps.{KeepsAll}
-use Rattle.replay_db.proofs.Tests.{cases_option}
 
 module _ (cut : Cut) (events : List Event) (keeps : KeepsAll cut events) where
   -- ---- files
@@ -38,7 +38,7 @@ module _ (cut : Cut) (events : List Event) (keeps : KeepsAll cut events) where
   rows_same : (table : List ℕ) (rows : List TableRow)
       → rows_needed events table (filter (λ row. cut.row table row.number) rows) ≡ rows_needed events table rows
   rows_same table [] = refl
-  rows_same table (row ∷ rows) = elim (cases_option (first_reason table row.number events)) [
+  rows_same table (row ∷ rows) = elim (cases-option (first_reason table row.number events)) [
     | inr found ↦
         let stays : cut.row table row.number ≡ true = keeps.rows table row.number (ap is_some found.1) in
         rw (stays, found.1) (ap (λ (l : List PackedRow). packed_because row found.0 ∷ l) (rows_same table rows))

@@ -1,17 +1,18 @@
 -- The package of a valid world's run that has ended is valid, and typed.
-use Rattle.std.proofs.Common.{◌≡◌, ℕ, suc, ◌≤◌, List, [], ◌∷◌, ◌++◌, length, map, Some, refl, sym, ap, ◌∙◌, le_trans, Bool, true, false, ◌&&◌, IsTrue, nat_le, nat_lt, slice_get, arith, inl, inr}
+use Rattle.std.proofs.Common.{◌≡◌, ℕ, suc, ◌≤◌, List, [], ◌∷◌, ◌++◌, length, map, Some, refl, ap, ◌∙◌, le_trans, Bool, true, ◌&&◌, IsTrue, nat_le, nat_lt, slice_get, arith}
 use Rattle.std.specs.Prelude.{Option, None}
 use Rattle.std.specs.List.{list_all, AllByRecursion}
 use Rattle.std.proofs.lemmas.Bool.{and_parts, and_from, le-leb}
 use Rattle.std.proofs.lemmas.Bool.Decides.{nat_tests}
 use Rattle.ldv_value.specs.Names.{path_test}
+use Rattle.ldv_value.proofs.SameBytes.{bytes_eq-itself}
 use Rattle.replay_db.specs.Types.{File, Instr, Started, Event, Included, Package, World}
 use Rattle.run_model.specs.Events.{event_at, events, start_events}
 use Rattle.run_model.specs.Package.{package_of}
 use Rattle.run_model.specs.Slice.{Whole, file_need, files_needed, tables_needed}
 use Rattle.run_model.specs.SqlDatabase.{sql_base}
 use Rattle.run_model.specs.Start.{start_script, start_state}
-use Rattle.run_model.specs.WorldRun.{ends_in, ends_within, steps_by, events_in, events_within}
+use Rattle.run_model.specs.WorldRun.{ends_within, steps_by, events_in, events_within}
 use Rattle.sql_model.specs.Tables.{tables_test}
 use Rattle.package_layout.specs.Events.{TypedEvent, event_room}
 use Rattle.package_layout.specs.Order.{rises, table_below}
@@ -23,9 +24,9 @@ use Rattle.package_layout.specs.Whole.{IsTyped, tables_room, has_room}
 use Rattle.replay_db.specs.Worlds.{all_of_file, all_of_world, TypedWorld, world_rules, ValidPackageLaw, TypedPackageLaw}
 use Rattle.replay_db.proofs.PackageValidParts.{files_valid, whole_found, rooms_valid, tables_valid}
 use Rattle.replay_db.proofs.PackageValidTyped.{files_typed, tables_typed}
-use Rattle.replay_db.proofs.Tests.{cases_option, self_text}
 use Rattle.replay_db.proofs.TraceValid.{trace_is, steps_at_least_one, steps_at_most, reasons_valid, room_is, typed_is}
 use Rattle.replay_db.proofs.WorldRules.{Ruled, ruled_by, RuledList, ruled_list, world_tables}
+use Rattle.replay_db.proofs.EndedLaw.{ended_starts}
 
 -- ---- start words
 
@@ -46,7 +47,7 @@ tables_few count within = grind (arith, nat_tests)
 
 -- the file that is started is needed whole
 started_whole : (word : List ℕ) (later : List Event) → file_need word (event_at 0 0 (Started word) ∷ later) ≡ Some Whole
-started_whole word later = rw (self_text word) refl
+started_whole word later = rw (bytes_eq-itself word) refl
 
 script_still : (start : List (List ℕ)) (later events : List Event) (files : List File) → events ≡ start_events (slice_get start 0) ++ later → script_rule start (map all_of_file files) ≡ true → script_rule start (files_needed events files) ≡ true
 script_still [] later events files begins met = cc
@@ -122,19 +123,12 @@ module _ (n : ℕ) (w : World) (met : IsTrue (world_rules w)) (valid : tables_te
 
 -- ---- the laws
 
--- a run that has ended had a script
-has_script : (n : ℕ) (w : World) → ends_within n w ≡ true → (script : List Instr) × (start_script w ≡ Some script)
-has_script n w ended = elim (cases_option (start_script w)) [
-  | inl none ↦ let never : false ≡ true = sym (ap (ends_in n [] w) none) ∙ ended in absurd cc
-  | inr script ↦ script
-]
-
 pub valid_package : ValidPackageLaw
 valid_package n w met valid less ended =
-    let script = has_script n w ended in
+    let script = ended_starts n [] w ended in
     script_valid n w met valid less script.0 script.1 ended
 
 pub typed_package : TypedPackageLaw
 typed_package n w valid less ended =
-    let script = has_script n w ended in
+    let script = ended_starts n [] w ended in
     script_typed n w valid.ruled (world_tables w valid) less script.0 script.1 ended valid.typed

@@ -3,6 +3,7 @@ use Rattle.std.proofs.Common.{◌≡◌, ℕ, ◌≤◌, List, [], ◌∷◌, le
 use Rattle.std.specs.List.{list_all, list_any, cons_option, AllByRecursion}
 use Rattle.std.proofs.lemmas.Bool.{and_parts, and_from, or_parts, or_from, cases_Bool}
 use Rattle.std.proofs.lemmas.Bool.Decides.{nat_tests}
+use Rattle.sql_laws.proofs.SortedLists.{sorted-all, first-all}
 use Rattle.package_layout.specs.Order.{is_below_next, rises}
 use Rattle.sql_model.specs.Keys.{repeats}
 
@@ -17,23 +18,6 @@ shorter_still short long limit less within = grind (arith, nat_tests)
 
 abbrev pub Chains : {A : Type 0} → (A → A → Bool) → Type 0
 Chains {A} r = (a b c : A) → r a b ≡ true → r b c ≡ true → r a c ≡ true
-
-module _ {A : Type 0} (below : A → A → Bool) where
-  all_below : Chains below → (a b : A) (cs : List A) → below a b ≡ true → list_all (below b) cs ≡ true → list_all (below a) cs ≡ true
-  all_below chains a b [] first all = refl
-  all_below chains a b (c ∷ cs) first all =
-      let both = and_parts (below b c) (list_all (below b) cs) all in
-      and_from (below a c) (list_all (below a) cs) (chains a b c first both.0) (all_below chains a b cs first both.1)
-
-  below_later : Chains below → (a : A) (cs : List A) → is_below_next below a cs ≡ true → rises below cs ≡ true → list_all (below a) cs ≡ true
-  below_later chains a [] next rest = refl
-  below_later chains a (c ∷ cs) next rest =
-      let both = and_parts (is_below_next below c cs) (rises below cs) rest in
-      and_from (below a c) (list_all (below a) cs) next (all_below chains a c cs next (below_later chains c cs both.0 both.1))
-
-  below_first : (a : A) (cs : List A) → list_all (below a) cs ≡ true → is_below_next below a cs ≡ true
-  below_first a [] all = refl
-  below_first a (c ∷ cs) all = let both = and_parts (below a c) (list_all (below a) cs) all in both.0
 
 -- ---- one item more, or none
 
@@ -92,11 +76,12 @@ module _ {X Y : Type 0} (g : X → Y) (f : X → Option Y) where
     rises_still r chains [] all = refl
     rises_still r chains (x ∷ xs) all =
         let both = and_parts (is_below_next (by_key r) (g x) (map g xs)) (rises (by_key r) (map g xs)) all in
-        let later : list_all (by_key r (g x)) (map g xs) ≡ true = below_later (by_key r) (λ a b c. chains (key a) (key b) (key c)) (g x) (map g xs) both.0 both.1 in
+        let chained : Chains (by_key r) = λ a b c. chains (key a) (key b) (key c) in
+        let later : list_all (by_key r (g x)) (map g xs) ≡ true = sorted-all (by_key r) chained (g x) (map g xs) all in
         let kept : list_all (by_key r (g x)) (filter_map f xs) ≡ true =
         tests_stay (by_key r (g x)) (by_key r (g x)) (λ z y is hit. ap (r (key (g x))) (keeps z y is) ∙ hit) xs later in
         rises_more (by_key r) (f x) (filter_map f xs)
-        (λ y is. below_first (by_key r) y (filter_map f xs) (ap (λ (k : K). list_all (λ z. r k (key z)) (filter_map f xs)) (keeps x y is) ∙ kept))
+        (λ y is. first-all (by_key r) chained y (filter_map f xs) (ap (λ (k : K). list_all (λ z. r k (key z)) (filter_map f xs)) (keeps x y is) ∙ kept))
         (rises_still r chains xs both.1)
 
     module _ {L : Type 0} (h : K → L) where
@@ -124,7 +109,3 @@ some_kept p h (x ∷ xs) = elim (cases_Bool (p x)) [
   | inl hit ↦ rw hit (ap (λ ys. h x ∷ ys) (some_kept p h xs))
   | inr miss ↦ rw miss (some_kept p h xs)
 ]
-
-pub map_twice : {X Y Z : Type 0} (h : Y → Z) (g : X → Y) (xs : List X) → map h (map g xs) ≡ map (λ x. h (g x)) xs
-map_twice h g [] = refl
-map_twice h g (x ∷ xs) = ap (λ zs. h (g x) ∷ zs) (map_twice h g xs)

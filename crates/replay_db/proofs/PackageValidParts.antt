@@ -1,13 +1,12 @@
 -- What events need of files and tables that meet the rules meets them too.
-use Rattle.std.proofs.Common.{◌≡◌, ℕ, List, [], ◌∷◌, length, map, find, Option, Some, None, option_map, refl, sym, ap, ◌∙◌, Bool, true, false, not, ◌&&◌, if◌then◌else◌, filter_map, nat_le, nat_lt, ◌==◌, bytes_eq, arith, inl, inr, is_lt, nat_cmp, Ordering, Less, Equal, Greater}
+use Rattle.std.proofs.Common.{◌≡◌, ℕ, List, [], ◌∷◌, length, map, find, Option, Some, None, option_map, refl, sym, ap, ◌∙◌, Bool, true, false, not, ◌&&◌, if◌then◌else◌, filter_map, nat_le, nat_lt, ◌==◌, bytes_eq, inl, inr}
 use Rattle.std.specs.List.{list_all, cons_option}
-use Rattle.std.specs.Cmp.Lexicographic.{slice_cmp, nat_list_cmp_total}
 use Rattle.std.proofs.lemmas.Bool.{and_parts, and_from, not-true, not_from_false, cases_Bool}
-use Rattle.std.proofs.lemmas.Bool.Decides.{nat_tests}
 use Rattle.std.proofs.lemmas.Slice.Eq.{bytes_eq-Decides}
 use Rattle.ldv_value.specs.Names.{path_test}
 use Rattle.replay_db.specs.Types.{File, Table, TableRow, Event, PackedFile, PackedRow, PackedTable}
 use Rattle.ldv_value.specs.declared.value.Value.{Value}
+use Rattle.ldv_value.proofs.Lists.{map-map}
 use Rattle.sql_model.specs.SqlNames.{sql_name_test}
 use Rattle.sql_model.specs.Tables.{schema_test, is_row, is_short, numbers_test, are_keys_unique}
 use Rattle.run_model.specs.Slice.{FileNeed, Whole, Present, file_need, packed_as, packed_file, files_needed, Reason, first_reason, packed_because, packed_row, rows_needed, is_table_needed, packed_table, tables_needed}
@@ -16,20 +15,8 @@ use Rattle.package_layout.specs.Order.{rises, is_below, file_below, table_below}
 use Rattle.package_layout.specs.Room.{few, key_room, row_room, table_room}
 use Rattle.package_layout.specs.Valid.{content_rule, file_rule, files_rule, rows_rule, table_rule, tables_rule}
 use Rattle.replay_db.specs.Worlds.{all_of_file, all_of_row, all_of_table}
-use Rattle.replay_db.proofs.PackageValidLists.{kept_if, Chains, tests_stay, within_still, rises_still, unique_still, some_kept, map_twice}
-
--- ---- orders
-
-less_is : (o : Ordering) → is_lt o ≡ true → o ≡ Less
-less_is Less is = refl
-less_is Equal is = cc
-less_is Greater is = cc
-
-texts_chain : Chains is_below
-texts_chain a b c first second = ap is_lt (nat_list_cmp_total.trans a b c (less_is (slice_cmp nat_cmp a b) first) (less_is (slice_cmp nat_cmp b c) second))
-
-numbers_chain : Chains nat_lt
-numbers_chain a b c first second = grind (arith, nat_tests)
+use Rattle.replay_db.proofs.PackageValidLists.{kept_if, tests_stay, within_still, rises_still, unique_still, some_kept}
+use Rattle.replay_db.proofs.TraceLists.{below_next, less_next}
 
 -- ---- files
 
@@ -52,7 +39,7 @@ files_valid events files met =
     let rest = and_parts (list_all file_rule all) (rises file_below all) parts.1 in
     let few_files : nat_le (length kept) 65536 ≡ true = within_still all_of_file f files 65536 parts.0 in
     let each : list_all file_rule kept ≡ true = tests_stay all_of_file f file_rule file_rule (λ file y is. (file_kept file (file_need file.path events) y is).1) files rest.0 in
-    let rising : rises file_below kept ≡ true = rises_still all_of_file f (λ y. y.path) (λ file y is. (file_kept file (file_need file.path events) y is).0) is_below texts_chain files rest.1 in
+    let rising : rises file_below kept ≡ true = rises_still all_of_file f (λ y. y.path) (λ file y is. (file_kept file (file_need file.path events) y is).0) is_below below_next files rest.1 in
     and_from (nat_le (length kept) 65536) (list_all file_rule kept && rises file_below kept) few_files (and_from (list_all file_rule kept) (rises file_below kept) each rising)
 
 -- a file of another path is passed over
@@ -146,7 +133,7 @@ module _ (events : List Event) (table : Table) where
   numbers_valid : numbered all_rows ≡ true → numbered kept_rows ≡ true
   numbers_valid met =
       let parts = and_parts (sorted all_rows) (below all_rows) met in
-      let rising : sorted kept_rows ≡ true = rises_still all_of_row (packed_row events table.name) (λ y. y.number) same_number nat_lt numbers_chain table.rows parts.0 in
+      let rising : sorted kept_rows ≡ true = rises_still all_of_row (packed_row events table.name) (λ y. y.number) same_number nat_lt less_next table.rows parts.0 in
       and_from (sorted kept_rows) (below kept_rows) rising (numbers_still (λ n. nat_lt n table.next) parts.1)
 
   rows_valid : rows_rule (all_of_table table) ≡ true → rows_rule (packed_table events table) ≡ true
@@ -161,7 +148,7 @@ module _ (events : List Event) (table : Table) where
 
   keys_unique : repeats same_values (keys_of all_rows) ≡ false → repeats same_values (keys_of kept_rows) ≡ false
   keys_unique none =
-      let at : (rows : List PackedRow) → keys_of rows ≡ map (λ row. values_at table.schema.key row.values) rows = λ rows. map_twice (values_at table.schema.key) (λ row. row.values) rows in
+      let at : (rows : List PackedRow) → keys_of rows ≡ map (λ row. values_at table.schema.key row.values) rows = λ rows. map-map (values_at table.schema.key) (λ row. row.values) rows in
       ap (repeats same_values) (at kept_rows)
       ∙ unique_still all_of_row (packed_row events table.name) (λ y. y.values) values_stay (values_at table.schema.key) same_values table.rows (sym (ap (repeats same_values) (at all_rows)) ∙ none)
 
@@ -209,5 +196,5 @@ module _ (events : List Event) where
       let few_tables : nat_le (length kept) 256 ≡ true = ap (λ (ts : List PackedTable). nat_le (length ts) 256) (tables_as events tables) ∙ within_still all_of_table (table_kept events) tables 256 parts.0 in
       let each : list_all table_rule kept ≡ true = each_table table_rule (table_valid events) tables rest.0 in
       let rising : rises table_below kept ≡ true = ap (rises table_below) (tables_as events tables)
-      ∙ rises_still all_of_table (table_kept events) (λ y. y.name) (λ table y is. ap (λ (t : PackedTable). t.name) (table_is events table y is)) is_below texts_chain tables rest.1 in
+      ∙ rises_still all_of_table (table_kept events) (λ y. y.name) (λ table y is. ap (λ (t : PackedTable). t.name) (table_is events table y is)) is_below below_next tables rest.1 in
       and_from (nat_le (length kept) 256) (list_all table_rule kept && rises table_below kept) few_tables (and_from (list_all table_rule kept) (rises table_below kept) each rising)

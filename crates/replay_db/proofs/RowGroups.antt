@@ -9,12 +9,12 @@ use Rattle.std.specs.Cmp.Lexicographic.{slice_cmp}
 use Rattle.std.proofs.lemmas.Bool.{cases_Bool}
 use Rattle.std.proofs.lemmas.List.{length-append}
 use Rattle.std.proofs.lemmas.Map.Text.{is_eq-slice_cmp}
+use Rattle.ldv_value.proofs.SameBytes.{bytes_eq-true}
+use Rattle.ldv_value.proofs.Booleans.{and-parts}
 use Rattle.sql_model.specs.Scope.{same_text}
 use Rattle.package_layout.specs.Groups.{groups, single, after, add_all}
 use Rattle.package_layout.specs.Order.{rises, is_below, row_after_table}
 use Rattle.package_layout.proofs.Groups.{add_last}
-use Rattle.package_layout.proofs.Laws.{both_true}
-use Rattle.replay_db.proofs.Tests.{same_text_is}
 use Rattle.replay_db.proofs.TraceLists.{below_next, below_itself, filter_most, filter_fewer}
 
 -- a name is one of the names
@@ -26,7 +26,7 @@ fewer_above : (low high : List ℕ) → is_below low high ≡ true → (names : 
 fewer_above low high below [] there = absurd cc
 fewer_above low high below (name ∷ names) there = elim (cases_Bool (same_text name high)) [
   | inl hit ↦
-      let same : name ≡ high = same_text_is name high hit in
+      let same : name ≡ high = bytes_eq-true name high hit in
       let out : is_below high name ≡ false = ap (is_below high) same ∙ below_itself high in
       let among : is_below low name ≡ true = ap (is_below low) same ∙ below in
       let rest : length (filter (is_below high) names) ≤ length (filter (is_below low) names) = filter_fewer (is_below high) (is_below low) (λ other h. below_next low high other below h) names in
@@ -48,7 +48,7 @@ fewer_than_all : (name : List ℕ) (names : List (List ℕ)) → is_name_of name
 fewer_than_all name [] there = absurd cc
 fewer_than_all name (other ∷ names) there = elim (cases_Bool (same_text other name)) [
   | inl hit ↦
-      let out : is_below name other ≡ false = ap (is_below name) (same_text_is other name hit) ∙ below_itself name in
+      let out : is_below name other ≡ false = ap (is_below name) (bytes_eq-true other name hit) ∙ below_itself name in
       let rest : length (filter (is_below name) names) ≤ length names = filter_most (is_below name) names in
       rw out (omega arith)
   | inr miss ↦
@@ -86,11 +86,11 @@ module _ {X Part : Type 0} (table_of : X → List ℕ) (row_of : X → ℕ) (par
       → length (add_all table_of part_of (gs ++ record { table = table; parts = parts } ∷ []) xs) ≤ length gs + 1 + above last
   groups_after gs table parts last [] is rise named = omega (arith, length-append gs (record { table = table; parts = parts } ∷ []))
   groups_after gs table parts last (x ∷ xs) is rise named =
-      let both = both_true (row_below last x) (rises row_below (x ∷ xs)) rise in
+      let both = and-parts (row_below last x) (rises row_below (x ∷ xs)) rise in
       let next = ap (λ hs. length (add_all table_of part_of hs xs)) (add_last table_of part_of gs (record { table = table; parts = parts }) x) in
       elim (cases_Bool (bytes_eq table (table_of x))) [
         | inl hit ↦
-            let same : table ≡ table_of x = same_text_is table (table_of x) hit in
+            let same : table ≡ table_of x = bytes_eq-true table (table_of x) hit in
             let joined : after table_of part_of (record { table = table; parts = parts }) x ≡ record { table = table; parts = parts ++ part_of x ∷ [] } ∷ [] = rw hit refl in
             let more : length (add_all table_of part_of (gs ++ record { table = table; parts = parts ++ part_of x ∷ [] } ∷ []) xs) ≤ length gs + 1 + above x = groups_after gs table (parts ++ part_of x ∷ []) x xs same both.1 named.1 in
             let count : above x ≡ above last = ap (λ (name : List ℕ). length (filter (is_below name) names)) (sym same ∙ is) in

@@ -3,13 +3,13 @@ use Rattle.std.proofs.Common.{◌≡◌, ℕ, List, [], ◌∷◌, refl, ap, inl
 use Rattle.std.specs.Prelude.{Option, Some, None, option_map, map, filter}
 use Rattle.std.specs.List.{cons_option}
 use Rattle.std.proofs.lemmas.Bool.{cases_Bool}
+use Rattle.ldv_value.proofs.Cases.{cases-option}
 use Rattle.replay_db.specs.Types.{File, Table, TableRow, Event, PackedFile}
 use Rattle.run_model.specs.Between.{kept_file, cut_files, cut_table, cut_tables, KeepsFile, KeepsNeeded, cut_to, is_row_needed, slice_cut}
 use Rattle.run_model.specs.Package.{own_file, own_row, own_table}
 use Rattle.run_model.specs.Slice.{FileNeed, Whole, Present, file_need, packed_as, files_needed, first_reason, rows_needed, is_table_needed, packed_table, tables_needed}
 use Rattle.run_model.specs.WorldRun.{events_within}
 use Rattle.replay_db.specs.Laws.{SliceLaw, OwnLaw}
-use Rattle.replay_db.proofs.Tests.{cases_option}
 
 -- ---- the slice keeps what is needed
 
@@ -43,7 +43,7 @@ module _ (all : List Event) where
 
   own_rows : (table : List ℕ) (rows : List TableRow) → map own_row (rows_needed all table rows) ≡ filter (λ row. is_row_needed all table row.number) rows
   own_rows table [] = refl
-  own_rows table (row ∷ rows) = elim (cases_option (first_reason table row.number all)) [
+  own_rows table (row ∷ rows) = elim (cases-option (first_reason table row.number all)) [
     | inl none ↦ rw none (own_rows table rows)
     | inr found ↦ rw found.1 (ap (λ (l : List TableRow). row ∷ l) (own_rows table rows))
   ]

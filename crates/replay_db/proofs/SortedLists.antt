@@ -4,9 +4,10 @@ use Rattle.std.proofs.Common.{◌≡◌, List, [], ◌∷◌, refl, sym, ap, ◌
 use Rattle.std.specs.Prelude.{Option, Some, None, find, filter, ◌&&◌, ◌⊎◌}
 use Rattle.std.specs.List.{filter_map, cons_option, list_any}
 use Rattle.std.proofs.lemmas.Bool.{cases_Bool, and_parts, and_from}
+use Rattle.ldv_value.proofs.Booleans.{or-left, or-right}
+use Rattle.ldv_value.proofs.Lists.{found-passes}
 use Rattle.package_layout.specs.Order.{is_below_next, rises}
 use Rattle.run_model.specs.Between.{IsIn}
-use Rattle.replay_db.proofs.Tests.{cases_option, or_first, or_second, found_passes}
 
 -- ---- membership
 
@@ -39,8 +40,8 @@ module _ {X : Type 0} where
 
   pub in_any : (p : X → Bool) (xs : List X) (x : X) → IsIn x xs → p x ≡ true → list_any p xs ≡ true
   in_any p [] x is hit = absurd is
-  in_any p (y ∷ ys) x (inl same) hit = or_first (p y) (list_any p ys) (ap p (sym same) ∙ hit)
-  in_any p (y ∷ ys) x (inr more) hit = or_second (p y) (list_any p ys) (in_any p ys x more hit)
+  in_any p (y ∷ ys) x (inl same) hit = or-left (p y) (list_any p ys) (ap p (sym same) ∙ hit)
+  in_any p (y ∷ ys) x (inr more) hit = or-right (p y) (list_any p ys) (in_any p ys x more hit)
 
   pub in_filter : (p : X → Bool) (xs : List X) (x : X) → IsIn x xs → p x ≡ true → IsIn x (filter p xs)
   in_filter p [] x is hit = absurd is
@@ -190,7 +191,7 @@ module _ {X K : Type 0} (key : X → K) (lower : K → K → Bool) (itself : (k 
     at k xs = find (λ x. equal (key x) k) xs
 
     pub at_key : (k : K) (xs : List X) (x : X) → at k xs ≡ Some x → key x ≡ k
-    at_key k xs x found = is (key x) k (found_passes (λ y. equal (key y) k) xs x found)
+    at_key k xs x found = is (key x) k (found-passes (λ y. equal (key y) k) xs x found)
 
     -- an item of a sorted list is the one that is found by its key
     pub at_item : (xs : List X) → Sorted xs → (x : X) → IsIn x xs → at (key x) xs ≡ Some x

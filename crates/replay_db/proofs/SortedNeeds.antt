@@ -3,27 +3,18 @@ use Rattle.std.proofs.Common.{◌≡◌, ℕ, List, [], ◌∷◌, refl, ap, ◌
 use Rattle.std.specs.Prelude.{map, filter, ◌&&◌, ◌==◌, nat_lt, if◌then◌else◌}
 use Rattle.std.proofs.lemmas.Bool.Decides.{nat_tests}
 use Rattle.ldv_value.proofs.Booleans.{and-parts}
+use Rattle.ldv_value.proofs.SameBytes.{bytes_eq-itself}
 use Rattle.ldv_value.specs.Sorted.{precedes_first, is_strictly_sorted}
 use Rattle.sql_model.specs.Needs.{NeededRow, matched_row, is_same_row, is_earlier_row, put_row, sorted_needs}
 use Rattle.sql_laws.proofs.SortedLists.{sorted-filter}
+use Rattle.sql_laws.proofs.NewNumbers.{row_precedes, row-trans}
 use Rattle.replay_db.specs.Types.{Table, TableRow}
-use Rattle.replay_db.proofs.Tests.{self_text}
-
--- by number
-abbrev pub row_precedes : TableRow → TableRow → Bool
-row_precedes a b = nat_lt a.number b.number
 
 abbrev pub rows_sorted : List TableRow → Bool
 rows_sorted rows = is_strictly_sorted row_precedes rows
 
-row_trans : (a b c : TableRow) → row_precedes a b ≡ true → row_precedes b c ≡ true → row_precedes a c ≡ true
-row_trans a b c h k = trans a.number b.number c.number h k
-  where
-    trans : (x y z : ℕ) → nat_lt x y ≡ true → nat_lt y z ≡ true → nat_lt x z ≡ true
-    trans x y z h k = grind (arith, nat_tests)
-
 pub filter_sorted : (p : TableRow → Bool) (rows : List TableRow) → rows_sorted rows ≡ true → rows_sorted (filter p rows) ≡ true
-filter_sorted p rows sorted = sorted-filter row_precedes row_trans p rows sorted
+filter_sorted p rows sorted = sorted-filter row_precedes row-trans p rows sorted
 
 -- ---- as needed rows
 
@@ -34,7 +25,7 @@ module _ (t : Table) where
   put_first : (row : TableRow) (rows : List TableRow) → precedes_first row_precedes row rows ≡ true
       → put_row (matched_row t row) (map (matched_row t) rows) ≡ matched_row t row ∷ map (matched_row t) rows
   put_first row [] above = refl
-  put_first row (other ∷ rows) above = rw (self_text t.name, differ row.number other.number above, above) refl
+  put_first row (other ∷ rows) above = rw (bytes_eq-itself t.name, differ row.number other.number above, above) refl
 
   pub rising_matched : (rows : List TableRow) → rows_sorted rows ≡ true
       → sorted_needs (map (matched_row t) rows) ≡ map (matched_row t) rows

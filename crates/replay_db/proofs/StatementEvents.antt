@@ -1,11 +1,13 @@
 -- What the event of a statement meets, over a database whose tables have these names.
-use Rattle.std.proofs.Common.{◌≡◌, ℕ, suc, ◌+◌, ◌<◌, ◌≤◌, ◌^◌, List, [], ◌∷◌, length, refl, sym, ap, ◌∙◌, subst, Bool, true, false, arith, inl, inr}
+use Rattle.std.proofs.Common.{◌≡◌, ℕ, suc, ◌+◌, ◌<◌, ◌≤◌, ◌^◌, List, [], ◌∷◌, length, refl, sym, ap, ◌∙◌, subst, true, false, arith, inl, inr}
 use Rattle.std.specs.Prelude.{Option, Some, None, map, filter, ◌&&◌, ◌==◌, nat_le, nat_lt, not, if◌then◌else◌, IsTrue}
 use Rattle.std.specs.List.{list_all, list_any, AllByRecursion}
 use Rattle.std.specs.Str.{IsUtf8}
 use Rattle.std.proofs.lemmas.Bool.{cases_Bool, leb-true, ltb-true, lt-ltb, eq-eqb}
 use Rattle.std.proofs.lemmas.Bool.Decides.{nat_tests}
-use Rattle.ldv_value.proofs.Booleans.{and-parts}
+use Rattle.ldv_value.proofs.Booleans.{and-parts, or-right, and-from}
+use Rattle.ldv_value.proofs.SameBytes.{bytes_eq-true}
+use Rattle.ldv_value.proofs.Lists.{found-passes, all-weaker, tested-all}
 use Rattle.std.proofs.lemmas.List.{length-map}
 use Rattle.ldv_value.specs.declared.value.Value.{Value}
 use Rattle.sql_model.specs.SqlNames.{sql_name_test}
@@ -22,6 +24,7 @@ use Rattle.sql_model.specs.Statements.{target, refusal_of}
 use Rattle.sql_model.specs.Tables.{is_valid_table, tables_test}
 use Rattle.sql_model.proofs.ValidTables.{TableParts, table-parts}
 use Rattle.sql_laws.proofs.DatabaseLaws.{tables_law}
+use Rattle.sql_laws.proofs.ChangedTables.{else-parts, if-none}
 use Rattle.replay_db.specs.Types.{Statement, Table, TableRow, Member, Need, Act, Asked}
 use Rattle.run_model.specs.SqlDatabase.{SqlDatabase, is_row_of, versions_after, read_of, db_after, lists_of}
 use Rattle.run_model.specs.Step.{asked_act}
@@ -31,7 +34,6 @@ use Rattle.package_layout.specs.Parts.{need_table, need_part, member_table, memb
 use Rattle.package_layout.specs.Room.{some_thousands}
 use Rattle.package_layout.specs.Trace.{act_rule}
 use Rattle.package_layout.specs.Typed.{IsU32}
-use Rattle.package_layout.proofs.Laws.{and_true}
 use Rattle.replay_db.proofs.NeedsSorted.{row_under, needs_rise, reads_rise}
 use Rattle.replay_db.proofs.NeedsSound.{needs_good}
 use Rattle.replay_db.proofs.RowGroups.{is_name_of, groups_few}
@@ -40,8 +42,7 @@ use Rattle.replay_db.proofs.SortedNeeds.{rows_sorted}
 use Rattle.replay_db.proofs.StatementNames.{names_after}
 use Rattle.replay_db.proofs.StatementVersions.{next_of, members_from, made_of, made_if, made_parts, made_none, target_rises}
 use Rattle.replay_db.proofs.Targets.{valid_table}
-use Rattle.replay_db.proofs.Tests.{or_second, same_text_is, found_passes, self_number, self_text}
-use Rattle.replay_db.proofs.TraceLists.{all_filter, all_map, all_of_map, all_weaker, test_all, rises_map, filter_rises, filter_most, equal_itself}
+use Rattle.replay_db.proofs.TraceLists.{all_filter, all_map, all_of_map, rises_map, filter_rises, filter_most, equal_itself}
 
 -- ---- a database
 
@@ -99,14 +100,14 @@ found_named : (name : List ℕ) (db : List Table) (t : Table) → table_at name 
 found_named name [] t is = cc
 found_named name (u ∷ us) t is = elim (cases_Bool (is_table name u)) [
   | inl hit ↦ rw hit refl
-  | inr miss ↦ or_second (same_text u.name name) (is_name_of (map table_name us) name) (found_named name us t (rw miss at is))
+  | inr miss ↦ or-right (same_text u.name name) (is_name_of (map table_name us) name) (found_named name us t (rw miss at is))
 ]
 
 -- a name among names that all meet something meets it
 name_meets : (P : List ℕ → Type 0) (names : List (List ℕ)) (name : List ℕ) → AllByRecursion P names → is_name_of names name ≡ true → P name
 name_meets P [] name all there = absurd cc
 name_meets P (other ∷ names) name all there = elim (cases_Bool (same_text other name)) [
-  | inl hit ↦ subst P (same_text_is other name hit) all.0
+  | inl hit ↦ subst P (bytes_eq-true other name hit) all.0
   | inr miss ↦ name_meets P names name all.1 (rw miss at there)
 ]
 
@@ -127,24 +128,16 @@ numbered_rise t start (values ∷ []) = refl
 numbered_rise t start (values ∷ more ∷ rows) =
     let here : member_below (new_member t (record { number = start; values = values })) (new_member t (record { number = start + 1; values = more })) ≡ true =
     rw (equal_itself t.name) (in_order start) in
-    and_true (member_below (new_member t (record { number = start; values = values })) (new_member t (record { number = start + 1; values = more })))
+    and-from (member_below (new_member t (record { number = start; values = values })) (new_member t (record { number = start + 1; values = more })))
     (rises member_below (map (new_member t) (numbered (start + 1) (more ∷ rows)))) here (numbered_rise t (start + 1) (more ∷ rows))
 
 -- ---- an INSERT that isn't refused has numbers for its rows
 
-none_else : (a b : Option SqlRefusal) → or_else a b ≡ None → (a ≡ None) × (b ≡ None)
-none_else None b none = (refl, none)
-none_else (Some refusal) b none = let never : Some refusal ≡ None = none in cc
-
-none_if : (b : Bool) (refusal : SqlRefusal) → refusal_if b refusal ≡ None → b ≡ false
-none_if true refusal none = let never : Some refusal ≡ None = none in cc
-none_if false refusal none = refl
-
 not_full : (s : Statement) (db : List Table) (t : Table) → target s db ≡ Some t → refusal_of (Some s) db ≡ None → is_full s t ≡ false
 not_full s db t found none =
-    let change : change_refusal s (catalog_of db) (Some t) ≡ None = ap (change_refusal s (catalog_of db)) (sym found) ∙ (none_else (check_refusal s (catalog_of db)) (change_refusal s (catalog_of db) (target s db)) none).1 in
-    let later = (none_else (refusal_if (lacks_value s (catalog_of db) t) NotNull) (or_else (key_refusal t (key_clash (changed s (catalog_of db) t))) (refusal_if (is_full s t) Full)) change).1 in
-    none_if (is_full s t) Full (none_else (key_refusal t (key_clash (changed s (catalog_of db) t))) (refusal_if (is_full s t) Full) later).1
+    let change : change_refusal s (catalog_of db) (Some t) ≡ None = ap (change_refusal s (catalog_of db)) (sym found) ∙ (else-parts (check_refusal s (catalog_of db)) (change_refusal s (catalog_of db) (target s db)) none).1 in
+    let later = (else-parts (refusal_if (lacks_value s (catalog_of db) t) NotNull) (or_else (key_refusal t (key_clash (changed s (catalog_of db) t))) (refusal_if (is_full s t) Full)) change).1 in
+    if-none (is_full s t) Full (else-parts (key_refusal t (key_clash (changed s (catalog_of db) t))) (refusal_if (is_full s t) Full) later).1
 
 room_left : (n : ℕ) → nat_lt 4294967295 n ≡ false → n ≤ 4294967295
 room_left n not_over = grind (arith, nat_tests)
@@ -166,7 +159,7 @@ module _ (names : List (List ℕ)) (asked : ℕ) (db : SqlDatabase) (good : Good
       by None found = tt
       by (Some t) found =
           let valid : ValidTable t = table_parts t (valid_table name db.tables t (database_of db.tables good.valid) found) in
-          all_weaker (λ (row : TableRow). row.number < t.next) (λ (row : TableRow). IsThere name row.number)
+          all-weaker (λ (row : TableRow). row.number < t.next) (λ (row : TableRow). IsThere name row.number)
           (λ row below. (name_there name t found, omega (arith, below, valid.next))) t.rows valid.below
 
   needs_there : (statement : Option Statement) → AllByRecursion (λ n. IsThere n.table n.row) (need_of statement db.tables)
@@ -188,7 +181,7 @@ module _ (names : List (List ℕ)) (asked : ℕ) (db : SqlDatabase) (good : Good
       let rows : List (List Value) = map (new_values insert.columns t.schema.columns) insert.rows in
       let count : length rows ≡ length insert.rows = length-map insert.rows (new_values insert.columns t.schema.columns) in
       let least : t.next + length insert.rows ≤ 4294967295 = room_left (t.next + length insert.rows) room in
-      let same : t.name ≡ insert.table = same_text_is t.name insert.table (found_passes (is_table insert.table) db.tables t found) in
+      let same : t.name ≡ insert.table = bytes_eq-true t.name insert.table (found-passes (is_table insert.table) db.tables t found) in
       let named : is_name_of names t.name ≡ true = ap (is_name_of names) same ∙ name_there insert.table t found in
       all_map IsMade (new_member t) (numbered t.next rows)
       (numbered_all (λ n. IsMade (record { table = t.name; row = n; version = 0 })) t.next rows (λ n below. ((named, omega (arith, below, count, least)), omega arith)))
@@ -278,11 +271,11 @@ module _ (names : List (List ℕ)) (asked : ℕ) (db : SqlDatabase) (good : Good
       pub asked_ruled : (processes step : ℕ) → act_rule (record { made = processes; asked = asked; step = step }) act ≡ true
       asked_ruled processes step =
           let number : (asked == asked) ≡ true = eq-eqb asked asked refl in
-          let named : list_all sql_name_test tables ≡ true = test_all sql_name_test tables (asked_all (λ name. IsTrue (sql_name_test name)) ruled.named statement) in
-          let two = and_true (asked == asked) (list_all sql_name_test tables) number named in
-          let three = and_true ((asked == asked) && list_all sql_name_test tables) (rises is_below tables) two (asked_sorted ruled.sorted statement) in
-          let four = and_true ((asked == asked) && list_all sql_name_test tables && rises is_below tables) (rises need_below reads) three (reads_rise db.versions statement db.tables) in
-          and_true ((asked == asked) && list_all sql_name_test tables && rises is_below tables && rises need_below reads) (rises member_below made) four (made_sorted statement)
+          let named : list_all sql_name_test tables ≡ true = tested-all sql_name_test tables (asked_all (λ name. IsTrue (sql_name_test name)) ruled.named statement) in
+          let two = and-from (asked == asked) (list_all sql_name_test tables) number named in
+          let three = and-from ((asked == asked) && list_all sql_name_test tables) (rises is_below tables) two (asked_sorted ruled.sorted statement) in
+          let four = and-from ((asked == asked) && list_all sql_name_test tables && rises is_below tables) (rises need_below reads) three (reads_rise db.versions statement db.tables) in
+          and-from ((asked == asked) && list_all sql_name_test tables && rises is_below tables && rises need_below reads) (rises member_below made) four (made_sorted statement)
 
       abbrev NameOf : List ℕ → Type 0
       NameOf name = IsTrue (is_name_of names name)
@@ -292,10 +285,10 @@ module _ (names : List (List ℕ)) (asked : ℕ) (db : SqlDatabase) (good : Good
 
       read_names : AllByRecursion (λ n. NameOf (need_table n)) reads
       read_names = all_map (λ n. NameOf (need_table n)) (read_of db.versions) (need_of statement db.tables)
-          (all_weaker (λ n. IsThere n.table n.row) (λ n. NameOf n.table) (λ n there. there.0) (need_of statement db.tables) (needs_there statement))
+          (all-weaker (λ n. IsThere n.table n.row) (λ n. NameOf n.table) (λ n there. there.0) (need_of statement db.tables) (needs_there statement))
 
       made_names : AllByRecursion (λ m. NameOf (member_table m)) made
-      made_names = all_weaker IsMade (λ m. NameOf m.table) (λ m there. there.0.0) made (made_there statement)
+      made_names = all-weaker IsMade (λ m. NameOf m.table) (λ m there. there.0.0) made (made_there statement)
 
       few_groups : (n : ℕ) → n ≤ length names → nat_lt n (2 ^ 16) ≡ true
       few_groups n within = lt-ltb n (2 ^ 16) (omega (arith, within, ruled.few))
@@ -303,29 +296,29 @@ module _ (names : List (List ℕ)) (asked : ℕ) (db : SqlDatabase) (good : Good
       reads_fit : needs_room reads ≡ true
       reads_fit =
           let few : length (need_groups reads) ≤ length names = groups_few need_table (λ n. n.member.row) need_part names reads (reads_rise db.versions statement db.tables) read_names in
-          and_true (some_thousands (need_groups reads)) (list_all (λ n. sql_name_test (need_table n)) reads) (few_groups (length (need_groups reads)) few)
-          (test_all (λ n. sql_name_test (need_table n)) reads (all_weaker (λ n. NameOf (need_table n)) (λ n. IsTrue (sql_name_test (need_table n))) (λ n there. named_there (need_table n) there) reads read_names))
+          and-from (some_thousands (need_groups reads)) (list_all (λ n. sql_name_test (need_table n)) reads) (few_groups (length (need_groups reads)) few)
+          (tested-all (λ n. sql_name_test (need_table n)) reads (all-weaker (λ n. NameOf (need_table n)) (λ n. IsTrue (sql_name_test (need_table n))) (λ n there. named_there (need_table n) there) reads read_names))
 
       made_fit : members_room made ≡ true
       made_fit =
           let few : length (member_groups made) ≤ length names = groups_few member_table (λ m. m.row) member_part names made (made_sorted statement) made_names in
-          and_true (some_thousands (member_groups made)) (list_all (λ m. sql_name_test (member_table m)) made) (few_groups (length (member_groups made)) few)
-          (test_all (λ m. sql_name_test (member_table m)) made (all_weaker (λ m. NameOf (member_table m)) (λ m. IsTrue (sql_name_test (member_table m))) (λ m there. named_there (member_table m) there) made made_names))
+          and-from (some_thousands (member_groups made)) (list_all (λ m. sql_name_test (member_table m)) made) (few_groups (length (member_groups made)) few)
+          (tested-all (λ m. sql_name_test (member_table m)) made (all-weaker (λ m. NameOf (member_table m)) (λ m. IsTrue (sql_name_test (member_table m))) (λ m there. named_there (member_table m) there) made made_names))
 
       -- the format has room for it
       pub asked_room : act_room act ≡ true
       asked_room =
-          and_true (some_thousands tables) (needs_room reads && members_room made) (few_groups (length tables) (asked_few statement))
-          (and_true (needs_room reads) (members_room made) reads_fit made_fit)
+          and-from (some_thousands tables) (needs_room reads && members_room made) (few_groups (length tables) (asked_few statement))
+          (and-from (needs_room reads) (members_room made) reads_fit made_fit)
 
     -- its numbers are those of their types, and its texts are UTF-8
     pub asked_typed : AllByRecursion IsUtf8 names → asked ≤ 10000000 → TypedAct act
     asked_typed texts small =
         let text : (name : List ℕ) → IsTrue (is_name_of names name) → IsUtf8 name = λ name there. name_meets IsUtf8 names name texts there in
         let read : AllByRecursion TypedNeed reads = all_map TypedNeed (read_of db.versions) (need_of statement db.tables)
-        (all_weaker (λ n. IsThere n.table n.row) (λ n. TypedNeed (read_of db.versions n))
+        (all-weaker (λ n. IsThere n.table n.row) (λ n. TypedNeed (read_of db.versions n))
         (λ n there. let bound : db.versions n.table n.row ≤ asked = good.versions n.table n.row in (text n.table there.0, (there.1, omega (arith, bound, small))))
         (need_of statement db.tables) (needs_there statement)) in
-        let new : AllByRecursion TypedMember made = all_weaker IsMade TypedMember
+        let new : AllByRecursion TypedMember made = all-weaker IsMade TypedMember
         (λ m there. let bound : m.version ≤ asked + 1 = there.1 in (text m.table there.0.0, (there.0.1, omega (arith, bound, small)))) made (made_there statement) in
         (omega (arith, small), (asked_all IsUtf8 texts statement, (read, new)))

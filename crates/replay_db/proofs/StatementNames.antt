@@ -4,19 +4,13 @@ use Rattle.std.specs.Prelude.{Option, Some, None, map, if◌then◌else◌}
 use Rattle.std.proofs.lemmas.Bool.{cases_Bool}
 use Rattle.sql_model.specs.declared.catalog.Catalog.{Catalog}
 use Rattle.sql_model.specs.declared.reply.SqlRefusal.{SqlRefusal}
-use Rattle.sql_model.specs.declared.statement.Statement.TheVariants.{Query as TheQuery, Insert as TheInsert, Update as TheUpdate, Delete as TheDelete}
 use Rattle.sql_model.specs.Changes.{changed, changed_in, target_of}
 use Rattle.sql_model.specs.Needs.{table_name}
 use Rattle.sql_model.specs.Scope.{is_table, catalog_of}
 use Rattle.sql_model.specs.Statements.{refusal_of, after_unless, after}
+use Rattle.sql_model.proofs.Equations.{changed_name}
 use Rattle.sql_laws.proofs.StatementParts.{after_is}
 use Rattle.replay_db.specs.Types.{Statement, Table}
-
-changed_name : (s : Statement) (catalog : Catalog) (t : Table) → (changed s catalog t).name ≡ t.name
-changed_name (TheQuery query) catalog t = refl
-changed_name (TheInsert insert) catalog t = refl
-changed_name (TheUpdate update) catalog t = refl
-changed_name (TheDelete delete) catalog t = refl
 
 one_name : (name : List ℕ) (s : Statement) (catalog : Catalog) (t : Table)
     → (if is_table name t then changed s catalog t else t).name ≡ t.name

@@ -4,6 +4,7 @@ use Rattle.std.proofs.Common.{◌≡◌, ℕ, ◌+◌, List, [], ◌∷◌, refl
 use Rattle.std.specs.Prelude.{Option, Some, None, option_map, map, length, filter, ◌&&◌, nat_lt}
 use Rattle.std.specs.List.{list_all}
 use Rattle.std.proofs.lemmas.Bool.{and_parts}
+use Rattle.ldv_value.proofs.Lists.{map-map}
 use Rattle.sql_model.specs.declared.catalog.Catalog.{Catalog}
 use Rattle.sql_model.specs.declared.reply.SqlRefusal.{SqlRefusal}
 use Rattle.sql_model.specs.declared.statement.Delete.{Delete}
@@ -27,7 +28,6 @@ use Rattle.replay_db.specs.Types.{Statement, Table, TableRow, Member, Value}
 use Rattle.run_model.specs.Between.{Cut, cut_table, cut_tables}
 use Rattle.replay_db.proofs.SortedNeeds.{rows_sorted, filter_sorted, rising_matched}
 use Rattle.replay_db.proofs.Targets.{valid_table, target_cut}
-use Rattle.replay_db.proofs.Tests.{cases_option}
 
 -- ---- versions by what is needed
 
@@ -70,10 +70,6 @@ abbrev pub Rises : Option Table → Type 0
 Rises None = Unit {0}
 Rises (Some t) = rows_sorted t.rows ≡ true
 
-map_twice : {A B C : Type 0} (g : B → C) (f : A → B) (xs : List A) → map g (map f xs) ≡ map (λ x. g (f x)) xs
-map_twice g f [] = refl
-map_twice g f (x ∷ xs) = ap (λ l. g (f x) ∷ l) (map_twice g f xs)
-
 matched_rise : (s : Statement) (catalog : Catalog) (t : Table) → rows_sorted t.rows ≡ true
     → rows_sorted (matched s catalog t) ≡ true
 matched_rise (TheQuery query) catalog t rise = refl
@@ -91,12 +87,12 @@ matched_needed s catalog (Some t) rise = rising_matched t (matched s catalog t) 
 update_made : (versions : Versions) (update : Update) (catalog : Catalog) (o : Option Table)
     → members_made versions (TheUpdate update) catalog o ≡ map (next_of versions) (matched_rows (TheUpdate update) catalog o)
 update_made versions update catalog None = refl
-update_made versions update catalog (Some t) = sym (map_twice (next_of versions) (matched_row t) (matched (TheUpdate update) catalog t))
+update_made versions update catalog (Some t) = sym (map-map (next_of versions) (matched_row t) (matched (TheUpdate update) catalog t))
 
 delete_made : (versions : Versions) (delete : Delete) (catalog : Catalog) (o : Option Table)
     → members_made versions (TheDelete delete) catalog o ≡ map (next_of versions) (matched_rows (TheDelete delete) catalog o)
 delete_made versions delete catalog None = refl
-delete_made versions delete catalog (Some t) = sym (map_twice (next_of versions) (matched_row t) (matched (TheDelete delete) catalog t))
+delete_made versions delete catalog (Some t) = sym (map-map (next_of versions) (matched_row t) (matched (TheDelete delete) catalog t))
 
 insert_made : (versions : Versions) (insert : Insert) (catalog : Catalog) (o : Option Table)
     → members_made versions (TheInsert insert) catalog o ≡ members_from insert o
@@ -106,7 +102,7 @@ insert_made versions insert catalog (Some t) = refl
 update_origins : (update : Update) (catalog : Catalog) (o : Option Table)
     → updated_in (TheUpdate update) catalog o ≡ map origin_of (matched_rows (TheUpdate update) catalog o)
 update_origins update catalog None = refl
-update_origins update catalog (Some t) = sym (map_twice origin_of (matched_row t) (matched (TheUpdate update) catalog t))
+update_origins update catalog (Some t) = sym (map-map origin_of (matched_row t) (matched (TheUpdate update) catalog t))
 
 insert_origins : (insert : Insert) (catalog : Catalog) (o : Option Table) → updated_in (TheInsert insert) catalog o ≡ []
 insert_origins insert catalog None = refl

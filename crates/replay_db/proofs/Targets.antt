@@ -9,11 +9,11 @@ use Rattle.sql_model.specs.Refusals.{tables_of}
 use Rattle.sql_model.specs.Scope.{is_table, table_at, same_text}
 use Rattle.sql_model.specs.Statements.{target}
 use Rattle.ldv_value.specs.Sorted.{is_strictly_sorted}
+use Rattle.ldv_value.proofs.SameBytes.{bytes_eq-true}
 use Rattle.sql_model.specs.Tables.{is_valid_table, table_precedes, is_database}
 use Rattle.sql_laws.specs.StatementLaw.{KeepsAsked}
 use Rattle.replay_db.specs.Types.{Statement, Table}
 use Rattle.run_model.specs.Between.{Cut, cut_table, cut_tables}
-use Rattle.replay_db.proofs.Tests.{same_text_is}
 
 -- ---- tables by name
 
@@ -40,7 +40,7 @@ module _ (cut : Cut) (name : List ℕ) where
   found_cut stays [] = refl
   found_cut stays (t ∷ ts) = elim (cases_Bool (is_table name t)) [
     | inl hit ↦
-        let here : cut.table t.name ≡ true = ap cut.table (same_text_is t.name name hit) ∙ stays in
+        let here : cut.table t.name ≡ true = ap cut.table (bytes_eq-true t.name name hit) ∙ stays in
         rw (here, hit) refl
     | inr miss ↦ elim (cases_Bool (cut.table t.name)) [
       | inl here ↦ rw (here, miss) (found_cut stays ts)
@@ -67,7 +67,7 @@ module _ (cut : Cut) (name : List ℕ) where
   asked_stays asks named (u ∷ us) t is k = elim (cases_Bool (is_table name u)) [
     | inl hit ↦
         let kk : KeepsAsked cut.table (u.name ∷ map table_name (filter asks us)) = rw (named u hit) at k in
-        ap cut.table (sym (same_text_is u.name name hit)) ∙ kk.0
+        ap cut.table (sym (bytes_eq-true u.name name hit)) ∙ kk.0
     | inr miss ↦ elim (cases_Bool (asks u)) [
       | inl asked ↦
           let kk : KeepsAsked cut.table (u.name ∷ map table_name (filter asks us)) = rw asked at k in

@@ -1,15 +1,16 @@
 -- What holds of each item of a list, and lists that rise.
 use Rattle.std.proofs.Common.{◌≡◌, ℕ, ◌≤◌, List, [], ◌∷◌, ◌++◌, length, refl, ap, subst, Bool, true, false, arith, inl, inr}
-use Rattle.std.specs.Prelude.{Option, Some, None, map, filter, find, ◌&&◌, ◌⊎◌, IsTrue}
-use Rattle.std.specs.List.{list_all, flat_map, AllByRecursion}
-use Rattle.std.specs.declared.cmp.Ordering.{Ordering}
-use Rattle.std.specs.declared.cmp.Ordering.TheVariants.{Less, Equal, Greater}
+use Rattle.std.specs.Prelude.{Some, map, filter, find, nat_lt}
+use Rattle.std.specs.List.{flat_map, AllByRecursion}
+use Rattle.std.specs.declared.cmp.Ordering.TheVariants.{Less, Equal}
 use Rattle.std.specs.Ordering.{nat_cmp, is_lt}
 use Rattle.std.specs.Cmp.Lexicographic.{slice_cmp}
 use Rattle.std.proofs.lemmas.Bool.{cases_Bool}
 use Rattle.std.proofs.lemmas.Cmp.{nat_list_cmp_total, tied_itself}
-use Rattle.package_layout.specs.Order.{is_below_next, rises, is_below}
-use Rattle.package_layout.proofs.Laws.{both_true, and_true}
+use Rattle.std.proofs.lemmas.Bool.Decides.{nat_tests}
+use Rattle.sql_laws.proofs.SortedLists.{sorted-map, sorted-filter}
+use Rattle.ldv_value.proofs.Orderings.{is_lt-true}
+use Rattle.package_layout.specs.Order.{rises, is_below}
 
 -- ---- each item
 
@@ -45,28 +46,10 @@ module _ {X Y : Type 0} (P : Y → Type 0) where
   all_flat_map f [] h = tt
   all_flat_map f (x ∷ xs) h = all_append P (f x) (flat_map f xs) h.0 (all_flat_map f xs h.1)
 
-pub all_weaker : {X : Type 0} (P Q : X → Type 0) → ((x : X) → P x → Q x) → (xs : List X) → AllByRecursion P xs → AllByRecursion Q xs
-all_weaker P Q from [] h = tt
-all_weaker P Q from (x ∷ xs) h = (from x h.0, all_weaker P Q from xs h.1)
-
--- a test of each item
-pub all_tested : {X : Type 0} (p : X → Bool) (xs : List X) → list_all p xs ≡ true → AllByRecursion (λ x. IsTrue (p x)) xs
-all_tested p [] h = tt
-all_tested p (x ∷ xs) h = let both = both_true (p x) (list_all p xs) h in (both.0, all_tested p xs both.1)
-
-pub test_all : {X : Type 0} (p : X → Bool) (xs : List X) → AllByRecursion (λ x. IsTrue (p x)) xs → list_all p xs ≡ true
-test_all p [] h = refl
-test_all p (x ∷ xs) h = and_true (p x) (list_all p xs) h.0 (test_all p xs h.1)
-
--- ---- one text below another
-
-pub less_of : (o : Ordering) → is_lt o ≡ true → o ≡ Less
-less_of Less h = refl
-less_of Equal h = cc
-less_of Greater h = cc
+-- ---- one text, or number, below another
 
 pub below_less : (a b : List ℕ) → is_below a b ≡ true → slice_cmp nat_cmp a b ≡ Less
-below_less a b h = less_of (slice_cmp nat_cmp a b) h
+below_less a b h = is_lt-true (slice_cmp nat_cmp a b) h
 
 pub below_next : (a b c : List ℕ) → is_below a b ≡ true → is_below b c ≡ true → is_below a c ≡ true
 below_next a b c h k = ap is_lt (nat_list_cmp_total.trans a b c (below_less a b h) (below_less b c k))
@@ -77,41 +60,22 @@ equal_itself a = tied_itself nat_list_cmp_total a
 pub below_itself : (a : List ℕ) → is_below a a ≡ false
 below_itself a = ap is_lt (equal_itself a)
 
+pub less_next : (a b c : ℕ) → nat_lt a b ≡ true → nat_lt b c ≡ true → nat_lt a c ≡ true
+less_next a b c h k = grind (arith, nat_tests)
+
 -- ---- lists that rise
 
 -- the same over what f gives
 pub rises_map : {X Y : Type 0} (below : Y → Y → Bool) (f : X → Y) (xs : List X) → rises below (map f xs) ≡ rises (λ a b. below (f a) (f b)) xs
-rises_map below f [] = refl
-rises_map below f (x ∷ []) = refl
-rises_map below f (x ∷ y ∷ xs) = ap (λ (b : Bool). below (f x) (f y) && b) (rises_map below f (y ∷ xs))
+rises_map below f xs = sorted-map (λ a b. below (f a) (f b)) below f (λ a b. refl) xs
 
 -- what is left of a rising list of texts rises
 module _ {X : Type 0} (name : X → List ℕ) (p : X → Bool) where
   abbrev pub under : X → X → Bool
   under x y = is_below (name x) (name y)
 
-  first_under : (x : X) (ys : List X) → is_below_next under x ys ≡ true → rises under ys ≡ true → is_below_next under x (filter p ys) ≡ true
-  first_under x [] h k = refl
-  first_under x (y ∷ ys) h k = elim (cases_Bool (p y)) [
-    | inl hit ↦ rw hit h
-    | inr miss ↦
-        let both = both_true (is_below_next under y ys) (rises under ys) k in
-        rw miss (first_under x ys (further ys both.0) both.1)
-  ]
-    where
-      further : (zs : List X) → is_below_next under y zs ≡ true → is_below_next under x zs ≡ true
-      further [] l = refl
-      further (z ∷ zs) l = below_next (name x) (name y) (name z) h l
-
   pub filter_rises : (xs : List X) → rises under xs ≡ true → rises under (filter p xs) ≡ true
-  filter_rises [] h = refl
-  filter_rises (x ∷ xs) h =
-      let both = both_true (is_below_next under x xs) (rises under xs) h in
-      let rest : rises under (filter p xs) ≡ true = filter_rises xs both.1 in
-      elim (cases_Bool (p x)) [
-        | inl hit ↦ rw hit (and_true (is_below_next under x (filter p xs)) (rises under (filter p xs)) (first_under x xs both.0 both.1) rest)
-        | inr miss ↦ rw miss rest
-      ]
+  filter_rises xs sorted = sorted-filter under (λ a b c. below_next (name a) (name b) (name c)) p xs sorted
 
 -- ---- how many are left
 

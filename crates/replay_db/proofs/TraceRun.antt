@@ -5,6 +5,7 @@ use Rattle.std.specs.List.{AllByRecursion}
 use Rattle.std.proofs.lemmas.Bool.{cases_Bool, le-leb, lt-ltb, ltb-true}
 use Rattle.ldv_value.specs.Limits.{max_processes}
 use Rattle.ldv_value.specs.Names.{path_test}
+use Rattle.ldv_value.proofs.Booleans.{and-from}
 use Rattle.sql_model.specs.Statements.{reply_of}
 use Rattle.sql_parse.specs.Texts.{statement_of}
 use Rattle.replay_db.specs.Types.{Reply, Statement, Act, Started, Spawned, Waited, Ended, Asked, Event}
@@ -20,7 +21,6 @@ use Rattle.run_model.proofs.Equations.{events-zero, events-over, events-suc, ste
 use Rattle.run_model.proofs.NeverStuck.{Ordered, found_below, move_ordered, chosen_runs}
 use Rattle.package_layout.specs.Events.{act_room, TypedAct}
 use Rattle.package_layout.specs.Trace.{act_rule, made_after, is_asked, asked_after, follows}
-use Rattle.package_layout.proofs.Laws.{and_true}
 use Rattle.replay_db.proofs.StatementEvents.{RuledNames, GoodDatabase, good_after, asked_ruled}
 use Rattle.replay_db.proofs.TraceLists.{all_append}
 use Rattle.replay_db.proofs.TraceState.{GoodList, PlainAct, PlainActs, made_by, plain_append, made_append, QuietStep, quiet_step, TookStep, took_step, ends_plain}
@@ -165,7 +165,7 @@ plain_quiet made other plain = refl
 plain_rule : (made asked step : ℕ) (act : Act) → PlainAct made act
     → act_rule (record { made = made; asked = asked; step = step }) act ≡ true
 plain_rule made asked step (Started path) plain = absurd plain
-plain_rule made asked step (Spawned path) plain = and_true (path_test path) (nat_lt made max_processes) plain.0.0 plain.1
+plain_rule made asked step (Spawned path) plain = and-from (path_test path) (nat_lt made max_processes) plain.0.0 plain.1
 plain_rule made asked step (Waited child) plain = lt-ltb child made plain
 plain_rule made asked step (Ended status) plain = refl
 plain_rule made asked step (Asked statement tables reads written) plain = absurd plain
@@ -200,10 +200,10 @@ module _ (names : List (List ℕ)) (ruled : RuledNames names) (total : ℕ) wher
       → follows total (record { made = made; asked = asked; step = step }) (event_at number process act ∷ rest) ≡ true
   one_follows number process made asked step act rest later within below rule more =
       let numbers = nat_le step number && nat_le number total in
-      let two = and_true (nat_le step number) (nat_le number total) (le-leb step number later) (le-leb number total within) in
-      let three = and_true numbers (nat_lt process made) two (lt-ltb process made below) in
-      let four = and_true (numbers && nat_lt process made) (act_rule (record { made = made; asked = asked; step = step }) act) three rule in
-      and_true (numbers && nat_lt process made && act_rule (record { made = made; asked = asked; step = step }) act)
+      let two = and-from (nat_le step number) (nat_le number total) (le-leb step number later) (le-leb number total within) in
+      let three = and-from numbers (nat_lt process made) two (lt-ltb process made below) in
+      let four = and-from (numbers && nat_lt process made) (act_rule (record { made = made; asked = asked; step = step }) act) three rule in
+      and-from (numbers && nat_lt process made && act_rule (record { made = made; asked = asked; step = step }) act)
       (follows total (record { made = made_after made act; asked = asked_after asked (is_asked act); step = number }) rest) four more
 
   -- where so many processes were made and so many statements were asked, the rest follows

@@ -11,6 +11,7 @@ use Rattle.ldv_value.specs.Limits.{max_processes}
 use Rattle.ldv_value.specs.Names.{path_test}
 use Rattle.ldv_value.specs.Order.{order, meets}
 use Rattle.ldv_value.specs.declared.file.OpenMode.TheVariants as modes
+use Rattle.ldv_value.proofs.Lists.{all-weaker}
 use Rattle.script_parse.specs.declared.script.Instr.TheVariants as instr
 use Rattle.replay_db.specs.Types.{Value, Null, Int, Text, Operand, Variable, OpenMode, Instr, Reply, Act, Started, Spawned, Unspawned, OpenedRead, OpenedWrite, OpenedAppend, OpenedNew, Unopened, Read, Wrote, Removed, Tested, Waited, Ended, Asked}
 use Rattle.run_model.specs.Core.{Binding, is_bound, lookup, unbind, OpenFile, Process, Core}
@@ -22,7 +23,7 @@ use Rattle.run_model.specs.StepReplies.{counted, status_value}
 use Rattle.run_model.specs.StepVariables.{calculated, to_number, printed_line, exit_status}
 use Rattle.run_model.specs.ValidTrace.{made_after}
 use Rattle.run_model.proofs.StepKeeps.{IsStatus, AllFiles, open_holds, Keeps, keeps_place, keeps_variable, keeps_end, keeps_assign, keeps_glue, keeps_cut, keeps_jump, keeps_line, keeps_fetch, keeps_close, keeps_open, keeps_read, keeps_write, keeps_copy, keeps_remove, keeps_test, calculated_byte, to_number_byte, counted_byte, status_value_byte, exit_byte}
-use Rattle.replay_db.proofs.TraceLists.{all_append, all_filter, all_weaker}
+use Rattle.replay_db.proofs.TraceLists.{all_append, all_filter}
 
 -- ---- paths
 
@@ -266,13 +267,13 @@ test_acts to (Some path) p s here = (here path refl, tt)
 more_children : (made : ℕ) (bs : List (Binding ℕ)) → AllByRecursion (λ b. b.bound < made) bs
     → AllByRecursion (λ b. b.bound < made + 1) bs
 more_children made bs all =
-    all_weaker (λ (b : Binding ℕ). b.bound < made) (λ (b : Binding ℕ). b.bound < made + 1) (λ b below. omega (arith, below)) bs all
+    all-weaker (λ (b : Binding ℕ). b.bound < made) (λ (b : Binding ℕ). b.bound < made + 1) (λ b below. omega (arith, below)) bs all
 
 more_process : (made : ℕ) (p : Process) → GoodProcess made p → GoodProcess (made + 1) p
 more_process made p good = record { children = more_children made p.children good.children; files = good.files; status = good.status }
 
 more_processes : (made : ℕ) (ps : List Process) → AllByRecursion (GoodProcess made) ps → AllByRecursion (GoodProcess (made + 1)) ps
-more_processes made ps all = all_weaker (GoodProcess made) (GoodProcess (made + 1)) (λ p good. more_process made p good) ps all
+more_processes made ps all = all-weaker (GoodProcess made) (GoodProcess (made + 1)) (λ p good. more_process made p good) ps all
 
 parent_good : (made : ℕ) (name : List ℕ) (p : Process) → GoodProcess made p → GoodProcess (made + 1) (parent_of made name p)
 parent_good made name p good =

@@ -4,6 +4,10 @@ use Rattle.std.specs.Prelude.{Option, Some, None, map, slice_get, bytes_eq, IsTr
 use Rattle.std.specs.List.{list_all, AllByRecursion}
 use Rattle.std.specs.Str.{IsUtf8}
 use Rattle.std.proofs.lemmas.Bool.{cases_Bool}
+use Rattle.ldv_value.proofs.Cases.{cases-option}
+use Rattle.ldv_value.proofs.SameBytes.{bytes_eq-itself}
+use Rattle.ldv_value.proofs.Lists.{tested-all}
+use Rattle.ldv_value.proofs.Booleans.{and-from}
 use Rattle.sql_model.specs.Needs.{table_name}
 use Rattle.sql_model.specs.Tables.{tables_test}
 use Rattle.replay_db.specs.Types.{Instr, Started, Event, World}
@@ -20,11 +24,9 @@ use Rattle.package_layout.specs.Events.{TypedEvent, event_room}
 use Rattle.package_layout.specs.Trace.{follows, at_start, starts, asked_count}
 use Rattle.package_layout.specs.Typed.{IsU32}
 use Rattle.package_layout.specs.Valid.{start_rule, trace_rule, reasons_rule}
-use Rattle.package_layout.proofs.Laws.{and_true}
 use Rattle.replay_db.specs.Worlds.{all_of_world, TypedWorld, world_rules}
 use Rattle.replay_db.proofs.StatementEvents.{RuledNames, GoodDatabase, asked_room, asked_typed}
-use Rattle.replay_db.proofs.Tests.{cases_option, self_text}
-use Rattle.replay_db.proofs.TraceLists.{all_append, test_all}
+use Rattle.replay_db.proofs.TraceLists.{all_append}
 use Rattle.replay_db.proofs.TraceReasons.{reasons_asked}
 use Rattle.run_model.proofs.NeverStuck.{Ordered}
 use Rattle.replay_db.proofs.TraceRun.{plain_room, plain_typed, run_follows, run_good}
@@ -42,7 +44,7 @@ few_steps (suc n) picks s = elim (cases_Bool (is_over s.core)) [
 
 -- a run ends within no more steps than it may have
 pub steps_at_most : (n : ℕ) (picks : List ℕ) (w : World) → steps_by n picks w ≤ n
-steps_at_most n picks w = elim (cases_option (start_script w)) [
+steps_at_most n picks w = elim (cases-option (start_script w)) [
   | inl none ↦ omega (arith, ap (steps_in n picks w) none)
   | inr found ↦ omega (arith, ap (steps_in n picks w) found.1, few_steps n picks (start_state w found.0))
 ]
@@ -96,8 +98,8 @@ module _ (n : ℕ) (picks : List ℕ) (w : World) (script : List Instr) (is : st
       → trace_rule words (steps sql_base n picks begun) (start_events (slice_get words 0) ++ later_events) ≡ true
   starts_run [] rule = cc
   starts_run (word ∷ words) rule =
-      let self : bytes_eq word word ≡ true = self_text word in
-      and_true (starts word (event_at 0 0 (Started word))) (follows (steps sql_base n picks begun) at_start later_events) self follows_start
+      let self : bytes_eq word word ≡ true = bytes_eq-itself word in
+      and-from (starts word (event_at 0 0 (Started word))) (follows (steps sql_base n picks begun) at_start later_events) self follows_start
 
   pub trace_is : trace_rule w.start (steps_by n picks w) (events_by n picks w) ≡ true
   trace_is =
@@ -125,7 +127,7 @@ module _ (n : ℕ) (picks : List ℕ) (w : World) (script : List Instr) (is : st
   pub room_is : list_all event_room (events_by n picks w) ≡ true
   room_is =
       ap (list_all event_room) events_are
-      ∙ test_all event_room (start_events (slice_get w.start 0) ++ later_events)
+      ∙ tested-all event_room (start_events (slice_get w.start 0) ++ later_events)
       (all_append (λ e. IsTrue (event_room e)) (start_events (slice_get w.start 0)) later_events (start_room (slice_get w.start 0)) run_room)
 
   start_typed : (words : List (List ℕ)) → AllByRecursion IsUtf8 words → AllByRecursion TypedEvent (start_events (slice_get words 0))

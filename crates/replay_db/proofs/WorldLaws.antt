@@ -13,6 +13,8 @@ use Rattle.run_model.specs.Package.{logs_of_mode, tables_of}
 use Rattle.run_model.specs.Slice.{FileNeed, Whole, file_need, files_needed}
 use Rattle.run_model.specs.SqlDatabase.{SqlDatabase, sql_base}
 use Rattle.ldv_value.specs.FileState.{FileState, file_at, untouched}
+use Rattle.ldv_value.proofs.Cases.{cases-option}
+use Rattle.ldv_value.proofs.SameBytes.{bytes_eq-itself}
 use Rattle.run_model.specs.Start.{start_script, start_state}
 use Rattle.run_model.specs.State.{State}
 use Rattle.run_model.specs.WorldRun.{core_after, ends_in, ends_by, outcome_in, outcome_by, steps_in, steps_by, events_in, events_by, logs_of, logs_in}
@@ -24,7 +26,6 @@ use Rattle.replay_db.proofs.Keeps.{KeepsEvents, keeps_events_split, others_stay,
 use Rattle.replay_db.proofs.PackageLaws.{files_same, tables_of_same}
 use Rattle.replay_db.proofs.RunSame.{SameRuns, run_law}
 use Rattle.replay_db.proofs.SliceLaws.{slice_law, own_law}
-use Rattle.replay_db.proofs.Tests.{cases_option, self_text}
 
 -- ---- the script
 
@@ -39,12 +40,12 @@ whole_stays need k is keeps = by k (subst (λ (o : Option FileNeed). KeepsFile o
 
 -- the start file is needed whole
 start_needed : (path : List ℕ) (events : List Event) → file_need path (start_events (Some path) ++ events) ≡ Some Whole
-start_needed path events = rw (self_text path) refl
+start_needed path events = rw (bytes_eq-itself path) refl
 
 -- the script is that of the first start word's file, which is needed whole
 script_law : (w : World) (script : List Instr) → start_script w ≡ Some script → (cut : Cut) (events : List Event)
     → KeepsAll cut (start_events (slice_get w.start 0) ++ events) → start_script (cut_world cut w) ≡ Some script
-script_law w script is cut events keeps = elim (cases_option (slice_get w.start 0)) [
+script_law w script is cut events keeps = elim (cases-option (slice_get w.start 0)) [
   | inl none ↦ let never : None ≡ Some script = rw none at is in cc
   | inr word ↦
       let all : List Event = start_events (slice_get w.start 0) ++ events in

@@ -4,11 +4,11 @@ use Rattle.std.specs.Prelude.{◌&&◌, nat_le, nat_lt, IsTrue}
 use Rattle.std.specs.List.{list_all, AllByRecursion}
 use Rattle.std.proofs.lemmas.Bool.{and_parts, and_from, le-leb, leb-true}
 use Rattle.std.specs.Str.{IsUtf8}
-use Rattle.ldv_value.proofs.Lists.{length-map, list_all-map}
+use Rattle.ldv_value.proofs.Lists.{length-map, list_all-map, all-weaker, all-tested, map-map}
 use Rattle.ldv_value.specs.Limits.{max_next}
 use Rattle.sql_model.specs.Needs.{table_name}
 use Rattle.sql_model.specs.SqlNames.{sql_name_test}
-use Rattle.sql_model.specs.Tables.{schema_test, is_row, is_short, numbers_test, are_keys_unique, row_values, is_valid_table, table_precedes, is_database, is_described, tables_test}
+use Rattle.sql_model.specs.Tables.{schema_test, is_row, is_short, numbers_test, are_keys_unique, is_valid_table, table_precedes, is_database, is_described, tables_test}
 use Rattle.sql_model.proofs.ValidTables.{table-from}
 use Rattle.replay_db.specs.Types.{Value, File, Table, TableRow, Package, PackedFile, PackedRow, PackedTable, World}
 use Rattle.run_model.specs.Between.{IsIn}
@@ -17,9 +17,8 @@ use Rattle.package_layout.specs.Room.{table_room}
 use Rattle.package_layout.specs.Typed.{TypedTable}
 use Rattle.package_layout.specs.Valid.{start_rule, file_rule, files_rule, rows_rule, table_rule, tables_rule, script_rule}
 use Rattle.replay_db.specs.Worlds.{all_of_file, all_of_row, all_of_table, all_of_world, TypedWorld, rules_of_parts, world_rules, ValidWorld}
-use Rattle.replay_db.proofs.PackageValidLists.{map_twice}
 use Rattle.replay_db.proofs.StatementEvents.{RuledNames}
-use Rattle.replay_db.proofs.TraceLists.{all_map, all_of_map, all_weaker, all_tested, rises_map}
+use Rattle.replay_db.proofs.TraceLists.{all_map, all_of_map, rises_map}
 
 -- ---- the rules, one by one
 
@@ -46,8 +45,7 @@ ruled_by p met =
 pub record RuledTable (t : Table) : Type 0 where
   pub described : is_described t ≡ true
   pub numbers : numbers_test (λ row. row.number) t.next t.rows ≡ true
-  pub rows : list_all (λ row. is_row t.schema.columns row.values) t.rows ≡ true
-  pub keys : are_keys_unique t.schema.key (row_values t) ≡ true
+  pub valid : nat_le t.next max_next ≡ true → is_valid_table t ≡ true
 
 numbers_same : (next : ℕ) (rows : List TableRow) → numbers_test (λ (row : PackedRow). row.number) next (map all_of_row rows) ≡ numbers_test (λ (row : TableRow). row.number) next rows
 numbers_same next rows =
@@ -66,8 +64,12 @@ ruled_table t met =
     record {
       described = b.0;
       numbers = sym (numbers_same t.next t.rows) ∙ d.0;
-      rows = sym (list_all-map fit all_of_row t.rows) ∙ d.1;
-      keys = ap (are_keys_unique t.schema.key) (sym (map_twice (λ (row : PackedRow). row.values) all_of_row t.rows)) ∙ a.1;
+      valid = λ next. table-from t (record {
+        next = next;
+        numbers = sym (numbers_same t.next t.rows) ∙ d.0;
+        rows = sym (list_all-map fit all_of_row t.rows) ∙ d.1;
+        keys = ap (are_keys_unique t.schema.key) (sym (map-map (λ (row : PackedRow). row.values) all_of_row t.rows)) ∙ a.1;
+      });
     }
 
 -- of all tables
@@ -124,15 +126,15 @@ world_names w met =
     record {
       few = omega (arith, length-map w.tables all_of_table, length-map w.tables table_name, count);
       named = all_map (λ name. IsTrue (sql_name_test name)) table_name w.tables
-          (all_weaker (λ t. IsTrue (table_rule (all_of_table t))) (λ t. IsTrue (sql_name_test t.name)) (λ t rule. (and_parts (sql_name_test t.name) (schema_test t.schema) (ruled_table t rule).described).0)
-          w.tables (all_of_map (λ t. IsTrue (table_rule t)) all_of_table w.tables (all_tested table_rule (map all_of_table w.tables) list.each)));
+          (all-weaker (λ t. IsTrue (table_rule (all_of_table t))) (λ t. IsTrue (sql_name_test t.name)) (λ t rule. (and_parts (sql_name_test t.name) (schema_test t.schema) (ruled_table t rule).described).0)
+          w.tables (all_of_map (λ t. IsTrue (table_rule t)) all_of_table w.tables (all-tested table_rule (map all_of_table w.tables) list.each)));
       sorted = rises_map is_below table_name w.tables ∙ sym (rises_map table_below all_of_table w.tables) ∙ list.sorted;
     }
 
 pub texts_of_names : (w : World) → TypedWorld w → AllByRecursion IsUtf8 (map table_name w.tables)
 texts_of_names w typed =
     all_map IsUtf8 table_name w.tables
-    (all_weaker (λ t. TypedTable (all_of_table t)) (λ t. IsUtf8 t.name) (λ t h. h.0) w.tables (all_of_map TypedTable all_of_table w.tables typed.1.1.1.1.0))
+    (all-weaker (λ t. TypedTable (all_of_table t)) (λ t. IsUtf8 t.name) (λ t h. h.0) w.tables (all_of_map TypedTable all_of_table w.tables typed.1.1.1.1.0))
 
 -- ---- its tables are valid, and a database
 
@@ -153,7 +155,7 @@ tables_valid (t ∷ ts) nexts rules =
     let n = and_parts (next_within t) (list_all next_within ts) nexts in
     let r = and_parts (table_rule (all_of_table t)) (list_all table_rule (map all_of_table ts)) rules in
     let one : RuledTable t = ruled_table t r.0 in
-    and_from (is_valid_table t) (list_all is_valid_table ts) (table-from t (record { next = n.0; numbers = one.numbers; rows = one.rows; keys = one.keys })) (tables_valid ts n.1 r.1)
+    and_from (is_valid_table t) (list_all is_valid_table ts) (one.valid n.0) (tables_valid ts n.1 r.1)
 
 tables_described : (ts : List Table) → list_all table_rule (map all_of_table ts) ≡ true → list_all is_described ts ≡ true
 tables_described [] rules = refl

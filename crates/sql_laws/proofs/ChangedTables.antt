@@ -36,9 +36,9 @@ pub else-parts : (a b : Option SqlRefusal) → or_else a b ≡ None → (a ≡ N
 else-parts None b is = (refl, is)
 else-parts (Some refusal) b is = absurd (none-some refusal (sym is))
 
-if_none : (b : Bool) (refusal : SqlRefusal) → refusal_if b refusal ≡ None → b ≡ false
-if_none true refusal is = absurd (none-some refusal (sym is))
-if_none false refusal is = refl
+pub if-none : (b : Bool) (refusal : SqlRefusal) → refusal_if b refusal ≡ None → b ≡ false
+if-none true refusal is = absurd (none-some refusal (sym is))
+if-none false refusal is = refl
 
 clash_none : (t : Table) (o : Option KeyClash) → key_refusal t o ≡ None → o ≡ None
 clash_none t None is = refl
@@ -49,7 +49,7 @@ change_parts : (s : Statement) (catalog : Catalog) (t : Table) → change_refusa
 change_parts s catalog t is =
     let one = else-parts (refusal_if (lacks_value s catalog t) NotNull) _ is in
     let two = else-parts (key_refusal t (key_clash (changed s catalog t))) (refusal_if (is_full s t) Full) one.1 in
-    (if_none (lacks_value s catalog t) NotNull one.0, clash_none t (key_clash (changed s catalog t)) two.0, if_none (is_full s t) Full two.1)
+    (if-none (lacks_value s catalog t) NotNull one.0, clash_none t (key_clash (changed s catalog t)) two.0, if-none (is_full s t) Full two.1)
 
 second_of : (a b : Bool) → (a || not b) ≡ false → b ≡ true
 second_of true b is = cc

@@ -21,8 +21,8 @@ row_precedes a b = nat_lt a.number b.number
 abbrev is_under : ℕ → TableRow → Bool
 is_under next row = nat_lt row.number next
 
-row_trans : (a b c : TableRow) → row_precedes a b ≡ true → row_precedes b c ≡ true → row_precedes a c ≡ true
-row_trans a b c first second =
+pub row-trans : (a b c : TableRow) → row_precedes a b ≡ true → row_precedes b c ≡ true → row_precedes a c ≡ true
+row-trans a b c first second =
     let one : a.number < b.number = (Decides-ltb a.number b.number).0 first in
     let two : b.number < c.number = (Decides-ltb b.number c.number).0 second in
     (Decides-ltb a.number c.number).1 (omega (arith, one, two))
@@ -38,7 +38,7 @@ over_numbered m n less (values ∷ rows) =
 numbered_sorted : (n : ℕ) (rows : List (List Value)) → is_strictly_sorted row_precedes (numbered n rows) ≡ true
 numbered_sorted n [] = refl
 numbered_sorted n (values ∷ rows) =
-    sorted-from row_precedes row_trans (record { number = n; values = values }) (numbered (n + 1) rows)
+    sorted-from row_precedes row-trans (record { number = n; values = values }) (numbered (n + 1) rows)
     (over_numbered n (n + 1) (omega arith) rows) (numbered_sorted (n + 1) rows)
 
 under_numbered : (n m : ℕ) (rows : List (List Value)) → n + length rows ≤ m → list_all (is_under m) (numbered n rows) ≡ true
@@ -55,11 +55,11 @@ joined_sorted next [] more under sorted = numbered_sorted next more
 joined_sorted next (row ∷ rows) more under sorted =
     let both = and-parts (is_under next row) (list_all (is_under next) rows) under in
     let less : row.number < next = (Decides-ltb row.number next).0 both.0 in
-    sorted-from row_precedes row_trans row (rows ++ numbered next more)
+    sorted-from row_precedes row-trans row (rows ++ numbered next more)
     (list_all-append (row_precedes row) rows (numbered next more)
     ∙ and-from (list_all (row_precedes row) rows) (list_all (row_precedes row) (numbered next more))
-    (sorted-all row_precedes row_trans row rows sorted) (over_numbered row.number next less more))
-    (joined_sorted next rows more both.1 (sorted-tail row_precedes row_trans row rows sorted))
+    (sorted-all row_precedes row-trans row rows sorted) (over_numbered row.number next less more))
+    (joined_sorted next rows more both.1 (sorted-tail row_precedes row-trans row rows sorted))
 
 pub numbers-insert : (next : ℕ) (rows : List TableRow) (more : List (List Value))
     → numbers_test number_of next rows ≡ true
@@ -95,7 +95,7 @@ pub numbers-filter : (keep : TableRow → Bool) (next : ℕ) (rows : List TableR
 numbers-filter keep next rows is =
     let both = and-parts (is_strictly_sorted row_precedes rows) (list_all (is_under next) rows) is in
     and-from (is_strictly_sorted row_precedes (filter keep rows)) (list_all (is_under next) (filter keep rows))
-    (sorted-filter row_precedes row_trans keep rows both.0) (list_all-filter (is_under next) keep rows both.1)
+    (sorted-filter row_precedes row-trans keep rows both.0) (list_all-filter (is_under next) keep rows both.1)
 
 -- ---- the next number
 

@@ -26,7 +26,7 @@ module _ {X : Type 0} (precedes : X → X → Bool) (trans : (a b c : X) → pre
       and-from (precedes x y) (list_all (precedes x) ys) both.0
       (list_all-weaker (precedes y) (precedes x) (λ z after. trans x y z both.0 after) ys more)
 
-  first-all : (x : X) (xs : List X) → list_all (precedes x) xs ≡ true → precedes_first precedes x xs ≡ true
+  pub first-all : (x : X) (xs : List X) → list_all (precedes x) xs ≡ true → precedes_first precedes x xs ≡ true
   first-all x [] all = refl
   first-all x (y ∷ ys) all = (and-parts (precedes x y) (list_all (precedes x) ys) all).0
 
