@@ -1,11 +1,11 @@
 -- A run ends with its last step: a budget of at least so many steps changes nothing, and within a smaller one
 -- it hasn't ended.
 use Rattle.std.proofs.Common.{◌≡◌, ℕ, zero, suc, ◌+◌, ◌-◌, ◌≤◌, ◌<◌, List, [], refl, sym, ap, ◌∙◌, Bool, true, false, arith, inl, inr}
-use Rattle.std.specs.Prelude.{Option, Some, None, is_some, ◌||◌, if◌then◌else◌}
+use Rattle.std.specs.Prelude.{Option, Some, None, ◌||◌, if◌then◌else◌}
 use Rattle.std.proofs.lemmas.Bool.{cases_Bool}
 use Rattle.ldv_value.proofs.Cases.{cases-option}
-use Rattle.replay_db.specs.Types.{Instr, Mode, Included, Package, World}
-use Rattle.replay_db.proofs.EndedLaw.{ended_law}
+use Rattle.replay_db.specs.Types.{Mode, Included, Package, World}
+use Rattle.replay_db.proofs.EndedLaw.{ended_law, ended_over, ended_starts}
 use Rattle.replay_db.proofs.TraceValid.{steps_at_most}
 use Rattle.run_model.specs.declared.outcome.Outcome.{Outcome}
 use Rattle.run_model.specs.Core.{Core, all_ended, is_over}
@@ -18,7 +18,6 @@ use Rattle.run_model.specs.Start.{start_script, start_state}
 use Rattle.run_model.specs.State.{State}
 use Rattle.run_model.specs.WorldRun.{core_after, ends_in, ends_within, outcome_in, outcome_within, steps_in, steps_by}
 use Rattle.run_model.proofs.Equations.{run-over, run-suc, steps-zero, steps-suc}
-use Rattle.ldv_value.proofs.Booleans.{or-right}
 
 -- ---- the state after the steps that were made
 
@@ -40,9 +39,6 @@ module _ {Db : Type 0} (base : Base Db) where
         ∙ sym (run-suc base m picks s going)
   ]
 
-ended_over : (c : Core) → all_ended c ≡ true → is_over c ≡ true
-ended_over c ended = or-right (is_some c.diverged) (all_ended c) ended
-
 -- ---- outcomes of runs that ended
 
 core_ends : (c : Core) (outcome : Outcome) → outcome_at c ≡ Some outcome → all_ended c ≡ true
@@ -62,15 +58,9 @@ module _ (n : ℕ) (w : World) where
         ap (ends_in n [] w) script.1 ∙ core_ends (core_after n [] w script.0) outcome at_end
   ]
 
-  pub ended_starts : ends_within n w ≡ true → (script : List Instr) × (start_script w ≡ Some script)
-  ended_starts ended = elim (cases-option (start_script w)) [
-    | inl none ↦ let never : false ≡ true = sym (ap (ends_in n [] w) none) ∙ ended in cc
-    | inr script ↦ script
-  ]
-
   pub ended_outcome : ends_within n w ≡ true → (outcome : Outcome) × (outcome_within n w ≡ Some outcome)
   ended_outcome ended =
-      let script = ended_starts ended in
+      let script = ended_starts n [] w ended in
       let all : all_ended (core_after n [] w script.0) ≡ true = sym (ap (ends_in n [] w) script.1) ∙ ended in (
         outcome_of (core_after n [] w script.0),
         ap (outcome_in n [] w) script.1
@@ -91,7 +81,7 @@ module _ (n : ℕ) (w : World) where
 module _ (n : ℕ) (w : World) (ended : ends_within n w ≡ true) where
   ends_at_count : ends_within (steps_by n [] w) w ≡ true
   ends_at_count =
-      let script = ended_starts n w ended in
+      let script = ended_starts n [] w ended in
       let start : State SqlDatabase = start_state w script.0 in
       let all : all_ended (core_after n [] w script.0) ≡ true = sym (ap (ends_in n [] w) script.1) ∙ ended in
       let same : run sql_base (steps sql_base n [] start) [] start ≡ run sql_base n [] start =
