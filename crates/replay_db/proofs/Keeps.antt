@@ -2,6 +2,7 @@
 use Rattle.std.proofs.Common.{◌≡◌, ℕ, List, [], ◌∷◌, ◌++◌, refl, sym, ap, ◌∙◌, Bool, true, false, inl, inr}
 use Rattle.std.specs.Prelude.{Option, Some, None, is_some, map, not, ◌||◌, ◌==◌}
 use Rattle.std.specs.List.{list_any}
+use Rattle.std.specs.Option.{option_or}
 use Rattle.std.proofs.lemmas.Bool.{cases_Bool, eq-eqb}
 use Rattle.ldv_value.proofs.Booleans.{or-left, or-right}
 use Rattle.ldv_value.proofs.SameBytes.{bytes_eq-itself}
@@ -13,7 +14,7 @@ use Rattle.sql_laws.specs.StatementLaw.{keep_others}
 use Rattle.replay_db.specs.Types.{Need, Table, Act, Asked, Event}
 use Rattle.run_model.specs.Between.{Cut, KeepsFile, KeepsNeeded, is_initial, is_row_needed}
 use Rattle.run_model.specs.Events.{event_at}
-use Rattle.run_model.specs.Slice.{Reason, is_read, reason_in, act_reason, reason_or, first_reason, names_table, is_table_needed, file_need}
+use Rattle.run_model.specs.Slice.{Reason, is_read, reason_in, act_reason, first_reason, names_table, is_table_needed, file_need}
 use Rattle.run_model.specs.SqlDatabase.{read_of}
 
 module _ (cut : Cut) where
@@ -122,11 +123,11 @@ module _ (all : List Event) (cut : Cut) (keeps : KeepsAll cut all) where
   act_part (Asked statement names needs made) tables_among rows_among = (tables_part names tables_among, reads_part statement needs rows_among)
   act_part other tables_among rows_among = tt
 
-  first_some : (now later : Option Reason) → is_some now ≡ true → is_some (reason_or now later) ≡ true
+  first_some : (now later : Option Reason) → is_some now ≡ true → is_some (option_or now later) ≡ true
   first_some None later found = cc
   first_some (Some reason) later found = refl
 
-  later_some : (now later : Option Reason) → is_some later ≡ true → is_some (reason_or now later) ≡ true
+  later_some : (now later : Option Reason) → is_some later ≡ true → is_some (option_or now later) ≡ true
   later_some None later found = found
   later_some (Some reason) later found = refl
 

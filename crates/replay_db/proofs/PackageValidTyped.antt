@@ -1,9 +1,10 @@
 -- The numbers of what events need are those of their types, and its texts are UTF-8.
 use Rattle.std.proofs.Common.{◌≡◌, ℕ, ◌∷◌, List, [], map, Option, Some, None, option_map, sym, subst, inl, inr}
 use Rattle.std.specs.List.{AllByRecursion}
+use Rattle.std.specs.Option.{option_or}
 use Rattle.std.proofs.lemmas.Bool.{cases_Bool}
 use Rattle.replay_db.specs.Types.{File, Need, Table, TableRow, Act, Asked, Event, PackedFile, PackedRow}
-use Rattle.run_model.specs.Slice.{FileNeed, Whole, Present, file_need, packed_as, packed_file, files_needed, Reason, is_read, reason_in, act_reason, reason_or, first_reason, packed_row, packed_table, tables_needed}
+use Rattle.run_model.specs.Slice.{FileNeed, Whole, Present, file_need, packed_as, packed_file, files_needed, Reason, is_read, reason_in, act_reason, first_reason, packed_row, packed_table, tables_needed}
 use Rattle.package_layout.specs.Events.{TypedAct, TypedEvent}
 use Rattle.package_layout.specs.Typed.{IsU32, TypedValues, TypedFile, TypedRow, TypedTable}
 use Rattle.replay_db.specs.Worlds.{all_of_file, all_of_row, all_of_table}
@@ -36,7 +37,7 @@ act_typed : (table : List ℕ) (row : ℕ) (act : Act) (reason : Reason) → Typ
 act_typed table row (Asked statement tables needs made) reason typed is = reason_typed statement table row needs reason typed.0 is
 act_typed table row other reason typed is = cc
 
-either_typed : (first later : Option Reason) (reason : Reason) → (first ≡ Some reason → IsU32 reason.statement) → (later ≡ Some reason → IsU32 reason.statement) → reason_or first later ≡ Some reason → IsU32 reason.statement
+either_typed : (first later : Option Reason) (reason : Reason) → (first ≡ Some reason → IsU32 reason.statement) → (later ≡ Some reason → IsU32 reason.statement) → option_or first later ≡ Some reason → IsU32 reason.statement
 either_typed None later reason one rest is = rest is
 either_typed (Some r) later reason one rest is = one is
 

@@ -2,12 +2,13 @@
 use Rattle.std.proofs.Common.{◌≡◌, ℕ, ◌+◌, ◌<◌, ◌≤◌, List, [], ◌∷◌, refl, sym, ap, ◌∙◌, Bool, true, false, arith, inl, inr}
 use Rattle.std.specs.Prelude.{Option, Some, None, map, filter, ◌&&◌, ◌==◌, nat_lt, nat_le}
 use Rattle.std.specs.List.{list_all}
+use Rattle.std.specs.Option.{option_or}
 use Rattle.std.proofs.lemmas.Bool.{cases_Bool, lt-ltb, eqb-true}
 use Rattle.ldv_value.proofs.Cases.{cases-option}
 use Rattle.ldv_value.proofs.Booleans.{and-parts, and-from}
 use Rattle.sql_model.specs.SqlNames.{sql_name_test}
 use Rattle.replay_db.specs.Types.{Need, Table, TableRow, Act, Started, Asked, Event}
-use Rattle.run_model.specs.Slice.{Reason, is_read, reason_in, act_reason, reason_or, first_reason, rows_needed, is_table_needed, packed_table, tables_needed}
+use Rattle.run_model.specs.Slice.{Reason, is_read, reason_in, act_reason, first_reason, rows_needed, is_table_needed, packed_table, tables_needed}
 use Rattle.package_layout.specs.Order.{rises, is_below, need_below, member_below}
 use Rattle.package_layout.specs.Trace.{act_rule, made_after, is_asked, asked_after, follows, at_start, starts_on, starts, trace_test, asked_among, asked_count}
 use Rattle.package_layout.specs.Valid.{trace_rule, reasons_rule}
@@ -53,10 +54,10 @@ module _ (table : List ℕ) (row : ℕ) where
       let both = and-parts (front && rule) rest trace in
       elim (cases-option (act_reason table row e.act)) [
         | inl none ↦
-            let later : first_reason table row es ≡ Some reason = sym (ap (λ (o : Option Reason). reason_or o (first_reason table row es)) none) ∙ is in
+            let later : first_reason table row es ≡ Some reason = sym (ap (λ (o : Option Reason). option_or o (first_reason table row es)) none) ∙ is in
             reason_among steps (made_after made e.act) (asked_after asked (is_asked e.act)) e.step es reason both.1 later
         | inr here ↦
-            let same : Some here.0 ≡ Some reason = sym (ap (λ (o : Option Reason). reason_or o (first_reason table row es)) here.1) ∙ is in
+            let same : Some here.0 ≡ Some reason = sym (ap (λ (o : Option Reason). option_or o (first_reason table row es)) here.1) ∙ is in
             let found : act_reason table row e.act ≡ Some reason = here.1 ∙ same in
             let gives = act_gives made asked step e.act reason found (and-parts front rule both.0).1 in
             let more : asked_after asked (is_asked e.act) ≡ asked + 1 = ap (asked_after asked) gives.1 in
@@ -73,7 +74,7 @@ module _ (table : List ℕ) (row : ℕ) where
   reason_of_test path steps (e ∷ es) reason trace is =
       let both = and-parts (starts path e) (follows steps at_start es) trace in
       let quiet = start_quiet path e.act (and-parts ((e.step == 0) && (e.process == 0)) (starts_on path e.act) both.0).1 in
-      let later : first_reason table row es ≡ Some reason = sym (ap (λ (o : Option Reason). reason_or o (first_reason table row es)) quiet.0) ∙ is in
+      let later : first_reason table row es ≡ Some reason = sym (ap (λ (o : Option Reason). option_or o (first_reason table row es)) quiet.0) ∙ is in
       let count : asked_among (asked_after 0 (is_asked e.act)) es ≡ asked_among 0 es = ap (λ (b : Bool). asked_among (asked_after 0 b) es) quiet.1 in
       let below : reason.statement < asked_among 0 es = reason_among steps 1 0 1 es reason both.1 later in
       omega arith

@@ -2,6 +2,7 @@
 use Rattle.std.specs.Prelude.{ℕ, ◌==◌, List, [], ◌∷◌, map, filter, Bool, false, not, ◌&&◌, ◌||◌}
 use Rattle.std.specs.Prelude.{if◌then◌else◌, Option, Some, None, option_map}
 use Rattle.std.specs.List.{list_any, filter_map}
+use Rattle.std.specs.Option.{option_or}
 use Rattle.sql_model.specs.Scope.{same_text}
 use Rattle.run_model.specs.Types.{File, Need, Rule, Table, TableRow, Event, PackedFile, PackedRow}
 use Rattle.run_model.specs.Types.{PackedTable}
@@ -129,14 +130,10 @@ act_reason table row (Waited child) = None
 act_reason table row (Ended status) = None
 act_reason table row (Asked statement tables reads made) = reason_in statement table row reads
 
-abbrev pub reason_or : Option Reason → Option Reason → Option Reason
-reason_or (Some reason) later = Some reason
-reason_or None later = later
-
 -- of the first statement that needs the row
 abbrev pub first_reason : List ℕ → ℕ → List Event → Option Reason
 first_reason table row [] = None
-first_reason table row (e ∷ es) = reason_or (act_reason table row e.act) (first_reason table row es)
+first_reason table row (e ∷ es) = option_or (act_reason table row e.act) (first_reason table row es)
 
 abbrev pub packed_because : TableRow → Reason → PackedRow
 packed_because row reason = record {

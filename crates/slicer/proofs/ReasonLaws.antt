@@ -2,7 +2,7 @@
 use Rattle.std.proofs.Common.{◌≡◌, ℕ, List, [], ◌∷◌, refl, sym, ap, ◌∙◌, cond, true, false, arith, inl, inr}
 use Rattle.std.specs.Prelude.{Option, Some, None, is_some, ◌==◌, nat_lt, String, bytes_eq}
 use Rattle.std.specs.List.{filter_map}
-use Rattle.std.specs.Option.{option_map}
+use Rattle.std.specs.Option.{option_map, option_or}
 use Rattle.std.specs.declared.alloc.Global.{Global}
 use Rattle.std.specs.BTreeMap.{BTreeMap, get, get_by_text, is_at, Updates}
 use Rattle.std.specs.Map.{lookup}
@@ -10,19 +10,16 @@ use Rattle.std.specs.Ordering.{nat_cmp, is_eq}
 use Rattle.std.proofs.lemmas.Bool.{cases_Bool}
 use Rattle.std.proofs.lemmas.Bool.Decides.{nat_tests, Decides-eqb}
 use Rattle.std.proofs.lemmas.Slice.Eq.{bytes_eq-Decides}
+use Rattle.ldv_value.proofs.Options.{option_or-none}
 use Rattle.sql_model.specs.Scope.{same_text}
 use Rattle.run_model.specs.Types.{Need, TableRow}
-use Rattle.run_model.specs.Slice.{Reason, is_read, reason_in, reason_or}
+use Rattle.run_model.specs.Slice.{Reason, is_read, reason_in}
 use Rattle.slicer.specs.declared.reasons.Why.{Why}
 use Rattle.slicer.specs.Marks.{reason_from, row_reason, reason_among, reason_at, reason_of_row, reason_of_read, row_because}
 
-pub or_none : (o : Option Reason) → reason_or o None ≡ o
-or_none None = refl
-or_none (Some r) = refl
-
 -- a list of reads is its first and the others
 pub reason_step : (statement : ℕ) (need : Need) (needs : List Need) (table : List ℕ) (row : ℕ)
-    → reason_in statement table row (need ∷ needs) ≡ reason_or (reason_of_read statement need table row) (reason_in statement table row needs)
+    → reason_in statement table row (need ∷ needs) ≡ option_or (reason_of_read statement need table row) (reason_in statement table row needs)
 reason_step statement need needs table row = elim (cases_Bool (is_read table row need)) [
   | inl hit ↦ rw hit refl
   | inr miss ↦ rw miss refl
@@ -44,7 +41,7 @@ module _ (m n : BTreeMap ℕ Why) (row : ℕ) (why : Why) where
   same_row q hit = ap (get nat_cmp m) (sym ((Decides-eqb row q).0 hit))
 
   -- a row that wasn't needed yet
-  pub put_row : get nat_cmp m row ≡ None → Updates nat_cmp m n row (Some why) → (q : ℕ) → row_reason n q ≡ reason_or (row_reason m q) (reason_of_row row why q)
+  pub put_row : get nat_cmp m row ≡ None → Updates nat_cmp m n row (Some why) → (q : ℕ) → row_reason n q ≡ option_or (row_reason m q) (reason_of_row row why q)
   put_row absent updates q = elim (cases_Bool (row == q)) [
     | inl hit ↦
         let at : is_at (nat_cmp row) q ≡ true = number_equal row q ∙ hit in
@@ -52,21 +49,21 @@ module _ (m n : BTreeMap ℕ Why) (row : ℕ) (why : Why) where
         ap (option_map reason_from) (updates.0 q) ∙ rw (at, none, hit) refl
     | inr miss ↦
         let at : is_at (nat_cmp row) q ≡ false = number_equal row q ∙ miss in
-        ap (option_map reason_from) (updates.0 q) ∙ rw (at, miss) (sym (or_none (row_reason m q)))
+        ap (option_map reason_from) (updates.0 q) ∙ rw (at, miss) (sym (option_or-none (row_reason m q)))
   ]
 
   -- a row that was needed before
-  pub kept_row : is_some (get nat_cmp m row) ≡ true → (q : ℕ) → row_reason m q ≡ reason_or (row_reason m q) (reason_of_row row why q)
+  pub kept_row : is_some (get nat_cmp m row) ≡ true → (q : ℕ) → row_reason m q ≡ option_or (row_reason m q) (reason_of_row row why q)
   kept_row there q = elim (cases_Bool (row == q)) [
     | inl hit ↦ kept (row_reason m q) (reason_of_row row why q) (some_mapped (get nat_cmp m q) (ap is_some (same_row q hit) ∙ there))
-    | inr miss ↦ rw miss (sym (or_none (row_reason m q)))
+    | inr miss ↦ rw miss (sym (option_or-none (row_reason m q)))
   ]
     where
       some_mapped : (o : Option Why) → is_some o ≡ true → is_some (option_map reason_from o) ≡ true
       some_mapped None some = cc
       some_mapped (Some w) some = refl
 
-      kept : (a b : Option Reason) → is_some a ≡ true → a ≡ reason_or a b
+      kept : (a b : Option Reason) → is_some a ≡ true → a ≡ option_or a b
       kept None b some = cc
       kept (Some r) b some = refl
 
@@ -78,15 +75,15 @@ none_empty m empty q = ap (λ (entries : List (ℕ × Why)). option_map reason_f
 -- the rows of a table that a read is of, before and after it
 pub read_step : (m n : BTreeMap (String Global) (BTreeMap ℕ Why)) (rows : BTreeMap ℕ Why) (statement : ℕ) (need : Need)
     → ((table : List ℕ) → get_by_text n table ≡ cond (bytes_eq need.member.table table) (Some rows) (get_by_text m table))
-    → ((row : ℕ) → row_reason rows row ≡ reason_or (reason_at m need.member.table row) (reason_of_row need.member.row (record { statement = statement; rule = need.rule }) row))
-    → (table : List ℕ) (row : ℕ) → reason_at n table row ≡ reason_or (reason_at m table row) (reason_of_read statement need table row)
+    → ((row : ℕ) → row_reason rows row ≡ option_or (reason_at m need.member.table row) (reason_of_row need.member.row (record { statement = statement; rule = need.rule }) row))
+    → (table : List ℕ) (row : ℕ) → reason_at n table row ≡ option_or (reason_at m table row) (reason_of_read statement need table row)
 read_step m n rows statement need updates steps table row = elim (cases_Bool (same_text need.member.table table)) [
   | inl hit ↦
       let same : need.member.table ≡ table = (bytes_eq-Decides need.member.table table).0 hit in
-      let step : row_reason rows row ≡ reason_or (reason_at m table row) (reason_of_row need.member.row (record { statement = statement; rule = need.rule }) row) =
-      steps row ∙ ap (λ (t : List ℕ). reason_or (reason_at m t row) (reason_of_row need.member.row (record { statement = statement; rule = need.rule }) row)) same in
+      let step : row_reason rows row ≡ option_or (reason_at m table row) (reason_of_row need.member.row (record { statement = statement; rule = need.rule }) row) =
+      steps row ∙ ap (λ (t : List ℕ). option_or (reason_at m t row) (reason_of_row need.member.row (record { statement = statement; rule = need.rule }) row)) same in
       ap (λ (o : Option (BTreeMap ℕ Why)). reason_among o row) (updates table) ∙ rw hit step
-  | inr miss ↦ ap (λ (o : Option (BTreeMap ℕ Why)). reason_among o row) (updates table) ∙ rw miss (sym (or_none (reason_at m table row)))
+  | inr miss ↦ ap (λ (o : Option (BTreeMap ℕ Why)). reason_among o row) (updates table) ∙ rw miss (sym (option_or-none (reason_at m table row)))
 ]
 
 -- without a reason no row is packed

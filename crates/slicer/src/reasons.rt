@@ -3,7 +3,8 @@
 ghost use Rattle.std.specs.Prelude.{◌≡◌, OnOk, IfOk, List, ℕ, None};
 ghost use Rattle.std.specs.BTreeMap.{get_by_text};
 ghost use Rattle.slicer.specs.Marks.{reason_at, reason_of_read, reason_of_row, row_reason};
-ghost use Rattle.run_model.specs.Slice.{reason_or, reason_in, act_reason, first_reason};
+ghost use Rattle.std.specs.Option.{option_or};
+ghost use Rattle.run_model.specs.Slice.{reason_in, act_reason, first_reason};
 
 use run_model::{Act, Event};
 use sql_model::{Need, Rule};
@@ -26,7 +27,7 @@ pub(crate) type Reasons = BTreeMap<String, RowReasons>;
 // Notes a row of a table, if it isn't there.
 fn note_row(rows: &mut RowReasons, row: u32, why: Why) -> Result<(), AllocError>
     ensures { OnOk result ((q : ℕ) → row_reason rows.new q
-        ≡ reason_or (row_reason rows.old q) (reason_of_row row why q)) }
+        ≡ option_or (row_reason rows.old q) (reason_of_row row why q)) }
 {
     if rows.contains_key(&row) {
         return Ok(());
@@ -44,7 +45,7 @@ fn note_table(
 ) -> Result<(), AllocError>
     requires { get_by_text reasons.old need.now.member.table ≡ None }
     ensures { OnOk result ((table : List ℕ) (row : ℕ) → reason_at reasons.new table row
-        ≡ reason_or (reason_at reasons.old table row) (reason_of_read statement need.now table row)) }
+        ≡ option_or (reason_at reasons.old table row) (reason_of_read statement need.now table row)) }
 {
     let key = String::from_str(alloc, need.member.table.as_str())?;
     let mut rows = RowReasons::new(alloc);
@@ -68,7 +69,7 @@ fn note_read(
     need: &Need,
 ) -> Result<(), AllocError>
     ensures { OnOk result ((table : List ℕ) (row : ℕ) → reason_at reasons.new table row
-        ≡ reason_or (reason_at reasons.old table row) (reason_of_read statement need.now table row)) }
+        ≡ option_or (reason_at reasons.old table row) (reason_of_read statement need.now table row)) }
 {
     match reasons.get_mut(need.member.table.as_str()) {
         Some(rows) => note_row(
@@ -90,7 +91,7 @@ fn note_reads(
     needs: &[Need],
 ) -> Result<(), AllocError>
     ensures { OnOk result ((table : List ℕ) (row : ℕ) → reason_at reasons.new table row
-        ≡ reason_or (reason_at reasons.old table row) (reason_in statement table row needs.now)) }
+        ≡ option_or (reason_at reasons.old table row) (reason_in statement table row needs.now)) }
 {
     for need in needs {
         note_read(alloc, reasons, statement, need)?;
@@ -100,7 +101,7 @@ fn note_reads(
 
 fn note_act(alloc: Global, reasons: &mut Reasons, act: &Act) -> Result<(), AllocError>
     ensures { OnOk result ((table : List ℕ) (row : ℕ) → reason_at reasons.new table row
-        ≡ reason_or (reason_at reasons.old table row) (act_reason table row act.now)) }
+        ≡ option_or (reason_at reasons.old table row) (act_reason table row act.now)) }
 {
     match act {
         Act::Asked {

@@ -1,9 +1,9 @@
 use Rattle.std.proofs.Common.{◌≡◌, ℕ, List, ◌∙◌, ap, cond, rules}
 use Rattle.std.specs.Prelude.{Option, Some, bytes_eq}
 use Rattle.std.specs.BTreeMap.{BTreeMap, get_by_text}
+use Rattle.std.specs.Option.{option_or}
 use Rattle.std.proofs.lemmas.Result.{on_ok_weaker}
 use Rattle.std.proofs.lemmas.Map.Text.{btree_map_updates_text}
-use Rattle.run_model.specs.Slice.{reason_or}
 use Rattle.slicer.specs.declared.reasons.Why.{Why}
 use Rattle.slicer.specs.Marks.{reason_among, reason_of_row}
 use Rattle.slicer.proofs.ReasonLaws.{read_step}
@@ -25,5 +25,5 @@ returns-in-Some c =
     ∙ ap (λ (k : List ℕ). cond (bytes_eq k q) (Some made) (get_by_text old q)) is in
     on_ok_weaker c.note_row.result
     (λ steps. read_step old new made c.args.statement c.args.need.now updates
-    (λ row. steps row ∙ ap (λ (o : Option (BTreeMap ℕ Why)). reason_or (reason_among o row) (reason_of_row needed why row)) was))
+    (λ row. steps row ∙ ap (λ (o : Option (BTreeMap ℕ Why)). option_or (reason_among o row) (reason_of_row needed why row)) was))
     c.note_row.ensures

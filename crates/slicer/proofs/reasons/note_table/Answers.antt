@@ -1,8 +1,9 @@
 use Rattle.std.proofs.Common.{◌≡◌, ℕ, List, ◌∙◌, sym, ap, cond}
 use Rattle.std.specs.Prelude.{Option, Some, string_bytes, bytes_eq}
 use Rattle.std.specs.BTreeMap.{BTreeMap, get_by_text}
+use Rattle.std.specs.Option.{option_or}
 use Rattle.std.proofs.lemmas.Map.Text.{btree_map_updates_text}
-use Rattle.run_model.specs.Slice.{Reason, reason_or}
+use Rattle.run_model.specs.Slice.{Reason}
 use Rattle.slicer.specs.declared.reasons.Why.{Why}
 use Rattle.slicer.specs.Marks.{row_reason, reason_among, reason_at, reason_of_row}
 use Rattle.slicer.proofs.ReasonLaws.{read_step, none_empty}
@@ -20,8 +21,8 @@ returns c =
     let updates : (q : List ℕ) → get_by_text new q ≡ cond (bytes_eq table q) (Some rows) (get_by_text old q) =
     λ q. btree_map_updates_text (string_bytes c.in_ok-key.key) old new (Some rows) c.in_ok-insert.ensures.updates q
     ∙ ap (λ (k : List ℕ). cond (bytes_eq k q) (Some rows) (get_by_text old q)) key in
-    let steps : (row : ℕ) → row_reason rows row ≡ reason_or (reason_at old table row) (reason_of_row needed why row) =
+    let steps : (row : ℕ) → row_reason rows row ≡ option_or (reason_at old table row) (reason_of_row needed why row) =
     λ row. c.in_ok-note_row.ensures row
-    ∙ ap (λ (o : Option Reason). reason_or o (reason_of_row needed why row))
+    ∙ ap (λ (o : Option Reason). option_or o (reason_of_row needed why row))
     (none_empty c.new-rows.result c.new-rows.ensures.empty row ∙ ap (λ (o : Option (BTreeMap ℕ Why)). reason_among o row) (sym c.requires)) in
     read_step old new rows c.args.statement c.args.need.now updates steps
