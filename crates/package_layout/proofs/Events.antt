@@ -3,6 +3,8 @@ use Rattle.std.proofs.Common.{◌≡◌, ℕ, zero, suc, ◌^◌, ◌<◌, Bool,
 use Rattle.std.specs.List.{list_all, AllByRecursion}
 use Rattle.std.specs.Str.{IsUtf8}
 use Rattle.std.specs.Int.{w8, w32, to_be_bytes}
+use Rattle.ldv_value.proofs.Booleans.{and-parts, and-from}
+use Rattle.ldv_value.proofs.Options.{same-some}
 use Rattle.sql_model.specs.declared.need.Rule.{Rule}
 use Rattle.sql_model.specs.declared.need.Member.{Member}
 use Rattle.sql_model.specs.declared.need.Need.{Need}
@@ -20,7 +22,7 @@ use Rattle.package_layout.specs.Groups.{TypedGroup}
 use Rattle.package_layout.specs.Parts.{read_part_spelling, made_part_spelling, TypedReadPart, TypedMadePart, read_part_at, made_part_at, need_table, need_part, need_of, member_table, member_part, member_of}
 use Rattle.package_layout.specs.Counts.{IsCountable, CountedGroup, CountedAct, CountedEvent}
 use Rattle.package_layout.specs.Events.{flag_number, flag_spelling, flag_of, flag_at, need_groups, member_groups, needs_spelling, members_spelling, names_spelling, flagged_spelling, act_spelling, event_spelling, TypedNeed, TypedMember, TypedAct, TypedEvent, needs_room, members_room, act_room, event_room, names_at, needs_at, members_at, act_of_tag, act_at, event_at}
-use Rattle.package_layout.proofs.Laws.{IsBytes, IsField, just, some_is, always, list_all-always, Uncounted, and_true, both_true, restate, recount, made_law, then_law, struct_law}
+use Rattle.package_layout.proofs.Laws.{IsBytes, IsField, just, always, list_all-always, Uncounted, restate, recount, made_law, then_law, struct_law}
 use Rattle.package_layout.proofs.Numbers.{wide8, number_law, text_law, short_list_law}
 use Rattle.package_layout.proofs.Tags.{TookTagged, tagged_law, case_took, case_again}
 use Rattle.package_layout.proofs.Tables.{Anything, u32_law, rule_law}
@@ -33,7 +35,7 @@ flag_again false = (omega arith, refl, refl)
 flag_again true = (omega arith, refl, refl)
 
 flag_is : (n : ℕ) (k b : Bool) → n ≡ flag_number k → just k ≡ just b → n ≡ flag_number b
-flag_is n k b i e = subst (λ y. n ≡ flag_number y) (some_is k b e) i
+flag_is n k b i e = subst (λ y. n ≡ flag_number y) (same-some k b e) i
 
 flag_back : (n : ℕ) (b : Bool) → flag_of n ≡ Some b → n ≡ flag_number b
 flag_back zero b e = flag_is 0 false b refl e
@@ -119,7 +121,7 @@ flagged_law = then_law text_spelling IsUtf8 always text_at flag_spelling Anythin
 
 pub names_law : IsField names_spelling (AllByRecursion IsUtf8) some_thousands (AllByRecursion IsCountable) names_at
 names_law = restate names_spelling (AllByRecursion IsUtf8) (AllByRecursion IsUtf8) (λ ns. some_thousands ns && list_all always ns) some_thousands names_at (short_list_law text_spelling IsUtf8 always text_at text_law)
-    (λ ns t h. (t, and_true (some_thousands ns) (list_all always ns) h (list_all-always ns))) (λ ns t h. (t, (both_true (some_thousands ns) (list_all always ns) h).0))
+    (λ ns t h. (t, and-from (some_thousands ns) (list_all always ns) h (list_all-always ns))) (λ ns t h. (t, (and-parts (some_thousands ns) (list_all always ns) h).0))
 
 abbrev AskedEnd : Type 0
 AskedEnd = List Need × List Member

@@ -4,13 +4,15 @@ use Rattle.std.specs.Prelude.{◌==◌}
 use Rattle.std.specs.List.{flat_map, list_all, AllByRecursion}
 use Rattle.std.specs.Str.{IsUtf8}
 use Rattle.std.specs.Int.{w16, w32}
+use Rattle.ldv_value.proofs.Booleans.{and-parts, and-from}
+use Rattle.ldv_value.proofs.Options.{same-some}
 use Rattle.sql_model.specs.SqlNames.{sql_name_test}
 use Rattle.package_layout.specs.declared.group.Group.{Group}
 use Rattle.package_layout.specs.Fields.{Found, both_at, list_at, text_at, text_spelling, list_spelling}
 use Rattle.package_layout.specs.Room.{some_thousands}
 use Rattle.package_layout.specs.Counts.{IsCountable, CountedGroup}
 use Rattle.package_layout.specs.Groups.{TypedGroup, groups, is_group, group_of, group_at, group_spelling, neighbours_differ, ungroup, ungrouped, grouped_at}
-use Rattle.package_layout.proofs.Laws.{IsField, just, some_is, always, list_all-always, Uncounted, all_uncounted, and_true, both_true, restate, recount, made_law, then_law}
+use Rattle.package_layout.proofs.Laws.{IsField, just, always, list_all-always, Uncounted, all_uncounted, restate, recount, made_law, then_law}
 use Rattle.package_layout.proofs.Numbers.{text_law, short_list_law, long_law}
 use Rattle.package_layout.proofs.Groups.{groups_ungroup, add_all_typed, add_all_fits, add_all_apart, ungroup_groups, fits}
 
@@ -35,7 +37,7 @@ module _ {P : Type 0} (spell : P → List ℕ) (good : P → Type 0) (read : Lis
   made_of p = record { table = p.0; parts = p.1 }
 
   group_from : (p : Parts) (g : Group P) (b : Bool) → is_group p.0 p.1 ≡ b → cond b (Some (made_of p)) None ≡ Some g → (p ≡ (g.table, g.parts)) × (is_good g ≡ true)
-  group_from p g true e h = subst (λ (z : Group P). (p ≡ (z.table, z.parts)) × (is_good z ≡ true)) (some_is (made_of p) g h) (refl, e)
+  group_from p g true e h = subst (λ (z : Group P). (p ≡ (z.table, z.parts)) × (is_good z ≡ true)) (same-some (made_of p) g h) (refl, e)
   group_from p g false e h = absurd cc
 
   pub group_law : IsField (group_spelling spell) (TypedGroup good) is_good CountedGroup (group_at read)
@@ -64,17 +66,17 @@ module _ {X P : Type 0} (table_of : X → List ℕ) (part_of : X → P) (place :
 
   parts_named : (t : List ℕ) (ps : List P) → sql_name_test t ≡ true → list_all (λ x. sql_name_test (table_of x)) (map (place t) ps) ≡ true
   parts_named t [] h = refl
-  parts_named t (p ∷ ps) h = and_true (sql_name_test (table_of (place t p))) (list_all (λ x. sql_name_test (table_of x)) (map (place t) ps)) (ap sql_name_test (table_is t p) ∙ h) (parts_named t ps h)
+  parts_named t (p ∷ ps) h = and-from (sql_name_test (table_of (place t p))) (list_all (λ x. sql_name_test (table_of x)) (map (place t) ps)) (ap sql_name_test (table_is t p) ∙ h) (parts_named t ps h)
 
   all_true_append : (q : X → Bool) (xs ys : List X) → list_all q xs ≡ true → list_all q ys ≡ true → list_all q (xs ++ ys) ≡ true
   all_true_append q [] ys h k = k
-  all_true_append q (x ∷ xs) ys h k = let both = both_true (q x) (list_all q xs) h in and_true (q x) (list_all q (xs ++ ys)) both.0 (all_true_append q xs ys both.1 k)
+  all_true_append q (x ∷ xs) ys h k = let both = and-parts (q x) (list_all q xs) h in and-from (q x) (list_all q (xs ++ ys)) both.0 (all_true_append q xs ys both.1 k)
 
   pub ungroup_named : (gs : List (Group P)) → list_all (fits table_of part_of) gs ≡ true → list_all (λ x. sql_name_test (table_of x)) (flat_map (ungroup place) gs) ≡ true
   ungroup_named [] h = refl
   ungroup_named (g ∷ gs) h =
-      let both = both_true (is_group g.table g.parts) (list_all (fits table_of part_of) gs) h in
-      all_true_append (λ x. sql_name_test (table_of x)) (ungroup place g) (flat_map (ungroup place) gs) (parts_named g.table g.parts (both_true (sql_name_test g.table) (not (length g.parts == 0)) both.0).0) (ungroup_named gs both.1)
+      let both = and-parts (is_group g.table g.parts) (list_all (fits table_of part_of) gs) h in
+      all_true_append (λ x. sql_name_test (table_of x)) (ungroup place g) (flat_map (ungroup place) gs) (parts_named g.table g.parts (and-parts (sql_name_test g.table) (not (length g.parts == 0)) both.0).0) (ungroup_named gs both.1)
 
 module _ {X P : Type 0} (table_of : X → List ℕ) (part_of : X → P) (place : List ℕ → P → X) (spell : P → List ℕ) (good : P → Type 0) (read : List ℕ → Found P)
     (back : (x : X) → place (table_of x) (part_of x) ≡ x) (table_is : (t : List ℕ) (p : P) → table_of (place t p) ≡ t) (part_is : (t : List ℕ) (p : P) → part_of (place t p) ≡ p)
@@ -94,23 +96,23 @@ module _ {X P : Type 0} (table_of : X → List ℕ) (part_of : X → P) (place :
   forth : (xs : List X) → AllByRecursion Typed xs → room xs ≡ true
       → AllByRecursion (TypedGroup good) (groups table_of part_of xs) × ((some_thousands (groups table_of part_of xs) && list_all ok (groups table_of part_of xs)) ≡ true) × (ungrouped place (groups table_of part_of xs) ≡ Some xs)
   forth xs t h =
-      let both = both_true (some_thousands (groups table_of part_of xs)) (is_named xs) h in
+      let both = and-parts (some_thousands (groups table_of part_of xs)) (is_named xs) h in
       let apart : neighbours_differ [] (groups table_of part_of xs) ≡ true = add_all_apart table_of part_of [] xs refl both.1 in (
         add_all_typed table_of part_of good [] xs tt t,
-        and_true (some_thousands (groups table_of part_of xs)) (list_all ok (groups table_of part_of xs)) both.0 (add_all_fits table_of part_of [] xs refl both.1),
+        and-from (some_thousands (groups table_of part_of xs)) (list_all ok (groups table_of part_of xs)) both.0 (add_all_fits table_of part_of [] xs refl both.1),
         rw apart (ap just (groups_ungroup table_of part_of place back xs)),
       )
 
   from_apart : (gs : List (Group P)) (xs : List X) (b : Bool) → neighbours_differ [] gs ≡ b → AllByRecursion (TypedGroup good) gs → (some_thousands gs && list_all ok gs) ≡ true → cond b (Some (flat_map (ungroup place) gs)) None ≡ Some xs
       → (gs ≡ groups table_of part_of xs) × AllByRecursion Typed xs × (room xs ≡ true)
   from_apart gs xs true e t h k =
-      let both = both_true (some_thousands gs) (list_all ok gs) h in
+      let both = and-parts (some_thousands gs) (list_all ok gs) h in
       let same : groups table_of part_of (flat_map (ungroup place) gs) ≡ gs = ungroup_groups table_of part_of place table_is part_is gs e both.1 in
       let few : some_thousands (groups table_of part_of (flat_map (ungroup place) gs)) ≡ true = ap (λ (l : List (Group P)). some_thousands l) same ∙ both.0 in
-      subst (λ (l : List X). (gs ≡ groups table_of part_of l) × AllByRecursion Typed l × (room l ≡ true)) (some_is (flat_map (ungroup place) gs) xs k) (
+      subst (λ (l : List X). (gs ≡ groups table_of part_of l) × AllByRecursion Typed l × (room l ≡ true)) (same-some (flat_map (ungroup place) gs) xs k) (
         sym same,
         ungroup_typed table_of part_of place good table_is part_is gs t,
-        and_true (some_thousands (groups table_of part_of (flat_map (ungroup place) gs))) (is_named (flat_map (ungroup place) gs)) few (ungroup_named table_of part_of place good table_is part_is gs both.1),
+        and-from (some_thousands (groups table_of part_of (flat_map (ungroup place) gs))) (is_named (flat_map (ungroup place) gs)) few (ungroup_named table_of part_of place good table_is part_is gs both.1),
       )
   from_apart gs xs false e t h k = absurd cc
 

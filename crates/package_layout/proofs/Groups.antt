@@ -7,13 +7,11 @@ use Rattle.std.proofs.lemmas.Bool.{not-true, not_from_false}
 use Rattle.std.proofs.lemmas.Bool.Decides.{same_from_decides, Decides-like}
 use Rattle.std.proofs.lemmas.Slice.Eq.{bytes_eq-Decides}
 use Rattle.std.proofs.lemmas.List.{map-append, append-nil, take_more, length-append}
+use Rattle.ldv_value.proofs.Booleans.{and-parts, and-from}
+use Rattle.ldv_value.proofs.SameBytes.{bytes_eq-true}
 use Rattle.sql_model.specs.SqlNames.{sql_name_test}
 use Rattle.package_layout.specs.declared.group.Group.{Group}
 use Rattle.package_layout.specs.Groups.{TypedGroup, single, with_part, after, add, add_all, groups, is_group, neighbours_differ, ungroup}
-use Rattle.package_layout.proofs.Laws.{both_true, and_true}
-
-pub same_text : (a b : List ℕ) → bytes_eq a b ≡ true → a ≡ b
-same_text a b h = (bytes_eq-Decides a b).0 h
 
 bytes_eq-self : (a b : List ℕ) → a ≡ b → bytes_eq a b ≡ true
 bytes_eq-self a b e = (bytes_eq-Decides a b).1 e
@@ -44,7 +42,7 @@ module _ {X P : Type 0} (table_of : X → List ℕ) (part_of : X → P) where
 module _ {X P : Type 0} (table_of : X → List ℕ) (part_of : X → P) (place : List ℕ → P → X) (back : (x : X) → place (table_of x) (part_of x) ≡ x) where
   after_ungroup : (g : Group P) (x : X) (b : Bool) → bytes_eq g.table (table_of x) ≡ b → flat_map (ungroup place) (after table_of part_of g x) ≡ ungroup place g ++ x ∷ []
   after_ungroup g x true e =
-      let is : g.table ≡ table_of x = same_text g.table (table_of x) e in
+      let is : g.table ≡ table_of x = bytes_eq-true g.table (table_of x) e in
       let last : place g.table (part_of x) ≡ x = ap (λ (t : List ℕ). place t (part_of x)) is ∙ back x in
       rw e (append-nil (map (place g.table) (g.parts ++ part_of x ∷ [])) ∙ map-append (place g.table) g.parts (part_of x ∷ []) ∙ ap (λ y. map (place g.table) g.parts ++ y ∷ []) last)
   after_ungroup g x false e = rw e (ap (λ y. map (place g.table) g.parts ++ y ∷ []) (back x))
@@ -94,37 +92,37 @@ module _ {X P : Type 0} (table_of : X → List ℕ) (part_of : X → P) where
   not_empty ps p = above_zero (length (ps ++ p ∷ [])) (omega (arith, length-append ps (p ∷ [])))
 
   after_fits : (g : Group P) (x : X) (b : Bool) → bytes_eq g.table (table_of x) ≡ b → fits g ≡ true → sql_name_test (table_of x) ≡ true → list_all fits (after table_of part_of g x) ≡ true
-  after_fits g x true e h k = rw e (and_true (fits (with_part g (part_of x))) true (and_true (sql_name_test g.table) (not (length (g.parts ++ part_of x ∷ []) == 0)) (both_true (sql_name_test g.table) (not (length g.parts == 0)) h).0 (not_empty g.parts (part_of x))) refl)
-  after_fits g x false e h k = rw e (and_true (fits g) (fits (single table_of part_of x) && true) h (and_true (fits (single table_of part_of x)) true (single_fits x k) refl))
+  after_fits g x true e h k = rw e (and-from (fits (with_part g (part_of x))) true (and-from (sql_name_test g.table) (not (length (g.parts ++ part_of x ∷ []) == 0)) (and-parts (sql_name_test g.table) (not (length g.parts == 0)) h).0 (not_empty g.parts (part_of x))) refl)
+  after_fits g x false e h k = rw e (and-from (fits g) (fits (single table_of part_of x) && true) h (and-from (fits (single table_of part_of x)) true (single_fits x k) refl))
 
   add_fits : (gs : List (Group P)) (x : X) → list_all fits gs ≡ true → sql_name_test (table_of x) ≡ true → list_all fits (add table_of part_of gs x) ≡ true
-  add_fits [] x h k = and_true (fits (single table_of part_of x)) true (single_fits x k) refl
-  add_fits (g ∷ []) x h k = after_fits g x (bytes_eq g.table (table_of x)) refl (both_true (fits g) true h).0 k
-  add_fits (g ∷ i ∷ gs) x h k = let both = both_true (fits g) (list_all fits (i ∷ gs)) h in and_true (fits g) (list_all fits (add table_of part_of (i ∷ gs) x)) both.0 (add_fits (i ∷ gs) x both.1 k)
+  add_fits [] x h k = and-from (fits (single table_of part_of x)) true (single_fits x k) refl
+  add_fits (g ∷ []) x h k = after_fits g x (bytes_eq g.table (table_of x)) refl (and-parts (fits g) true h).0 k
+  add_fits (g ∷ i ∷ gs) x h k = let both = and-parts (fits g) (list_all fits (i ∷ gs)) h in and-from (fits g) (list_all fits (add table_of part_of (i ∷ gs) x)) both.0 (add_fits (i ∷ gs) x both.1 k)
 
   pub add_all_fits : (gs : List (Group P)) (xs : List X) → list_all fits gs ≡ true → list_all (λ x. sql_name_test (table_of x)) xs ≡ true → list_all fits (add_all table_of part_of gs xs) ≡ true
   add_all_fits gs [] h k = h
-  add_all_fits gs (x ∷ xs) h k = let both = both_true (sql_name_test (table_of x)) (list_all (λ x. sql_name_test (table_of x)) xs) k in add_all_fits (add table_of part_of gs x) xs (add_fits gs x h both.0) both.1
+  add_all_fits gs (x ∷ xs) h k = let both = and-parts (sql_name_test (table_of x)) (list_all (λ x. sql_name_test (table_of x)) xs) k in add_all_fits (add table_of part_of gs x) xs (add_fits gs x h both.0) both.1
 
   after_apart : (before : List ℕ) (g : Group P) (x : X) (b : Bool) → bytes_eq g.table (table_of x) ≡ b → not (bytes_eq g.table before) ≡ true → neighbours_differ before (after table_of part_of g x) ≡ true
-  after_apart before g x true e h = rw e (and_true (not (bytes_eq g.table before)) true h refl)
-  after_apart before g x false e h = rw e (and_true (not (bytes_eq g.table before)) (not (bytes_eq (table_of x) g.table) && true) h (and_true (not (bytes_eq (table_of x) g.table)) true (not_from_false (bytes_eq (table_of x) g.table) (bytes_eq-sym (table_of x) g.table ∙ e)) refl))
+  after_apart before g x true e h = rw e (and-from (not (bytes_eq g.table before)) true h refl)
+  after_apart before g x false e h = rw e (and-from (not (bytes_eq g.table before)) (not (bytes_eq (table_of x) g.table) && true) h (and-from (not (bytes_eq (table_of x) g.table)) true (not_from_false (bytes_eq (table_of x) g.table) (bytes_eq-sym (table_of x) g.table ∙ e)) refl))
 
   add_apart : (before : List ℕ) (g : Group P) (gs : List (Group P)) (x : X) → neighbours_differ before (g ∷ gs) ≡ true → neighbours_differ before (add table_of part_of (g ∷ gs) x) ≡ true
-  add_apart before g [] x h = after_apart before g x (bytes_eq g.table (table_of x)) refl (both_true (not (bytes_eq g.table before)) true h).0
-  add_apart before g (i ∷ gs) x h = let both = both_true (not (bytes_eq g.table before)) (neighbours_differ g.table (i ∷ gs)) h in and_true (not (bytes_eq g.table before)) (neighbours_differ g.table (add table_of part_of (i ∷ gs) x)) both.0 (add_apart g.table i gs x both.1)
+  add_apart before g [] x h = after_apart before g x (bytes_eq g.table (table_of x)) refl (and-parts (not (bytes_eq g.table before)) true h).0
+  add_apart before g (i ∷ gs) x h = let both = and-parts (not (bytes_eq g.table before)) (neighbours_differ g.table (i ∷ gs)) h in and-from (not (bytes_eq g.table before)) (neighbours_differ g.table (add table_of part_of (i ∷ gs) x)) both.0 (add_apart g.table i gs x both.1)
 
   named : (name : List ℕ) → sql_name_test name ≡ true → not (bytes_eq name []) ≡ true
   named [] h = absurd cc
   named (b ∷ name) h = refl
 
   first_apart : (gs : List (Group P)) (x : X) → neighbours_differ [] gs ≡ true → sql_name_test (table_of x) ≡ true → neighbours_differ [] (add table_of part_of gs x) ≡ true
-  first_apart [] x h k = and_true (not (bytes_eq (table_of x) [])) true (named (table_of x) k) refl
+  first_apart [] x h k = and-from (not (bytes_eq (table_of x) [])) true (named (table_of x) k) refl
   first_apart (g ∷ gs) x h k = add_apart [] g gs x h
 
   pub add_all_apart : (gs : List (Group P)) (xs : List X) → neighbours_differ [] gs ≡ true → list_all (λ x. sql_name_test (table_of x)) xs ≡ true → neighbours_differ [] (add_all table_of part_of gs xs) ≡ true
   add_all_apart gs [] h k = h
-  add_all_apart gs (x ∷ xs) h k = let both = both_true (sql_name_test (table_of x)) (list_all (λ x. sql_name_test (table_of x)) xs) k in add_all_apart (add table_of part_of gs x) xs (first_apart gs x h both.0) both.1
+  add_all_apart gs (x ∷ xs) h k = let both = and-parts (sql_name_test (table_of x)) (list_all (λ x. sql_name_test (table_of x)) xs) k in add_all_apart (add table_of part_of gs x) xs (first_apart gs x h both.0) both.1
 
 -- ---- the groups of the rows of groups are these groups
 
@@ -165,7 +163,7 @@ module _ {X P : Type 0} (table_of : X → List ℕ) (part_of : X → P) (place :
       ∙ ap (λ (l : List P). add_all table_of part_of (gs ++ part_group t l ∷ []) xs) (append_assoc ps (q ∷ []) qs)
 
   add_group : (gs : List (Group P)) (t : List ℕ) (ps : List P) (xs : List X) → not (bytes_eq t (last_table gs)) ≡ true → is_group t ps ≡ true → add_all table_of part_of gs (map (place t) ps ++ xs) ≡ add_all table_of part_of (gs ++ part_group t ps ∷ []) xs
-  add_group gs t [] xs h k = let no : (sql_name_test t && false) ≡ true = k in absurd (let both = both_true (sql_name_test t) false no in cc)
+  add_group gs t [] xs h k = let no : (sql_name_test t && false) ≡ true = k in absurd (let both = and-parts (sql_name_test t) false no in cc)
   add_group gs t (p ∷ ps) xs h k =
       let e : bytes_eq (last_table gs) (table_of (place t p)) ≡ false = rw (table_is t p) (other t (last_table gs) h) in
       let one : single table_of part_of (place t p) ≡ part_group t (p ∷ []) = rw (table_is t p, part_is t p) refl in
@@ -175,8 +173,8 @@ module _ {X P : Type 0} (table_of : X → List ℕ) (part_of : X → P) (place :
   add_groups : (gs hs : List (Group P)) → neighbours_differ (last_table gs) hs ≡ true → list_all (fits table_of part_of) hs ≡ true → add_all table_of part_of gs (flat_map (ungroup place) hs) ≡ gs ++ hs
   add_groups gs [] h k = sym (append-nil gs)
   add_groups gs (g ∷ hs) h k =
-      let apart = both_true (not (bytes_eq g.table (last_table gs))) (neighbours_differ g.table hs) h in
-      let good = both_true (fits table_of part_of g) (list_all (fits table_of part_of) hs) k in
+      let apart = and-parts (not (bytes_eq g.table (last_table gs))) (neighbours_differ g.table hs) h in
+      let good = and-parts (fits table_of part_of g) (list_all (fits table_of part_of) hs) k in
       let more : neighbours_differ (last_table (gs ++ g ∷ [])) hs ≡ true = rw (last_is gs g) apart.1 in
       add_group gs g.table g.parts (flat_map (ungroup place) hs) apart.0 good.0
       ∙ add_groups (gs ++ g ∷ []) hs more good.1

@@ -3,6 +3,8 @@ use Rattle.std.proofs.Common.{◌≡◌, ℕ, suc, ◌+◌, ◌^◌, ◌<◌, Bo
 use Rattle.std.specs.List.{list_all, AllByRecursion}
 use Rattle.std.proofs.lemmas.Bool.{cases_lt}
 use Rattle.std.proofs.lemmas.List.{length-append, length-take, get_or-drop, get_or-take, get_or_past}
+use Rattle.ldv_value.proofs.Booleans.{and-parts, and-from}
+use Rattle.ldv_value.proofs.Options.{bind-some, same-some}
 use Rattle.package_layout.specs.Fields.{Found, ◌>>=◌, then_at, made_at}
 
 -- ---- bytes
@@ -26,27 +28,12 @@ IsBytes-rest (x ∷ a) b h = IsBytes-rest a b (λ i. h (suc i))
 
 -- ---- tools
 
--- the value of a step that gave one
-pub bind_some : {A B : Type 0} (r : Option A) (f : A → Option B) (y : B) → (r >>= f) ≡ Some y → (x : A) × (r ≡ Some x) × (f x ≡ Some y)
-bind_some (Some x) f y e = (x, refl, e)
-bind_some None f y e = absurd cc
-
 abbrev pub just : {A : Type 0} → A → Option A
 just x = Some x
-
-pub some_is : {A : Type 0} (x y : A) → just x ≡ just y → x ≡ y
-some_is x y e = cc
 
 pub guard_some : {A : Type 0} (b : Bool) (x y : A) → cond b None (Some x) ≡ Some y → (b ≡ false) × (x ≡ y)
 guard_some true x y e = absurd cc
 guard_some false x y e = (refl, cc)
-
-pub both_true : (a b : Bool) → (a && b) ≡ true → (a ≡ true) × (b ≡ true)
-both_true true b h = (refl, h)
-both_true false b h = absurd cc
-
-pub and_true : (a b : Bool) → a ≡ true → b ≡ true → (a && b) ≡ true
-and_true a b h k = rw h k
 
 -- ---- a field: its spelling, what its values meet in memory, which of them the format has room for, whose
 -- counts of four bytes fit, and how it is read
@@ -115,7 +102,7 @@ then_again : {A B : Type 0} {ca : A → Type 0} {cb : B → Type 0} (sa : A → 
     → IsField sa ta fa ca ra → ((a : A) → IsField sb tb (fb a) cb (rb a)) → (x : A × B) (rest : List ℕ) → ta x.0 × tb x.1 → (fa x.0 && fb x.0 x.1) ≡ true → ca x.0 × cb x.1
     → then_at ra rb ((sa x.0 ++ sb x.1) ++ rest) ≡ Some (x, rest)
 then_again sa ta fa ra sb tb fb rb one two x rest t f n =
-    let both = both_true (fa x.0) (fb x.0 x.1) f in
+    let both = and-parts (fa x.0) (fb x.0 x.1) f in
     let first : ra (sa x.0 ++ (sb x.1 ++ rest)) ≡ Some (x.0, sb x.1 ++ rest) = one.again x.0 (sb x.1 ++ rest) t.0 both.0 n.0 in
     let second : rb x.0 (sb x.1 ++ rest) ≡ Some (x.1, rest) = (two x.0).again x.1 rest t.1 both.1 n.1 in
     ap (then_at ra rb) (append_assoc (sa x.0) (sb x.1) rest) ∙ rw (first, second) refl
@@ -124,16 +111,16 @@ then_took : {A B : Type 0} {ca : A → Type 0} {cb : B → Type 0} (sa : A → L
     → IsField sa ta fa ca ra → ((a : A) → IsField sb tb (fb a) cb (rb a)) → (bytes : List ℕ) (x : A × B) (rest : List ℕ) → IsBytes bytes → then_at ra rb bytes ≡ Some (x, rest)
     → Took (λ (p : A × B). sa p.0 ++ sb p.1) (λ (p : A × B). ta p.0 × tb p.1) (λ (p : A × B). fa p.0 && fb p.0 p.1) (λ (p : A × B). ca p.0 × cb p.1) bytes x rest
 then_took {A = A} {B = B} {ca = ca} {cb = cb} sa ta fa ra sb tb fb rb one two bytes x rest h e =
-    let first = bind_some (ra bytes) (λ a. rb a.0 a.1 >>= λ b. Some ((a.0, b.0), b.1)) (x, rest) e in
+    let first = bind-some (ra bytes) (λ a. rb a.0 a.1 >>= λ b. Some ((a.0, b.0), b.1)) (x, rest) e in
     let a = first.0 in
     let k = one.took bytes a.0 a.1 h first.1 in
-    let second = bind_some (rb a.0 a.1) (λ b. Some ((a.0, b.0), b.1)) (x, rest) first.2 in
+    let second = bind-some (rb a.0 a.1) (λ b. Some ((a.0, b.0), b.1)) (x, rest) first.2 in
     let b = second.0 in
     let left : IsBytes a.1 = IsBytes-rest (sa a.0) a.1 (subst IsBytes k.parts h) in
     let l = (two a.0).took a.1 b.0 b.1 left second.1 in
     let whole : bytes ≡ (sa a.0 ++ sb b.0) ++ b.1 = k.parts ∙ ap (λ (z : List ℕ). sa a.0 ++ z) l.parts ∙ sym (append_assoc (sa a.0) (sb b.0) b.1) in
-    subst (λ (y : (A × B) × List ℕ). Took (λ (p : A × B). sa p.0 ++ sb p.1) (λ (p : A × B). ta p.0 × tb p.1) (λ (p : A × B). fa p.0 && fb p.0 p.1) (λ (p : A × B). ca p.0 × cb p.1) bytes y.0 y.1) (some_is ((a.0, b.0), b.1) (x, rest) second.2)
-    (record { parts = whole; is_typed = (k.is_typed, l.is_typed); is_fit = and_true (fa a.0) (fb a.0 b.0) k.is_fit l.is_fit; is_counted = (k.is_counted, l.is_counted) })
+    subst (λ (y : (A × B) × List ℕ). Took (λ (p : A × B). sa p.0 ++ sb p.1) (λ (p : A × B). ta p.0 × tb p.1) (λ (p : A × B). fa p.0 && fb p.0 p.1) (λ (p : A × B). ca p.0 × cb p.1) bytes y.0 y.1) (same-some ((a.0, b.0), b.1) (x, rest) second.2)
+    (record { parts = whole; is_typed = (k.is_typed, l.is_typed); is_fit = and-from (fa a.0) (fb a.0 b.0) k.is_fit l.is_fit; is_counted = (k.is_counted, l.is_counted) })
 
 then_short : {A B : Type 0} {ca : A → Type 0} {cb : B → Type 0} (sa : A → List ℕ) (ta : A → Type 0) (fa : A → Bool) (ra : List ℕ → Found A) (sb : B → List ℕ) (tb : B → Type 0) (fb : A → B → Bool) (rb : A → List ℕ → Found B)
     → IsField sa ta fa ca ra → ((a : A) → IsField sb tb (fb a) cb (rb a)) → (x : A × B) → length (sa x.0 ++ sb x.1) < 2 ^ 32 → ca x.0 × cb x.1
@@ -151,13 +138,13 @@ made_took : {A B : Type 0} {ca : A → Type 0} (sa : A → List ℕ) (ta : A →
     → IsField sa ta fa ca ra → ((a : A) (b : B) → ta a → fa a ≡ true → make a ≡ Some b → (a ≡ back b) × tb b × (fb b ≡ true))
     → (bytes : List ℕ) (x : B) (rest : List ℕ) → IsBytes bytes → made_at make ra bytes ≡ Some (x, rest) → Took (λ b. sa (back b)) tb fb (λ b. ca (back b)) bytes x rest
 made_took {B = B} {ca = ca} sa ta fa ra tb fb make back one reverse bytes x rest h e =
-    let first = bind_some (ra bytes) (λ a. make a.0 >>= λ b. Some (b, a.1)) (x, rest) e in
+    let first = bind-some (ra bytes) (λ a. make a.0 >>= λ b. Some (b, a.1)) (x, rest) e in
     let a = first.0 in
     let k = one.took bytes a.0 a.1 h first.1 in
-    let second = bind_some (make a.0) (λ b. Some (b, a.1)) (x, rest) first.2 in
+    let second = bind-some (make a.0) (λ b. Some (b, a.1)) (x, rest) first.2 in
     let b = second.0 in
     let r = reverse a.0 b k.is_typed k.is_fit second.1 in
-    subst (λ (y : B × List ℕ). Took (λ b. sa (back b)) tb fb (λ b. ca (back b)) bytes y.0 y.1) (some_is (b, a.1) (x, rest) second.2)
+    subst (λ (y : B × List ℕ). Took (λ b. sa (back b)) tb fb (λ b. ca (back b)) bytes y.0 y.1) (same-some (b, a.1) (x, rest) second.2)
     (record { parts = k.parts ∙ ap (λ z. sa z ++ a.1) r.0; is_typed = r.1; is_fit = r.2; is_counted = subst ca r.0 k.is_counted })
 
 pub made_law : {A B : Type 0} {ca : A → Type 0} (sa : A → List ℕ) (ta : A → Type 0) (fa : A → Bool) (ra : List ℕ → Found A) (tb : B → Type 0) (fb : B → Bool) (make : A → Option B) (back : B → A)
@@ -182,6 +169,6 @@ pub struct_law : {A B : Type 0} {ca : A → Type 0} (sa : A → List ℕ) (ta : 
 struct_law sa ta fa ra make back one there here = made_law sa ta fa ra (λ b. ta (back b)) (λ b. fa (back b)) (λ a. Some (make a)) back one
     (λ b t f. (t, f, ap just (there b)))
     (λ a b t f e.
-    let is : make a ≡ b = some_is (make a) b e in
+    let is : make a ≡ b = same-some (make a) b e in
     let same : a ≡ back b = sym (here a) ∙ ap back is in
     (same, subst ta same t, ap fa (sym same) ∙ f))

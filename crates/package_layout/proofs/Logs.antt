@@ -4,6 +4,7 @@ use Rattle.std.specs.List.{list_all, AllByRecursion}
 use Rattle.std.specs.Str.{IsUtf8}
 use Rattle.std.specs.Int.{w8, w16, w32, w64, to_be_bytes}
 use Rattle.ldv_value.specs.declared.value.Value.{Value}
+use Rattle.ldv_value.proofs.Booleans.{and-parts, and-from}
 use Rattle.sql_model.specs.declared.reply.SqlRefusal.{SqlRefusal}
 use Rattle.sql_model.specs.declared.reply.SqlRefusal.TheVariants.{Syntax, NoTable, NoColumn, TypeClash, NotNull, KeyTaken, Full}
 use Rattle.sql_model.specs.declared.reply.Reply.{Reply}
@@ -17,7 +18,7 @@ use Rattle.package_layout.specs.Typed.{IsU32, TypedValue, TypedValues, TypedRefu
 use Rattle.package_layout.specs.Room.{few, some_thousands, refusal_room, reply_room, entry_room, log_room}
 use Rattle.package_layout.specs.Counts.{IsCountable, CountedList, CountedValue, CountedRefusal, CountedReply, CountedEntry, CountedLog}
 use Rattle.package_layout.specs.Reading.{value_at, values_at, refusal_of_code, refusal_at, reply_of_tag, reply_at, entry_at, name_at, log_at}
-use Rattle.package_layout.proofs.Laws.{IsBytes, IsField, just, always, list_all-always, Uncounted, all_uncounted, and_true, both_true, restate, recount, then_law, struct_law}
+use Rattle.package_layout.proofs.Laws.{IsBytes, IsField, just, always, list_all-always, Uncounted, all_uncounted, restate, recount, then_law, struct_law}
 use Rattle.package_layout.proofs.Numbers.{wide64, number_law, text_law, byte_list_law, short_list_law, long_law}
 use Rattle.package_layout.proofs.Tags.{TookTagged, tagged_law, bare_took, case_took, case_again}
 use Rattle.package_layout.proofs.Values.{value_law, values_law}
@@ -48,7 +49,7 @@ taken_at = both_at text_at (list_at w8 value_at)
 
 key_law : IsField (list_spelling w8 value_spelling) TypedValues few (AllByRecursion CountedValue) (list_at w8 value_at)
 key_law = restate (list_spelling w8 value_spelling) TypedValues TypedValues (λ vs. few vs && list_all always vs) few (list_at w8 value_at) (byte_list_law value_spelling TypedValue always value_at value_law)
-    (λ vs t h. (t, and_true (few vs) (list_all always vs) h (list_all-always vs))) (λ vs t h. (t, (both_true (few vs) (list_all always vs) h).0))
+    (λ vs t h. (t, and-from (few vs) (list_all always vs) h (list_all-always vs))) (λ vs t h. (t, (and-parts (few vs) (list_all always vs) h).0))
 
 taken_law : IsField taken_spelling TypedTaken taken_room CountedTaken taken_at
 taken_law = then_law text_spelling IsUtf8 always text_at (list_spelling w8 value_spelling) TypedValues (λ a. few) (λ a. list_at w8 value_at) text_law (λ a. key_law)
@@ -197,7 +198,7 @@ entry_filled e = omega arith
 
 parts_law : IsField parts_spelling (AllByRecursion IsU32) some_thousands Uncounted (list_at w16 (number_at w32))
 parts_law = recount Uncounted (restate parts_spelling (AllByRecursion IsU32) (AllByRecursion IsU32) (λ ns. some_thousands ns && list_all always ns) some_thousands (list_at w16 (number_at w32)) (short_list_law (to_be_bytes w32) IsU32 always (number_at w32) u32_law)
-    (λ ns t h. (t, and_true (some_thousands ns) (list_all always ns) h (list_all-always ns))) (λ ns t h. (t, (both_true (some_thousands ns) (list_all always ns) h).0)))
+    (λ ns t h. (t, and-from (some_thousands ns) (list_all always ns) h (list_all-always ns))) (λ ns t h. (t, (and-parts (some_thousands ns) (list_all always ns) h).0)))
     (λ ns n. all_uncounted ns) (λ ns n. tt)
 
 name_law : IsField (λ n. parts_spelling n.parts) (λ n. AllByRecursion IsU32 n.parts) (λ n. some_thousands n.parts) Uncounted name_at

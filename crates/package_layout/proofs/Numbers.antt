@@ -7,12 +7,14 @@ use Rattle.std.specs.Int.{Width, w8, w16, w32, w64, byte_len, to_be_bytes, from_
 use Rattle.std.specs.Int.RustNames.{FitsSigned}
 use Rattle.std.proofs.lemmas.Int.{to_z-of_z, of_z-to_z, ints}
 use Rattle.std.proofs.lemmas.Str.{IsUtf8-from_is_utf8, is_utf8-from_IsUtf8}
-use Rattle.std.proofs.lemmas.Bool.{ltb-false, le-ltb, ltb-true, eqb-true}
+use Rattle.std.proofs.lemmas.Bool.{ltb-false, le-ltb, ltb-true, eqb-true, eq-eqb}
 use Rattle.std.proofs.lemmas.List.{take_at, drop_at, take-append-drop, length-append, length-take}
 use Rattle.std.proofs.lemmas.Nat.{be_bytes_2, be_bytes_4, be_bytes_8, from_be_bytes-to_be_bytes_2, from_be_bytes-to_be_bytes_4, from_be_bytes-to_be_bytes_8}
+use Rattle.ldv_value.proofs.Booleans.{and-parts, and-from}
+use Rattle.ldv_value.proofs.Options.{bind-some, same-some}
 use Rattle.package_layout.specs.Fields.{Found, ◌>>=◌, bytes_at, number_at, signed_at, items_at, list_at, list_spelling, text_spelling, sized_at, text_of, text_at}
 use Rattle.package_layout.specs.Counts.{IsCountable, CountedList}
-use Rattle.package_layout.proofs.Laws.{IsBytes, IsBytes-take, IsBytes-rest, bind_some, just, some_is, guard_some, both_true, and_true, Took, IsField, always, Uncounted, recount, made_law}
+use Rattle.package_layout.proofs.Laws.{IsBytes, IsBytes-take, IsBytes-rest, just, guard_some, Took, IsField, always, Uncounted, recount, made_law}
 
 -- ---- numbers
 
@@ -73,11 +75,11 @@ bytes_took n bytes x e =
 
 number_took : (w : Width) (limit : ℕ) → IsWide w limit → (bytes : List ℕ) (n : ℕ) (rest : List ℕ) → IsBytes bytes → number_at w bytes ≡ Some (n, rest) → Took (to_be_bytes w) (λ k. k < limit) always Uncounted bytes n rest
 number_took w limit wide bytes n rest h e =
-    let first = bind_some (bytes_at (byte_len w) bytes) (λ f. Some (from_be_bytes w f.0, f.1)) (n, rest) e in
+    let first = bind-some (bytes_at (byte_len w) bytes) (λ f. Some (from_be_bytes w f.0, f.1)) (n, rest) e in
     let f = first.0 in
     let t = bytes_took (byte_len w) bytes f first.1 in
     let clean : IsBytes f.0 = rw t.2 (IsBytes-take (byte_len w) bytes h) in
-    subst (λ (y : ℕ × List ℕ). Took (to_be_bytes w) (λ k. k < limit) always Uncounted bytes y.0 y.1) (some_is (from_be_bytes w f.0, f.1) (n, rest) first.2)
+    subst (λ (y : ℕ × List ℕ). Took (to_be_bytes w) (λ k. k < limit) always Uncounted bytes y.0 y.1) (same-some (from_be_bytes w f.0, f.1) (n, rest) first.2)
     (record { parts = t.0 ∙ ap (λ (z : List ℕ). z ++ f.1) (sym (wide.back f.0 t.1 clean)); is_typed = wide.below f.0 clean; is_fit = refl; is_counted = tt })
 
 pub number_law : (w : Width) (limit : ℕ) → IsWide w limit → IsField (to_be_bytes w) (λ n. n < limit) always Uncounted (number_at w)
@@ -98,13 +100,13 @@ signed_back n lt = (sym (of_z-to_z w64 n lt), search rules)
 pub signed_law : IsField (λ z. to_be_bytes w64 (cast_unsigned w64 z)) (FitsSigned w64) always Uncounted signed_at
 signed_law = made_law (to_be_bytes w64) (λ n. n < 2 ^ 64) always (number_at w64) (FitsSigned w64) always (λ n. Some (cast_signed w64 n)) (cast_unsigned w64) (number_law w64 (2 ^ 64) wide64)
     (λ z t f. (unsigned_small z t, refl, ap just (to_z-of_z w64 z t)))
-    (λ n z t f e. subst (λ y. (n ≡ cast_unsigned w64 y) × FitsSigned w64 y × (true ≡ true)) (some_is (cast_signed w64 n) z e) (let k = signed_back n t in (k.0, k.1, refl)))
+    (λ n z t f e. subst (λ y. (n ≡ cast_unsigned w64 y) × FitsSigned w64 y × (true ≡ true)) (same-some (cast_signed w64 n) z e) (let k = signed_back n t in (k.0, k.1, refl)))
 
 -- ---- texts
 
 sized_took : (bytes x rest : List ℕ) → IsBytes bytes → sized_at bytes ≡ Some (x, rest) → Took text_spelling (λ _. Unit {0}) always IsCountable bytes x rest
 sized_took bytes x rest h e =
-    let first = bind_some (number_at w32 bytes) (λ n. bytes_at n.0 n.1) (x, rest) e in
+    let first = bind-some (number_at w32 bytes) (λ n. bytes_at n.0 n.1) (x, rest) e in
     let n = first.0 in
     let k = (number_law w32 (2 ^ 32) wide32).took bytes n.0 n.1 h first.1 in
     let t = bytes_took n.0 n.1 (x, rest) first.2 in
@@ -121,7 +123,7 @@ sized_law = record {
 }
 
 text_from : (b : Bool) (a x : List ℕ) → is_utf8 a ≡ b → cond b (Some a) None ≡ Some x → (a ≡ x) × IsUtf8 x
-text_from true a x u e = let is : a ≡ x = some_is a x e in (is, subst IsUtf8 is (IsUtf8-from_is_utf8 a u))
+text_from true a x u e = let is : a ≡ x = same-some a x e in (is, subst IsUtf8 is (IsUtf8-from_is_utf8 a u))
 text_from false a x u e = absurd cc
 
 pub text_law : IsField text_spelling IsUtf8 always IsCountable text_at
@@ -135,7 +137,7 @@ items_again : {X : Type 0} (s : X → List ℕ) (t : X → Type 0) (f : X → Bo
     → items_at r (length xs) (flat_map s xs ++ rest) ≡ Some (xs, rest)
 items_again s t f c r one [] rest h k n = refl
 items_again s t f c r one (x ∷ xs) rest h k n =
-    let both = both_true (f x) (list_all f xs) k in
+    let both = and-parts (f x) (list_all f xs) k in
     let first : r (s x ++ (flat_map s xs ++ rest)) ≡ Some (x, flat_map s xs ++ rest) = one.again x (flat_map s xs ++ rest) h.0 both.0 n.0 in
     let more : items_at r (length xs) (flat_map s xs ++ rest) ≡ Some (xs, rest) = items_again s t f c r one xs rest h.1 both.1 n.1 in
     ap (items_at r (suc (length xs))) (append_assoc (s x) (flat_map s xs) rest) ∙ rw (first, more) refl
@@ -156,30 +158,27 @@ pub record TookItems {X : Type 0} (s : X → List ℕ) (t : X → Type 0) (f : X
 
 pub items_took : {X : Type 0} (s : X → List ℕ) (t : X → Type 0) (f : X → Bool) (c : X → Type 0) (r : List ℕ → Found X) → IsField s t f c r → (n : ℕ) (bytes : List ℕ) (xs : List X) (rest : List ℕ) → IsBytes bytes → items_at r n bytes ≡ Some (xs, rest) → TookItems s t f c n bytes xs rest
 items_took {X = X} s t f c r one zero bytes xs rest h e =
-    subst (λ (y : List X × List ℕ). TookItems s t f c zero bytes y.0 y.1) (some_is ([], bytes) (xs, rest) e) (record { parts = refl; is_typed = tt; is_fit = refl; is_counted = tt; count = refl })
+    subst (λ (y : List X × List ℕ). TookItems s t f c zero bytes y.0 y.1) (same-some ([], bytes) (xs, rest) e) (record { parts = refl; is_typed = tt; is_fit = refl; is_counted = tt; count = refl })
 items_took {X = X} s t f c r one (suc n) bytes xs rest h e =
-    let first = bind_some (r bytes) (λ x. items_at r n x.1 >>= λ y. Some (x.0 ∷ y.0, y.1)) (xs, rest) e in
+    let first = bind-some (r bytes) (λ x. items_at r n x.1 >>= λ y. Some (x.0 ∷ y.0, y.1)) (xs, rest) e in
     let x = first.0 in
     let k = one.took bytes x.0 x.1 h first.1 in
-    let second = bind_some (items_at r n x.1) (λ y. Some (x.0 ∷ y.0, y.1)) (xs, rest) first.2 in
+    let second = bind-some (items_at r n x.1) (λ y. Some (x.0 ∷ y.0, y.1)) (xs, rest) first.2 in
     let y = second.0 in
     let l = items_took s t f c r one n x.1 y.0 y.1 (IsBytes-rest (s x.0) x.1 (subst IsBytes k.parts h)) second.1 in
     let whole : bytes ≡ (s x.0 ++ flat_map s y.0) ++ y.1 = k.parts ∙ ap (λ (z : List ℕ). s x.0 ++ z) l.parts ∙ sym (append_assoc (s x.0) (flat_map s y.0) y.1) in
-    subst (λ (z : List X × List ℕ). TookItems s t f c (suc n) bytes z.0 z.1) (some_is (x.0 ∷ y.0, y.1) (xs, rest) second.2)
-    (record { parts = whole; is_typed = (k.is_typed, l.is_typed); is_fit = and_true (f x.0) (list_all f y.0) k.is_fit l.is_fit; is_counted = (k.is_counted, l.is_counted); count = ap suc l.count })
-
-pub eqb_from : (a b : ℕ) → a ≡ b → (a == b) ≡ true
-eqb_from a b e = grind arith
+    subst (λ (z : List X × List ℕ). TookItems s t f c (suc n) bytes z.0 z.1) (same-some (x.0 ∷ y.0, y.1) (xs, rest) second.2)
+    (record { parts = whole; is_typed = (k.is_typed, l.is_typed); is_fit = and-from (f x.0) (list_all f y.0) k.is_fit l.is_fit; is_counted = (k.is_counted, l.is_counted); count = ap suc l.count })
 
 pub items_law : {X : Type 0} (s : X → List ℕ) (t : X → Type 0) (f : X → Bool) {c : X → Type 0} (r : List ℕ → Found X) → IsField s t f c r → (n : ℕ)
     → IsField (flat_map s) (AllByRecursion t) (λ xs. (length xs == n) && list_all f xs) (AllByRecursion c) (items_at r n)
 items_law s t f {c = c} r one n = record {
   again = λ xs rest h k m.
-      let both = both_true (length xs == n) (list_all f xs) k in
+      let both = and-parts (length xs == n) (list_all f xs) k in
       subst (λ (m : ℕ). items_at r m (flat_map s xs ++ rest) ≡ Some (xs, rest)) (eqb-true _ _ both.0) (items_again s t f c r one xs rest h both.1 m);
   took = λ bytes xs rest h e.
       let k = items_took s t f c r one n bytes xs rest h e in
-      record { parts = k.parts; is_typed = k.is_typed; is_fit = and_true (length xs == n) (list_all f xs) (eqb_from _ _ k.count) k.is_fit; is_counted = k.is_counted };
+      record { parts = k.parts; is_typed = k.is_typed; is_fit = and-from (length xs == n) (list_all f xs) (eq-eqb _ _ k.count) k.is_fit; is_counted = k.is_counted };
   short = items_short s t f c r one;
 }
 
@@ -189,12 +188,12 @@ list_law : {X : Type 0} (w : Width) (limit : ℕ) → IsWide w limit → (s : X 
     → IsField (list_spelling w s) (AllByRecursion t) (λ xs. room xs && list_all f xs) (λ xs. many xs × AllByRecursion c xs) (list_at w r)
 list_law {X = X} w limit wide s t f c r one room many small roomy brief = record {
   again = λ xs rest h k n.
-      let both = both_true (room xs) (list_all f xs) k in
+      let both = and-parts (room xs) (list_all f xs) k in
       let lt : length xs < limit = small xs both.0 n.0 in
       let first : number_at w (to_be_bytes w (length xs) ++ (flat_map s xs ++ rest)) ≡ Some (length xs, flat_map s xs ++ rest) = (number_law w limit wide).again (length xs) (flat_map s xs ++ rest) lt refl tt in
       ap (list_at w r) (append_assoc (to_be_bytes w (length xs)) (flat_map s xs) rest) ∙ rw (first, items_again s t f c r one xs rest h both.1 n.1) refl;
   took = λ bytes xs rest h e.
-      let first = bind_some (number_at w bytes) (λ n. items_at r n.0 n.1) (xs, rest) e in
+      let first = bind-some (number_at w bytes) (λ n. items_at r n.0 n.1) (xs, rest) e in
       let n = first.0 in
       let k = (number_law w limit wide).took bytes n.0 n.1 h first.1 in
       let l = items_took s t f c r one n.0 n.1 xs rest (IsBytes-rest (to_be_bytes w n.0) n.1 (subst IsBytes k.parts h)) first.2 in
@@ -203,7 +202,7 @@ list_law {X = X} w limit wide s t f c r one room many small roomy brief = record
       record {
         parts = subst (λ (m : ℕ). bytes ≡ (to_be_bytes w m ++ flat_map s xs) ++ rest) (sym l.count) whole;
         is_typed = l.is_typed;
-        is_fit = and_true (room xs) (list_all f xs) fit.0 l.is_fit;
+        is_fit = and-from (room xs) (list_all f xs) fit.0 l.is_fit;
         is_counted = (fit.1, l.is_counted);
       };
   short = λ xs len. let less : length (flat_map s xs) < 2 ^ 32 = omega (arith, length-append (to_be_bytes w (length xs)) (flat_map s xs)) in (brief xs less, items_short s t f c r one xs less);

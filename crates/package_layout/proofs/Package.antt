@@ -4,6 +4,8 @@ use Rattle.std.specs.Prelude.{bytes_eq, nat_le, IfOk, IfSome, ◌↔◌}
 use Rattle.std.proofs.lemmas.Bool.{leb-true, le-leb}
 use Rattle.std.proofs.lemmas.Slice.Eq.{bytes_eq-Decides}
 use Rattle.std.proofs.lemmas.List.{take_at, drop_at, take-append-drop, take-take, length-append}
+use Rattle.ldv_value.proofs.Booleans.{and-parts, and-from}
+use Rattle.ldv_value.proofs.Options.{bind-some, same-some}
 use Rattle.sha2.specs.Sha256.{sha256}
 use Rattle.sha2.proofs.Facts256.{length-sha256}
 use Rattle.run_model.specs.declared.package.Package.{Package}
@@ -16,7 +18,7 @@ use Rattle.package_layout.specs.Whole.{sections, body, spelling_as, IsTyped, has
 use Rattle.package_layout.specs.Counts.{IsCounted}
 use Rattle.package_layout.specs.Valid.{rules, Valid, HasMagic, HasDigest, IsSpelling, IsNoSpelling, before_digest, middle, kept_if, package_in, has_magic, has_digest, form_of, reading_as}
 use Rattle.package_layout.specs.ReadResult.{ReadsAs, damage_before}
-use Rattle.package_layout.proofs.Laws.{IsBytes, IsBytes-take, IsBytes-drop, bind_some, just, some_is, both_true, and_true}
+use Rattle.package_layout.proofs.Laws.{IsBytes, IsBytes-take, IsBytes-drop, just}
 use Rattle.package_layout.proofs.Whole.{sections_law, all_again, all_took}
 
 -- ---- tests
@@ -24,11 +26,11 @@ use Rattle.package_layout.proofs.Whole.{sections_law, all_again, all_took}
 digest_fact : (bytes : List ℕ) → has_digest bytes ≡ true → HasDigest bytes
 digest_fact bytes h =
     let same_test = bytes_eq (drop (length bytes - 32) bytes) (sha256 (before_digest bytes)) in
-    let both = both_true (nat_le 40 (length bytes)) same_test h in
+    let both = and-parts (nat_le 40 (length bytes)) same_test h in
     record { long = leb-true 40 (length bytes) both.0; same = (bytes_eq-Decides (drop (length bytes - 32) bytes) (sha256 (before_digest bytes))).0 both.1 }
 
 digest_test : (bytes : List ℕ) → HasDigest bytes → has_digest bytes ≡ true
-digest_test bytes h = and_true (nat_le 40 (length bytes)) (bytes_eq (drop (length bytes - 32) bytes) (sha256 (before_digest bytes))) (le-leb 40 (length bytes) h.long) ((bytes_eq-Decides (drop (length bytes - 32) bytes) (sha256 (before_digest bytes))).1 h.same)
+digest_test bytes h = and-from (nat_le 40 (length bytes)) (bytes_eq (drop (length bytes - 32) bytes) (sha256 (before_digest bytes))) (le-leb 40 (length bytes) h.long) ((bytes_eq-Decides (drop (length bytes - 32) bytes) (sha256 (before_digest bytes))).1 h.same)
 
 true_not_false : {Z : Type 0} (b : Bool) → b ≡ true → b ≡ false → Z
 true_not_false b h k = let e : true ≡ false = sym h ∙ k in cc
@@ -55,7 +57,7 @@ kept : (b : Bool) (p : Package) → b ≡ true → kept_if b p ≡ Some p
 kept b p h = rw h refl
 
 kept_is : (b : Bool) (p q : Package) → kept_if b p ≡ Some q → (b ≡ true) × (p ≡ q)
-kept_is true p q e = (refl, some_is p q e)
+kept_is true p q e = (refl, same-some p q e)
 kept_is false p q e = absurd cc
 
 -- what the tests were where a package was read
@@ -144,7 +146,7 @@ module _ (version : Version) where
 
   section_again : (p : Package) → IsTyped p → Valid p → IsCounted p → package_in version (sections version p) ≡ Some p
   section_again p t v n =
-      let both = both_true (has_room p) (rules p) v in
+      let both = and-parts (has_room p) (rules p) v in
       let one : all_of version (sections version p) ≡ Some p = all_again version p t both.0 n in
       rw one (kept (rules p) p both.1)
 
@@ -174,13 +176,13 @@ module _ (version : Version) where
   read_is : (bytes : List ℕ) (p : Package) → IsBytes bytes → reading_as version bytes ≡ Ok p → IsRead version bytes p
   read_is bytes p h e =
       let tests = ok_tests (has_magic version bytes) (has_digest bytes) (package_in version (middle bytes)) p e in
-      let first = bind_some (all_of version (middle bytes)) (λ q. kept_if (rules q) q) p tests.2 in
+      let first = bind-some (all_of version (middle bytes)) (λ q. kept_if (rules q) q) p tests.2 in
       let q = first.0 in
       let clean : IsBytes (middle bytes) = IsBytes-drop 8 (before_digest bytes) (IsBytes-take (length bytes - 32) bytes h) in
       let k = all_took version (middle bytes) q clean first.1 in
       let l = kept_is (rules q) q p first.2 in
       let whole : bytes ≡ spelling_as version q = parts_of bytes (magic_fact bytes tests.0) (digest_fact bytes tests.1) ∙ ap (λ (s : List ℕ). (magic version ++ s) ++ sha256 (magic version ++ s)) k.0 in
-      subst (IsRead version bytes) l.1 (record { is_typed = k.1; is_valid = and_true (has_room q) (rules q) k.2 l.0; spells = record { room = k.2; counted = k.3; same = sym whole } })
+      subst (IsRead version bytes) l.1 (record { is_typed = k.1; is_valid = and-from (has_room q) (rules q) k.2 l.0; spells = record { room = k.2; counted = k.3; same = sym whole } })
 
   -- ---- the answers
 

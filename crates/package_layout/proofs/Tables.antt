@@ -6,6 +6,8 @@ use Rattle.std.specs.Str.{IsUtf8}
 use Rattle.std.specs.Int.{w8, w32, to_be_bytes}
 use Rattle.std.proofs.lemmas.Bool.{ltb-true}
 use Rattle.ldv_value.specs.declared.value.Value.{Value}
+use Rattle.ldv_value.proofs.Booleans.{and-parts, and-from}
+use Rattle.ldv_value.proofs.Options.{same-some}
 use Rattle.sql_model.specs.declared.need.Rule.{Rule}
 use Rattle.sql_model.specs.declared.need.Rule.TheVariants.{L, H, K}
 use Rattle.sql_model.specs.declared.table.Column.{Column}
@@ -18,7 +20,7 @@ use Rattle.package_layout.specs.Typed.{IsU32, TypedValue, TypedValues, TypedColu
 use Rattle.package_layout.specs.Room.{few, key_room, row_room, table_room}
 use Rattle.package_layout.specs.Counts.{CountedList, CountedValue, CountedColumn, CountedRow, CountedTable}
 use Rattle.package_layout.specs.Reading.{value_at, kind_of, kind_at, column_at, rule_of, rule_at, reason_at, cells_at, row_at, rows_at, key_at, schema_at, table_at}
-use Rattle.package_layout.proofs.Laws.{IsField, just, some_is, always, list_all-always, Uncounted, all_uncounted, and_true, both_true, restate, recount, made_law, then_law, struct_law}
+use Rattle.package_layout.proofs.Laws.{IsField, just, always, list_all-always, Uncounted, all_uncounted, restate, recount, made_law, then_law, struct_law}
 use Rattle.package_layout.proofs.Numbers.{wide8, wide32, number_law, text_law, items_law, byte_list_law, long_law, ltb_from}
 use Rattle.package_layout.proofs.Values.{value_law}
 
@@ -41,7 +43,7 @@ abbrev Kind : Type 0
 Kind = Bool × Bool
 
 kind_is : (n : ℕ) (k p : Kind) → n ≡ kind_number k.0 k.1 → just {A = Kind} k ≡ just {A = Kind} p → n ≡ kind_number p.0 p.1
-kind_is n k p i e = subst (λ (y : Kind). n ≡ kind_number y.0 y.1) (some_is k p e) i
+kind_is n k p i e = subst (λ (y : Kind). n ≡ kind_number y.0 y.1) (same-some k p e) i
 
 kind_back : (n : ℕ) (p : Kind) → kind_of n ≡ Some p → n ≡ kind_number p.0 p.1
 kind_back zero p e = absurd cc
@@ -73,7 +75,7 @@ rule_again H = (omega arith, refl, refl)
 rule_again K = (omega arith, refl, refl)
 
 rule_is : (n : ℕ) (k r : Rule) → n ≡ rule_number k → just k ≡ just r → n ≡ rule_number r
-rule_is n k r i e = subst (λ y. n ≡ rule_number y) (some_is k r e) i
+rule_is n k r i e = subst (λ y. n ≡ rule_number y) (same-some k r e) i
 
 rule_back : (n : ℕ) (r : Rule) → rule_of n ≡ Some r → n ≡ rule_number r
 rule_back zero r e = absurd cc
@@ -129,8 +131,8 @@ row_law : (columns : ℕ) → IsField row_spelling TypedRow (row_room columns) C
 row_law columns = recount CountedRow (restate row_spelling (λ r. IsU32 r.number × ((IsU32 r.statement × Unit {0}) × TypedValues r.values)) TypedRow (λ r. so_many columns r.values) (row_room columns) (row_at columns)
     (struct_law parts_spelling TypedParts (λ (p : RowParts). so_many columns p.1.1) (parts_at columns)
     (λ (p : RowParts). record { number = p.0; statement = p.1.0.0; rule = p.1.0.1; values = p.1.1 }) (λ (r : PackedRow). (r.number, ((r.statement, r.rule), r.values))) (parts_law columns) (λ r. refl) (λ p. refl))
-    (λ r t h. ((t.0, ((t.1.0, tt), t.1.1)), and_true (length r.values == columns) (list_all always r.values) h (list_all-always r.values)))
-    (λ r t h. ((t.0, (t.1.0.0, t.1.1)), (both_true (length r.values == columns) (list_all always r.values) h).0)))
+    (λ r t h. ((t.0, ((t.1.0, tt), t.1.1)), and-from (length r.values == columns) (list_all always r.values) h (list_all-always r.values)))
+    (λ r t h. ((t.0, (t.1.0.0, t.1.1)), (and-parts (length r.values == columns) (list_all always r.values) h).0)))
     (λ r n. (tt, (tt, n))) (λ r n. n.1.1)
 
 row_filled : (r : PackedRow) → 0 < length (row_spelling r)
@@ -143,16 +145,16 @@ rows_law columns = long_law row_spelling TypedRow (row_room columns) (row_at col
 
 bytes_test : (key : List ℕ) → AllByRecursion (λ n. n < 256) key → list_all (λ place. nat_lt place 256) key ≡ true
 bytes_test [] h = refl
-bytes_test (k ∷ key) h = and_true (nat_lt k 256) (list_all (λ place. nat_lt place 256) key) (ltb_from k 256 h.0) (bytes_test key h.1)
+bytes_test (k ∷ key) h = and-from (nat_lt k 256) (list_all (λ place. nat_lt place 256) key) (ltb_from k 256 h.0) (bytes_test key h.1)
 
 bytes_fact : (key : List ℕ) → list_all (λ place. nat_lt place 256) key ≡ true → AllByRecursion (λ n. n < 256) key
 bytes_fact [] h = tt
-bytes_fact (k ∷ key) h = let both = both_true (nat_lt k 256) (list_all (λ place. nat_lt place 256) key) h in (ltb-true k 256 both.0, bytes_fact key both.1)
+bytes_fact (k ∷ key) h = let both = and-parts (nat_lt k 256) (list_all (λ place. nat_lt place 256) key) h in (ltb-true k 256 both.0, bytes_fact key both.1)
 
 key_law : IsField (list_spelling w8 (to_be_bytes w8)) Anything key_room Uncounted key_at
 key_law = recount Uncounted (restate (list_spelling w8 (to_be_bytes w8)) (AllByRecursion (λ n. n < 256)) Anything (λ key. few key && list_all always key) key_room key_at (byte_list_law (to_be_bytes w8) (λ n. n < 256) always (number_at w8) (number_law w8 256 wide8))
-    (λ key t h. let both = both_true (few key) (list_all (λ place. nat_lt place 256) key) h in (bytes_fact key both.1, and_true (few key) (list_all always key) both.0 (list_all-always key)))
-    (λ key t h. (tt, and_true (few key) (list_all (λ place. nat_lt place 256) key) (both_true (few key) (list_all always key) h).0 (bytes_test key t))))
+    (λ key t h. let both = and-parts (few key) (list_all (λ place. nat_lt place 256) key) h in (bytes_fact key both.1, and-from (few key) (list_all always key) both.0 (list_all-always key)))
+    (λ key t h. (tt, and-from (few key) (list_all (λ place. nat_lt place 256) key) (and-parts (few key) (list_all always key) h).0 (bytes_test key t))))
     (λ key n. all_uncounted key) (λ key n. tt)
 
 abbrev SchemaParts : Type 0
@@ -168,11 +170,11 @@ schema_law = recount (λ s. AllByRecursion CountedColumn s.columns) (restate sch
     (then_law (list_spelling w8 column_spelling) (AllByRecursion TypedColumn) (λ cs. few cs && list_all always cs) (list_at w8 column_at) (list_spelling w8 (to_be_bytes w8)) Anything (λ a. key_room) (λ a. key_at) (byte_list_law column_spelling TypedColumn always column_at column_law) (λ a. key_law))
     (λ s. refl) (λ p. refl))
     (λ s t h.
-    let both = both_true (few s.columns) (key_room s.key) h in
-    ((t, tt), and_true (few s.columns && list_all always s.columns) (key_room s.key) (and_true (few s.columns) (list_all always s.columns) both.0 (list_all-always s.columns)) both.1))
+    let both = and-parts (few s.columns) (key_room s.key) h in
+    ((t, tt), and-from (few s.columns && list_all always s.columns) (key_room s.key) (and-from (few s.columns) (list_all always s.columns) both.0 (list_all-always s.columns)) both.1))
     (λ s t h.
-    let both = both_true (few s.columns && list_all always s.columns) (key_room s.key) h in
-    (t.0, and_true (few s.columns) (key_room s.key) (both_true (few s.columns) (list_all always s.columns) both.0).0 both.1)))
+    let both = and-parts (few s.columns && list_all always s.columns) (key_room s.key) h in
+    (t.0, and-from (few s.columns) (key_room s.key) (and-parts (few s.columns) (list_all always s.columns) both.0).0 both.1)))
     (λ s n. (n, tt)) (λ s n. n.0)
 
 abbrev TableEnd : Type 0
@@ -212,13 +214,13 @@ table_law = recount CountedTable (restate table_spelling TypedTable TypedTable (
     (λ (p : TableParts). record { name = p.0; schema = p.1.0; next = p.1.1.0; rows = p.1.1.1 }) (λ (t : PackedTable). (t.name, (t.schema, (t.next, t.rows))))
     (then_law text_spelling IsUtf8 always text_at tail_spelling TypedTail (λ a. tail_room) (λ a. tail_at) text_law (λ a. table_tail_law)) (λ t. refl) (λ p. refl))
     (λ t h k.
-    let a = both_true (few t.schema.columns) (key_room t.schema.key && list_all (row_room (length t.schema.columns)) t.rows) k in
-    let b = both_true (key_room t.schema.key) (list_all (row_room (length t.schema.columns)) t.rows) a.1 in
-    (h, and_true (schema_room t.schema) (list_all (row_room (length t.schema.columns)) t.rows) (and_true (few t.schema.columns) (key_room t.schema.key) a.0 b.0) b.1))
+    let a = and-parts (few t.schema.columns) (key_room t.schema.key && list_all (row_room (length t.schema.columns)) t.rows) k in
+    let b = and-parts (key_room t.schema.key) (list_all (row_room (length t.schema.columns)) t.rows) a.1 in
+    (h, and-from (schema_room t.schema) (list_all (row_room (length t.schema.columns)) t.rows) (and-from (few t.schema.columns) (key_room t.schema.key) a.0 b.0) b.1))
     (λ t h k.
-    let a = both_true (schema_room t.schema) (list_all (row_room (length t.schema.columns)) t.rows) k in
-    let b = both_true (few t.schema.columns) (key_room t.schema.key) a.0 in
-    (h, and_true (few t.schema.columns) (key_room t.schema.key && list_all (row_room (length t.schema.columns)) t.rows) b.0 (and_true (key_room t.schema.key) (list_all (row_room (length t.schema.columns)) t.rows) b.1 a.1))))
+    let a = and-parts (schema_room t.schema) (list_all (row_room (length t.schema.columns)) t.rows) k in
+    let b = and-parts (few t.schema.columns) (key_room t.schema.key) a.0 in
+    (h, and-from (few t.schema.columns) (key_room t.schema.key && list_all (row_room (length t.schema.columns)) t.rows) b.0 (and-from (key_room t.schema.key) (list_all (row_room (length t.schema.columns)) t.rows) b.1 a.1))))
     (λ t n. (n.0, (n.1.0, (tt, n.1.1)))) (λ t n. (n.0, (n.1.0, n.1.1.1)))
 
 pub table_filled : (t : PackedTable) → 0 < length (table_spelling t)

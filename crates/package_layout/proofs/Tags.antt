@@ -2,8 +2,9 @@
 use Rattle.std.proofs.Common.{◌≡◌, ℕ, ◌^◌, ◌<◌, Bool, true, List, [], ◌++◌, length, Some, refl, sym, ap, subst, ◌∙◌, append_assoc, arith}
 use Rattle.std.specs.Int.{w8, to_be_bytes}
 use Rattle.std.proofs.lemmas.List.{length-append}
+use Rattle.ldv_value.proofs.Options.{bind-some, same-some}
 use Rattle.package_layout.specs.Fields.{Found, ◌>>=◌, made_at, tagged_at, number_at}
-use Rattle.package_layout.proofs.Laws.{IsBytes, IsBytes-rest, bind_some, just, some_is, Took, IsField, respell}
+use Rattle.package_layout.proofs.Laws.{IsBytes, IsBytes-rest, just, Took, IsField, respell}
 use Rattle.package_layout.proofs.Numbers.{number_law, wide8}
 
 pub record TookTagged {X : Type 0} (tag : X → ℕ) (body : X → List ℕ) (typed : X → Type 0) (fits : X → Bool) (counted : X → Type 0) (t : ℕ) (bytes : List ℕ) (x : X) (rest : List ℕ) : Type 0 where
@@ -22,7 +23,7 @@ plain_law tag body typed fits read law = record {
       let first : number_at w8 (to_be_bytes w8 (tag x) ++ (body x ++ rest)) ≡ Some (tag x, body x ++ rest) = (number_law w8 256 wide8).again (tag x) (body x ++ rest) (law.small x) refl tt in
       ap (tagged_at read) (append_assoc (to_be_bytes w8 (tag x)) (body x) rest) ∙ rw (first, law.again x rest t f n) refl;
   took = λ bytes x rest h e.
-      let first = bind_some (number_at w8 bytes) (λ t. read t.0 t.1) (x, rest) e in
+      let first = bind-some (number_at w8 bytes) (λ t. read t.0 t.1) (x, rest) e in
       let t = first.0 in
       let k = (number_law w8 256 wide8).took bytes t.0 t.1 h first.1 in
       let l = law.took t.0 t.1 x rest (IsBytes-rest (to_be_bytes w8 t.0) t.1 (subst IsBytes k.parts h)) first.2 in
@@ -37,7 +38,7 @@ tagged_law spell tag body typed fits counted read law same = respell (λ x. to_b
 -- a variant without fields
 pub bare_took : {X : Type 0} (tag : X → ℕ) (body : X → List ℕ) (typed : X → Type 0) (fits : X → Bool) (counted : X → Type 0) (t : ℕ) (bytes : List ℕ) (y x : X) (rest : List ℕ) → tag y ≡ t → body y ≡ [] → typed y → fits y ≡ true → counted y → just {A = X × List ℕ} (y, bytes) ≡ just {A = X × List ℕ} (x, rest) → TookTagged tag body typed fits counted t bytes x rest
 bare_took {X = X} tag body typed fits counted t bytes y x rest i b h f n e =
-    subst (λ (z : X × List ℕ). TookTagged tag body typed fits counted t bytes z.0 z.1) (some_is (y, bytes) (x, rest) e)
+    subst (λ (z : X × List ℕ). TookTagged tag body typed fits counted t bytes z.0 z.1) (same-some (y, bytes) (x, rest) e)
     (record { tag_is = i; took = record { parts = rw b refl; is_typed = h; is_fit = f; is_counted = n } })
 
 -- a variant with one field
@@ -46,10 +47,10 @@ pub case_took : {A X : Type 0} {ca : A → Type 0} (sa : A → List ℕ) (ta : A
     → ((a : A) → tag (make a) ≡ t) → ((a : A) → body (make a) ≡ sa a) → ((a : A) → ta a → typed (make a)) → ((a : A) → fa a ≡ true → fits (make a) ≡ true) → ((a : A) → ca a → counted (make a))
     → TookTagged tag body typed fits counted t bytes x rest
 case_took {A = A} {X = X} sa ta fa ra make tag body typed fits counted t bytes x rest one h e i b y f n =
-    let first = bind_some (ra bytes) (λ a. just (make a.0) >>= λ z. Some (z, a.1)) (x, rest) e in
+    let first = bind-some (ra bytes) (λ a. just (make a.0) >>= λ z. Some (z, a.1)) (x, rest) e in
     let a = first.0 in
     let k = one.took bytes a.0 a.1 h first.1 in
-    subst (λ (z : X × List ℕ). TookTagged tag body typed fits counted t bytes z.0 z.1) (some_is (make a.0, a.1) (x, rest) first.2)
+    subst (λ (z : X × List ℕ). TookTagged tag body typed fits counted t bytes z.0 z.1) (same-some (make a.0, a.1) (x, rest) first.2)
     (record { tag_is = i a.0; took = record { parts = k.parts ∙ ap (λ (z : List ℕ). z ++ a.1) (sym (b a.0)); is_typed = y a.0 k.is_typed; is_fit = f a.0 k.is_fit; is_counted = n a.0 k.is_counted } })
 
 -- the same, read again

@@ -6,6 +6,7 @@ use Rattle.std.specs.Int.{w8, w64, to_be_bytes, cast_unsigned}
 use Rattle.std.specs.Int.RustNames.{FitsSigned}
 use Rattle.ldv_value.specs.declared.value.Value.{Value}
 use Rattle.ldv_value.specs.declared.value.Value.TheVariants.{Null, Int, Text}
+use Rattle.ldv_value.proofs.Booleans.{and-parts, and-from}
 use Rattle.run_model.specs.declared.package.PackedFile.{PackedFile}
 use Rattle.package_layout.specs.Fields.{both_at, signed_at, text_spelling, sized_at, text_at}
 use Rattle.package_layout.specs.Spelling.{value_spelling, values_spelling, content_spelling, file_spelling}
@@ -13,7 +14,7 @@ use Rattle.package_layout.specs.Typed.{TypedValue, TypedValues, TypedFile}
 use Rattle.package_layout.specs.Room.{some_thousands}
 use Rattle.package_layout.specs.Counts.{IsCountable, CountedValue, CountedContent, CountedFile}
 use Rattle.package_layout.specs.Reading.{value_of_tag, value_at, values_at, content_of_tag, content_at, file_at}
-use Rattle.package_layout.proofs.Laws.{IsBytes, IsField, always, list_all-always, and_true, both_true, restate, then_law, struct_law}
+use Rattle.package_layout.proofs.Laws.{IsBytes, IsField, always, list_all-always, restate, then_law, struct_law}
 use Rattle.package_layout.proofs.Numbers.{signed_law, text_law, sized_law, short_list_law}
 use Rattle.package_layout.proofs.Tags.{TookTagged, tagged_law, bare_took, case_took, case_again}
 
@@ -60,7 +61,7 @@ value_law = tagged_law value_spelling value_tag value_rest TypedValue always Cou
 
 pub values_law : IsField values_spelling TypedValues some_thousands (AllByRecursion CountedValue) values_at
 values_law = restate values_spelling TypedValues TypedValues (λ xs. some_thousands xs && list_all always xs) some_thousands values_at (short_list_law value_spelling TypedValue always value_at value_law)
-    (λ xs t h. (t, and_true (some_thousands xs) (list_all always xs) h (list_all-always xs))) (λ xs t h. (t, (both_true (some_thousands xs) (list_all always xs) h).0))
+    (λ xs t h. (t, and-from (some_thousands xs) (list_all always xs) h (list_all-always xs))) (λ xs t h. (t, (and-parts (some_thousands xs) (list_all always xs) h).0))
 
 -- ---- files
 

@@ -6,6 +6,7 @@ use Rattle.std.specs.Str.{IsUtf8}
 use Rattle.std.specs.Int.{w8, w16, w32, w64, to_be_bytes}
 use Rattle.std.proofs.lemmas.Bool.{eqb-true}
 use Rattle.std.proofs.lemmas.List.{append-nil, nil_from_length}
+use Rattle.ldv_value.proofs.Options.{bind-some, same-some}
 use Rattle.run_model.specs.declared.package.Mode.{Mode}
 use Rattle.run_model.specs.declared.package.Mode.TheVariants.{Included, Excluded}
 use Rattle.run_model.specs.declared.package.PackedFile.{PackedFile}
@@ -22,7 +23,7 @@ use Rattle.package_layout.specs.Reading.{file_at, table_at, log_at}
 use Rattle.package_layout.specs.Events.{names_spelling, names_at, event_spelling, TypedEvent, event_room, event_at}
 use Rattle.package_layout.specs.Version.{Version, One}
 use Rattle.package_layout.specs.Whole.{mode_number, mode_spelling, mode_of, mode_at, trace_spelling, trace_at, sections, IsTyped, has_room, sections_at, all_of}
-use Rattle.package_layout.proofs.Laws.{IsBytes, IsField, bind_some, just, some_is, always, list_all-always, Uncounted, restate, recount, made_law, then_law, struct_law}
+use Rattle.package_layout.proofs.Laws.{IsBytes, IsField, just, always, list_all-always, Uncounted, restate, recount, made_law, then_law, struct_law}
 use Rattle.package_layout.proofs.Numbers.{wide8, wide64, number_law, short_list_law, long_law}
 use Rattle.package_layout.proofs.Tables.{Anything, u32_law, table_law}
 use Rattle.package_layout.proofs.Values.{file_law, file_filled}
@@ -34,7 +35,7 @@ mode_again Included = (omega arith, refl, refl)
 mode_again Excluded = (omega arith, refl, refl)
 
 mode_is : (n : ℕ) (k m : Mode) → n ≡ mode_number k → just k ≡ just m → n ≡ mode_number m
-mode_is n k m i e = subst (λ y. n ≡ mode_number y) (some_is k m e) i
+mode_is n k m i e = subst (λ y. n ≡ mode_number y) (same-some k m e) i
 
 mode_back : (n : ℕ) (m : Mode) → mode_of n ≡ Some m → n ≡ mode_number m
 mode_back zero m e = absurd cc
@@ -234,12 +235,12 @@ abbrev ended : Package × List ℕ → Option Package
 ended x = cond (length x.1 == 0) (Some x.0) None
 
 ended_is : (x : Package × List ℕ) (p : Package) (b : Bool) → (length x.1 == 0) ≡ b → cond b (Some x.0) None ≡ Some p → (x.0 ≡ p) × (x.1 ≡ [])
-ended_is x p true e h = (some_is x.0 p h, nil_from_length x.1 (eqb-true _ _ e))
+ended_is x p true e h = (same-some x.0 p h, nil_from_length x.1 (eqb-true _ _ e))
 ended_is x p false e h = absurd cc
 
 pub all_took : (v : Version) (bytes : List ℕ) (p : Package) → IsBytes bytes → all_of v bytes ≡ Some p → (bytes ≡ sections v p) × IsTyped p × (has_room p ≡ true) × IsCounted p
 all_took v bytes p h e =
-    let first = bind_some (sections_at v bytes) ended p e in
+    let first = bind-some (sections_at v bytes) ended p e in
     let x = first.0 in
     let k = (sections_law v).took bytes x.0 x.1 h first.1 in
     let end = ended_is x p (length x.1 == 0) refl first.2 in

@@ -4,17 +4,13 @@ use Rattle.std.specs.Prelude.{None, Result, Ok, Err, nat_lt, if◌then◌else◌
 use Rattle.std.specs.List.{flat_map}
 use Rattle.std.specs.Str.{is_utf8}
 use Rattle.std.specs.Int.{Width, w8, w32, w64, byte_len, to_be_bytes, from_be_bytes, cast_signed}
+pub use Rattle.ldv_value.specs.Options.{◌>>=◌}
 use Rattle.package_layout.specs.declared.decode_error.DecodeError.{DecodeError}
 use Rattle.package_layout.specs.declared.decode_error.DecodeError.TheVariants.{NoMemory, Malformed}
 
 -- a value and the bytes after it, or nothing where the bytes begin with no spelling
 abbrev pub Found : Type 0 → Type 0
 Found X = Option (X × List ℕ)
-
-infixl 10 ◌>>=◌
-abbrev pub ◌>>=◌ : {A B : Type 0} → Option A → (A → Option B) → Option B
-None >>= f = None
-(Some x) >>= f = f x
 
 -- one field and then another, which may depend on the first
 abbrev pub then_at : {A B : Type 0} → (List ℕ → Found A) → (A → List ℕ → Found B) → List ℕ → Found (A × B)
