@@ -2,14 +2,13 @@
 use Rattle.std.proofs.Common.{◌≡◌, ℕ, List, [], ◌∷◌, refl, sym, ap, ◌∙◌, Bool, true, false, arith, inl, inr}
 use Rattle.std.specs.Prelude.{Option, Some, None, map, ◌&&◌, ◌==◌, nat_lt, if◌then◌else◌}
 use Rattle.std.specs.declared.cmp.Ordering.{Ordering}
-use Rattle.std.specs.declared.cmp.Ordering.TheVariants.{Less, Equal}
-use Rattle.std.specs.Ordering.{nat_cmp, is_lt, is_eq}
+use Rattle.std.specs.declared.cmp.Ordering.TheVariants.{Less, Equal, Greater}
+use Rattle.std.specs.Ordering.{nat_cmp, is_lt, is_eq, ordering_reverse}
 use Rattle.std.specs.Cmp.Lexicographic.{slice_cmp}
 use Rattle.std.proofs.lemmas.Bool.{cases_Bool}
 use Rattle.std.proofs.lemmas.Bool.Decides.{nat_tests}
 use Rattle.std.proofs.lemmas.Cmp.{nat_list_cmp_total}
 use Rattle.std.proofs.lemmas.Map.Text.{is_eq-slice_cmp}
-use Rattle.std.proofs.lemmas.List.Kept.{above_reversed}
 use Rattle.ldv_value.proofs.Booleans.{and-first, and-second, and-parts, and-from}
 use Rattle.ldv_value.proofs.SameBytes.{bytes_eq-true, nat_eq-true}
 use Rattle.ldv_value.proofs.Orderings.{is_lt-true}
@@ -40,6 +39,11 @@ less_number m n h = grind (arith, nat_tests)
 greater_number : (m n : ℕ) → is_lt (nat_cmp m n) ≡ false → (m == n) ≡ false → nat_lt n m ≡ true
 greater_number m n h k = grind (arith, nat_tests)
 
+back_less : (o : Ordering) → is_lt o ≡ false → is_eq o ≡ false → ordering_reverse o ≡ Less
+back_less Less h k = cc
+back_less Equal h k = cc
+back_less Greater h k = refl
+
 -- a row that is earlier, and one that is neither the same nor earlier
 module _ (n m : NeededRow) (differ : is_same_row n m ≡ false) where
   abbrev earlier_by : Bool → Bool
@@ -64,7 +68,7 @@ module _ (n m : NeededRow) (differ : is_same_row n m ≡ false) where
     | inr other ↦
         let tables : is_lt (slice_cmp nat_cmp n.table m.table) ≡ false = sym (ap earlier_by other) ∙ later in
         let apart : is_eq (slice_cmp nat_cmp n.table m.table) ≡ false = is_eq-slice_cmp n.table m.table ∙ other in
-        let less : slice_cmp nat_cmp m.table n.table ≡ Less = nat_list_cmp_total.antisymm m.table n.table ∙ above_reversed (slice_cmp nat_cmp n.table m.table) tables apart in
+        let less : slice_cmp nat_cmp m.table n.table ≡ Less = nat_list_cmp_total.antisymm m.table n.table ∙ back_less (slice_cmp nat_cmp n.table m.table) tables apart in
         ap (λ (o : Ordering). row_after_table o m.row n.row) less
   ]
 
