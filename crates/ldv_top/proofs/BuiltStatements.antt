@@ -7,7 +7,6 @@ use Rattle.std.specs.declared.cmp.Ordering.{Ordering}
 use Rattle.std.proofs.lemmas.Bool.{and_parts}
 use Rattle.sql_model.specs.declared.need.Rule.TheVariants.{L}
 use Rattle.sql_model.specs.declared.reply.SqlRefusal.{SqlRefusal}
-use Rattle.sql_model.specs.declared.reply.SqlRefusal.TheVariants.{Syntax, NoTable, NoColumn, TypeClash, NotNull, KeyTaken, Full}
 use Rattle.sql_model.specs.declared.expr.Expr.{Expr}
 use Rattle.sql_model.specs.declared.statement.Core.{Core}
 use Rattle.sql_model.specs.declared.statement.FromItem.{FromItem}
@@ -17,7 +16,7 @@ use Rattle.sql_model.specs.declared.statement.Statement.TheVariants.{Query as Th
 use Rattle.sql_model.specs.declared.table.Table.{Table}
 use Rattle.sql_model.specs.QueryAnswer.{AnswerRow, lineage_of, Combination, combination_rows, picked, single, group_row, core_rows, order_by, sort_rows, answer}
 use Rattle.sql_model.specs.Built.{has_none, has_one, has_at_most_one, is_built_core, is_built_union, is_built_query, is_built}
-use Rattle.sql_model.specs.Needs.{Versions, needed_by, lineage_rows, accepted_needs, needs_by, made_unless, made_by, updated_unless, updated_rows}
+use Rattle.sql_model.specs.Needs.{Versions, needed_by, lineage_rows, accepted_needs, made_unless, made_by, updated_unless, updated_rows}
 use Rattle.sql_model.specs.Scope.{InScope, catalog_of, scope_of}
 use Rattle.sql_model.specs.Sorting.{put_sorted}
 use Rattle.sql_model.specs.Statements.{refusal_of, after_unless, after}
@@ -103,16 +102,6 @@ module _ (query : Query) (db : List Table) where
   leaves_rows : (refusal : Option SqlRefusal) → updated_unless refusal (Some (TheQuery query)) db ≡ []
   leaves_rows None = refl
   leaves_rows (Some refusal) = refl
-
-  -- one that is refused needs no row
-  pub refused_needs : (refusal : SqlRefusal) → needs_by (Some refusal) (TheQuery query) db ≡ []
-  refused_needs Syntax = refl
-  refused_needs NoTable = refl
-  refused_needs NoColumn = refl
-  refused_needs TypeClash = refl
-  refused_needs NotNull = refl
-  refused_needs (KeyTaken table key) = refl
-  refused_needs Full = refl
 
 pub built_after : (reading : Option Statement) (db : List Table) → is_built reading ≡ true → after reading db ≡ db
 built_after None db is = after_is None db

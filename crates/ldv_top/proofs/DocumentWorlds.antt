@@ -10,7 +10,7 @@ use Rattle.std.proofs.lemmas.Map.Steps.{length-le_from_distinct_below}
 use Rattle.std.proofs.lemmas.Option.{slice_get_within}
 use Rattle.std.proofs.lemmas.Slice.Eq.{bytes_eq-Decides}
 use Rattle.ldv_value.proofs.Booleans.{and-parts, and-from, and-first, and-second, or-parts, or-from, not-true, true≢false}
-use Rattle.ldv_value.proofs.Lists.{list_all-map, list_all-weaker, length-map, found-all}
+use Rattle.ldv_value.proofs.Lists.{list_all-map, list_all-weaker, length-map, found-all, sorted-under}
 use Rattle.ldv_value.specs.FileState.{file_at}
 use Rattle.ldv_value.specs.Limits.{file_limit, max_files, max_tables, max_columns, max_start_words}
 use Rattle.ldv_value.specs.Names.{path_test}
@@ -31,7 +31,7 @@ use Rattle.run_model.specs.declared.world.World.{World}
 use Rattle.package_layout.specs.Room.{key_room, row_room, table_room}
 use Rattle.replay_db.proofs.WorldRules.{next_within, ruled_tables}
 use Rattle.replay_db.specs.Worlds.{all_of_file, all_of_row, all_of_table, world_rules}
-use Rattle.world_json.proofs.ReadDocuments.{IsWide, IsDocument, sorted-map, world_read}
+use Rattle.world_json.proofs.ReadDocuments.{IsWide, IsDocument, world_read}
 use Rattle.world_json.proofs.Readings.{IsWorldOf}
 use Rattle.world_json.specs.Faults as faults
 use Rattle.world_json.specs.Faults.{each_row_value, key_places}
@@ -272,11 +272,11 @@ document_met doc w passes form =
     let each = tables_met doc.tables names.1 limits.1 passes.typed passes.filled passes.keyed form.wide in
     let files_are : files_rule (map all_of_file doc.files) ≡ true =
     and-from _ _ (ap (λ (n : ℕ). nat_le n max_files) (length-map doc.files all_of_file) ∙ small.0)
-    (and-from _ _ (list_all-map file_rule all_of_file doc.files ∙ all-both (λ (f : File). path_test f.path) is_small doc.files names.0 small.1) (sorted-map packed_file_precedes all_of_file doc.files ∙ form.files)) in
+    (and-from _ _ (list_all-map file_rule all_of_file doc.files ∙ all-both (λ (f : File). path_test f.path) is_small doc.files names.0 small.1) (sorted-under packed_file_precedes all_of_file doc.files ∙ form.files)) in
     let count : length (map all_of_table tables) ≡ length doc.tables = length-map tables all_of_table ∙ length-map doc.tables table_as in
     let tables_are : tables_rule (map all_of_table tables) ≡ true =
     and-from _ _ (ap (λ (n : ℕ). nat_le n max_tables) count ∙ parts.1)
-    (and-from _ _ each.0 (sorted-map packed_table_precedes all_of_table tables ∙ sorted-map table_precedes table_as doc.tables ∙ form.tables)) in
+    (and-from _ _ each.0 (sorted-under packed_table_precedes all_of_table tables ∙ sorted-under table_precedes table_as doc.tables ∙ form.tables)) in
     let rooms : list_all table_room (map all_of_table tables) ≡ true = list_all-weaker table_rule table_room room_met (map all_of_table tables) each.0 in
     (and-from _ _ (and-from _ _ (and-from _ _ (and-from _ _ (start_met doc.start named.1 bounds.1) files_are) tables_are) rooms) (script_met doc doc.start passes.started small.1), each.1)
 

@@ -10,14 +10,14 @@ use Rattle.replay_db.specs.Types.{Value, Null, Int, Text, Operand, Constant, Var
 use Rattle.sql_model.specs.QueryAnswer.{Origin}
 use Rattle.sql_model.specs.Built.{is_built}
 use Rattle.sql_model.specs.Statements.{reply_of, after}
-use Rattle.sql_model.specs.Needs.{updated_rows}
+use Rattle.sql_model.specs.Needs.{updated_rows, versions_after}
 use Rattle.sql_parse.specs.Texts.{statement_of}
 use Rattle.run_model.specs.Core.{Process, Core, all_ended, is_over, has_ended, first_process}
 use Rattle.run_model.specs.Database.{Question, Gives}
 use Rattle.run_model.specs.Outcome.{by_name, entry_reply, outcome_of_process, outcome_of_path, outcome_of, outcome_at}
 use Rattle.run_model.specs.Run.{chosen, move_of, move, run}
 use Rattle.run_model.specs.Schedule.{is_runnable, is_waiting, runnable, pick_of, round_robin, at_random, moved_x, choose, scheduled}
-use Rattle.run_model.specs.SqlDatabase.{SqlDatabase, unchanged, versions_after, db_after, lists_of, answer_of, sql_base}
+use Rattle.run_model.specs.SqlDatabase.{SqlDatabase, unchanged, db_after, lists_of, answer_of, sql_base}
 use Rattle.run_model.specs.Start.{start_script, start_state}
 use Rattle.run_model.specs.State.{State, Stepped}
 use Rattle.run_model.specs.Step.{operand_value, operand_values, ended, went_on, printed_line, print_line, print, exit_status, Ask, ask, entry_of, replied, execute, execute_next, ask_by, ask_in, kept_by, kept, told, asking, step}

@@ -20,9 +20,9 @@ use Rattle.sql_model.specs.Needs.{NeededRow, needed_row, needed_by, is_same_row,
 use Rattle.sql_model.specs.Refusals.{tables_of_core, tables_of}
 use Rattle.sql_model.specs.Scope.{InScope, is_table, table_at, rows_of, catalog_of, scope_of, environment}
 use Rattle.sql_model.specs.Statements.{refusal_of, reply_or, reply_of}
-use Rattle.ldv_top.proofs.BuiltStatements.{plain_core, plain_query, Plain, query_is, refused_needs, plain_answer, plain_needs}
+use Rattle.ldv_top.proofs.BuiltStatements.{plain_core, plain_query, Plain, query_is, plain_answer, plain_needs}
 use Rattle.ldv_value.proofs.Booleans.{or-false}
-use Rattle.sql_model.proofs.Equations.{reply_is, need_is}
+use Rattle.sql_model.proofs.Equations.{reply_is, need_is, refused_needs}
 
 -- ---- sorted lists of needed rows
 

@@ -1,5 +1,5 @@
 -- Lists: tests over them, what is found in them, and their fronts.
-use Rattle.std.proofs.Common.{◌≡◌, List, [], ◌∷◌, ◌++◌, length, take, drop, get_or, map, Bool, true, false, ◌||◌, cond, refl, ap, subst, inl, inr, Some, IsTrue}
+use Rattle.std.proofs.Common.{◌≡◌, List, [], ◌∷◌, ◌++◌, length, take, drop, get_or, map, Bool, true, false, ◌&&◌, ◌||◌, cond, refl, ap, subst, inl, inr, Some, IsTrue}
 use Rattle.std.specs.Prelude.{find}
 use Rattle.std.specs.List.{list_any, list_all, filter, AllByRecursion}
 pub use Rattle.std.proofs.lemmas.List.{append-nil, nil_from_length as nil-from-length, length-append, length-map}
@@ -8,6 +8,7 @@ pub use Rattle.std.proofs.lemmas.List.Elements.{filter-append, filter_map-append
 pub use Rattle.std.proofs.lemmas.Simd.{map-map}
 use Rattle.ldv_value.proofs.Booleans.{and-first, and-second, and-from}
 use Rattle.ldv_value.proofs.Cases.{cases-bool}
+use Rattle.ldv_value.specs.Sorted.{is_strictly_sorted}
 
 -- ---- fronts
 
@@ -88,3 +89,18 @@ module _ {X : Type 0} where
       both true false ip iq rest = rw iq rest
       both false true ip iq rest = rw ip rest
       both false false ip iq rest = rest
+
+-- ---- sorted lists
+
+-- the list of items that come in the same order is sorted where the list is
+pub sorted-map : {X Y : Type 0} (p : X → X → Bool) (q : Y → Y → Bool) (f : X → Y)
+    → ((a b : X) → q (f a) (f b) ≡ p a b) → (xs : List X)
+    → is_strictly_sorted q (map f xs) ≡ is_strictly_sorted p xs
+sorted-map p q f same [] = refl
+sorted-map p q f same (x ∷ []) = refl
+sorted-map p q f same (x ∷ y ∷ ys) = λ j. same x y j && sorted-map p q f same (y ∷ ys) j
+
+-- by an order over what f gives
+pub sorted-under : {X Y : Type 0} (precedes : Y → Y → Bool) (f : X → Y) (xs : List X)
+    → is_strictly_sorted precedes (map f xs) ≡ is_strictly_sorted (λ a b. precedes (f a) (f b)) xs
+sorted-under precedes f xs = sorted-map (λ a b. precedes (f a) (f b)) precedes f (λ a b. refl) xs

@@ -6,7 +6,7 @@ use Rattle.std.specs.Option.{option_or}
 use Rattle.std.proofs.lemmas.Bool.{cases_Bool, eq-eqb}
 use Rattle.ldv_value.proofs.Booleans.{or-left, or-right}
 use Rattle.ldv_value.proofs.SameBytes.{bytes_eq-itself}
-use Rattle.sql_model.specs.Needs.{Versions, NeededRow}
+use Rattle.sql_model.specs.Needs.{Versions, NeededRow, read_of}
 use Rattle.sql_model.specs.Scope.{same_text}
 use Rattle.sql_laws.specs.QueryLaw.{Keep}
 use Rattle.sql_laws.specs.QueryLaw.{KeepsNeeded as KeepsRows}
@@ -15,7 +15,6 @@ use Rattle.replay_db.specs.Types.{Need, Table, Act, Asked, Event}
 use Rattle.run_model.specs.Between.{Cut, KeepsFile, KeepsNeeded, is_initial, is_row_needed}
 use Rattle.run_model.specs.Events.{event_at}
 use Rattle.run_model.specs.Slice.{Reason, is_read, reason_in, act_reason, first_reason, names_table, is_table_needed, file_need}
-use Rattle.run_model.specs.SqlDatabase.{read_of}
 
 module _ (cut : Cut) where
   abbrev pub KeepsTables : List (List ℕ) → Type 0

@@ -11,16 +11,16 @@ use Rattle.std.proofs.lemmas.Cmp.{nat_list_cmp_total}
 use Rattle.std.proofs.lemmas.Map.Text.{is_eq-slice_cmp}
 use Rattle.ldv_value.proofs.Booleans.{and-first, and-second, and-parts, and-from}
 use Rattle.ldv_value.proofs.SameBytes.{bytes_eq-true, nat_eq-true}
+use Rattle.ldv_value.proofs.Lists.{sorted-under}
 use Rattle.ldv_value.proofs.Orderings.{is_lt-true}
-use Rattle.sql_model.specs.Needs.{Versions, NeededRow, is_same_row, is_earlier_row, put_row, sorted_needs, needs_by, need_of}
+use Rattle.sql_model.specs.Needs.{Versions, NeededRow, is_same_row, is_earlier_row, put_row, sorted_needs, needs_by, need_of, read_of}
 use Rattle.sql_model.specs.Scope.{same_text}
 use Rattle.sql_model.specs.Statements.{refusal_of}
 use Rattle.sql_model.proofs.Equations.{need_is}
 use Rattle.sql_laws.proofs.StatementParts.{need_parts}
-use Rattle.run_model.specs.SqlDatabase.{read_of}
 use Rattle.package_layout.specs.Order.{is_below_next, rises, row_after_table, need_below}
 use Rattle.replay_db.specs.Types.{Statement, Table}
-use Rattle.replay_db.proofs.TraceLists.{equal_itself, rises_map}
+use Rattle.replay_db.proofs.TraceLists.{equal_itself}
 
 -- ---- one row below another
 
@@ -118,4 +118,4 @@ needs_rise (Some s) db = ap (rises row_under) (need_parts s db) ∙ rows_rise (n
 -- what an event reads is sorted
 pub reads_rise : (versions : Versions) (statement : Option Statement) (db : List Table)
     → rises need_below (map (read_of versions) (need_of statement db)) ≡ true
-reads_rise versions statement db = rises_map need_below (read_of versions) (need_of statement db) ∙ needs_rise statement db
+reads_rise versions statement db = sorted-under need_below (read_of versions) (need_of statement db) ∙ needs_rise statement db

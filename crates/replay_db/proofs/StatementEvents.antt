@@ -7,7 +7,7 @@ use Rattle.std.proofs.lemmas.Bool.{cases_Bool, leb-true, ltb-true, lt-ltb, eq-eq
 use Rattle.std.proofs.lemmas.Bool.Decides.{nat_tests}
 use Rattle.ldv_value.proofs.Booleans.{and-parts, or-right, and-from}
 use Rattle.ldv_value.proofs.SameBytes.{bytes_eq-true}
-use Rattle.ldv_value.proofs.Lists.{found-passes, all-weaker, tested-all}
+use Rattle.ldv_value.proofs.Lists.{found-passes, all-weaker, tested-all, sorted-under}
 use Rattle.std.proofs.lemmas.List.{length-map}
 use Rattle.ldv_value.specs.declared.value.Value.{Value}
 use Rattle.sql_model.specs.SqlNames.{sql_name_test}
@@ -17,7 +17,7 @@ use Rattle.sql_model.specs.declared.statement.Insert.{Insert}
 use Rattle.sql_model.specs.declared.statement.Statement.TheVariants.{Query as TheQuery, Insert as TheInsert, Update as TheUpdate, Delete as TheDelete}
 use Rattle.sql_model.specs.QueryAnswer.{Origin}
 use Rattle.sql_model.specs.Changes.{numbered, new_values, inserted, lacks_value, key_clash, changed, key_refusal, is_full, or_else, refusal_if, change_refusal}
-use Rattle.sql_model.specs.Needs.{Versions, NeededRow, need_of, is_named, table_name, asked_tables, new_member, made_by, updated_rows}
+use Rattle.sql_model.specs.Needs.{Versions, NeededRow, need_of, is_named, table_name, asked_tables, new_member, made_by, updated_rows, is_row_of, versions_after, read_of}
 use Rattle.sql_model.specs.Refusals.{check_refusal}
 use Rattle.sql_model.specs.Scope.{same_text, is_table, table_at, rows_of, catalog_of}
 use Rattle.sql_model.specs.Statements.{target, refusal_of}
@@ -26,7 +26,7 @@ use Rattle.sql_model.proofs.ValidTables.{TableParts, table-parts}
 use Rattle.sql_laws.proofs.DatabaseLaws.{tables_law}
 use Rattle.sql_laws.proofs.ChangedTables.{else-parts, if-none}
 use Rattle.replay_db.specs.Types.{Statement, Table, TableRow, Member, Need, Act, Asked}
-use Rattle.run_model.specs.SqlDatabase.{SqlDatabase, is_row_of, versions_after, read_of, db_after, lists_of}
+use Rattle.run_model.specs.SqlDatabase.{SqlDatabase, db_after, lists_of}
 use Rattle.run_model.specs.Step.{asked_act}
 use Rattle.package_layout.specs.Events.{need_groups, member_groups, needs_room, members_room, act_room, TypedNeed, TypedMember, TypedAct}
 use Rattle.package_layout.specs.Order.{rises, is_below, need_below, member_below}
@@ -42,7 +42,7 @@ use Rattle.replay_db.proofs.SortedNeeds.{rows_sorted}
 use Rattle.replay_db.proofs.StatementNames.{names_after}
 use Rattle.replay_db.proofs.StatementVersions.{next_of, members_from, made_of, made_if, made_parts, made_none, target_rises}
 use Rattle.replay_db.proofs.Targets.{valid_table}
-use Rattle.replay_db.proofs.TraceLists.{all_filter, all_map, all_of_map, rises_map, filter_rises, filter_most, equal_itself}
+use Rattle.replay_db.proofs.TraceLists.{all_filter, all_map, all_of_map, filter_rises, filter_most, equal_itself}
 
 -- ---- a database
 
@@ -212,7 +212,7 @@ module _ (names : List (List ℕ)) (asked : ℕ) (db : SqlDatabase) (good : Good
   -- ---- they are sorted
 
   needs_sorted : (ns : List NeededRow) → rises row_under ns ≡ true → rises member_below (map (next_of db.versions) ns) ≡ true
-  needs_sorted ns rise = rises_map member_below (next_of db.versions) ns ∙ rise
+  needs_sorted ns rise = sorted-under member_below (next_of db.versions) ns ∙ rise
 
   insert_sorted : (insert : Insert) (o : Option Table) → rises member_below (members_from insert o) ≡ true
   insert_sorted insert None = refl
@@ -242,8 +242,8 @@ module _ (names : List (List ℕ)) (asked : ℕ) (db : SqlDatabase) (good : Good
   asked_sorted : rises is_below names ≡ true → (statement : Option Statement) → rises is_below (asked_tables statement db.tables) ≡ true
   asked_sorted sorted None = refl
   asked_sorted sorted (Some s) =
-      rises_map is_below table_name (filter (is_named s) db.tables)
-      ∙ filter_rises table_name (is_named s) db.tables (sym (rises_map is_below table_name db.tables) ∙ ap (rises is_below) good.same_names ∙ sorted)
+      sorted-under is_below table_name (filter (is_named s) db.tables)
+      ∙ filter_rises table_name (is_named s) db.tables (sym (sorted-under is_below table_name db.tables) ∙ ap (rises is_below) good.same_names ∙ sorted)
 
   asked_few : (statement : Option Statement) → length (asked_tables statement db.tables) ≤ length names
   asked_few None = omega arith

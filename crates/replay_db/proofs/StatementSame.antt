@@ -2,7 +2,7 @@
 -- what it leaves of the whole database without the same.
 use Rattle.std.proofs.Common.{◌≡◌, ℕ, List, refl, ap, ◌∙◌, sym, true}
 use Rattle.std.specs.Prelude.{Option, map}
-use Rattle.sql_model.specs.Needs.{need_of, asked_tables, made_by, updated_rows}
+use Rattle.sql_model.specs.Needs.{need_of, asked_tables, made_by, updated_rows, versions_after, read_of}
 use Rattle.sql_model.specs.Statements.{reply_of, after}
 use Rattle.sql_model.specs.Tables.{is_database}
 use Rattle.sql_laws.specs.QueryLaw.{KeepsNeeded as KeepsRows}
@@ -12,7 +12,7 @@ use Rattle.sql_laws.proofs.StatementLaws.{statement_law}
 use Rattle.replay_db.specs.Types.{Statement, Table}
 use Rattle.run_model.specs.Between.{Cut, cut_database, cut_tables}
 use Rattle.run_model.specs.Database.{Answer, Gives}
-use Rattle.run_model.specs.SqlDatabase.{SqlDatabase, versions_after, read_of, db_after, lists_of, answer_of}
+use Rattle.run_model.specs.SqlDatabase.{SqlDatabase, db_after, lists_of, answer_of}
 use Rattle.replay_db.proofs.Keeps.{others_stay}
 use Rattle.replay_db.proofs.StatementVersions.{SameVersions, same_versions}
 

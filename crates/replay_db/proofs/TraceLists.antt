@@ -8,7 +8,7 @@ use Rattle.std.specs.Cmp.Lexicographic.{slice_cmp}
 use Rattle.std.proofs.lemmas.Bool.{cases_Bool}
 use Rattle.std.proofs.lemmas.Cmp.{nat_list_cmp_total, tied_itself}
 use Rattle.std.proofs.lemmas.Bool.Decides.{nat_tests}
-use Rattle.sql_laws.proofs.SortedLists.{sorted-map, sorted-filter}
+use Rattle.sql_laws.proofs.SortedLists.{sorted-filter}
 use Rattle.ldv_value.proofs.Orderings.{is_lt-true}
 use Rattle.package_layout.specs.Order.{rises, is_below}
 
@@ -64,10 +64,6 @@ pub less_next : (a b c : ℕ) → nat_lt a b ≡ true → nat_lt b c ≡ true �
 less_next a b c h k = grind (arith, nat_tests)
 
 -- ---- lists that rise
-
--- the same over what f gives
-pub rises_map : {X Y : Type 0} (below : Y → Y → Bool) (f : X → Y) (xs : List X) → rises below (map f xs) ≡ rises (λ a b. below (f a) (f b)) xs
-rises_map below f xs = sorted-map (λ a b. below (f a) (f b)) below f (λ a b. refl) xs
 
 -- what is left of a rising list of texts rises
 module _ {X : Type 0} (name : X → List ℕ) (p : X → Bool) where

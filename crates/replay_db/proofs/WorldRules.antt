@@ -4,7 +4,7 @@ use Rattle.std.specs.Prelude.{◌&&◌, nat_le, nat_lt, IsTrue}
 use Rattle.std.specs.List.{list_all, AllByRecursion}
 use Rattle.std.proofs.lemmas.Bool.{and_parts, and_from, le-leb, leb-true}
 use Rattle.std.specs.Str.{IsUtf8}
-use Rattle.ldv_value.proofs.Lists.{length-map, list_all-map, all-weaker, all-tested, map-map}
+use Rattle.ldv_value.proofs.Lists.{length-map, list_all-map, all-weaker, all-tested, map-map, sorted-under}
 use Rattle.ldv_value.specs.Limits.{max_next}
 use Rattle.sql_model.specs.Needs.{table_name}
 use Rattle.sql_model.specs.SqlNames.{sql_name_test}
@@ -18,7 +18,7 @@ use Rattle.package_layout.specs.Typed.{TypedTable}
 use Rattle.package_layout.specs.Valid.{start_rule, file_rule, files_rule, rows_rule, table_rule, tables_rule, script_rule}
 use Rattle.replay_db.specs.Worlds.{all_of_file, all_of_row, all_of_table, all_of_world, TypedWorld, rules_of_parts, world_rules, ValidWorld}
 use Rattle.replay_db.proofs.StatementEvents.{RuledNames}
-use Rattle.replay_db.proofs.TraceLists.{all_map, all_of_map, rises_map}
+use Rattle.replay_db.proofs.TraceLists.{all_map, all_of_map}
 
 -- ---- the rules, one by one
 
@@ -49,7 +49,7 @@ pub record RuledTable (t : Table) : Type 0 where
 
 numbers_same : (next : ℕ) (rows : List TableRow) → numbers_test (λ (row : PackedRow). row.number) next (map all_of_row rows) ≡ numbers_test (λ (row : TableRow). row.number) next rows
 numbers_same next rows =
-    λ j. rises_map (λ (a b : PackedRow). nat_lt a.number b.number) all_of_row rows j && list_all-map (λ (row : PackedRow). nat_lt row.number next) all_of_row rows j
+    λ j. sorted-under (λ (a b : PackedRow). nat_lt a.number b.number) all_of_row rows j && list_all-map (λ (row : PackedRow). nat_lt row.number next) all_of_row rows j
 
 pub ruled_table : (t : Table) → table_rule (all_of_table t) ≡ true → RuledTable t
 ruled_table t met =
@@ -102,7 +102,7 @@ sorted_files files met =
     let packed : List PackedFile = map all_of_file files in
     let a = and_parts (nat_le (length packed) 65536) (list_all file_rule packed && rises file_below packed) met in
     let b = and_parts (list_all file_rule packed) (rises file_below packed) a.1 in
-    sym (rises_map file_below all_of_file files) ∙ b.1
+    sym (sorted-under file_below all_of_file files) ∙ b.1
 
 pub sorted_world : (w : World) → IsTrue (world_rules w) → SortedWorld w
 sorted_world w met =
@@ -110,7 +110,7 @@ sorted_world w met =
     let list : RuledList (map all_of_table w.tables) = ruled_list (map all_of_table w.tables) ruled.tables in
     record {
       files = sorted_files w.files ruled.files;
-      tables = sym (rises_map table_below all_of_table w.tables) ∙ list.sorted;
+      tables = sym (sorted-under table_below all_of_table w.tables) ∙ list.sorted;
       rows = λ t is.
           let one : RuledTable t = ruled_table t (each_in table_rule all_of_table w.tables t list.each is) in
           (and_parts (rises (λ (a b : TableRow). nat_lt a.number b.number) t.rows) (list_all (λ (row : TableRow). nat_lt row.number t.next) t.rows) one.numbers).0;
@@ -128,7 +128,7 @@ world_names w met =
       named = all_map (λ name. IsTrue (sql_name_test name)) table_name w.tables
           (all-weaker (λ t. IsTrue (table_rule (all_of_table t))) (λ t. IsTrue (sql_name_test t.name)) (λ t rule. (and_parts (sql_name_test t.name) (schema_test t.schema) (ruled_table t rule).described).0)
           w.tables (all_of_map (λ t. IsTrue (table_rule t)) all_of_table w.tables (all-tested table_rule (map all_of_table w.tables) list.each)));
-      sorted = rises_map is_below table_name w.tables ∙ sym (rises_map table_below all_of_table w.tables) ∙ list.sorted;
+      sorted = sorted-under is_below table_name w.tables ∙ sym (sorted-under table_below all_of_table w.tables) ∙ list.sorted;
     }
 
 pub texts_of_names : (w : World) → TypedWorld w → AllByRecursion IsUtf8 (map table_name w.tables)

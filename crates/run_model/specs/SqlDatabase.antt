@@ -1,12 +1,9 @@
 -- The database of SQL: tables, and the version of each row.
-use Rattle.std.specs.Prelude.{ℕ, ◌+◌, List, map, Bool, ◌&&◌, ◌==◌, if◌then◌else◌, Option}
-use Rattle.std.specs.List.{list_any}
-use Rattle.sql_model.specs.QueryAnswer.{Origin}
-use Rattle.sql_model.specs.Needs.{Versions, NeededRow, need_of, asked_tables, made_by, updated_rows}
-use Rattle.sql_model.specs.Scope.{same_text}
+use Rattle.std.specs.Prelude.{List, map, Option}
+use Rattle.sql_model.specs.Needs.{Versions, versions_after, read_of, need_of, asked_tables, made_by, updated_rows}
 use Rattle.sql_model.specs.Statements.{reply_of, after}
 use Rattle.sql_parse.specs.Texts.{statement_of}
-use Rattle.run_model.specs.Types.{Need, Statement, Table}
+use Rattle.run_model.specs.Types.{Statement, Table}
 use Rattle.run_model.specs.Database.{Lists, Answer, Gives, Base}
 
 pub record SqlDatabase : Type 0 where
@@ -17,23 +14,6 @@ pub record SqlDatabase : Type 0 where
 -- these tables, of which no row was updated
 abbrev pub unchanged : List Table → SqlDatabase
 unchanged tables = record { tables = tables; versions = λ table row. 0 }
-
--- ---- versions
-
-abbrev pub is_row_of : List ℕ → ℕ → Origin → Bool
-is_row_of table row origin = same_text origin.table table && origin.row == row
-
--- one more for each row that was updated
-abbrev pub versions_after : List Origin → Versions → Versions
-versions_after updated versions = λ table row.
-    if list_any (is_row_of table row) updated then versions table row + 1 else versions table row
-
--- a row that is needed, at its version
-abbrev pub read_of : Versions → NeededRow → Need
-read_of versions n = record {
-  member = record { table = n.table; row = n.row; version = versions n.table n.row };
-  rule = n.rule;
-}
 
 -- ---- statements
 

@@ -1,7 +1,7 @@
 -- What a statement over terms answers, needs, leaves and makes.
 use Rattle.std.proofs.Common.{◌≡◌, List, [], ◌++◌, map, refl, ap, ◌∙◌}
 use Rattle.std.specs.Prelude.{Option, Some, None}
-use Rattle.sql_cases.proofs.Types.{L, Rows, Refused, SqlRefusal, Syntax, NoTable, NoColumn, TypeClash, NotNull, KeyTaken, Full, Statement, Table}
+use Rattle.sql_cases.proofs.Types.{L, Rows, Refused, SqlRefusal, Statement, Table}
 use Rattle.sql_model.specs.declared.statement.Statement.TheVariants as statement
 use Rattle.sql_model.specs.QueryAnswer.{AnswerRow, answer, answer_values, lineage_of}
 use Rattle.sql_model.specs.Changes.{or_else}
@@ -9,6 +9,7 @@ use Rattle.sql_model.specs.Needs.{Versions, made_by, made_unless, need_of, needs
 use Rattle.sql_model.specs.Refusals.{check_refusal}
 use Rattle.sql_model.specs.Scope.{catalog_of}
 use Rattle.sql_model.specs.Statements.{reply_of, reply_or, refusal_of, after, after_unless}
+use Rattle.sql_model.proofs.Equations.{refused_needs}
 use Rattle.sql_cases.proofs.Terms.{over}
 use Rattle.sql_cases.proofs.TermStatements.{TermQuery, query_of}
 use Rattle.sql_cases.proofs.TermQueries as queries
@@ -72,19 +73,10 @@ module _ (query : TermQuery) (is : Computes query) (db : List Table) where
         ∙ (λ i. sorted_needs (map (needed_by L) (lineage_of (is.rows db i)) ++ is.hidden db i)),
   )
 
-  no_needs : (r : SqlRefusal) → needs_by (Some r) s db ≡ []
-  no_needs Syntax = refl
-  no_needs NoTable = refl
-  no_needs NoColumn = refl
-  no_needs TypeClash = refl
-  no_needs NotNull = refl
-  no_needs (KeyTaken table key) = refl
-  no_needs Full = refl
-
   -- where it is
   pub query_refused : (r : SqlRefusal) → by_terms ≡ Some r
       → (reply_of (Some s) db ≡ Refused r) × (need_of (Some s) db ≡ [])
   query_refused r refused = (
     reply_by s db (Some r) (by_expr ∙ refused),
-    need_by s db (Some r) (by_expr ∙ refused) ∙ ap sorted_needs (no_needs r),
+    need_by s db (Some r) (by_expr ∙ refused) ∙ ap sorted_needs (refused_needs (query_of query) db r),
   )

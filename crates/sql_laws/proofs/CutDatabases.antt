@@ -2,13 +2,13 @@
 use Rattle.std.proofs.Common.{◌≡◌, List, refl, ◌∙◌, Bool, true}
 use Rattle.std.specs.List.{list_all}
 use Rattle.ldv_value.proofs.Booleans.{and-parts, and-from}
-use Rattle.ldv_value.proofs.Lists.{list_all-filter, list_all-map, list_all-weaker}
+use Rattle.ldv_value.proofs.Lists.{list_all-filter, list_all-map, list_all-weaker, sorted-map}
 use Rattle.ldv_value.specs.Sorted.{is_strictly_sorted}
 use Rattle.sql_laws.specs.QueryLaw.{Keep, stays, cut_table, cut_tables}
 use Rattle.sql_laws.specs.StatementLaw.{KeepTables, table_stays, cut_database, CutLaw, CutTablesLaw}
 use Rattle.sql_laws.specs.Types.{Table}
 use Rattle.sql_laws.proofs.NewNumbers.{numbers-filter}
-use Rattle.sql_laws.proofs.SortedLists.{sorted-map, sorted-filter}
+use Rattle.sql_laws.proofs.SortedLists.{sorted-filter}
 use Rattle.sql_laws.proofs.TableNames.{table-trans}
 use Rattle.sql_laws.proofs.UniqueKeys.{unique-fewer}
 use Rattle.sql_model.proofs.ValidTables.{TableParts, table-parts, table-from}

@@ -3,13 +3,12 @@ use Rattle.std.proofs.Common.{◌≡◌, ℕ, List, [], ◌∷◌, refl, sym, ap
 use Rattle.std.specs.Prelude.{Option, Some, None, option_map, is_none, map, zip, ◌&&◌, ◌||◌}
 use Rattle.std.specs.List.{list_all}
 use Rattle.ldv_value.proofs.Booleans.{and-parts, and-from, or-parts}
-use Rattle.ldv_value.proofs.Lists.{found-all, list_all-weaker}
+use Rattle.ldv_value.proofs.Lists.{found-all, list_all-weaker, sorted-map}
 use Rattle.ldv_value.proofs.Options.{none-some}
 use Rattle.ldv_value.specs.Sorted.{text_precedes, is_strictly_sorted}
 use Rattle.sql_laws.specs.DatabaseLaw.{have_distinct_columns, DatabaseLaw, TablesLaw}
 use Rattle.sql_laws.specs.Types.{Catalog, SqlRefusal, Syntax, Statement, TheQuery, TheInsert, TheUpdate, TheDelete, Column, Schema, Table}
 use Rattle.sql_laws.proofs.ChangedTables.{check-parts, else-parts, changed-valid}
-use Rattle.sql_laws.proofs.SortedLists.{sorted-map}
 use Rattle.sql_laws.proofs.TableNames.{change_named, all-changed, map-changed}
 use Rattle.sql_model.proofs.Equations.{after_is, table_schema, schema_found, changed_name}
 use Rattle.sql_model.specs.Changes.{changed, target_of, changed_in, change_refusal}

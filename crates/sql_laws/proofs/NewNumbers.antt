@@ -4,11 +4,11 @@ use Rattle.std.specs.Prelude.{length, map, filter, ◌&&◌, nat_lt, nat_le}
 use Rattle.std.specs.List.{list_all}
 use Rattle.std.proofs.lemmas.Bool.Decides.{Decides-ltb, nat_tests}
 use Rattle.ldv_value.proofs.Booleans.{and-parts, and-from}
-use Rattle.ldv_value.proofs.Lists.{list_all-append, list_all-weaker, list_all-filter}
+use Rattle.ldv_value.proofs.Lists.{list_all-append, list_all-weaker, list_all-filter, sorted-map}
 use Rattle.ldv_value.specs.Limits.{max_next}
 use Rattle.ldv_value.specs.Sorted.{is_strictly_sorted}
 use Rattle.sql_laws.specs.Types.{Value, TableRow}
-use Rattle.sql_laws.proofs.SortedLists.{sorted-map, sorted-all, sorted-from, sorted-tail, sorted-filter}
+use Rattle.sql_laws.proofs.SortedLists.{sorted-all, sorted-from, sorted-tail, sorted-filter}
 use Rattle.sql_model.specs.Changes.{numbered}
 use Rattle.sql_model.specs.Tables.{numbers_test}
 

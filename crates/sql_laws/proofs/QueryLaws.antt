@@ -4,31 +4,20 @@ use Rattle.std.proofs.Common.{◌≡◌, ℕ, List, [], ◌∷◌, ◌++◌, ref
 use Rattle.std.specs.Prelude.{Option, Some, None, map, filter, ◌||◌, if◌then◌else◌}
 use Rattle.std.specs.List.{flat_map, list_all, list_any}
 use Rattle.ldv_value.proofs.Cases.{cases-bool}
-use Rattle.sql_laws.specs.Types.{L, H, Rows, SqlRefusal, Syntax, NoTable, NoColumn, TypeClash, NotNull, KeyTaken, Full, Core, Query, TheQuery, Table}
+use Rattle.sql_laws.specs.Types.{L, H, Rows, SqlRefusal, Core, Query, TheQuery, Table}
 use Rattle.sql_model.specs.QueryAnswer.{Origin, AnswerRow, answer_values, lineage_of, rejected, union_rows, SortKey, sort_key, order_by, sort_rows, sorted_rows, limit_of, first_rows, other_rows, answer, cut}
 use Rattle.sql_model.specs.Needs.{NeededRow, needed_by, sorted_needs, lineage_rows, has_merging, sums_up, cut_rows, hidden_rows, accepted_needs, needs_by, need_of}
 use Rattle.sql_laws.specs.QueryLaw.{Keep, cut_tables, KeepsNeeded, SameQuery, QueryLaw}
 use Rattle.sql_model.specs.Refusals.{groups, answer_titles}
 use Rattle.sql_model.specs.Scope.{catalog_of}
 use Rattle.sql_model.specs.Statements.{refusal_of, reply_or}
-use Rattle.sql_model.proofs.Equations.{reply_is, need_is}
+use Rattle.sql_model.proofs.Equations.{reply_is, need_is, refused_needs}
 use Rattle.sql_laws.proofs.QueryCombinations.{catalog_same, refusal_same}
 use Rattle.sql_laws.proofs.QueryKeeps.{all_kept, kept_row, lineage_kept, needed_kept, needed_split, rising_kept}
 use Rattle.sql_laws.proofs.QueryRows.{rejects_none, union_whole, union_part}
 use Rattle.sql_laws.proofs.QuerySorting.{rows_total, first_part, limit_all}
 use Rattle.sql_model.proofs.StableSorting.{sorted_all, sorted_part}
 use Rattle.ldv_value.proofs.Booleans.{or-parts, not-false}
-
--- a query that is refused needs no row
-refused_needs : (query : Query) (db : List Table) (refusal : SqlRefusal)
-    → needs_by (Some refusal) (TheQuery query) db ≡ []
-refused_needs query db Syntax = refl
-refused_needs query db NoTable = refl
-refused_needs query db NoColumn = refl
-refused_needs query db TypeClash = refl
-refused_needs query db NotNull = refl
-refused_needs query db (KeyTaken table key) = refl
-refused_needs query db Full = refl
 
 -- a core that sums up no rows groups none
 groups_none : (cores : List Core) → list_any (λ core. groups core || core.distinct) cores ≡ false

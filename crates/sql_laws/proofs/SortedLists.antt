@@ -1,4 +1,4 @@
--- Lists that are strictly increasing by a transitive test: their parts, and lists with the same order.
+-- Lists that are strictly increasing by a transitive test, and their parts.
 use Rattle.std.proofs.Common.{◌≡◌, List, [], ◌∷◌, refl, Bool, true, inl, inr}
 use Rattle.std.specs.Prelude.{map, filter, ◌&&◌}
 use Rattle.std.specs.List.{list_all}
@@ -6,14 +6,6 @@ use Rattle.ldv_value.proofs.Booleans.{and-parts, and-from}
 use Rattle.ldv_value.proofs.Cases.{cases-bool}
 use Rattle.ldv_value.proofs.Lists.{list_all-weaker, list_all-filter}
 use Rattle.ldv_value.specs.Sorted.{precedes_first, is_strictly_sorted}
-
--- as items that come in the same order
-pub sorted-map : {X Y : Type 0} (p : X → X → Bool) (q : Y → Y → Bool) (f : X → Y)
-    → ((a b : X) → q (f a) (f b) ≡ p a b) → (xs : List X)
-    → is_strictly_sorted q (map f xs) ≡ is_strictly_sorted p xs
-sorted-map p q f same [] = refl
-sorted-map p q f same (x ∷ []) = refl
-sorted-map p q f same (x ∷ y ∷ ys) = λ j. same x y j && sorted-map p q f same (y ∷ ys) j
 
 module _ {X : Type 0} (precedes : X → X → Bool) (trans : (a b c : X) → precedes a b ≡ true → precedes b c ≡ true → precedes a c ≡ true) where
   -- each item precedes all that follow

@@ -2,10 +2,11 @@
 use Rattle.std.proofs.Common.{◌≡◌, ℕ, List, [], ◌∷◌, refl, Bool, true, false}
 use Rattle.std.specs.Prelude.{Option, Some, option_map, map, find, zip, if◌then◌else◌}
 use Rattle.sql_model.specs.Changes.{changed}
-use Rattle.sql_model.specs.Needs.{needs_of_reading, need_of, Versions, made_unless, made_by, updated_unless, updated_rows}
+use Rattle.sql_model.specs.Needs.{needs_by, needs_of_reading, need_of, Versions, made_unless, made_by, updated_unless, updated_rows}
 use Rattle.sql_model.specs.Scope.{table_at, is_table, catalog_of, is_schema, schema_in, schema_at}
 use Rattle.sql_model.specs.Statements.{refusal_of, reply_or, reply_of, after_unless, after}
-use Rattle.sql_model.specs.Types.{Catalog, Schema, Statement, TheQuery, TheInsert, TheUpdate, TheDelete, Table}
+use Rattle.sql_model.specs.Types.{Catalog, Schema, Query, Statement, TheQuery, TheInsert, TheUpdate, TheDelete, Table}
+use Rattle.sql_model.specs.Types.{SqlRefusal, Syntax, NoTable, NoColumn, TypeClash, NotNull, KeyTaken, Full}
 
 pub reply_is : (statement : Option Statement) (db : List Table)
     → reply_of statement db ≡ reply_or (refusal_of statement db) statement db
@@ -30,6 +31,17 @@ pub updated_is : (statement : Option Statement) (db : List Table)
     → updated_rows statement db ≡ updated_unless (refusal_of statement db) statement db
 unfolding updated_rows
 updated_is statement db = refl
+
+-- a query that is refused needs no row
+pub refused_needs : (query : Query) (db : List Table) (refusal : SqlRefusal)
+    → needs_by (Some refusal) (TheQuery query) db ≡ []
+refused_needs query db Syntax = refl
+refused_needs query db NoTable = refl
+refused_needs query db NoColumn = refl
+refused_needs query db TypeClash = refl
+refused_needs query db NotNull = refl
+refused_needs query db (KeyTaken table key) = refl
+refused_needs query db Full = refl
 
 -- ---- a change keeps a table's name
 

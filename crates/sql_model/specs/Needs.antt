@@ -7,7 +7,7 @@ use Rattle.std.specs.Prelude.{if◌then◌else◌, Option, Some, None}
 use Rattle.std.specs.List.{flat_map, list_any, list_all}
 use Rattle.std.specs.Ordering.{nat_cmp, is_lt}
 use Rattle.std.specs.Cmp.Lexicographic.{slice_cmp}
-use Rattle.sql_model.specs.Types.{Catalog, Member, Rule, L, H, K, SqlRefusal, Syntax, NoTable, NoColumn}
+use Rattle.sql_model.specs.Types.{Catalog, Member, Need, Rule, L, H, K, SqlRefusal, Syntax, NoTable, NoColumn}
 use Rattle.sql_model.specs.Types.{TypeClash, NotNull, KeyTaken, Full, Core, Query, Statement, TheQuery}
 use Rattle.sql_model.specs.Types.{TheInsert, TheUpdate, TheDelete, Table, TableRow}
 use Rattle.sql_model.specs.QueryAnswer.{Origin, lineage_of, rejected, answer, cut}
@@ -195,3 +195,18 @@ updated_unless None (Some statement) db = updated_in statement (catalog_of db) (
 -- the rows that an accepted UPDATE matches
 unfoldable pub updated_rows : Option Statement → List Table → List Origin
 updated_rows statement db = updated_unless (refusal_of statement db) statement db
+
+abbrev pub is_row_of : List ℕ → ℕ → Origin → Bool
+is_row_of table row origin = same_text origin.table table && origin.row == row
+
+-- one more for each row that was updated
+abbrev pub versions_after : List Origin → Versions → Versions
+versions_after updated versions = λ table row.
+    if list_any (is_row_of table row) updated then versions table row + 1 else versions table row
+
+-- a row that is needed, at its version
+abbrev pub read_of : Versions → NeededRow → Need
+read_of versions n = record {
+  member = record { table = n.table; row = n.row; version = versions n.table n.row };
+  rule = n.rule;
+}

@@ -12,6 +12,7 @@ use Rattle.serde_json.specs.Data.{Data, null, boolean, number, string, array, ob
 use Rattle.serde_json.specs.Find.{get_member, as_object, as_str}
 use Rattle.serde_json.specs.Read.{number_of, of_json, of_items, of_members, max_depth, read}
 use Rattle.ldv_value.proofs.Booleans.{and-parts, and-from}
+use Rattle.ldv_value.proofs.Lists.{sorted-under}
 use Rattle.ldv_value.specs.FileState.{file_precedes}
 use Rattle.ldv_value.specs.Sorted.{precedes_first, is_strictly_sorted, text_precedes}
 use Rattle.ldv_value.specs.declared.file.File.{File}
@@ -151,11 +152,6 @@ read_sorted text =
 
 -- ---- what is read of members has their names, and so is sorted as they are
 
-pub sorted-map : {X Y : Type 0} (precedes : Y → Y → Bool) (f : X → Y) (xs : List X) → is_strictly_sorted precedes (map f xs) ≡ is_strictly_sorted (λ a b. precedes (f a) (f b)) xs
-sorted-map precedes f [] = refl
-sorted-map precedes f (x ∷ []) = refl
-sorted-map precedes f (x ∷ y ∷ xs) = ap (λ b. precedes (f x) (f y) && b) (sorted-map precedes f (y ∷ xs))
-
 members_sorted : (d : Data) → AllSorted d → Holds Sorted (as_object d)
 members_sorted null h = tt
 members_sorted (boolean b) h = tt
@@ -191,7 +187,7 @@ module _ {X : Type 0} (f : List ℕ → Data → Option X) (name : X → List �
 
   object_read : (d : Data) → AllSorted d → Holds AreRead (object_of f d)
   object_read d h = holds_then Sorted AreRead (each_member f)
-      (λ ms sorted. holds_weaker (AreOf (names_of ms)) AreRead (λ xs are. (sym (sorted-map text_precedes name xs) ∙ ap are_sorted are.0 ∙ sorted.0, are.1)) (each_member f ms) (each_read ms))
+      (λ ms sorted. holds_weaker (AreOf (names_of ms)) AreRead (λ xs are. (sym (sorted-under text_precedes name xs) ∙ ap are_sorted are.0 ∙ sorted.0, are.1)) (each_member f ms) (each_read ms))
       (as_object d) (members_sorted d h)
 
   required_read : (o : Option Data) → Holds AllSorted o → Holds AreRead (required (object_of f) o)
@@ -311,5 +307,5 @@ pub world_sorted : (bytes : List ℕ) (world : World) → world_reading bytes �
 world_sorted bytes world is =
     let found = world_read bytes world is in
     let doc : Document = found.0 in
-    let tables : is_strictly_sorted table_precedes (world_as doc).tables ≡ true = sorted-map table_precedes table_as doc.tables ∙ found.2.tables in
+    let tables : is_strictly_sorted table_precedes (world_as doc).tables ≡ true = sorted-under table_precedes table_as doc.tables ∙ found.2.tables in
     subst (λ (w : World). is_sorted_world w ≡ true) found.1.world_is (and-from _ _ found.2.files tables)
