@@ -65,8 +65,8 @@ fn check_file<R: Print + AllocGlobal>(
     tally: &mut Tally,
 ) -> io::Result<()>
     ensures fault { IsErr found → tally.new.differences ≡ min (tally.old.differences + 1) (2 ^ 64 - 1) }
-    ensures cases { OnOk result (IfOk found (λ cases.
-        CountsCases tally.old tally.new (wanted_count (option_map (λ name. name.now) only.entry) cases.items))) }
+    ensures cases { OnOk result (IfOk found (λ cases. CountsCases tally.old tally.new
+        (wanted_count (option_map (λ name. name.now) only.entry) cases.items))) }
     ensures kept { tally.old.differences ≤ tally.new.differences }
 {
     match found {
@@ -98,8 +98,8 @@ fn check_cases<R: Print + AllocGlobal>(
     only: Option<&str>,
     tally: &mut Tally,
 ) -> io::Result<()>
-    ensures cases { OnOk result
-        (CountsCases tally.old tally.new (wanted_count (option_map (λ name. name.now) only.entry) cases.now)) }
+    ensures cases { OnOk result (CountsCases tally.old tally.new
+        (wanted_count (option_map (λ name. name.now) only.entry) cases.now)) }
     ensures kept { tally.old.differences ≤ tally.new.differences }
 {
     let mut names = BTreeSet::new(rt.alloc());

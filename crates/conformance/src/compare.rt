@@ -45,7 +45,8 @@ impl Differences {
     /// Whether all four are as wanted.
     pub(crate) fn is_none(&self) -> bool
         ensures { IsTrue result
-            ↔ ((self.now.status ≡ None) × (self.now.steady_status ≡ None) × (self.now.output ≡ None) × (self.now.error ≡ None)) }
+            ↔ ((self.now.status ≡ None) × (self.now.steady_status ≡ None)
+            × (self.now.output ≡ None) × (self.now.error ≡ None)) }
     {
         self.status.is_none()
             && self.steady_status.is_none()

@@ -2,7 +2,8 @@
 use Rattle.std.specs.Prelude.{◌≡◌, ℕ, List, [], Option, unwrap_or, slice_get, IsTrue, is_some}
 use Rattle.sql_model.specs.Places.{checked_statement}
 use Rattle.sql_model.specs.Refusals.{cores_of}
-use Rattle.core_parts.specs.Types.{Catalog, Checked, Core, Query, Statement, TheQuery, TheInsert, TheUpdate, TheDelete}
+use Rattle.core_parts.specs.Types.{Catalog, Checked, Core, Query, Statement}
+use Rattle.core_parts.specs.Types.{TheQuery, TheInsert, TheUpdate, TheDelete}
 
 abbrev pub IsQuery : Statement → Type 0
 IsQuery (TheQuery query) = Unit {0}

@@ -1,8 +1,8 @@
 //! The parts of a core of a checked query, for the crates that evaluate it.
 //!
 //! It promises to the layers above:
-//! - `core_of`, `query_of` and `places_or` lend a core, the query and the places of a core's column names, as the
-//!   check of the statement gave them (`specs/Checking.antt`);
+//! - `core_of`, `query_of` and `places_or` lend a core, the query and the places of a core's column names, as
+//!   the check of the statement gave them (`specs/Checking.antt`);
 //! - `Placed` is an expression with the places of its columns in the joined row. `placed_at`, `placed_items`,
 //!   `take_places` and `take_place` take the places of expressions from the front of a list
 //!   (`specs/Placing.antt`);

@@ -82,7 +82,8 @@ pub fn placed_items(
     places: &Places,
     at: &mut usize,
 ) -> Result<List<Placed>, AllocError>
-    ensures { IfOk result (λ placed. PlacesItems items.now placed (drop at.old places.now) (drop at.new places.now)) }
+    ensures { IfOk result (λ placed.
+        PlacesItems items.now placed (drop at.old places.now) (drop at.new places.now)) }
 {
     let mut made = List::new(alloc);
     for item in items {

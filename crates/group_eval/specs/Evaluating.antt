@@ -36,7 +36,8 @@ is_group_kept scope None picks = true
 is_group_kept scope (Some having) picks = is_true (group_meaning scope picks having.expr).truth
 
 abbrev pub group_answer : List InScope → Plan → List Pick → Answer
-group_answer scope plan picks = record { values = group_values scope plan.items picks; lineage = united picks }
+group_answer scope plan picks =
+    record { values = group_values scope plan.items picks; lineage = united picks }
 
 -- ---- a plan in a scope
 
@@ -58,16 +59,21 @@ abbrev pub answers_of : List InScope → Plan → List (List Pick) → List Answ
 answers_of scope plan groups = map (group_answer scope plan) (filter (is_group_kept scope plan.having) groups)
 
 abbrev pub rejected_of : List InScope → Plan → List (List Pick) → Lineage
-rejected_of scope plan groups = all_united (filter (λ group. not (is_group_kept scope plan.having group)) groups)
+rejected_of scope plan groups =
+    all_united (filter (λ group. not (is_group_kept scope plan.having group)) groups)
 
-pub record IsGroupedBy (scope : List InScope) (plan : Plan) (groups : List (List Pick)) (grouped : Grouped) : Type 0 where
+pub record IsGroupedBy (scope : List InScope) (plan : Plan) (groups : List (List Pick)) (grouped : Grouped)
+    : Type 0 where
   pub answers : grouped.answers ≡ answers_of scope plan groups
   pub rejected : grouped.rejected ≡ rejected_of scope plan groups
 
 -- a group more, whatever groups are left
-pub record AddsGroup (scope : List InScope) (plan : Plan) (group : List Pick) (old new : Grouped) : Type 0 where
-  pub answers : (rest : List (List Pick)) → new.answers ++ answers_of scope plan rest ≡ old.answers ++ answers_of scope plan (group ∷ rest)
-  pub rejected : (rest : List (List Pick)) → union_of new.rejected (rejected_of scope plan rest) ≡ union_of old.rejected (rejected_of scope plan (group ∷ rest))
+pub record AddsGroup (scope : List InScope) (plan : Plan) (group : List Pick) (old new : Grouped)
+    : Type 0 where
+  pub answers : (rest : List (List Pick)) → new.answers ++ answers_of scope plan rest
+      ≡ old.answers ++ answers_of scope plan (group ∷ rest)
+  pub rejected : (rest : List (List Pick)) → union_of new.rejected (rejected_of scope plan rest)
+      ≡ union_of old.rejected (rejected_of scope plan (group ∷ rest))
 
 -- the group of each of some picks
 abbrev pub groups_listed : List ℕ → BTreeMap (List Value) (List Pick) → List Pick → List (List Pick)
@@ -79,10 +85,13 @@ groups_listed places map_of firsts = map (λ pick. listed map_of (key_of places 
 -- HAVING rejects, where the picks stand for the core's combinations
 abbrev pub IsGrouped : Checked → ℕ → List Pick → Grouped → Type 0
 IsGrouped checked place picks grouped =
-    (query : Query) (catalog : Catalog) (core : Core) (names : List (List ℕ)) (versions : Versions) (keep : Bool) (all : List Combination)
+    (query : Query) (catalog : Catalog) (core : Core) (names : List (List ℕ)) (versions : Versions)
+    (keep : Bool) (all : List Combination)
     → IsChecked checked query catalog
     → core_at checked place ≡ Some core
     → groups core ≡ true
     → PicksStandFor names versions keep picks (map (joined_row core.from) all)
-    → AnswersStandFor names versions keep grouped.answers (rows_in_scope (scope_of core.from catalog) core all)
-    × StandsFor names versions grouped.rejected (kept keep (rejected_in_scope (scope_of core.from catalog) core all))
+    → AnswersStandFor names versions keep grouped.answers
+    (rows_in_scope (scope_of core.from catalog) core all)
+    × StandsFor names versions grouped.rejected
+    (kept keep (rejected_in_scope (scope_of core.from catalog) core all))

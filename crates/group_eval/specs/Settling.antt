@@ -22,6 +22,7 @@ SettlesTo picks expr places own settled new left =
     × (new ≡ own ++ places_in scope (names_in settled))
     × (first_meaning scope picks settled ≡ group_meaning scope picks expr)
 
-pub record IsSettled (scope : List InScope) (picks : List Pick) (expr : Expr) (settled : Placed) : Type 0 where
+pub record IsSettled (scope : List InScope) (picks : List Pick) (expr : Expr) (settled : Placed)
+    : Type 0 where
   pub placed : IsPlaced scope settled
   pub same : first_meaning scope picks settled.expr ≡ group_meaning scope picks expr

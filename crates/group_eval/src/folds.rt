@@ -5,7 +5,8 @@ ghost use Rattle.std.specs.List.{fold};
 ghost use Rattle.group_eval.specs.Types.{Value as Seen};
 ghost use Rattle.group_eval.specs.Folding.{value_over};
 ghost use Rattle.sql_model.specs.Kinds.{names_in};
-ghost use Rattle.sql_model.specs.Meaning.{folded, known_values, lesser, greater, number_in, number_value, total, or_null};
+ghost use Rattle.sql_model.specs.Meaning.{folded, known_values, lesser, greater, number_in, number_value};
+ghost use Rattle.sql_model.specs.Meaning.{total, or_null};
 ghost use Rattle.sql_model.specs.declared.expr.Fold.TheVariants.{Sum, Min, Max};
 ghost use Rattle.sql_model.specs.Scope.{InScope, places_in};
 
@@ -149,7 +150,8 @@ fn values_over(
     places: &Places,
     group: &[&Pick],
 ) -> Result<Values, AllocError>
-    ensures { IfOk result (λ values. (scope : Items InScope) → places_in scope (names_in expr.now) ≡ places.now
+    ensures { IfOk result (λ values. (scope : Items InScope)
+        → places_in scope (names_in expr.now) ≡ places.now
         → values ≡ known_values (map (value_over scope expr.now) (map (λ r. r.now) group.now))) }
 {
     let mut values = List::new(alloc);

@@ -3,7 +3,8 @@
 ghost use Rattle.std.specs.FinMap as finmap;
 ghost use Rattle.std.specs.Prelude.{◌≡◌, ◌++◌, ◌∷◌, [], List as Items, map, IfOk, OnOk};
 ghost use Rattle.core_parts.specs.Checking.{HasCore};
-ghost use Rattle.group_eval.specs.Evaluating.{item_values, group_values, group_answer, is_group_kept, ArePlaced, IsHavingPlaced};
+ghost use Rattle.group_eval.specs.Evaluating.{item_values, group_values, group_answer, is_group_kept};
+ghost use Rattle.group_eval.specs.Evaluating.{ArePlaced, IsHavingPlaced};
 ghost use Rattle.group_eval.specs.Evaluating.{IsPlacedPlan, AddsGroup, groups_listed, IsGroupedBy, IsGrouped};
 ghost use Rattle.group_eval.specs.Folding.{first_row};
 ghost use Rattle.group_eval.specs.Grouping.{key_of, listed, pick_groups, keyed_groups};
@@ -197,7 +198,8 @@ fn add_group_of<'a>(
     grouped: &mut Grouped,
 ) -> Result<(), AllocError>
     ensures { OnOk result ((scope : Items InScope) → IsPlacedPlan scope plan.now
-        → AddsGroup scope plan.now (listed groups.now.map (key_of plan.now.group first.now)) grouped.old grouped.new) }
+        → AddsGroup scope plan.now (listed groups.now.map (key_of plan.now.group first.now))
+        grouped.old grouped.new) }
 {
     match groups.group_of(&plan.group, first) {
         None => add_group(alloc, plan, &[], grouped),
@@ -212,7 +214,8 @@ fn grouped_each<'a>(
     groups: &Groups<'a>,
 ) -> Result<Grouped, AllocError>
     ensures { IfOk result (λ grouped. (scope : Items InScope) → IsPlacedPlan scope plan.now
-        → IsGroupedBy scope plan.now (groups_listed plan.now.group groups.now.map groups.now.firsts) grouped) }
+        → IsGroupedBy scope plan.now
+        (groups_listed plan.now.group groups.now.map groups.now.firsts) grouped) }
 {
     let mut grouped = no_group(alloc);
     for first in groups.firsts() {

@@ -1,6 +1,7 @@
 //! Picked combinations of the same values, found by a map over these.
 
-ghost use Rattle.std.specs.Prelude.{◌≡◌, ◌++◌, ◌∷◌, [], List as Items, map, filter, length, ◌==◌, cond, IfOk, OnOk, None, unwrap_or};
+ghost use Rattle.std.specs.Prelude.{◌≡◌, ◌++◌, ◌∷◌, [], List as Items, map, filter, length, ◌==◌, cond};
+ghost use Rattle.std.specs.Prelude.{IfOk, OnOk, None, unwrap_or};
 ghost use Rattle.std.specs.Option.{option_map};
 ghost use Rattle.std.specs.BTreeMap as tree;
 ghost use Rattle.std.specs.BTreeMap.{is_at};
@@ -84,8 +85,10 @@ pub(crate) fn groups_of<'a>(
     places: &'a Places,
     picks: &'a [Pick],
 ) -> Result<Groups<'a>, AllocError>
-    ensures picks { IfOk result (λ groups. (v : Items Seen) → listed groups.map v ≡ picks_under places.now picks.now v) }
-    ensures firsts { IfOk result (λ groups. map (key_of places.now) groups.firsts ≡ distinct (map (key_of places.now) picks.now)) }
+    ensures picks { IfOk result (λ groups. (v : Items Seen)
+        → listed groups.map v ≡ picks_under places.now picks.now v) }
+    ensures firsts { IfOk result (λ groups.
+        map (key_of places.now) groups.firsts ≡ distinct (map (key_of places.now) picks.now)) }
 {
     let mut map = BTreeMap::new(alloc);
     let mut firsts = Refs::new(alloc);
@@ -109,7 +112,8 @@ impl<'a> Groups<'a> {
         places: &'a Places,
         pick: &'a Pick,
     ) -> Option<&'b Refs<'a, Pick>>
-        ensures { unwrap_or (option_map (λ r. r.now) result) [] ≡ listed self.now.map (key_of places.now pick.now) }
+        ensures { unwrap_or (option_map (λ r. r.now) result) []
+            ≡ listed self.now.map (key_of places.now pick.now) }
     {
         self.map.get(&KeyOf::of(&pick.values, places))
     }

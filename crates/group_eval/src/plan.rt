@@ -1,6 +1,7 @@
 //! What is evaluated over the groups of a core.
 
-ghost use Rattle.std.specs.Prelude.{◌≡◌, ◌++◌, [], List as Items, ℕ, drop, IfOk, OnOk, option_to_list, unwrap_or};
+ghost use Rattle.std.specs.Prelude.{◌≡◌, ◌++◌, [], List as Items, ℕ, drop, IfOk, OnOk};
+ghost use Rattle.std.specs.Prelude.{option_to_list, unwrap_or};
 ghost use Rattle.std.specs.List.{flat_map};
 ghost use Rattle.group_eval.specs.Planning.{AreItems, IsHaving, IsPlan};
 ghost use Rattle.sql_model.specs.Kinds.{names_in};
@@ -47,7 +48,8 @@ fn skip_conditions(
     at: &mut usize,
 ) -> Result<(), AllocError>
     ensures { OnOk result ((scope : Items InScope) (more : Items ℕ)
-        → drop at.old places.now ≡ places_in scope (flat_map names_in conditions.now) ++ more → drop at.new places.now ≡ more) }
+        → drop at.old places.now ≡ places_in scope (flat_map names_in conditions.now) ++ more
+        → drop at.new places.now ≡ more) }
 {
     let mut passed = List::new(alloc);
     for condition in conditions {

@@ -1,7 +1,7 @@
 //! Expressions over a group.
 //!
-//! Over a group a column outside an aggregate has its value in the first row. So an expression whose aggregates
-//! are constants means over the first row what the expression means over the group.
+//! Over a group a column outside an aggregate has its value in the first row. So an expression whose
+//! aggregates are constants means over the first row what the expression means over the group.
 
 ghost use Rattle.std.specs.Prelude.{◌≡◌, List as Items, ℕ, map, drop, IfOk, Some};
 ghost use Rattle.sql_model.specs.declared.expr.Expr.TheVariants.{Aggregate};
@@ -18,8 +18,8 @@ use sql_model::{Expr, Fold, truth_of, value_of};
 use sqlite_items::Boxed;
 use std::alloc::{AllocError, Global};
 
-// An aggregate of an expression over a group as a constant. The expression takes its places of those from `at` on;
-// afterwards `at` is after them.
+// An aggregate of an expression over a group as a constant. The expression takes its places of those from
+// `at` on; afterwards `at` is after them.
 fn settled_fold(
     alloc: Global,
     fold: Fold,
@@ -29,7 +29,8 @@ fn settled_fold(
     at: &mut usize,
 ) -> Result<Expr, AllocError>
     ensures { IfOk result (λ settled. (own : Items ℕ) → SettlesTo (map (λ r. r.now) group.now)
-        (Aggregate fold (Some argument.now)) (drop at.old places.now) own settled own (drop at.new places.now)) }
+        (Aggregate fold (Some argument.now)) (drop at.old places.now) own
+        settled own (drop at.new places.now)) }
 {
     let mut taken = List::new(alloc);
     take_places(argument, places, at, &mut taken)?;
@@ -54,8 +55,8 @@ fn settled_aggregate(
     }
 }
 
-// The expression with its aggregates over a group as constants. It takes its places of those from `at` on, and
-// appends to `own` those of the columns outside aggregates; afterwards `at` is after its places.
+// The expression with its aggregates over a group as constants. It takes its places of those from `at` on,
+// and appends to `own` those of the columns outside aggregates; afterwards `at` is after its places.
 fn settle(
     alloc: Global,
     expr: &Expr,
@@ -64,8 +65,8 @@ fn settle(
     at: &mut usize,
     own: &mut Places,
 ) -> Result<Expr, AllocError>
-    ensures { IfOk result (λ settled.
-        SettlesTo (map (λ r. r.now) group.now) expr.now (drop at.old places.now) own.old settled own.new (drop at.new places.now)) }
+    ensures { IfOk result (λ settled. SettlesTo (map (λ r. r.now) group.now) expr.now
+        (drop at.old places.now) own.old settled own.new (drop at.new places.now)) }
 {
     match expr {
         Expr::Constant(value) => Ok(Expr::Constant(value.copy_item(alloc)?)),
@@ -124,7 +125,8 @@ pub(crate) fn group_value(
 ) -> Result<Value, AllocError>
     requires { first.now ≡ first_row (map (λ r. r.now) group.now) }
     ensures { IfOk result (λ value. (scope : Items InScope)
-        → IsPlaced scope placed.now → value ≡ (group_meaning scope (map (λ r. r.now) group.now) placed.now.expr).value) }
+        → IsPlaced scope placed.now
+        → value ≡ (group_meaning scope (map (λ r. r.now) group.now) placed.now.expr).value) }
 {
     let settled = settled(alloc, placed, group)?;
     value_of(alloc, &settled.expr, first, &settled.places)
@@ -139,7 +141,8 @@ pub(crate) fn group_truth(
 ) -> Result<Truth, AllocError>
     requires { first.now ≡ first_row (map (λ r. r.now) group.now) }
     ensures { IfOk result (λ truth. (scope : Items InScope)
-        → IsPlaced scope placed.now → truth ≡ (group_meaning scope (map (λ r. r.now) group.now) placed.now.expr).truth) }
+        → IsPlaced scope placed.now
+        → truth ≡ (group_meaning scope (map (λ r. r.now) group.now) placed.now.expr).truth) }
 {
     let settled = settled(alloc, placed, group)?;
     truth_of(alloc, &settled.expr, first, &settled.places)

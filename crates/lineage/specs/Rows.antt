@@ -1,7 +1,7 @@
 -- How picked combinations and answers stand for lists of answer rows.
 --
--- Values are equal, and a lineage stands for that of its row as a set. Where no lineage is kept, it stands for
--- that of no row.
+-- Values are equal, and a lineage stands for that of its row as a set. Where no lineage is kept, it stands
+-- for that of no row.
 use Rattle.std.specs.Prelude.{◌≡◌, ℕ, List, [], ◌∷◌, Bool, true, false}
 use Rattle.ldv_value.specs.declared.value.Value.{Value}
 use Rattle.lineage.specs.Lineage.{Lineage}

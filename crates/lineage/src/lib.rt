@@ -2,21 +2,21 @@
 //!
 //! It promises to the layers above that a `LineageSet` is a finite map from rows to versions
 //! (`specs/Lineage.antt`), whatever lies in memory:
-//! - `empty`, `add`, `union` and `add_rows` leave exactly the rows that their names say, and a row that is in a set keeps
-//!   its version there;
+//! - `empty`, `add`, `union` and `add_rows` leave exactly the rows that their names say, and a row that is in
+//!   a set keeps its version there;
 //! - `members` lists all of them, sorted, with the names of their tables;
 //! - `block` lends the rows of a table, 65,536 at a time, as bits (`specs/Blocks.antt`);
 //! - where memory is out, a set is as it was.
 //!
-//! `LineageRows` is the same finite map in a list, twelve bytes a row. Each pick and each answer row has its own,
-//! and `LineageSet::add_rows` adds them to a set.
+//! `LineageRows` is the same finite map in a list, twelve bytes a row. Each pick and each answer row has its
+//! own, and `LineageSet::add_rows` adds them to a set.
 //!
-//! `Picks` and `Answers` are what evaluators of queries hand to one another. `specs/StandsFor.antt` says how a
-//! set stands for the lineage of an answer row, and `specs/Rows.antt` how `Picks` and `Answers` stand for
+//! `Picks` and `Answers` are what evaluators of queries hand to one another. `specs/StandsFor.antt` says how
+//! a set stands for the lineage of an answer row, and `specs/Rows.antt` how `Picks` and `Answers` stand for
 //! lists of answer rows.
 //!
-//! Laws of these definitions, for layers that reason by them, are in `proofs/Laws.antt`, `proofs/Origins.antt`
-//! and `proofs/RowLaws.antt`.
+//! Laws of these definitions, for layers that reason by them, are in `proofs/Laws.antt`,
+//! `proofs/Origins.antt` and `proofs/RowLaws.antt`.
 #![tactic(auto)]
 
 mod answer;

@@ -38,8 +38,8 @@ impl LineageRows {
         }
     }
 
-    /// Adds a row of a table at a version. A row that is there keeps its version. On `AllocError` the rows are
-    /// as they were.
+    /// Adds a row of a table at a version. A row that is there keeps its version. On `AllocError` the rows
+    /// are as they were.
     pub fn add(&mut self, table: u32, row: u32, version: u32) -> Result<(), AllocError>
         ensures ok { OnOk result (self.new ≡ added self.old (table, row) version) }
         ensures err { OnErr result (self.new ≡ self.old) }
@@ -48,8 +48,8 @@ impl LineageRows {
         Ok(())
     }
 
-    /// Adds other rows. A row that is in both keeps the version that it has here. On `AllocError` the rows are
-    /// as they were.
+    /// Adds other rows. A row that is in both keeps the version that it has here. On `AllocError` the rows
+    /// are as they were.
     pub fn union(&mut self, other: &LineageRows) -> Result<(), AllocError>
         ensures ok { OnOk result (IsUnion self.old other.now self.new) }
         ensures err { OnErr result (self.new ≡ self.old) }

@@ -112,10 +112,11 @@ impl LineageSet {
     }
 
     /// The rows of a table from 65,536 * `block` on as 1,024 words: bit i of word j is set exactly where the
-    /// row 65,536 * `block` + 64 * j + i is in the set. `None` exactly where none of these rows is. It takes no
-    /// memory.
+    /// row 65,536 * `block` + 64 * j + i is in the set. `None` exactly where none of these rows is. It takes
+    /// no memory.
     pub fn block(&self, table: u32, block: u32) -> Option<&[u64]>
-        ensures none { MatchOption result (HasNone self.now table block) (λ _. ¬ HasNone self.now table block) }
+        ensures none { MatchOption result (HasNone self.now table block)
+            (λ _. ¬ HasNone self.now table block) }
         ensures words { IfSome result (λ words. IsBlock self.now table block words.now) }
     {
         match self.words.get(&(table, block)) {

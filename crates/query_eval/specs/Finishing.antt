@@ -23,7 +23,8 @@ as_key column = record { place = column.place; descending = column.descending }
 abbrev pub sort_columns : List ℕ → List Order → List SortColumn
 sort_columns [] parts = []
 sort_columns (place ∷ places) [] = []
-sort_columns (place ∷ places) (part ∷ parts) = record { place = place; descending = part.descending } ∷ sort_columns places parts
+sort_columns (place ∷ places) (part ∷ parts) =
+    record { place = place; descending = part.descending } ∷ sort_columns places parts
 
 abbrev pub by_columns : List SortColumn → Answer → Answer → Ordering
 by_columns columns a b = order_by (map as_key columns) a.values b.values
@@ -52,8 +53,11 @@ ordered query catalog rows = sort_rows (map (sort_key (answer_titles catalog que
 -- the answers that LIMIT keeps of the sorted rows, and the lineage of those that it cuts
 abbrev pub IsFinished : Checked → List Answer → Finished → Type 0
 IsFinished checked answers finished =
-    (query : Query) (catalog : Catalog) (names : List (List ℕ)) (versions : Versions) (keep : Bool) (rows : List AnswerRow)
+    (query : Query) (catalog : Catalog) (names : List (List ℕ)) (versions : Versions) (keep : Bool)
+    (rows : List AnswerRow)
     → IsChecked checked query catalog
     → AnswersStandFor names versions keep answers rows
-    → AnswersStandFor names versions keep finished.answers (first_rows (limit_of query.limit) (ordered query catalog rows))
-    × StandsFor names versions finished.cut (kept keep (lineage_of (other_rows (limit_of query.limit) (ordered query catalog rows))))
+    → AnswersStandFor names versions keep finished.answers
+    (first_rows (limit_of query.limit) (ordered query catalog rows))
+    × StandsFor names versions finished.cut
+    (kept keep (lineage_of (other_rows (limit_of query.limit) (ordered query catalog rows))))

@@ -11,7 +11,8 @@ use Rattle.ldv_value.specs.declared.value.Cmp.{Cmp}
 use Rattle.ldv_value.specs.declared.value.Cmp.TheVariants.{Eq, Ne, Lt, Le, Gt, Ge}
 use Rattle.core_parts.specs.Placing.{IsPlaced}
 use Rattle.query_eval.specs.Sourcing.{joined}
-use Rattle.query_eval.specs.Types.{ColumnName, Operator, Add, Subtract, Multiply, Compare, And, Or, Expr, Value}
+use Rattle.query_eval.specs.Types.{ColumnName, Operator, Add, Subtract, Multiply, Compare, And, Or}
+use Rattle.query_eval.specs.Types.{Expr, Value}
 use Rattle.sql_model.specs.declared.expr.Expr.TheVariants.{Both, Column}
 use Rattle.core_parts.specs.declared.placed.Placed.{Placed}
 use Rattle.query_eval.specs.declared.probe.Probe.{Probe}
@@ -122,7 +123,8 @@ IsEquality expr = (left : ColumnName) × (right : ColumnName)
 -- the places of the two columns, where one is among the first n values and the other isn't
 abbrev pub IsBetween : ℕ → ℕ → ℕ → Probe → Type 0
 IsBetween a b n probe =
-    ((probe.from ≡ a) × (a < n) × (n + probe.place ≡ b)) ⊎ ((probe.from ≡ b) × (b < n) × (n + probe.place ≡ a))
+    ((probe.from ≡ a) × (a < n) × (n + probe.place ≡ b))
+    ⊎ ((probe.from ≡ b) × (b < n) × (n + probe.place ≡ a))
 
 -- the rows that a map has under a value
 abbrev pub rows_listed : BTreeMap Value (List SourceRow) → Value → List SourceRow

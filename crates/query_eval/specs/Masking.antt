@@ -57,7 +57,8 @@ IsLocated widths place located = (rows : Combination) → HaveWidths widths rows
 
 -- the comparison of the column's value with the number is True
 abbrev pub passes : Mask → Combination → Bool
-passes mask rows = is_true (test_of mask.op (value_at (values_of rows mask.source) mask.column) (Int mask.constant))
+passes mask rows =
+    is_true (test_of mask.op (value_at (values_of rows mask.source) mask.column) (Int mask.constant))
 
 -- where the condition is True, so is the comparison
 abbrev pub IsMask : Placed → List ℕ → Mask → Type 0

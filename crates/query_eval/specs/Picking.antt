@@ -20,7 +20,8 @@ use Rattle.sql_model.specs.Scope.{catalog_of}
 abbrev pub rows_added : Lineage → List Source → List SourceRow → Lineage
 rows_added set [] rows = set
 rows_added set (source ∷ sources) [] = set
-rows_added set (source ∷ sources) (row ∷ rows) = rows_added (added set (source.table, row.number) row.version) sources rows
+rows_added set (source ∷ sources) (row ∷ rows) =
+    rows_added (added set (source.table, row.number) row.version) sources rows
 
 abbrev pub kept_rows : Bool → List Source → List SourceRow → Lineage
 kept_rows keep sources rows = cond keep (rows_added empty sources rows) empty
@@ -29,11 +30,12 @@ kept_rows keep sources rows = cond keep (rows_added empty sources rows) empty
 abbrev pub pick_of : Bool → List Source → List SourceRow → Pick
 pick_of keep sources rows = record { values = joined rows; lineage = kept_rows keep sources rows }
 
--- the picks stand for the picked combinations of a core, whose sources have the rows of tables, but for such as
--- are in no picked combination
+-- the picks stand for the picked combinations of a core, whose sources have the rows of tables, but for such
+-- as are in no picked combination
 abbrev pub ArePicked : Checked → ℕ → List Source → Bool → List Pick → Type 0
 ArePicked checked place sources keep picks =
-    (query : Query) (core : Core) (names : List (List ℕ)) (versions : Versions) (db : List Table) (keeps : List (TableRow → Bool))
+    (query : Query) (core : Core) (names : List (List ℕ)) (versions : Versions) (db : List Table)
+    (keeps : List (TableRow → Bool))
     → IsChecked checked query (catalog_of db)
     → core_at checked place ≡ Some core
     → IsStrictlySortedBy (slice_cmp nat_cmp) names

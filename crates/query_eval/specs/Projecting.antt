@@ -30,7 +30,8 @@ whole pick = record { values = pick.values; lineage = pick.lineage }
 -- the answers stand for the rows of a core that doesn't group, where the picks stand for its combinations
 abbrev pub IsProjected : Checked → ℕ → List Pick → List Answer → Type 0
 IsProjected checked place picks answers =
-    (query : Query) (catalog : Catalog) (core : Core) (names : List (List ℕ)) (versions : Versions) (keep : Bool) (all : List Combination)
+    (query : Query) (catalog : Catalog) (core : Core) (names : List (List ℕ)) (versions : Versions)
+    (keep : Bool) (all : List Combination)
     → IsChecked checked query catalog
     → core_at checked place ≡ Some core
     → groups core ≡ false

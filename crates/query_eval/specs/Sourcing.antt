@@ -28,8 +28,8 @@ abbrev pub SourcesAreWide : List Source → Type 0
 SourcesAreWide sources = AllByRecursion (λ source. AreWide source.width source.rows) sources
 
 -- a source has rows of a table at their versions, and the place of the table's name; rows may be left out
-pub record IsSource (names : List (List ℕ)) (versions : Versions) (db : List Table) (item : FromItem) (kept : TableRow → Bool)
-    (source : Source) : Type 0 where
+pub record IsSource (names : List (List ℕ)) (versions : Versions) (db : List Table) (item : FromItem)
+    (kept : TableRow → Bool) (source : Source) : Type 0 where
   pub rows : map table_row source.rows ≡ filter kept (rows_of (table_at item.table db))
   pub at_versions : AllByRecursion (λ row. row.version ≡ versions item.table row.number) source.rows
   pub within : source.table < length names

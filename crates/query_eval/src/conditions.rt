@@ -20,7 +20,8 @@ fn add_condition(
     places: &Places,
     at: &mut usize,
 ) -> Result<(), AllocError>
-    ensures { OnOk result (Adds conds.old expr.now (drop at.old places.now) conds.new (drop at.new places.now)) }
+    ensures { OnOk result
+        (Adds conds.old expr.now (drop at.old places.now) conds.new (drop at.new places.now)) }
 {
     let placed = placed_at(alloc, expr, places, at)?;
     conds.push(placed)?;
@@ -35,7 +36,8 @@ fn add_conjuncts(
     places: &Places,
     at: &mut usize,
 ) -> Result<(), AllocError>
-    ensures { OnOk result (Adds conds.old expr.now (drop at.old places.now) conds.new (drop at.new places.now)) }
+    ensures { OnOk result
+        (Adds conds.old expr.now (drop at.old places.now) conds.new (drop at.new places.now)) }
 {
     match expr {
         Expr::Both(operator, left, right) => match operator {

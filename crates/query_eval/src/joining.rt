@@ -1,8 +1,8 @@
 //! The joined rows of FROM for which ON and WHERE are True.
 //!
 //! The sources are taken from left to right. Each condition is tested as soon as its columns are there. Where
-//! an equality ties a column of the next source to an earlier one, the rows are looked up by it; any choice of
-//! rows is right that leaves out only such as fail a condition.
+//! an equality ties a column of the next source to an earlier one, the rows are looked up by it; any choice
+//! of rows is right that leaves out only such as fail a condition.
 
 ghost use Rattle.std.specs.Prelude.{◌≡◌, ◌<◌, ◌++◌, ◌∷◌, [], ℕ, List as Items, filter, length, map, not};
 ghost use Rattle.std.specs.Prelude.{IfOk, OnOk};
@@ -257,7 +257,8 @@ fn next_level<'a>(
     width: usize,
     conds: List<Placed>,
 ) -> Result<Combinations<'a>, AllocError>
-    ensures { IfOk result (λ made. (scope : Items InScope) → AllPlaced scope conds → EachHas width prefixes.now
+    ensures { IfOk result (λ made. (scope : Items InScope) → AllPlaced scope conds
+        → EachHas width prefixes.now
         → made ≡ all_extended scope conds prefixes.now rows.now) }
 {
     match probe_at(conds.items(), width) {
@@ -315,7 +316,8 @@ fn step<'a>(alloc: Global, walk: Walk<'a>, source: &'a Source) -> Result<Walk<'a
         → EachHas walk.entry.width walk.entry.prefixes
         → AreWide source.now.width source.now.rows
         → AllPlaced scope new.left × EachHas new.width new.prefixes
-        × ((rest : Items (Items Given)) → remaining scope new.left new.prefixes rest ≡ remaining scope walk.entry.left walk.entry.prefixes (source.now.rows ∷ rest))) }
+        × ((rest : Items (Items Given)) → remaining scope new.left new.prefixes rest
+        ≡ remaining scope walk.entry.left walk.entry.prefixes (source.now.rows ∷ rest))) }
 {
     let Walk {
         prefixes,
@@ -405,7 +407,8 @@ pub(crate) fn join<'a>(
     sources: &'a [Source],
     conds: List<Placed>,
 ) -> Result<Combinations<'a>, AllocError>
-    ensures { IfOk result (λ rows. (scope : Items InScope) → AllPlaced scope conds → SourcesAreWide sources.now
+    ensures { IfOk result (λ rows. (scope : Items InScope) → AllPlaced scope conds
+        → SourcesAreWide sources.now
         → rows ≡ filter (tests scope conds) (combos (map source_rows sources.now))) }
 {
     let mut walk = start(alloc, conds)?;

@@ -6,14 +6,14 @@
 //! - `merge` gives one row for all of the same values, with all their lineages;
 //! - `finish` sorts and cuts, and says what the cut rows come from (`specs/Finishing.antt`).
 //!
-//! `lineage/specs/Rows.antt` says how picks and answers stand for rows: the values are equal, and the lineages
-//! are the same sets of rows, each at its version. Where lineage isn't kept it is empty, and the values are
-//! the same. Which way rows are found changes nothing of this: `specs/Joining.antt` has what the steps of a
-//! join give, and `proofs/Levels.antt` why they give the product's picked rows in its order.
+//! `lineage/specs/Rows.antt` says how picks and answers stand for rows: the values are equal, and the
+//! lineages are the same sets of rows, each at its version. Where lineage isn't kept it is empty, and the
+//! values are the same. Which way rows are found changes nothing of this: `specs/Joining.antt` has what the
+//! steps of a join give, and `proofs/Levels.antt` why they give the product's picked rows in its order.
 //!
-//! A core reads `Sources`, the rows of its tables (`specs/Sourcing.antt`). Rows may be left out that are in no
-//! picked combination: `masks` gives the conditions on one column of one source, by which whoever gives the
-//! rows may choose them (`specs/Masking.antt`, `proofs/MaskLaws.antt`).
+//! A core reads `Sources`, the rows of its tables (`specs/Sourcing.antt`). Rows may be left out that are in
+//! no picked combination: `masks` gives the conditions on one column of one source, by which whoever gives
+//! the rows may choose them (`specs/Masking.antt`, `proofs/MaskLaws.antt`).
 #![tactic(auto)]
 
 mod conditions;

@@ -30,8 +30,9 @@ pub struct Mask {
     pub constant: i64,
 }
 
-/// Conditions of which ON and WHERE of a core say that they are True. A row for which one isn't is in no picked
-/// combination. `core` is the core's place, from 0, and `widths` are the numbers of columns of its sources.
+/// Conditions of which ON and WHERE of a core say that they are True. A row for which one isn't is in no
+/// picked combination. `core` is the core's place, from 0, and `widths` are the numbers of columns of
+/// its sources.
 pub fn masks(
     alloc: Global,
     checked: &Checked,

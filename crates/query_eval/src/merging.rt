@@ -32,7 +32,8 @@ struct Groups<'a> {
 /// is the same as NULL. A row has one version in all these lineages.
 #[tactic(auto, using(crate::proofs::Merges::merged_stand))]
 pub fn merge(answers: Answers) -> Result<Answers, AllocError>
-    ensures { IfOk result (λ made. (names : Items (Items ℕ)) (versions : Versions) (keep : Bool) (rows : Items AnswerRow)
+    ensures { IfOk result (λ made.
+        (names : Items (Items ℕ)) (versions : Versions) (keep : Bool) (rows : Items AnswerRow)
         → AnswersStandFor names versions keep answers rows
         → AnswersStandFor names versions keep made (merge rows)) }
 {
@@ -81,7 +82,8 @@ fn add_answer<'a>(
     map: &mut BTreeMap<RowValues<'a>, Refs<'a, Answer>>,
     answer: &'a Answer,
 ) -> Result<(), AllocError>
-    ensures { OnOk result ((v : Items Seen) → listed map.new v ≡ answer_added answer.now v (listed map.old v)) }
+    ensures { OnOk result ((v : Items Seen)
+        → listed map.new v ≡ answer_added answer.now v (listed map.old v)) }
 {
     let mut answers = taken(alloc, map, &answer.values);
     answers.push(answer)?;

@@ -77,7 +77,8 @@ fn compare_rows(columns: &[SortColumn], a: &Values, b: &Values) -> Ordering
 }
 
 fn compare_by(column: SortColumn, a: &Values, b: &Values) -> Ordering
-    ensures { result ≡ directed column.descending (order (value_at a.now column.place) (value_at b.now column.place)) }
+    ensures { result
+        ≡ directed column.descending (order (value_at a.now column.place) (value_at b.now column.place)) }
 {
     let null = Value::Null;
     let between = compare(

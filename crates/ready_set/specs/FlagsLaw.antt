@@ -1,5 +1,6 @@
 -- What happens to the flags of the processes as one of them changes, and as one is made.
-use Rattle.std.specs.Prelude.{◌≡◌, ◌≢◌, ℕ, List, [], ◌∷◌, ◌++◌, length, slice_get, slice_set, Option, Some, None, is_none, true, false}
+use Rattle.std.specs.Prelude.{◌≡◌, ◌≢◌, ℕ, List, [], ◌∷◌, ◌++◌, length, slice_get, slice_set}
+use Rattle.std.specs.Prelude.{Option, Some, None, is_none, true, false}
 use Rattle.run_model.specs.Types.{Value, Instr}
 use Rattle.run_model.specs.Core.{Process, Core, new_process}
 use Rattle.run_model.specs.Schedule.{is_runnable, runnable}
@@ -34,7 +35,8 @@ EndsUnder = (processes : List Process) (number parent status : ℕ) (p q r : Pro
     → IsAt number p processes → q.status ≡ Some status → IsAt parent r processes → parent ≢ number
     → OthersPass (λ s k. k ≢ parent → awaited s ≢ Some number) number processes
     → runnable_flags (slice_set processes number q)
-    ≡ slice_set (slice_set (runnable_flags processes) number false) parent (is_runnable (slice_set processes number q) r)
+    ≡ slice_set (slice_set (runnable_flags processes) number false) parent
+    (is_runnable (slice_set processes number q) r)
 
 -- one that waits for it is runnable from then on
 abbrev pub Wakes : Type 0

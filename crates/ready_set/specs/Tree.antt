@@ -1,7 +1,7 @@
 -- A binary tree of counts, kept in one list. Node 1 is the root, and the children of node i are nodes 2 i and
 -- 2 i + 1; with room for some leaves, these are the nodes from that number on.
-use Rattle.std.specs.Prelude.{◌≡◌, ◌≢◌, ◌==◌, ℕ, zero, suc, ◌+◌, ◌*◌, ◌^◌, ◌<◌, ◌≤◌, List, length, slice_index}
-use Rattle.std.specs.Prelude.{Bool, map}
+use Rattle.std.specs.Prelude.{◌≡◌, ◌≢◌, ◌==◌, ℕ, zero, suc, ◌+◌, ◌*◌, ◌^◌, ◌<◌, ◌≤◌, List, length}
+use Rattle.std.specs.Prelude.{slice_index, Bool, map}
 use Rattle.std.specs.List.{range_with_len}
 
 -- a leaf counts at most one, and each other node what its children count together

@@ -10,8 +10,8 @@
 //!   (`round_robin`, `pick_in`, `at_random` and `pick_of` of its `specs/Schedule.antt`).
 //!
 //! Where the flags are those of `specs/Flags.antt`, whether each process is runnable, the sorted list is
-//! `runnable`; what happens to these flags as a process goes on, waits, ends, wakes another or is made, stands in
-//! `flags_law` (`specs/FlagsLaw.antt`), for proofs as lemmas in `proofs/FlagLaws.antt`.
+//! `runnable`; what happens to these flags as a process goes on, waits, ends, wakes another or is made,
+//! stands in `flags_law` (`specs/FlagsLaw.antt`), for proofs as lemmas in `proofs/FlagLaws.antt`.
 //!
 //! A number costs eight bytes and at most twice that. Each call but `reserve` takes time in the logarithm of
 //! the room; `reserve` doubles the room where there is none, in time in that of all numbers together.

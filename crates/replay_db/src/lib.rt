@@ -11,8 +11,8 @@
 //!   what the run yielded, and its own package is that very package;
 //! - a run that has ended has the same outcome and packages with more steps.
 //!
-//! It promises, in `package_law` (`specs/Worlds.antt`), that the package of a valid world's run that has ended
-//! is itself valid, so its spelling is read back as it.
+//! It promises, in `package_law` (`specs/Worlds.antt`), that the package of a valid world's run that has
+//! ended is itself valid, so its spelling is read back as it.
 //!
 //! Of SQL it uses only what `sql_laws` promises of a statement, of a cut and of valid tables.
 #![tactic(auto)]

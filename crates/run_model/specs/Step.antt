@@ -1,5 +1,5 @@
--- One step of a process: its next instruction. An `sql` asks the database; every other instruction is applied to
--- the core only. What each one does stands in the files that are used here.
+-- One step of a process: its next instruction. An `sql` asks the database; every other instruction is applied
+-- to the core only. What each one does stands in the files that are used here.
 use Rattle.std.specs.Prelude.{ℕ, ◌+◌, List, [], ◌∷◌, ◌++◌, length, slice_get, Option, Some, None}
 use Rattle.script_parse.specs.declared.script.Instr.TheVariants as instr
 use Rattle.run_model.specs.Types.{Instr, Reply, Act, Ended}
@@ -8,8 +8,8 @@ use Rattle.run_model.specs.Database.{Lists, Answer, Gives, Diverges, Base}
 pub use Rattle.run_model.specs.Database.{asked_act}
 use Rattle.run_model.specs.State.{State, Stepped}
 use Rattle.run_model.specs.StepBase.{on_files}
-use Rattle.run_model.specs.StepFiles.{path_at, allows_read, open_for, open_path, read_next, write_line, copy_rest}
-use Rattle.run_model.specs.StepFiles.{close, remove_path, test_path}
+use Rattle.run_model.specs.StepFiles.{path_at, allows_read, open_for, open_path, read_next, write_line}
+use Rattle.run_model.specs.StepFiles.{copy_rest, close, remove_path, test_path}
 use Rattle.run_model.specs.StepProcesses.{spawn, wait}
 use Rattle.run_model.specs.StepReplies.{fetch, count, status}
 use Rattle.run_model.specs.StepVariables.{let_value, calculate, glue, let_number, cut, jump_if}
@@ -38,7 +38,8 @@ execute (instr.ReadLine to file place) number p c =
 execute (instr.WriteLine file operands) number p c = on_files number (write_line file operands p c.files) c
 execute (instr.CopyRest source target) number p c = on_files number (copy_rest source target p c.files) c
 execute (instr.Close file) number p c = own number (close file p) c
-execute (instr.Remove path place) number p c = on_files number (remove_path (path_at path p) place p c.files) c
+execute (instr.Remove path place) number p c =
+    on_files number (remove_path (path_at path p) place p c.files) c
 execute (instr.Exists to path) number p c = on_files number (test_path to (path_at path p) p c.files) c
 execute (instr.Spawn child path arguments place) number p c = spawn child path arguments place number p c
 execute (instr.Wait to child) number p c = wait to child number p c

@@ -2,7 +2,8 @@
 -- and what a step leaves.
 --
 -- Misuse ends the process with its own status, and nothing else of the instruction takes effect.
-use Rattle.std.specs.Prelude.{ℕ, ◌+◌, ◌^◌, ℤ, pos, negsuc, List, [], map, slice_set, nat_lt, if◌then◌else◌, Some}
+use Rattle.std.specs.Prelude.{ℕ, ◌+◌, ◌^◌, ℤ, pos, negsuc, List, [], map, slice_set, nat_lt}
+use Rattle.std.specs.Prelude.{if◌then◌else◌, Some}
 use Rattle.ldv_value.specs.FileState.{FileState}
 use Rattle.sql_model.specs.Meaning.{or_null}
 use Rattle.run_model.specs.Types.{Value, Int, Operand, Constant, Variable, Act}

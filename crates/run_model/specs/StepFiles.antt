@@ -1,13 +1,13 @@
--- The steps of `open`, `readline`, `write`, `copy`, `close`, `remove` and `exists`. What each does to the files
--- is said in `FileState.antt` of `ldv_value`; here stand what it does to its process, and its acts.
+-- The steps of `open`, `readline`, `write`, `copy`, `close`, `remove` and `exists`. What each does to the
+-- files is said in `FileState.antt` of `ldv_value`; here stand what it does to its process, and its acts.
 --
 -- An open file names its path, so it sees what any process writes there. A refused open or remove goes on at
 -- the label and changes nothing else.
 use Rattle.std.specs.Prelude.{ℕ, pos, List, [], ◌∷◌, length, Bool, true, false, ◌&&◌, if◌then◌else◌}
 use Rattle.std.specs.Prelude.{Option, Some, None, option_and_then}
 use Rattle.std.specs.Str.{is_utf8}
-use Rattle.ldv_value.specs.FileState.{FileState, is_there, FileRefusal, open_refusal, opened, removed, has_room}
-use Rattle.ldv_value.specs.FileState.{rest_at, appended, copied, copy_end, read_line}
+use Rattle.ldv_value.specs.FileState.{FileState, is_there, FileRefusal, open_refusal, opened, removed}
+use Rattle.ldv_value.specs.FileState.{has_room, rest_at, appended, copied, copy_end, read_line}
 use Rattle.ldv_value.specs.Names.{path_test}
 use Rattle.ldv_value.specs.declared.file.OpenMode.TheVariants as modes
 use Rattle.ldv_value.specs.declared.line.LineRead.{LineRead}
@@ -86,7 +86,8 @@ open_unless None found name mode path place p s = record {
 }
 
 abbrev pub open_found : Bool → List ℕ → OpenMode → List ℕ → ℕ → Process → FileState → FileEffect
-open_found found name mode path place p s = open_unless (open_refusal mode found) found name mode path place p s
+open_found found name mode path place p s =
+    open_unless (open_refusal mode found) found name mode path place p s
 
 abbrev pub open_path : List ℕ → OpenMode → Option (List ℕ) → ℕ → Process → FileState → FileEffect
 open_path name mode None place p s = misused bad_path p s

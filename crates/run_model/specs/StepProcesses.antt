@@ -1,13 +1,13 @@
 -- The steps of `spawn` and `wait`.
-use Rattle.std.specs.Prelude.{ℕ, ◌+◌, pos, List, [], ◌∷◌, ◌++◌, length, slice_get, slice_set, nat_lt, true, false}
-use Rattle.std.specs.Prelude.{if◌then◌else◌, Option, Some, None, option_and_then}
+use Rattle.std.specs.Prelude.{ℕ, ◌+◌, pos, List, [], ◌∷◌, ◌++◌, length, slice_get, slice_set, nat_lt}
+use Rattle.std.specs.Prelude.{true, false, if◌then◌else◌, Option, Some, None, option_and_then}
 use Rattle.ldv_value.specs.FileState.{content_at}
 use Rattle.ldv_value.specs.Limits.{max_processes}
 use Rattle.script_parse.specs.Script.{script_of}
 use Rattle.run_model.specs.Types.{Value, Int, Operand, Instr, Spawned, Unspawned, Waited}
 use Rattle.run_model.specs.Core.{lookup, bind, Process, new_process, Core}
-use Rattle.run_model.specs.StepBase.{operand_values, ended, went_on, went_to, with_variable, wrong_kind, bad_path}
-use Rattle.run_model.specs.StepBase.{Effect, own, noted}
+use Rattle.run_model.specs.StepBase.{operand_values, ended, went_on, went_to, with_variable, wrong_kind}
+use Rattle.run_model.specs.StepBase.{bad_path, Effect, own, noted}
 use Rattle.run_model.specs.StepFiles.{path_at}
 
 -- ---- `spawn p v v* else L`: a child runs the script at a path, with the other values as arguments

@@ -1,6 +1,6 @@
 -- The steps of `let`, `cut`, `goto`, `if`, `print` and `exit`: they change their own process alone.
-use Rattle.std.specs.Prelude.{ℕ, ◌+◌, ℤ, pos, negsuc, ◌+ℤ◌, ◌-ℤ◌, ◌*ℤ◌, List, [], ◌∷◌, ◌++◌, length, take, drop}
-use Rattle.std.specs.Prelude.{Bool, true, false, ◌||◌, ◌==◌, nat_lt, if◌then◌else◌, Option, Some, None}
+use Rattle.std.specs.Prelude.{ℕ, ◌+◌, ℤ, pos, negsuc, ◌+ℤ◌, ◌-ℤ◌, ◌*ℤ◌, List, [], ◌∷◌, ◌++◌, length, take}
+use Rattle.std.specs.Prelude.{drop, Bool, true, false, ◌||◌, ◌==◌, nat_lt, if◌then◌else◌, Option, Some, None}
 use Rattle.std.specs.List.{flat_map}
 use Rattle.ldv_value.specs.Limits.{printed_limit, text_limit}
 use Rattle.ldv_value.specs.Order.{order, meets}
@@ -70,7 +70,8 @@ begins_with (b ∷ bs) (c ∷ cs) = if b == c then begins_with bs cs else false
 -- how many bytes stand before the first place where a text stands in another, after some that were passed
 abbrev pub first_place : ℕ → List ℕ → List ℕ → Option ℕ
 first_place passed by [] = None
-first_place passed by (b ∷ bs) = if begins_with by (b ∷ bs) then Some passed else first_place (passed + 1) by bs
+first_place passed by (b ∷ bs) =
+    if begins_with by (b ∷ bs) then Some passed else first_place (passed + 1) by bs
 
 abbrev pub before_place : Option ℕ → List ℕ → List ℕ
 before_place None text = text

@@ -52,9 +52,9 @@ pub trait Database: Drop {
     /// The last step at which it was asked, 0 where it wasn't yet.
     ghost latest: { Self → ℕ };
 
-    /// Asks a text with its parameters. A tracer that keeps events notes one, with the lists of the statement.
-    /// `Diverged` comes exactly where the database has no reply. After a `Stop` nothing is promised of the
-    /// database or the tracer, and neither is used again.
+    /// Asks a text with its parameters. A tracer that keeps events notes one, with the lists of the
+    /// statement. `Diverged` comes exactly where the database has no reply. After a `Stop` nothing is
+    /// promised of the database or the tracer, and neither is used again.
     fn ask<T: Tracer>(
         &mut self,
         who: &Asker,

@@ -14,8 +14,8 @@
 //! It promises to the layers above:
 //! - `never_stuck_law`: over any database, a run that hasn't ended has a process that may run
 //!   (`specs/RunLaw.antt`);
-//! - `Database` and `Tracer`: what a run asks and tells, so that the code that runs is proved once, over every
-//!   database and every tracer; `NullTracer` keeps nothing, and `ListTracer` all events;
+//! - `Database` and `Tracer`: what a run asks and tells, so that the code that runs is proved once, over
+//!   every database and every tracer; `NullTracer` keeps nothing, and `ListTracer` all events;
 //! - files, tables, rows and logs of a package are in the orders of `specs/ValidPackage.antt`, by `Precedes`;
 //! - `outcome_text`: the text of an outcome (`specs/OutcomeText.antt`).
 #![tactic(auto)]

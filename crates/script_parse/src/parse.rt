@@ -70,7 +70,8 @@ fn parsed(alloc: Global, bytes: &[u8]) -> Result<Script, ScriptStop>
 #[tactic(auto, using(crate::proofs::LookUp::results_same))]
 fn resolved(alloc: Global, entries: Entries) -> Result<Instrs, ScriptStop>
     requires { length entries < 2 ^ 32 }
-    ensures { Answers result (instructions_of (look_up entries) entries) (first_bad (look_up entries) entries) }
+    ensures { Answers result
+        (instructions_of (look_up entries) entries) (first_bad (look_up entries) entries) }
 {
     let labels = labels(alloc, &entries)?;
     instructions(alloc, &labels, entries)

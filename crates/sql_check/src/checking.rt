@@ -13,10 +13,10 @@ use sql_model::{Catalog, Checked, Statement};
 use std::alloc::Global;
 
 /// A copy of a statement with the places of its columns, where the catalog has what the statement names
-/// and its kinds fit. The names of the catalog are sorted, each with its schema. The refusals are tried in the
-/// order of `CheckStop`, each over the whole statement: `NoTable`, `NoColumn` and `TypeClash` come exactly
-/// where `specs/Refusals.antt` of `sql_model` has them, as `docs/SQL.md` says in words. `NoMemory` may come at
-/// any point.
+/// and its kinds fit. The names of the catalog are sorted, each with its schema. The refusals are tried in
+/// the order of `CheckStop`, each over the whole statement: `NoTable`, `NoColumn` and `TypeClash` come
+/// exactly where `specs/Refusals.antt` of `sql_model` has them, as `docs/SQL.md` says in words. `NoMemory`
+/// may come at any point.
 pub fn check(alloc: Global, statement: &Statement, catalog: &Catalog) -> Result<Checked, CheckStop>
     ensures { Gives result (checked_of statement.now catalog.now) }
 {
