@@ -77,16 +77,16 @@ module _ (w : World) (sts : List PlainStep) (budget : ℕ) (is : plain_world w �
   recorded_late less = sym (run_late w sts is budget (package_due Included budget w) less)
 
 -- a world that isn't plain isn't supported
-pub record_unsupported : (w : World) (budget : ℕ) → plain_world w ≡ None
+pub unsupported : (w : World) (budget : ℕ) → plain_world w ≡ None
     → refused NotBuilt ≡ recorded_world Included budget w
-record_unsupported w budget is =
+unsupported w budget is =
     sym (ap (λ (o : Option (List PlainStep)). if is_some o then due_outcome budget (package_due Included budget w) (outcome_within budget w) else refused NotBuilt) is)
 
 -- and nothing is said of its package
 pub unsupported_typed : (w : World) (budget : ℕ) → plain_world w ≡ None
     → (recorded_world Included budget w).exit ≡ Done → IsTyped (package_of Included budget w)
 unsupported_typed w budget is done =
-    let never : NotBuilt ≡ Done = ap (λ (d : Due). d.exit) (record_unsupported w budget is) ∙ done in cc
+    let never : NotBuilt ≡ Done = ap (λ (d : Due). d.exit) (unsupported w budget is) ∙ done in cc
 
 -- ---- the world of a document
 

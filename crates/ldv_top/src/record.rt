@@ -87,7 +87,7 @@ fn record_steps(
     }
 }
 
-#[tactic(auto, using(crate::proofs::RecordLaws::record_unsupported, crate::proofs::RecordLaws::unsupported_typed))]
+#[tactic(auto, using(crate::proofs::RecordLaws::unsupported, crate::proofs::RecordLaws::unsupported_typed))]
 fn record_included(alloc: Global, budget: u32, world: World) -> Result<Response, AllocError>
     requires small { has_small_files world ≡ true }
     requires ruled { IsTrue (world_rules world) }
