@@ -17,6 +17,7 @@ use Rattle.run_model.specs.WorldRun.{ends_within, outcome_within, steps_by}
 use Rattle.sql_model.specs.Tables.{tables_test}
 use Rattle.package_layout.specs.Valid.{Valid, reading}
 use Rattle.package_layout.specs.Whole.{spelling, IsTyped}
+use Rattle.replay_db.proofs.EndedLaw.{ended_starts}
 use Rattle.replay_db.proofs.TraceValid.{steps_at_most}
 use Rattle.replay_db.specs.Laws.{SameRun, ReplayLaw}
 use Rattle.replay_db.specs.Worlds.{world_rules, WorldTablesLaw, ValidPackageLaw, TypedPackageLaw}
@@ -25,7 +26,7 @@ use Rattle.ldv_top.specs.declared.exit.Exit.TheVariants.{Done, NotEnded, Package
 use Rattle.ldv_top.specs.Due.{Due, refused, due_of_run, due_outcome, outcome_due, due_world, due_reading, due_run, is_supported, is_too_long, due_spelling, package_due, recorded_world, recorded_reading, due_record, replayed_package, replayed_reading, due_replay}
 use Rattle.ldv_top.specs.Headline.{IsPackageOf, Recorded}
 use Rattle.ldv_top.specs.Plain.{plain_script}
-use Rattle.ldv_top.proofs.BudgetLaw.{outcome_ends, ended_starts, ended_outcome, enough_outcome}
+use Rattle.ldv_top.proofs.BudgetLaw.{outcome_ends, ended_outcome, enough_outcome}
 use Rattle.ldv_top.proofs.RecordLaws.{not_too_long}
 
 -- ---- runs that are written
@@ -101,7 +102,7 @@ module _ (again : (p : Package) → IsTyped p → Valid p → length (spelling p
       → due_world budget (own_world (package_of Included n w)) ≡ due_world n w
   own_due n budget w ended tables enough outcome comes =
       let v : World = own_world (package_of Included n w) in
-      let script = ended_starts n w ended in
+      let script = ended_starts n [] w ended in
       let same : SameRun n [] v w script.0 = replay n w script.0 script.1 tables in
       let steps : steps_by n [] v ≤ budget = subst (λ (k : ℕ). k ≤ budget) (sym (ap (λ (p : Package). p.steps) (same.packed Included))) enough in
       let in_v : outcome_within budget v ≡ Some outcome = enough_outcome n v (same.ends ∙ ended) budget steps ∙ same.outcome ∙ comes in
