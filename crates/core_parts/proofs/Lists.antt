@@ -1,7 +1,10 @@
 -- Lists.
-use Rattle.std.proofs.Common.{◌≡◌, ◌==◌, ℕ, zero, suc, ◌+◌, ◌<◌, Bool, true, false, cond, arith, List, [], ◌∷◌, ◌++◌, map, length, take, drop, get_or, refl, sym, ap, ◌∙◌, append_assoc, add-one, drop-cons}
+use Rattle.std.proofs.Common.{◌≡◌, ◌==◌, ℕ, zero, suc, ◌+◌, ◌<◌, Bool, true, false, cond, arith, List, [], ◌∷◌, ◌++◌, map, length, take, drop, get_or, refl, sym, ap, ◌∙◌, inl, inr, append_assoc, add-one, drop-cons}
+use Rattle.std.specs.List.{AllByRecursion}
 use Rattle.std.specs.Prelude.{filter, slice_get, IfSome, Option, Some, None}
+use Rattle.std.proofs.lemmas.Bool.{cases_Bool}
 use Rattle.std.proofs.lemmas.Bool.Decides.{Decides-eqb}
+use Rattle.ldv_value.proofs.Booleans.{true≢false}
 
 -- the item at an index, and those after it
 pub drop-step : {X : Type 0} (xs : List X) (i : ℕ) (x : X) → i < length xs → x ≡ get_or xs i x → drop i xs ≡ x ∷ drop (i + 1) xs
@@ -55,6 +58,35 @@ module _ {X : Type 0} (test : X → Bool) (old : List X) (x : X) (met : Bool) (i
 
   pub left-one : met ≡ false → (rest : List X) → old ++ filter test rest ≡ old ++ filter test (x ∷ rest)
   left-one fails rest = ap (λ b. old ++ cond b (x ∷ filter test rest) (filter test rest)) (sym (sym is ∙ fails))
+
+module _ {X : Type 0} where
+  -- a filter after another is one that tests both
+  pub both_filters : (p q r : X → Bool) → ((x : X) → r x ≡ cond (q x) (p x) false) → (xs : List X) → filter p (filter q xs) ≡ filter r xs
+  both_filters p q r is [] = refl
+  both_filters p q r is (x ∷ xs) = elim (cases_Bool (q x)) [
+    | inl hit ↦
+        let same : r x ≡ p x = is x ∙ ap (λ b. cond b (p x) false) hit in
+        rw (hit, same) (ap (λ l. cond (p x) (x ∷ l) l) (both_filters p q r is xs))
+    | inr miss ↦
+        let same : r x ≡ false = is x ∙ ap (λ b. cond b (p x) false) miss in
+        rw (miss, same) (both_filters p q r is xs)
+  ]
+
+  -- a second filter that leaves out nothing more
+  pub kept_twice : (p q : X → Bool) (xs : List X) → AllByRecursion (λ x. p x ≡ true → q x ≡ true) xs → filter p (filter q xs) ≡ filter p xs
+  kept_twice p q [] implied = refl
+  kept_twice p q (x ∷ xs) implied = elim (cases_Bool (q x)) [
+    | inl hit ↦ rw hit (ap (λ l. cond (p x) (x ∷ l) l) (kept_twice p q xs implied.1))
+    | inr miss ↦ elim (cases_Bool (p x)) [
+      | inl passes ↦ absurd (true≢false (sym (implied.0 passes) ∙ miss))
+      | inr fails ↦ rw (miss, fails) (kept_twice p q xs implied.1)
+    ]
+  ]
+
+  -- a filter that leaves out nothing
+  pub all_kept : (p : X → Bool) → ((x : X) → p x ≡ true) → (xs : List X) → filter p xs ≡ xs
+  all_kept p all [] = refl
+  all_kept p all (x ∷ xs) = rw (all x) (ap (λ l. x ∷ l) (all_kept p all xs))
 
 pub none-counted : {X : Type 0} (xs : List X) → (length xs == 0) ≡ true → xs ≡ []
 none-counted [] is = refl

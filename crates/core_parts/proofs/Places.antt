@@ -1,5 +1,6 @@
 -- Expressions at the front of a list of places.
-use Rattle.std.proofs.Common.{◌≡◌, ◌∙◌, sym, ap, ℕ, List, [], ◌∷◌, ◌++◌, append_assoc}
+use Rattle.std.proofs.Common.{◌≡◌, ◌∙◌, sym, ap, ℕ, ◌+◌, List, [], ◌∷◌, ◌++◌, drop, append_assoc}
+use Rattle.std.specs.List.{flat_map}
 use Rattle.std.proofs.lemmas.List.{map-append}
 use Rattle.core_parts.proofs.Lists.{take-mapped, drop-mapped}
 use Rattle.core_parts.specs.Placing.{own_places, other_places, IsPlaced, AllPlaced}
@@ -25,3 +26,21 @@ module _ (scope : List InScope) where
   pub placed-more : (made : List Placed) (placed : Placed) → AllPlaced scope made → IsPlaced scope placed → AllPlaced scope (made ++ placed ∷ [])
   placed-more [] placed all one = (one, tt)
   placed-more (m ∷ made) placed all one = (all.0, placed-more made placed all.1 one)
+
+  -- the places of items from an index on
+  abbrev pub places_from : {X : Type 0} → (X → Expr) → List X → ℕ → List ℕ
+  places_from expr items i = places_in scope (flat_map (λ x. names_in (expr x)) (drop i items))
+
+  -- those of the item there are at the front
+  pub item-front : {X : Type 0} (expr : X → Expr) (items : List X) (i : ℕ) (item : X) (l more : List ℕ) → drop i items ≡ item ∷ drop (i + 1) items
+      → l ≡ places_from expr items i ++ more → l ≡ places_in scope (names_in (expr item)) ++ (places_from expr items (i + 1) ++ more)
+  item-front {X} expr items i item l more split is =
+      is
+      ∙ ap (λ (xs : List X). places_in scope (flat_map (λ x. names_in (expr x)) xs) ++ more) split
+      ∙ places-append (names_in (expr item)) (flat_map (λ x. names_in (expr x)) (drop (i + 1) items)) more
+
+  -- and they are passed over
+  pub item-passed : {X : Type 0} (expr : X → Expr) (items : List X) (i : ℕ) (item : X) (l new more : List ℕ) → drop i items ≡ item ∷ drop (i + 1) items
+      → l ≡ places_from expr items i ++ more → new ≡ other_places (expr item) l → new ≡ places_from expr items (i + 1) ++ more
+  item-passed expr items i item l new more split is passed =
+      others-front (expr item) l (places_from expr items (i + 1) ++ more) new (item-front expr items i item l more split is) passed

@@ -1,6 +1,6 @@
 -- The cores of a checked query, and the places of their columns.
-use Rattle.std.specs.Prelude.{◌≡◌, ℕ, List, [], Option, unwrap_or, slice_get, IsTrue, is_some}
-use Rattle.sql_model.specs.Places.{checked_statement}
+use Rattle.std.specs.Prelude.{◌≡◌, ℕ, List, [], Option, Ok, unwrap_or, slice_get, IsTrue, is_some}
+use Rattle.sql_model.specs.Places.{checked_of, checked_statement}
 use Rattle.sql_model.specs.Refusals.{cores_of}
 use Rattle.core_parts.specs.Types.{Catalog, Checked, Core, Query, Statement}
 use Rattle.core_parts.specs.Types.{TheQuery, TheInsert, TheUpdate, TheDelete}
@@ -22,6 +22,10 @@ HasCore checked place = IsTrue (is_some (core_at checked place))
 abbrev pub places_at : Checked → ℕ → List ℕ
 places_at checked place = unwrap_or (slice_get checked.places place) []
 
--- what a check of a query gives
+-- a query that a check accepted
+abbrev pub WasChecked : Checked → Query → Catalog → Type 0
+WasChecked checked query catalog = checked_of (TheQuery query) catalog ≡ Ok checked
+
+-- the query with the places of its columns, as a check gives it
 abbrev pub IsChecked : Checked → Query → Catalog → Type 0
 IsChecked checked query catalog = checked ≡ checked_statement (TheQuery query) catalog

@@ -1,3 +1,4 @@
 pub mod Checking
+pub mod Listing
 pub mod Placing
 pub mod Types

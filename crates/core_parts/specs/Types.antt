@@ -5,6 +5,8 @@ pub use Rattle.sql_model.specs.declared.expr.ColumnName.{ColumnName}
 pub use Rattle.sql_model.specs.declared.expr.Expr.{Expr}
 pub use Rattle.sql_model.specs.declared.expr.Fold.{Fold}
 pub use Rattle.sql_model.specs.declared.expr.Operator.{Operator}
+pub use Rattle.sql_model.specs.declared.reply.SqlRefusal.{SqlRefusal}
+pub use Rattle.sql_model.specs.declared.reply.SqlRefusal.TheVariants.{NoTable, NoColumn, TypeClash}
 pub use Rattle.sql_model.specs.declared.statement.Core.{Core}
 pub use Rattle.sql_model.specs.declared.statement.Item.{Item}
 pub use Rattle.sql_model.specs.declared.statement.Query.{Query}

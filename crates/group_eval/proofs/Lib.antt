@@ -2,3 +2,4 @@ pub mod AddLaws
 pub mod CoreLaws
 pub mod GroupLaws
 pub mod SettleLaws
+pub mod UnitingLaws

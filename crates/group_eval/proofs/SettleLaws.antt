@@ -1,6 +1,6 @@
 -- Expressions over a group whose aggregates are constants, form by form.
 use Rattle.std.proofs.Common.{◌≡◌, ◌∙◌, sym, ap, subst, refl, ℕ, List, [], ◌∷◌, ◌++◌, map, length, take, drop, append_assoc, append-nil}
-use Rattle.std.specs.Prelude.{Some, None, Bool, pos, Option}
+use Rattle.std.specs.Prelude.{Some, None, Bool, pos, Result, Ok, Err, IfOk}
 use Rattle.std.proofs.lemmas.List.{map-append, length-map}
 use Rattle.std.proofs.lemmas.Simd.{map-map}
 use Rattle.lineage.specs.declared.answer.Pick.{Pick}
@@ -8,7 +8,7 @@ use Rattle.core_parts.proofs.Lists.{take-mapped, drop-mapped}
 use Rattle.core_parts.proofs.Places.{places-append}
 use Rattle.group_eval.specs.Folding.{first_row, pick_environment, pick_environments, value_over, group_meaning}
 use Rattle.core_parts.specs.Placing.{own_places, other_places, IsPlaced}
-use Rattle.group_eval.specs.Settling.{first_meaning, SettlesTo, IsSettled}
+use Rattle.group_eval.specs.Settling.{SettlesTo, IsSettled}
 use Rattle.group_eval.specs.Types.{ColumnName, Expr, Fold, Operator, Value}
 use Rattle.core_parts.specs.declared.placed.Placed.{Placed}
 use Rattle.sql_model.proofs.Folds.{fold-Constant, fold-Column, fold-Negate, fold-Not, fold-Both, fold-IsNull, fold-Count, fold-Aggregate}
@@ -118,3 +118,14 @@ module _ (picks : List Pick) where
   settled_is e settled places left h scope placed =
       let made = h scope [] (sym placed ∙ sym (append-nil (places_in scope (names_in e)))) in
       record { placed = sym made.1; same = made.2 }
+
+-- what is read of a settled expression over the first row is read of the expression over the group
+pub settled_read : {V E : Type 0} (reads : Meaning → V) (picks : List Pick) (placed settled : Placed) (row : List Value) (read : Result V E) → row ≡ first_row picks
+    → ((scope : List InScope) → IsPlaced scope placed → IsSettled scope picks placed.expr settled)
+    → IfOk read (λ v. (scope : List InScope) → IsPlaced scope settled → v ≡ reads (eval settled.expr (environment scope row ∷ [])))
+    → IfOk read (λ v. (scope : List InScope) → IsPlaced scope placed → v ≡ reads (group_meaning scope picks placed.expr))
+settled_read reads picks placed settled row (Ok v) is settles made = λ scope there.
+    made scope (settles scope there).placed
+    ∙ (λ j. reads (eval settled.expr (environment scope (is j) ∷ [])))
+    ∙ ap reads (settles scope there).same
+settled_read reads picks placed settled row (Err e) is settles made = tt

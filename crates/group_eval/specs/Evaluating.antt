@@ -1,6 +1,6 @@
 -- The answer rows of groups of picks.
-use Rattle.std.specs.Prelude.{◌≡◌, ℕ, List, [], ◌∷◌, ◌++◌, map, filter, not, Bool, true, Option, Some, None}
-use Rattle.std.specs.BTreeMap.{BTreeMap}
+use Rattle.std.specs.Prelude.{◌≡◌, ℕ, List, ◌∷◌, ◌++◌, map, filter, not, Bool, true, Option, Some, None}
+use Rattle.core_parts.specs.declared.refs_by.RefsBy.{RefsBy}
 use Rattle.lineage.specs.Lineage.{Lineage}
 use Rattle.lineage.specs.Rows.{kept, joined_row, AnswersStandFor, PicksStandFor}
 use Rattle.lineage.specs.StandsFor.{StandsFor}
@@ -76,7 +76,7 @@ pub record AddsGroup (scope : List InScope) (plan : Plan) (group : List Pick) (o
       ≡ union_of old.rejected (rejected_of scope plan (group ∷ rest))
 
 -- the group of each of some picks
-abbrev pub groups_listed : List ℕ → BTreeMap (List Value) (List Pick) → List Pick → List (List Pick)
+abbrev pub groups_listed : List ℕ → RefsBy (List Value) Pick → List Pick → List (List Pick)
 groups_listed places map_of firsts = map (λ pick. listed map_of (key_of places pick)) firsts
 
 -- ---- a core

@@ -1,9 +1,8 @@
 -- Picked combinations by the values that they have at some places.
-use Rattle.std.specs.Prelude.{ℕ, List, [], ◌∷◌, ◌++◌, map, filter, length, ◌==◌, Bool, cond, unwrap_or}
+use Rattle.std.specs.Prelude.{ℕ, List, [], ◌∷◌, ◌++◌, map, filter, length, ◌==◌, Bool}
 use Rattle.std.specs.Prelude.{if◌then◌else◌}
-use Rattle.std.specs.BTreeMap as tree
-use Rattle.std.specs.BTreeMap.{BTreeMap}
-use Rattle.std.specs.Ordering.{is_eq}
+use Rattle.core_parts.specs.Listing as listing
+use Rattle.core_parts.specs.declared.refs_by.RefsBy.{RefsBy}
 use Rattle.lineage.specs.declared.answer.Pick.{Pick}
 use Rattle.sql_model.specs.KeyOrder.{values_order}
 use Rattle.group_eval.specs.Types.{Value}
@@ -31,18 +30,18 @@ pick_groups places picks = if length places == 0 then picks ∷ [] else keyed_gr
 -- ---- steps
 
 -- the picks that a map has under some values
-abbrev pub listed : BTreeMap (List Value) (List Pick) → List Value → List Pick
-listed map key = unwrap_or (tree.get values_order map key) []
+abbrev pub listed : RefsBy (List Value) Pick → List Value → List Pick
+listed map key = listing.listed values_order map key
 
 -- a pick more under its values
 abbrev pub pick_added : List Value → Pick → List Value → List Pick → List Pick
-pick_added own pick key picks = cond (is_eq (values_order own key)) (picks ++ pick ∷ []) picks
+pick_added own pick key picks = listing.item_added values_order own pick key picks
 
 abbrev pub has_none : List Pick → Bool
 has_none picks = length picks == 0
 
 -- those under which a map has no pick
-abbrev pub unlisted : BTreeMap (List Value) (List Pick) → List (List Value) → List (List Value)
+abbrev pub unlisted : RefsBy (List Value) Pick → List (List Value) → List (List Value)
 unlisted map keys = filter (λ key. has_none (listed map key)) keys
 
 -- a pick more at the end, where some group has none so far

@@ -1,56 +1,37 @@
 //! Picked combinations of the same values, found by a map over these.
 
-ghost use Rattle.std.specs.Prelude.{◌≡◌, ◌++◌, ◌∷◌, [], List as Items, map, filter, length, ◌==◌, cond};
-ghost use Rattle.std.specs.Prelude.{IfOk, OnOk, None, unwrap_or};
+ghost use Rattle.std.specs.Prelude.{◌≡◌, [], List as Items, map};
+ghost use Rattle.std.specs.Prelude.{IfOk, OnOk, unwrap_or};
 ghost use Rattle.std.specs.Option.{option_map};
-ghost use Rattle.std.specs.BTreeMap as tree;
-ghost use Rattle.std.specs.BTreeMap.{is_at};
 ghost use Rattle.group_eval.specs.Grouping.{key_of, picks_under, listed, pick_added, first_noted};
-ghost use Rattle.sql_model.specs.KeyOrder.{values_order};
 ghost use Rattle.group_eval.specs.Types.{Value as Seen};
 ghost use Rattle.sql_model.specs.QueryAnswer.{distinct};
 
-use core_parts::Refs;
+use core_parts::{Refs, RefsBy};
 use ldv_value::Places;
 use lineage::Pick;
 use sql_model::KeyOf;
 use std::alloc::{AllocError, Global};
-use std::collections::BTreeMap;
 
 /// The groups of picks, each under the values that its picks have at some places.
 #[derive(Drop)]
 pub(crate) struct Groups<'a> {
     // Of each group its first pick, in order of first appearance.
     firsts: Refs<'a, Pick>,
-    map: BTreeMap<KeyOf<'a>, Refs<'a, Pick>>,
+    map: RefsBy<'a, KeyOf<'a>, Pick>,
 }
 
-// Takes the picks under the values of a pick out.
-fn taken<'a>(
-    alloc: Global,
-    map: &mut BTreeMap<KeyOf<'a>, Refs<'a, Pick>>,
+// Notes a pick that is the first of its group.
+fn note_first<'a>(
+    map: &RefsBy<'a, KeyOf<'a>, Pick>,
+    firsts: &mut Refs<'a, Pick>,
     places: &'a Places,
     pick: &'a Pick,
-) -> Refs<'a, Pick>
-    ensures picks { result ≡ listed map.old (key_of places.now pick.now) }
-    ensures others { (v : Items Seen) → tree.get values_order map.new v
-        ≡ cond (is_at (values_order (key_of places.now pick.now)) v) None (tree.get values_order map.old v) }
-{
-    match map.remove(&KeyOf::of(&pick.values, places)) {
-        Some(picks) => picks,
-        None => Refs::new(alloc),
-    }
-}
-
-// Notes the first pick of a group that has none so far.
-fn note_first<'a>(
-    firsts: &mut Refs<'a, Pick>,
-    group: &Refs<'a, Pick>,
-    pick: &'a Pick,
 ) -> Result<(), AllocError>
-    ensures { OnOk result (firsts.new ≡ first_noted group.now pick.now firsts.old) }
+    ensures { OnOk result (firsts.new
+        ≡ first_noted (listed map.now (key_of places.now pick.now)) pick.now firsts.old) }
 {
-    if group.len() == 0 {
+    if map.has_none(&KeyOf::of(&pick.values, places)) {
         firsts.push(pick)?;
     }
     Ok(())
@@ -58,8 +39,7 @@ fn note_first<'a>(
 
 // Adds a pick under its values.
 fn add_pick<'a>(
-    alloc: Global,
-    map: &mut BTreeMap<KeyOf<'a>, Refs<'a, Pick>>,
+    map: &mut RefsBy<'a, KeyOf<'a>, Pick>,
     firsts: &mut Refs<'a, Pick>,
     places: &'a Places,
     pick: &'a Pick,
@@ -69,17 +49,11 @@ fn add_pick<'a>(
     ensures firsts { OnOk result
         (firsts.new ≡ first_noted (listed map.old (key_of places.now pick.now)) pick.now firsts.old) }
 {
-    let mut group = taken(alloc, map, places, pick);
-    note_first(firsts, &group, pick)?;
-    group.push(pick)?;
-    match map.insert(KeyOf::of(&pick.values, places), group) {
-        Ok(_) => Ok(()),
-        Err(_) => Err(AllocError),
-    }
+    note_first(map, firsts, places, pick)?;
+    map.add(KeyOf::of(&pick.values, places), pick)
 }
 
 /// The groups of picks by their values at some places.
-#[tactic(auto, using(crate::proofs::GroupLaws::group_steps))]
 pub(crate) fn groups_of<'a>(
     alloc: Global,
     places: &'a Places,
@@ -90,10 +64,10 @@ pub(crate) fn groups_of<'a>(
     ensures firsts { IfOk result (λ groups.
         map (key_of places.now) groups.firsts ≡ distinct (map (key_of places.now) picks.now)) }
 {
-    let mut map = BTreeMap::new(alloc);
+    let mut map = RefsBy::new(alloc);
     let mut firsts = Refs::new(alloc);
     for pick in picks {
-        add_pick(alloc, &mut map, &mut firsts, places, pick)?;
+        add_pick(&mut map, &mut firsts, places, pick)?;
     }
     Ok(Groups { firsts, map })
 }

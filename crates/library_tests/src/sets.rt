@@ -13,11 +13,11 @@ use std::alloc::{AllocError, Global};
 use std::process::Abort;
 use std::test::Fail;
 
-// A row: the place of its table, its number and its version.
-type Entry = (u32, u32, u32);
+/// A row: the place of its table, its number and its version.
+pub(crate) type Entry = (u32, u32, u32);
 
-// The names of three tables, strictly increasing.
-fn three_names(alloc: Global) -> Result<Names, AllocError>
+/// The names of three tables, strictly increasing.
+pub(crate) fn three_names(alloc: Global) -> Result<Names, AllocError>
     ensures three { IfOk result (λ names. length names ≡ 3) }
     ensures sorted { IfOk result (IsStrictlySortedBy (slice_cmp nat_cmp)) }
 {
@@ -37,8 +37,8 @@ fn add_entry(names: &Names, set: &mut LineageSet, entry: Entry) -> Result<(), Al
     set.add(entry.0, entry.1, entry.2)
 }
 
-// The set of some rows.
-fn set_of(
+/// The set of some rows.
+pub(crate) fn set_of(
     rt: &impl Abort,
     alloc: Global,
     names: &Names,
@@ -64,8 +64,8 @@ fn unite(names: &Names, set: &mut LineageSet, other: &LineageSet) -> Result<(), 
     set.union(other)
 }
 
-// Expects just these members.
-fn expect(
+/// Expects just these members.
+pub(crate) fn expect(
     rt: &impl Abort,
     names: &Names,
     set: &LineageSet,
@@ -136,8 +136,13 @@ fn unites(rt: HostRuntime) -> Result<(), Fail> {
     Ok(())
 }
 
-// The set of the rows of the first table from one number to before another, each at its number's version.
-fn rows_of(alloc: Global, names: &Names, first: u32, after: u32) -> Result<LineageSet, AllocError>
+/// The set of the rows of the first table from one number to before another, each at its number's version.
+pub(crate) fn rows_of(
+    alloc: Global,
+    names: &Names,
+    first: u32,
+    after: u32,
+) -> Result<LineageSet, AllocError>
     requires { 0 < length names.now }
     ensures { IfOk result (IsNamed names.now) }
 {
@@ -148,8 +153,8 @@ fn rows_of(alloc: Global, names: &Names, first: u32, after: u32) -> Result<Linea
     Ok(set)
 }
 
-// Expects the rows from 0 to before a number.
-fn expect_rows(
+/// Expects the rows from 0 to before a number.
+pub(crate) fn expect_rows(
     rt: &impl Abort,
     names: &Names,
     set: &LineageSet,

@@ -55,14 +55,14 @@ test-turned op n Null = refl
 test-turned op n (Int m) = known-turned op (Int n) (Int m)
 test-turned op n (Text t) = known-turned op (Int n) (Text t)
 
-truth-both : (test : Cmp) (left right : Expr) (env : Environment) → is_true (truth (Both (Compare test) left right) env) ≡ is_true (test_of test (eval left (env ∷ [])).value (eval right (env ∷ [])).value)
+pub truth-both : (test : Cmp) (left right : Expr) (env : Environment) → is_true (truth (Both (Compare test) left right) env) ≡ is_true (test_of test (eval left (env ∷ [])).value (eval right (env ∷ [])).value)
 truth-both test left right env = ap (λ (f : List Environment → Meaning). is_true (f (env ∷ [])).truth) (fold-Both eval_step (Compare test) left right)
 
-column-value : (name : ColumnName) (env : Environment) → (eval (Column name) (env ∷ [])).value ≡ env name
+pub column-value : (name : ColumnName) (env : Environment) → (eval (Column name) (env ∷ [])).value ≡ env name
 column-value name env = ap (λ (f : List Environment → Meaning). (f (env ∷ [])).value) (fold-Column eval_step name)
 
-number-value : (v : Value) (env : Environment) → (eval (Constant v) (env ∷ [])).value ≡ v
-number-value v env = ap (λ (f : List Environment → Meaning). (f (env ∷ [])).value) (fold-Constant eval_step v)
+pub constant-value : (v : Value) (env : Environment) → (eval (Constant v) (env ∷ [])).value ≡ v
+constant-value v env = ap (λ (f : List Environment → Meaning). (f (env ∷ [])).value) (fold-Constant eval_step v)
 
 pub column_number : (test : Cmp) (left right : Expr) (n : ℤ) → IsColumn left → right ≡ Constant (Int n)
     → IsComparison (Both (Compare test) left right) (record { op = test; constant = n })
@@ -73,7 +73,7 @@ column_number test left right n (name, is) number = record {
   same = λ env. truth-both test left right env
       ∙ (λ j. is_true (test_of test
       ((ap (λ (e : Expr). (eval e (env ∷ [])).value) is ∙ column-value name env) j)
-      ((ap (λ (e : Expr). (eval e (env ∷ [])).value) number ∙ number-value (Int n) env) j)));
+      ((ap (λ (e : Expr). (eval e (env ∷ [])).value) number ∙ constant-value (Int n) env) j)));
 }
 
 pub number_column : (test : Cmp) (left right : Expr) (n : ℤ) → left ≡ Constant (Int n) → IsColumn right
@@ -84,7 +84,7 @@ number_column test left right n number (name, is) = record {
       ∙ (λ j. (ap names_in number ∙ fold-Constant names_step (Int n)) j ++ (ap names_in is ∙ fold-Column names_step name) j);
   same = λ env. truth-both test left right env
       ∙ (λ j. is_true (test_of test
-      ((ap (λ (e : Expr). (eval e (env ∷ [])).value) number ∙ number-value (Int n) env) j)
+      ((ap (λ (e : Expr). (eval e (env ∷ [])).value) number ∙ constant-value (Int n) env) j)
       ((ap (λ (e : Expr). (eval e (env ∷ [])).value) is ∙ column-value name env) j)))
       ∙ ap is_true (test-turned test n (env name));
 }

@@ -1,27 +1,17 @@
 -- Rows by the value of a column.
-use Rattle.std.proofs.Common.{◌≡◌, ◌∙◌, sym, ap, refl, ℕ, Bool, true, false, cond, List, [], ◌∷◌, ◌++◌, append_assoc, inl, inr}
-use Rattle.std.proofs.lemmas.Bool.{cases_Bool}
-use Rattle.std.specs.Prelude.{unwrap_or, Option, Some, None}
-use Rattle.std.specs.BTreeMap as tree
-use Rattle.std.specs.BTreeMap.{BTreeMap, is_at}
+use Rattle.std.proofs.Common.{◌≡◌, ◌∙◌, sym, ap, refl, ℕ, Bool, true, false, cond, List, [], ◌∷◌, ◌++◌}
 use Rattle.std.specs.Ordering.{is_eq, int_cmp}
 use Rattle.std.specs.Cmp.{eq_by_cmp_equiv}
 use Rattle.ldv_value.specs.declared.value.Value.{Value}
 use Rattle.ldv_value.specs.declared.value.Value.TheVariants.{Null, Int, Text}
 use Rattle.ldv_value.specs.Order.{order, known}
 use Rattle.sql_model.specs.KeyOrder.{order_total}
-use Rattle.core_parts.proofs.Listings.{put_item}
-use Rattle.core_parts.proofs.SameValues.{exact}
+use Rattle.core_parts.proofs.Listings.{moved}
+use Rattle.core_parts.specs.declared.refs_by.RefsBy.{RefsBy}
 use Rattle.query_eval.specs.Joining.{equals, rows_listed, row_added, with_value}
 use Rattle.query_eval.specs.declared.source.SourceRow.{SourceRow}
 use Rattle.sql_model.specs.Meaning.{is_true, is_null}
 use Rattle.sql_model.specs.Scope.{value_at}
-
-pub put_row : (m t n : BTreeMap Value (List SourceRow)) (key : Value) (row : SourceRow) (rows : List SourceRow) → rows ≡ rows_listed m key
-    → ((v : Value) → tree.get order t v ≡ cond (is_at (order key) v) None (tree.get order m v))
-    → ((v : Value) → tree.get order n v ≡ cond (is_at (order key) v) (Some (rows ++ row ∷ [])) (tree.get order t v))
-    → (v : Value) → rows_listed n v ≡ row_added key row v (rows_listed m v)
-put_row = put_item order exact
 
 true_of : (b : Bool) → is_true (known b) ≡ b
 true_of true = refl
@@ -48,12 +38,8 @@ equals_null (Text s) Null is = refl
 equals_null (Text s) (Int n) is = cc
 equals_null (Text s) (Text t) is = cc
 
-pub moved : (b : Bool) (rows more : List SourceRow) (row : SourceRow) → cond b (rows ++ row ∷ []) rows ++ more ≡ rows ++ cond b (row ∷ more) more
-moved true rows more row = append_assoc rows (row ∷ []) more
-moved false rows more row = refl
-
--- a row that is rows_listed goes from those that are left to those that are there
-pub index_on : (m n : BTreeMap Value (List SourceRow)) (place : ℕ) (key : Value) (row : SourceRow) (rest : List SourceRow) → key ≡ value_at row.values place → is_null key ≡ false
+-- a row that is listed goes from those that are left to those that are there
+pub index_on : (m n : RefsBy Value SourceRow) (place : ℕ) (key : Value) (row : SourceRow) (rest : List SourceRow) → key ≡ value_at row.values place → is_null key ≡ false
     → ((v : Value) → rows_listed n v ≡ row_added key row v (rows_listed m v)) → (v : Value)
     → rows_listed n v ++ with_value place v rest ≡ rows_listed m v ++ with_value place v (row ∷ rest)
 index_on m n place key row rest is known added v =

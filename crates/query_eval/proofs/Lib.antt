@@ -1,7 +1,10 @@
 pub mod Agree
 pub mod Conjuncts
 pub mod Finishes
+pub mod FixingLaws
 pub mod Indexes
+pub mod KeyedLaws
+pub mod LeavingLaws
 pub mod Levels
 pub mod ColumnTests
 pub mod MaskLaws
@@ -11,3 +14,4 @@ pub mod Picks
 pub mod Probes
 pub mod Product
 pub mod Projections
+pub mod StoredLaws

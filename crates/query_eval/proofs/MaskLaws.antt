@@ -1,18 +1,19 @@
 -- Rows may be left out for which a mask doesn't pass.
 use Rattle.std.proofs.Common.{◌≡◌, ◌==◌, ◌∙◌, sym, ap, subst, refl, ℕ, zero, suc, ◌+◌, Bool, true, false, ◌&&◌, ◌||◌, not, List, [], ◌∷◌, ◌++◌, map, length, inl, inr, arith, zero-add, add-zero}
-use Rattle.std.specs.Prelude.{Some}
 use Rattle.std.specs.List.{flat_map, list_all, AllByRecursion}
 use Rattle.std.proofs.lemmas.Bool.{cases_Bool}
 use Rattle.std.proofs.lemmas.Bool.Decides.{Decides-eqb}
-use Rattle.core_parts.specs.Checking.{core_at, IsChecked}
+use Rattle.core_parts.specs.Placing.{AllPlaced}
+use Rattle.core_parts.specs.declared.placed.Placed.{Placed}
+use Rattle.query_eval.specs.Joining.{meets}
 use Rattle.query_eval.specs.Masking.{HaveWidths, values_of, passes, AreMasks, row_passes, kept_by, keeps_from, TablesAreWide}
-use Rattle.query_eval.specs.Sourcing.{all_kept, LeavesPicked}
-use Rattle.query_eval.specs.Types.{Checked, Core, FromItem, Int, Query, Table, TableRow, Value}
+use Rattle.query_eval.specs.Sourcing.{all_kept}
+use Rattle.query_eval.specs.Types.{FromItem, Int, Table, TableRow, Value}
 use Rattle.query_eval.specs.declared.masking.Mask.{Mask}
-use Rattle.sql_model.specs.QueryAnswer.{Combination, combinations, meets_all, row_environment}
+use Rattle.sql_model.specs.QueryAnswer.{Combination, combinations, joined_values}
 use Rattle.sql_model.specs.Meaning.{is_true}
 use Rattle.ldv_value.specs.Order.{test_of}
-use Rattle.sql_model.specs.Scope.{catalog_of, value_at, rows_of, scope_of, table_at}
+use Rattle.sql_model.specs.Scope.{InScope, value_at, rows_of, table_at}
 
 -- ---- the rows of a combination have the widths of their tables
 
@@ -35,7 +36,7 @@ with-rows width widths cs all (row ∷ rows) wide =
     all-joined (HaveWidths (width ∷ widths)) (map (λ others. row ∷ others) cs) (flat_map (λ row. map (λ others. row ∷ others) cs) rows)
     (with-row width widths row wide.0 cs all) (with-rows width widths cs all rows wide.1)
 
-all-wide : (from : List FromItem) (db : List Table) (widths : List ℕ) → TablesAreWide from db widths → AllByRecursion (HaveWidths widths) (combinations from db)
+pub all-wide : (from : List FromItem) (db : List Table) (widths : List ℕ) → TablesAreWide from db widths → AllByRecursion (HaveWidths widths) (combinations from db)
 all-wide [] db [] wide = (tt, tt)
 all-wide [] db (width ∷ widths) wide = absurd wide
 all-wide (item ∷ from) db [] wide = absurd wide
@@ -67,17 +68,8 @@ rest-kept rows masks all k (width ∷ widths) (row ∷ left) same =
     suc-over : (i k : ℕ) → suc i + k ≡ i + suc k
     suc-over i k = omega arith
 
--- rows are left out alone that are in no picked combination
-pub masks-leave : (checked : Checked) (place : ℕ) (widths : List ℕ) (masks : List Mask) (query : Query) (core : Core) (db : List Table)
-    → AreMasks checked place widths masks
-    → IsChecked checked query (catalog_of db)
-    → core_at checked place ≡ Some core
-    → TablesAreWide core.from db widths
-    → LeavesPicked core db (keeps_from masks 0 widths)
-masks-leave checked place widths masks query core db are is got wide = each (combinations core.from db) (all-wide core.from db widths wide)
-  where
-    each : (cs : List Combination) → AllByRecursion (HaveWidths widths) cs
-        → AllByRecursion (λ rows. meets_all core.picks (row_environment (scope_of core.from (catalog_of db)) rows) ≡ true → all_kept (keeps_from masks 0 widths) rows ≡ true) cs
-    each [] all = tt
-    each (rows ∷ cs) all =
-        ((λ holds. rest-kept rows masks (are query (catalog_of db) core rows is got all.0 holds) 0 widths rows (λ i. ap (values_of rows) (sym (add-zero i)))), each cs all.1)
+-- the rows of a combination for which the conditions are True are kept
+pub masks-keep : (scope : List InScope) (conds : List Placed) (widths : List ℕ) (masks : List Mask) → AllPlaced scope conds → AreMasks conds widths masks
+    → (rows : Combination) → HaveWidths widths rows → meets scope conds (joined_values rows) ≡ true → all_kept (keeps_from masks 0 widths) rows ≡ true
+masks-keep scope conds widths masks placed are rows wide met =
+    rest-kept rows masks (are scope rows placed wide met) 0 widths rows (λ i. ap (values_of rows) (sym (add-zero i)))

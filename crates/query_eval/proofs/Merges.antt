@@ -1,18 +1,15 @@
 -- Answers by their values.
-use Rattle.std.proofs.Common.{◌≡◌, ◌∙◌, sym, ap, subst, refl, ℕ, Bool, true, false, cond, List, [], ◌∷◌, ◌++◌, map, append_assoc, inl, inr, Option, Some, None}
-use Rattle.std.specs.Prelude.{filter, unwrap_or}
+use Rattle.std.proofs.Common.{◌≡◌, ◌∙◌, sym, ap, subst, refl, ℕ, Bool, true, false, List, [], ◌∷◌, ◌++◌, map, inl, inr}
+use Rattle.std.specs.Prelude.{filter}
 use Rattle.std.proofs.lemmas.Bool.{cases_Bool}
-use Rattle.std.specs.BTreeMap as tree
-use Rattle.std.specs.BTreeMap.{BTreeMap, is_at}
 use Rattle.std.specs.FinMap.{empty}
-use Rattle.std.specs.Ordering.{is_eq}
 use Rattle.lineage.specs.Rows.{kept, AnswersStandFor}
 use Rattle.lineage.specs.StandsFor.{StandsFor}
 use Rattle.lineage.specs.declared.answer.Answer.{Answer}
 use Rattle.lineage.proofs.Origins.{stands-empty}
 use Rattle.lineage.proofs.RowLaws.{kept-union, answers-values}
-use Rattle.core_parts.proofs.Listings.{put_item, moved}
-use Rattle.core_parts.proofs.SameValues.{all_exact}
+use Rattle.core_parts.proofs.Listings.{item_listed}
+use Rattle.core_parts.specs.declared.refs_by.RefsBy.{RefsBy}
 use Rattle.lineage.proofs.Unions.{version_union}
 use Rattle.sql_model.specs.KeyOrder.{values_order}
 use Rattle.query_eval.specs.Merging.{united, own_values, with_values, merged, listed, answer_added}
@@ -23,19 +20,11 @@ use Rattle.sql_model.specs.QueryAnswer.{AnswerRow, answer_values, lineage_of, ha
 
 -- ---- a map of answers
 
-pub put_answer : (m t n : BTreeMap (List Value) (List Answer)) (answer : Answer) (answers : List Answer) → answers ≡ listed m answer.values
-    → ((v : List Value) → tree.get values_order t v ≡ cond (is_at (values_order answer.values) v) None (tree.get values_order m v))
-    → ((v : List Value) → tree.get values_order n v ≡ cond (is_at (values_order answer.values) v) (Some (answers ++ answer ∷ [])) (tree.get values_order t v))
-    → (v : List Value) → listed n v ≡ answer_added answer v (listed m v)
-put_answer m t n answer = put_item values_order all_exact m t n answer.values answer
-
 -- an answer that is listed goes from those that are left to those that are there
-pub group_on : (m n : BTreeMap (List Value) (List Answer)) (answer : Answer) (rest : List Answer)
+pub group_on : (m n : RefsBy (List Value) Answer) (answer : Answer) (rest : List Answer)
     → ((v : List Value) → listed n v ≡ answer_added answer v (listed m v)) → (v : List Value)
     → listed n v ++ filter (with_values v) rest ≡ listed m v ++ filter (with_values v) (answer ∷ rest)
-group_on m n answer rest added v =
-    ap (λ l. l ++ filter (with_values v) rest) (added v)
-    ∙ moved (is_eq (values_order answer.values v)) (listed m v) (filter (with_values v) rest) answer
+group_on = item_listed values_order own_values
 
 -- ---- merged answers stand for merged rows
 

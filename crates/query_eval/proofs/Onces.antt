@@ -1,48 +1,26 @@
 -- Each once, by a set of those seen.
-use Rattle.std.proofs.Common.{◌≡◌, ◌∙◌, sym, ap, refl, Bool, true, false, cond, List, [], ◌∷◌, ◌++◌, append_assoc, inl, inr}
-use Rattle.std.proofs.lemmas.Bool.{cases_Bool}
+use Rattle.std.proofs.Common.{◌≡◌, ◌∙◌, sym, ap, refl, Bool, true, false, cond, List, [], ◌∷◌, ◌++◌, append_assoc}
 use Rattle.std.specs.Prelude.{filter, not}
-use Rattle.std.specs.List.{list_any}
-use Rattle.std.specs.declared.cmp.Ordering.TheVariants.{Less, Equal, Greater}
+use Rattle.std.specs.List.{list_any, AllByRecursion}
 use Rattle.std.specs.BTreeSet as treeset
 use Rattle.std.specs.BTreeSet.{BTreeSet}
 use Rattle.std.specs.BTreeMap.{is_at}
-use Rattle.std.specs.Ordering.{is_eq}
 use Rattle.std.specs.Cmp.{eq_by_cmp_equiv}
 use Rattle.ldv_value.specs.declared.value.Value.{Value}
-use Rattle.ldv_value.specs.Order.{order}
 use Rattle.sql_model.specs.KeyOrder.{values_order, values_total}
 use Rattle.sql_model.specs.QueryAnswer.{distinct}
 use Rattle.sql_model.specs.Keys.{same_values}
 use Rattle.query_eval.specs.Merging.{unseen}
+use Rattle.core_parts.proofs.Lists.{both_filters, kept_twice, all_kept}
 use Rattle.core_parts.proofs.SameValues.{tied, all_exact}
 
-module _ {X : Type 0} where
-  -- a second filter that leaves out nothing more
-  pub twice : (p q : X → Bool) → ((x : X) → p x ≡ true → q x ≡ true) → (xs : List X) → filter p (filter q xs) ≡ filter p xs
-  twice p q implied [] = refl
-  twice p q implied (x ∷ xs) = elim (cases_Bool (q x)) [
-    | inl hit ↦ rw hit (ap (λ l. cond (p x) (x ∷ l) l) (twice p q implied xs))
-    | inr miss ↦ elim (cases_Bool (p x)) [
-      | inl passes ↦ let no : false ≡ true = sym miss ∙ implied x passes in cc
-      | inr fails ↦ rw (miss, fails) (twice p q implied xs)
-    ]
-  ]
-
-  pub both_filters : (p q r : X → Bool) → ((x : X) → r x ≡ cond (q x) (p x) false) → (xs : List X) → filter p (filter q xs) ≡ filter r xs
-  both_filters p q r is [] = refl
-  both_filters p q r is (x ∷ xs) = elim (cases_Bool (q x)) [
-    | inl hit ↦
-        let same : r x ≡ p x = is x ∙ ap (λ b. cond b (p x) false) hit in
-        rw (hit, same) (ap (λ l. cond (p x) (x ∷ l) l) (both_filters p q r is xs))
-    | inr miss ↦
-        let same : r x ≡ false = is x ∙ ap (λ b. cond b (p x) false) miss in
-        rw (miss, same) (both_filters p q r is xs)
-  ]
-
-  pub all_kept : (p : X → Bool) → ((x : X) → p x ≡ true) → (xs : List X) → filter p xs ≡ xs
-  all_kept p all [] = refl
-  all_kept p all (x ∷ xs) = rw (all x) (ap (λ l. x ∷ l) (all_kept p all xs))
+-- a second filter that leaves out nothing more
+twice : {X : Type 0} (p q : X → Bool) → ((x : X) → p x ≡ true → q x ≡ true) → (xs : List X) → filter p (filter q xs) ≡ filter p xs
+twice {X} p q implied xs = kept_twice p q xs (each xs)
+  where
+    each : (ys : List X) → AllByRecursion (λ y. p y ≡ true → q y ≡ true) ys
+    each [] = tt
+    each (y ∷ ys) = (implied y, each ys)
 
 pub none_seen : (seen : BTreeSet (List Value)) → seen.keys ≡ [] → (xs : List (List Value)) → unseen seen xs ≡ xs
 none_seen seen is xs = all_kept (λ x. not (treeset.contains values_order seen x)) (λ x. ap (λ ks. not (list_any (is_at (values_order x)) ks)) is) xs

@@ -13,7 +13,7 @@ use Rattle.lineage.specs.Rows.{kept, PicksStandFor, joined_row}
 use Rattle.lineage.specs.StandsFor.{StandsFor, origin_at}
 use Rattle.lineage.specs.declared.answer.Pick.{Pick}
 use Rattle.lineage.proofs.Origins.{AreDistinct, distinct-sorted, stands-empty, stands-added}
-use Rattle.ldv_value.proofs.Booleans.{true≢false}
+use Rattle.core_parts.proofs.Lists.{kept_twice}
 use Rattle.query_eval.proofs.Product.{filter_joined}
 use Rattle.query_eval.specs.Conditions.{AreConditions}
 use Rattle.query_eval.specs.Joining.{combos, tests}
@@ -88,17 +88,6 @@ combos-are names versions db (item ∷ from) (stays ∷ keeps) (source ∷ sourc
     ∙ ap (flat_map (λ row. map (λ others. row ∷ others) (filter (all_kept keeps) (combinations from db)))) are.0.rows
     ∙ kept-product stays keeps (combinations from db) (rows_of (table_at item.table db))
 
--- a second filter that leaves out nothing more
-kept-twice : {A : Type 0} (p q : A → Bool) (xs : List A) → AllByRecursion (λ x. p x ≡ true → q x ≡ true) xs → filter p (filter q xs) ≡ filter p xs
-kept-twice p q [] implied = refl
-kept-twice p q (x ∷ xs) implied = elim (cases_Bool (q x)) [
-  | inl hit ↦ rw hit (ap (λ l. cond (p x) (x ∷ l) l) (kept-twice p q xs implied.1))
-  | inr miss ↦ elim (cases_Bool (p x)) [
-    | inl passes ↦ absurd (true≢false (sym (implied.0 passes) ∙ miss))
-    | inr fails ↦ rw (miss, fails) (kept-twice p q xs implied.1)
-  ]
-]
-
 -- those that are kept are the picked ones
 pub picked-are : (names : List (List ℕ)) (versions : Versions) (db : List Table) (core : Core) (keeps : List (TableRow → Bool)) (sources : List Source) (conds : List Placed)
     → AreSources names versions db core.from keeps sources
@@ -112,7 +101,7 @@ picked-are names versions db core keeps sources conds are leaves same =
     (λ rows. same.same (joined rows) ∙ ap (λ (vs : List Value). meets_all core.picks (environment scope vs)) (joined-rows rows))
     (combos (map source_rows sources))
     ∙ ap (filter test) (combos-are names versions db core.from keeps sources are)
-    ∙ kept-twice test (all_kept keeps) (combinations core.from db) leaves
+    ∙ kept_twice test (all_kept keeps) (combinations core.from db) leaves
 
 -- ---- versions
 

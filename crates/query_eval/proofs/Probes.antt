@@ -19,7 +19,7 @@ use Rattle.sql_model.specs.Meaning.{Environment, Meaning, eval_step, both, is_tr
 use Rattle.sql_model.specs.Scope.{environment, place_of, places_in, value_at}
 use Rattle.sql_model.specs.declared.expr.Expr.TheVariants.{Both, Column}
 
-equals-turned : (a b : Value) → equals a b ≡ equals b a
+pub equals-turned : (a b : Value) → equals a b ≡ equals b a
 equals-turned Null Null = refl
 equals-turned Null (Int n) = refl
 equals-turned Null (Text t) = refl

@@ -1,20 +1,18 @@
 -- A FROM list from left to right: what its steps give.
 use Rattle.std.specs.Prelude.{◌≡◌, ℕ, ◌+◌, ◌<◌, ◌⊎◌, List, [], ◌∷◌, ◌++◌, map, filter, length, drop, Bool}
-use Rattle.std.specs.Prelude.{true, false, not, nat_lt, unwrap_or}
-use Rattle.std.specs.BTreeMap as tree
-use Rattle.std.specs.BTreeMap.{BTreeMap}
+use Rattle.std.specs.Prelude.{true, false, not, nat_lt}
 use Rattle.std.specs.List.{flat_map, list_all, AllByRecursion}
-use Rattle.std.specs.Ordering.{is_eq}
-use Rattle.std.specs.Prelude.{cond}
 use Rattle.ldv_value.specs.Order.{order, test_of}
 use Rattle.ldv_value.specs.declared.value.Cmp.{Cmp}
 use Rattle.ldv_value.specs.declared.value.Cmp.TheVariants.{Eq, Ne, Lt, Le, Gt, Ge}
+use Rattle.core_parts.specs.Listing.{listed, item_added}
 use Rattle.core_parts.specs.Placing.{IsPlaced}
 use Rattle.query_eval.specs.Sourcing.{joined}
 use Rattle.query_eval.specs.Types.{ColumnName, Operator, Add, Subtract, Multiply, Compare, And, Or}
 use Rattle.query_eval.specs.Types.{Expr, Value}
 use Rattle.sql_model.specs.declared.expr.Expr.TheVariants.{Both, Column}
 use Rattle.core_parts.specs.declared.placed.Placed.{Placed}
+use Rattle.core_parts.specs.declared.refs_by.RefsBy.{RefsBy}
 use Rattle.query_eval.specs.declared.probe.Probe.{Probe}
 use Rattle.query_eval.specs.declared.source.SourceRow.{SourceRow}
 use Rattle.sql_model.specs.Meaning.{is_true, truth}
@@ -127,13 +125,13 @@ IsBetween a b n probe =
     ⊎ ((probe.from ≡ b) × (b < n) × (n + probe.place ≡ a))
 
 -- the rows that a map has under a value
-abbrev pub rows_listed : BTreeMap Value (List SourceRow) → Value → List SourceRow
-rows_listed map v = unwrap_or (tree.get order map v) []
+abbrev pub rows_listed : RefsBy Value SourceRow → Value → List SourceRow
+rows_listed map v = listed order map v
 
 -- a row more under a value
 abbrev pub row_added : Value → SourceRow → Value → List SourceRow → List SourceRow
-row_added key row v rows = cond (is_eq (order key v)) (rows ++ row ∷ []) rows
+row_added key row v rows = item_added order key row v rows
 
 -- under each value just the rows of which the column equals it, in their order
-abbrev pub IsIndex : BTreeMap Value (List SourceRow) → ℕ → List SourceRow → Type 0
+abbrev pub IsIndex : RefsBy Value SourceRow → ℕ → List SourceRow → Type 0
 IsIndex map place rows = (v : Value) → rows_listed map v ≡ with_value place v rows

@@ -1,9 +1,13 @@
 pub mod Conditions
 pub mod Finishing
+pub mod Fixing
 pub mod Joining
+pub mod Keyed
+pub mod Leaving
 pub mod Masking
 pub mod Merging
 pub mod Picking
 pub mod Projecting
 pub mod Sourcing
+pub mod Stored
 pub mod Types

@@ -1,22 +1,21 @@
 -- Conditions on one column of one source.
-use Rattle.std.specs.Prelude.{◌≡◌, ◌==◌, ◌||◌, ℕ, suc, List, [], ◌∷◌, length, Bool, true, not, Some}
+use Rattle.std.specs.Prelude.{◌≡◌, ◌==◌, ◌||◌, ℕ, suc, List, [], ◌∷◌, length, Bool, true, not}
 use Rattle.std.specs.Prelude.{option_map, unwrap_or, slice_get}
 use Rattle.std.specs.List.{list_all, AllByRecursion}
 use Rattle.ldv_value.specs.Order.{test_of}
 use Rattle.ldv_value.specs.declared.value.Cmp.{Cmp}
 use Rattle.ldv_value.specs.declared.value.Cmp.TheVariants.{Eq, Ne, Lt, Le, Gt, Ge}
-use Rattle.core_parts.specs.Checking.{core_at, IsChecked}
-use Rattle.core_parts.specs.Placing.{IsPlaced}
-use Rattle.query_eval.specs.Types.{Catalog, Checked, ColumnName, Core, Expr, FromItem, Int, Query, Table}
-use Rattle.query_eval.specs.Types.{TableRow, Value}
+use Rattle.core_parts.specs.Placing.{IsPlaced, AllPlaced}
+use Rattle.query_eval.specs.Joining.{meets}
+use Rattle.query_eval.specs.Types.{ColumnName, Expr, FromItem, Int, Table, TableRow, Value}
 use Rattle.query_eval.specs.declared.masking.Comparison.{Comparison}
 use Rattle.query_eval.specs.declared.masking.Located.{Located}
 use Rattle.query_eval.specs.declared.masking.Mask.{Mask}
 use Rattle.core_parts.specs.declared.placed.Placed.{Placed}
 use Rattle.sql_model.specs.Kinds.{names_in}
 use Rattle.sql_model.specs.Meaning.{Environment, is_true, truth}
-use Rattle.sql_model.specs.QueryAnswer.{Combination, joined_values, meets_all, row_environment}
-use Rattle.sql_model.specs.Scope.{InScope, environment, rows_of, scope_of, table_at, value_at}
+use Rattle.sql_model.specs.QueryAnswer.{Combination, joined_values}
+use Rattle.sql_model.specs.Scope.{InScope, environment, rows_of, table_at, value_at}
 
 -- the operator with its sides exchanged
 abbrev pub turned : Cmp → Cmp
@@ -67,14 +66,11 @@ IsMask cond widths mask = (scope : List InScope) (rows : Combination) → IsPlac
     → is_true (truth cond.expr (environment scope (joined_values rows))) ≡ true
     → passes mask rows ≡ true
 
--- where ON and WHERE are True, so is each comparison
-abbrev pub AreMasks : Checked → ℕ → List ℕ → List Mask → Type 0
-AreMasks checked place widths masks =
-    (query : Query) (catalog : Catalog) (core : Core) (rows : Combination)
-    → IsChecked checked query catalog
-    → core_at checked place ≡ Some core
+-- where conditions are True, so is each comparison
+abbrev pub AreMasks : List Placed → List ℕ → List Mask → Type 0
+AreMasks conds widths masks = (scope : List InScope) (rows : Combination) → AllPlaced scope conds
     → HaveWidths widths rows
-    → meets_all core.picks (row_environment (scope_of core.from catalog) rows) ≡ true
+    → meets scope conds (joined_values rows) ≡ true
     → AllByRecursion (λ mask. passes mask rows ≡ true) masks
 
 -- ---- the rows that masks leave

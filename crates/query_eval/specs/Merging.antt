@@ -1,11 +1,10 @@
 -- How answers of the same values are merged.
-use Rattle.std.specs.Prelude.{List, [], ◌∷◌, ◌++◌, map, filter, Bool, not, cond, unwrap_or}
-use Rattle.std.specs.BTreeMap as tree
-use Rattle.std.specs.BTreeMap.{BTreeMap}
+use Rattle.std.specs.Prelude.{List, [], ◌∷◌, map, filter, Bool, not}
 use Rattle.std.specs.BTreeSet as treeset
 use Rattle.std.specs.BTreeSet.{BTreeSet}
 use Rattle.std.specs.FinMap.{empty}
-use Rattle.std.specs.Ordering.{is_eq}
+use Rattle.core_parts.specs.Listing as listing
+use Rattle.core_parts.specs.declared.refs_by.RefsBy.{RefsBy}
 use Rattle.lineage.specs.Lineage.{Lineage, union_of}
 use Rattle.lineage.specs.declared.answer.Answer.{Answer}
 use Rattle.sql_model.specs.KeyOrder.{values_order}
@@ -34,10 +33,9 @@ abbrev pub unseen : BTreeSet (List Value) → List (List Value) → List (List V
 unseen seen values = filter (λ value. not (treeset.contains values_order seen value)) values
 
 -- the answers that a map has under some values
-abbrev pub listed : BTreeMap (List Value) (List Answer) → List Value → List Answer
-listed map values = unwrap_or (tree.get values_order map values) []
+abbrev pub listed : RefsBy (List Value) Answer → List Value → List Answer
+listed map values = listing.listed values_order map values
 
 -- an answer more under its values
 abbrev pub answer_added : Answer → List Value → List Answer → List Answer
-answer_added answer values answers =
-    cond (is_eq (values_order answer.values values)) (answers ++ answer ∷ []) answers
+answer_added answer values answers = listing.item_added values_order answer.values answer values answers

@@ -16,5 +16,7 @@ pub use Rattle.sql_model.specs.declared.statement.Order.{Order}
 pub use Rattle.sql_model.specs.declared.statement.Query.{Query}
 pub use Rattle.sql_model.specs.declared.statement.Statement.{Statement}
 pub use Rattle.sql_model.specs.declared.statement.Statement.TheVariants.{Query as TheQuery}
+pub use Rattle.sql_model.specs.declared.table.Column.{Column}
+pub use Rattle.sql_model.specs.declared.table.Schema.{Schema}
 pub use Rattle.sql_model.specs.declared.table.Table.{Table}
 pub use Rattle.sql_model.specs.declared.table.TableRow.{TableRow}

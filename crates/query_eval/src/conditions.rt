@@ -2,14 +2,15 @@
 
 ghost use Rattle.std.specs.Prelude.{◌≡◌, ◌++◌, List as Items, ℕ, drop, IfOk, OnOk};
 ghost use Rattle.std.specs.List.{flat_map};
-ghost use Rattle.query_eval.specs.Conditions.{Adds, AreConditions};
+ghost use Rattle.core_parts.specs.Checking.{HasCore};
+ghost use Rattle.query_eval.specs.Conditions.{Adds, AreConditions, AreOfCore};
 ghost use Rattle.sql_model.specs.Kinds.{names_in};
 ghost use Rattle.sql_model.specs.Refusals.{core_names, items_of, names_of_items};
 ghost use Rattle.sql_model.specs.Scope.{InScope, places_in};
 
-use core_parts::{Placed, placed_at, take_places};
+use core_parts::{Placed, core_of, placed_at, places_or, take_places};
 use ldv_value::{List, Places};
-use sql_model::{Core, Expr, Item, Operator};
+use sql_model::{Checked, Core, Expr, Item, Operator};
 use std::alloc::{AllocError, Global};
 
 // Adds a condition as it is.
@@ -99,16 +100,27 @@ fn conjuncts(
     Ok(conds)
 }
 
-/// The conjuncts of ON and WHERE of a core, with their places among those of the core.
-pub(crate) fn conditions_of(
-    alloc: Global,
-    core: &Core,
-    places: &Places,
-) -> Result<List<Placed>, AllocError>
+// The conjuncts of ON and WHERE of a core, with their places among those of the core.
+fn conditions_of(alloc: Global, core: &Core, places: &Places) -> Result<List<Placed>, AllocError>
     ensures { IfOk result (λ conds. (scope : Items InScope)
         → places.now ≡ places_in scope (core_names core.now) → AreConditions scope core.now.picks conds) }
 {
     let mut at = 0;
     skip_items(alloc, items_of(core), places, &mut at)?;
     conjuncts(alloc, core.picks.items(), places, at)
+}
+
+/// The conjuncts of ON and WHERE of the core at a place, from 0.
+pub(crate) fn core_conditions(
+    alloc: Global,
+    checked: &Checked,
+    core: usize,
+) -> Result<List<Placed>, AllocError>
+    requires { HasCore checked.now core }
+    ensures { IfOk result (AreOfCore checked.now core) }
+{
+    let none = List::new(alloc);
+    let places = places_or(checked, core, &none);
+    let conds = conditions_of(alloc, core_of(checked, core), places)?;
+    Ok(conds)
 }

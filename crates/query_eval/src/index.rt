@@ -1,11 +1,8 @@
 //! The rows of a source by the value of a column.
 
 ghost use Rattle.std.specs.Prelude.{◌≡◌, ◌++◌, ◌∷◌, [], List as Items, map, IfOk, OnOk, IfSome, MatchOption};
-ghost use Rattle.std.specs.Prelude.{true, false, cond, None, unwrap_or};
+ghost use Rattle.std.specs.Prelude.{true, false, None, unwrap_or};
 ghost use Rattle.std.specs.Option.{option_map};
-ghost use Rattle.std.specs.BTreeMap as tree;
-ghost use Rattle.std.specs.BTreeMap.{is_at};
-ghost use Rattle.ldv_value.specs.Order.{order};
 ghost use Rattle.query_eval.specs.Joining.{rows_listed, row_added, with_value, IsIndex};
 ghost use Rattle.query_eval.specs.Sourcing.{joined};
 ghost use Rattle.query_eval.specs.Types.{Value as Seen, Null};
@@ -15,49 +12,26 @@ ghost use Rattle.sql_model.specs.Scope.{value_at};
 
 use crate::source::SourceRow;
 use crate::value_key::ValueKey;
-use core_parts::Refs;
+use core_parts::{Refs, RefsBy};
 use ldv_value::{Value, Values};
 use std::alloc::{AllocError, Global};
-use std::collections::BTreeMap;
 
 /// Rows by the value in a column, in their order.
 #[derive(Drop)]
 pub(crate) struct Index<'a> {
-    map: BTreeMap<ValueKey<'a>, Refs<'a, SourceRow>>,
-}
-
-// Takes the rows under a value out.
-fn taken<'a>(
-    alloc: Global,
-    map: &mut BTreeMap<ValueKey<'a>, Refs<'a, SourceRow>>,
-    key: &'a Value,
-) -> Refs<'a, SourceRow>
-    ensures rows { result ≡ rows_listed map.old key.now }
-    ensures others { (v : Seen)
-        → tree.get order map.new v ≡ cond (is_at (order key.now) v) None (tree.get order map.old v) }
-{
-    match map.remove(&ValueKey::of(key)) {
-        Some(rows) => rows,
-        None => Refs::new(alloc),
-    }
+    map: RefsBy<'a, ValueKey<'a>, SourceRow>,
 }
 
 // Adds a row under a value.
 fn add_row<'a>(
-    alloc: Global,
-    map: &mut BTreeMap<ValueKey<'a>, Refs<'a, SourceRow>>,
+    map: &mut RefsBy<'a, ValueKey<'a>, SourceRow>,
     key: &'a Value,
     row: &'a SourceRow,
 ) -> Result<(), AllocError>
     ensures { OnOk result ((v : Seen)
         → rows_listed map.new v ≡ row_added key.now row.now v (rows_listed map.old v)) }
 {
-    let mut rows = taken(alloc, map, key);
-    rows.push(row)?;
-    match map.insert(ValueKey::of(key), rows) {
-        Ok(_) => Ok(()),
-        Err(_) => Err(AllocError),
-    }
+    map.add(ValueKey::of(key), row)
 }
 
 // The value of a row at a place, where it isn't NULL.
@@ -79,8 +53,7 @@ fn known_at(row: &Values, place: usize) -> Option<&Value>
 // Adds a row under its value, if that isn't NULL.
 #[tactic(auto, using(crate::proofs::Indexes::index_on, crate::proofs::Indexes::index_skips))]
 fn add_known<'a>(
-    alloc: Global,
-    map: &mut BTreeMap<ValueKey<'a>, Refs<'a, SourceRow>>,
+    map: &mut RefsBy<'a, ValueKey<'a>, SourceRow>,
     row: &'a SourceRow,
     place: usize,
 ) -> Result<(), AllocError>
@@ -90,7 +63,7 @@ fn add_known<'a>(
 {
     match known_at(&row.values, place) {
         None => Ok(()),
-        Some(value) => add_row(alloc, map, value, row),
+        Some(value) => add_row(map, value, row),
     }
 }
 
@@ -102,9 +75,9 @@ pub(crate) fn index_of<'a>(
 ) -> Result<Index<'a>, AllocError>
     ensures { IfOk result (λ index. IsIndex index.map place rows.now) }
 {
-    let mut map = BTreeMap::new(alloc);
+    let mut map = RefsBy::new(alloc);
     for row in rows {
-        add_known(alloc, &mut map, row, place)?;
+        add_known(&mut map, row, place)?;
     }
     Ok(Index { map })
 }

@@ -1,7 +1,8 @@
 //! Queries, from FROM to LIMIT: the parts of an answer of which no core groups, each row with its lineage.
 //!
 //! It promises to the layers above, by the definitions of `sql_model/specs/QueryAnswer.antt`:
-//! - `picked` gives the picked combinations of a core, in their order (`specs/Picking.antt`);
+//! - `picked` gives the picked combinations of a core over the tables of a store, in their order
+//!   (`specs/Picking.antt`);
 //! - `project` gives the rows of a core that doesn't group (`specs/Projecting.antt`);
 //! - `merge` gives one row for all of the same values, with all their lineages;
 //! - `finish` sorts and cuts, and says what the cut rows come from (`specs/Finishing.antt`).
@@ -11,16 +12,23 @@
 //! values are the same. Which way rows are found changes nothing of this: `specs/Joining.antt` has what the
 //! steps of a join give, and `proofs/Levels.antt` why they give the product's picked rows in its order.
 //!
-//! A core reads `Sources`, the rows of its tables (`specs/Sourcing.antt`). Rows may be left out that are in
-//! no picked combination: `masks` gives the conditions on one column of one source, by which whoever gives
-//! the rows may choose them (`specs/Masking.antt`, `proofs/MaskLaws.antt`).
+//! Inside, a core reads sources: of each table in FROM the rows that may be in a picked combination, at their
+//! versions (`specs/Sourcing.antt`, `specs/Stored.antt`). Where conditions fix the whole key of a source by
+//! constants (`specs/Fixing.antt`), its table's index has its one row (`specs/Keyed.antt`). Else the
+//! conditions on one column of it are its masks (`specs/Masking.antt`). Those on columns of numbers choose
+//! slots of the table by its scans, and only the rows that are left are copied (`specs/Leaving.antt`).
+//! `proofs/MaskLaws.antt` and `proofs/FixingLaws.antt` say why nothing is lost by it, and
+//! `proofs/StoredLaws.antt` that sources of a store are what the definitions want.
 #![tactic(auto)]
 
 mod conditions;
 mod distinct;
 mod finishing;
+mod fixing;
 mod index;
 mod joining;
+mod keyed;
+mod leaving;
 mod lineages;
 mod masking;
 mod merging;
@@ -30,11 +38,10 @@ mod projection;
 mod row_values;
 mod sort;
 mod source;
+mod stored;
 mod value_key;
 
 pub use finishing::{Finished, finish};
-pub use masking::{Mask, masks};
 pub use merging::merge;
 pub use picking::picked;
 pub use projection::project;
-pub use source::{Source, SourceRow, SourceRows, Sources};

@@ -1,23 +1,21 @@
-//! Conditions on one column of one source, by which the rows of the source may be chosen.
+//! Conditions on one column of one source, by which the rows of the source are chosen.
 
-ghost use Rattle.std.specs.Prelude.{◌≡◌, ◌∷◌, List as Items, true, IfOk, IfSome, OnOk};
+ghost use Rattle.std.specs.Prelude.{◌≡◌, List as Items, true, IfOk, IfSome, OnOk};
 ghost use Rattle.std.specs.List.{AllByRecursion};
-ghost use Rattle.core_parts.specs.Checking.{HasCore};
 ghost use Rattle.query_eval.specs.Masking.{turned, IsComparison, IsLocated, HaveWidths, passes, IsMask};
 ghost use Rattle.query_eval.specs.Masking.{AreMasks};
-ghost use Rattle.query_eval.specs.Joining.{IsColumn, meets};
-ghost use Rattle.core_parts.specs.Placing.{IsPlaced, AllPlaced};
+ghost use Rattle.query_eval.specs.Joining.{IsColumn};
+ghost use Rattle.core_parts.specs.Placing.{IsPlaced};
 ghost use Rattle.query_eval.specs.Types.{Compare, Int};
 ghost use Rattle.sql_model.specs.Meaning.{is_true, truth};
 ghost use Rattle.sql_model.specs.QueryAnswer.{Combination, joined_values};
 ghost use Rattle.sql_model.specs.Scope.{InScope, environment};
 ghost use Rattle.sql_model.specs.declared.expr.Expr.TheVariants.{Both, Constant};
 
-use crate::conditions::conditions_of;
 use crate::probe::is_column;
-use core_parts::{Placed, core_of, places_or};
-use ldv_value::{Cmp, List, Value};
-use sql_model::{Checked, Expr, Operator};
+use core_parts::Placed;
+use ldv_value::{Cmp, Value};
+use sql_model::{Expr, Operator};
 use std::alloc::{AllocError, Global};
 
 /// A condition on one column of one source, both by their places from 0: the comparison of its value with a
@@ -30,29 +28,14 @@ pub struct Mask {
     pub constant: i64,
 }
 
-/// Conditions of which ON and WHERE of a core say that they are True. A row for which one isn't is in no
-/// picked combination. `core` is the core's place, from 0, and `widths` are the numbers of columns of
-/// its sources.
-pub fn masks(
+/// Conditions on one column of one source that hold where all of some conditions are True. A row for which
+/// one doesn't is in no picked combination. `widths` are the numbers of columns of the sources.
+pub(crate) fn masks_of(
     alloc: Global,
-    checked: &Checked,
-    core: usize,
+    conds: &[Placed],
     widths: &[usize],
 ) -> Result<Vec<Mask>, AllocError>
-    requires { HasCore checked.now core }
-    ensures { IfOk result (λ masks. AreMasks checked.now core widths.now masks.items) }
-{
-    let none = List::new(alloc);
-    let places = places_or(checked, core, &none);
-    let conds = conditions_of(alloc, core_of(checked, core), places)?;
-    masks_of(alloc, conds.items(), widths)
-}
-
-// The masks of conditions.
-fn masks_of(alloc: Global, conds: &[Placed], widths: &[usize]) -> Result<Vec<Mask>, AllocError>
-    ensures { IfOk result (λ masks. (scope : Items InScope) (rows : Combination) → AllPlaced scope conds.now
-        → HaveWidths widths.now rows → meets scope conds.now (joined_values rows) ≡ true
-        → AllByRecursion (λ mask. passes mask rows ≡ true) masks.items) }
+    ensures { IfOk result (λ masks. AreMasks conds.now widths.now masks.items) }
 {
     let mut masks = Vec::new(alloc);
     for cond in conds {

@@ -1,12 +1,9 @@
 //! Answers of the same values made one, with the union of their lineages.
 
-ghost use Rattle.std.specs.Prelude.{◌≡◌, ◌++◌, ◌∷◌, [], ℕ, Bool, List as Items, map, filter, cond, IfOk};
+ghost use Rattle.std.specs.Prelude.{◌≡◌, [], ℕ, Bool, List as Items, map, filter, IfOk};
 ghost use Rattle.std.specs.Prelude.{OnOk, None, unwrap_or};
 ghost use Rattle.std.specs.Option.{option_map};
-ghost use Rattle.std.specs.BTreeMap as tree;
-ghost use Rattle.std.specs.BTreeMap.{is_at};
 ghost use Rattle.lineage.specs.Rows.{AnswersStandFor};
-ghost use Rattle.sql_model.specs.KeyOrder.{values_order};
 ghost use Rattle.query_eval.specs.Merging.{united, own_values, with_values, merged, listed, answer_added};
 ghost use Rattle.lineage.specs.declared.answer.Answer.{Answer as Given};
 ghost use Rattle.query_eval.specs.Types.{Value as Seen};
@@ -16,16 +13,15 @@ ghost use Rattle.sql_model.specs.QueryAnswer.{AnswerRow, distinct, merge};
 use crate::distinct::distinct_of;
 use crate::lineages::united_rows;
 use crate::row_values::RowValues;
-use core_parts::Refs;
+use core_parts::{Refs, RefsBy};
 use ldv_value::{List, Values};
 use lineage::{Answer, Answers, LineageRows};
 use std::alloc::{AllocError, Global};
-use std::collections::BTreeMap;
 
 // Answers by their values, in their order.
 #[derive(Drop)]
 struct Groups<'a> {
-    map: BTreeMap<RowValues<'a>, Refs<'a, Answer>>,
+    map: RefsBy<'a, RowValues<'a>, Answer>,
 }
 
 /// One answer for all of the same values, at the place of the first, with the union of their lineages. NULL
@@ -59,38 +55,15 @@ fn values_of<'a>(alloc: Global, answers: &'a [Answer]) -> Result<Refs<'a, Values
     Ok(values)
 }
 
-// Takes the answers under some values out.
-fn taken<'a>(
-    alloc: Global,
-    map: &mut BTreeMap<RowValues<'a>, Refs<'a, Answer>>,
-    values: &'a Values,
-) -> Refs<'a, Answer>
-    ensures answers { result ≡ listed map.old values.now }
-    ensures others { (v : Items Seen)
-        → tree.get values_order map.new v
-        ≡ cond (is_at (values_order values.now) v) None (tree.get values_order map.old v) }
-{
-    match map.remove(&RowValues::of(values)) {
-        Some(answers) => answers,
-        None => Refs::new(alloc),
-    }
-}
-
 // Adds an answer under its values.
 fn add_answer<'a>(
-    alloc: Global,
-    map: &mut BTreeMap<RowValues<'a>, Refs<'a, Answer>>,
+    map: &mut RefsBy<'a, RowValues<'a>, Answer>,
     answer: &'a Answer,
 ) -> Result<(), AllocError>
     ensures { OnOk result ((v : Items Seen)
         → listed map.new v ≡ answer_added answer.now v (listed map.old v)) }
 {
-    let mut answers = taken(alloc, map, &answer.values);
-    answers.push(answer)?;
-    match map.insert(RowValues::of(&answer.values), answers) {
-        Ok(_) => Ok(()),
-        Err(_) => Err(AllocError),
-    }
+    map.add(RowValues::of(&answer.values), answer)
 }
 
 // Answers by their values.
@@ -99,9 +72,9 @@ fn groups_of<'a>(alloc: Global, answers: &'a [Answer]) -> Result<Groups<'a>, All
     ensures { IfOk result (λ groups. (v : Items Seen)
         → listed groups.map v ≡ filter (with_values v) answers.now) }
 {
-    let mut map = BTreeMap::new(alloc);
+    let mut map = RefsBy::new(alloc);
     for answer in answers {
-        add_answer(alloc, &mut map, answer)?;
+        add_answer(&mut map, answer)?;
     }
     Ok(Groups { map })
 }

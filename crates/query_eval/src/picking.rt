@@ -4,36 +4,42 @@ ghost use Rattle.std.specs.Prelude.{◌≡◌, List as Items, map, IfOk};
 ghost use Rattle.std.specs.FinMap.{empty};
 ghost use Rattle.core_parts.specs.Checking.{HasCore};
 ghost use Rattle.query_eval.specs.Picking.{rows_added, kept_rows, pick_of, ArePicked};
-ghost use Rattle.query_eval.specs.Sourcing.{SourcesAreWide};
 
-use crate::conditions::conditions_of;
+use crate::conditions::core_conditions;
 use crate::joining::{Combination, Combinations, join, joined_values};
+use crate::masking::masks_of;
 use crate::source::{Source, SourceRow};
-use core_parts::{core_of, places_or};
+use crate::stored::{sources_of, widths_of};
+use core_parts::core_of;
 use ldv_value::List;
 use lineage::{LineageRows, Pick, Picks};
 use sql_model::Checked;
 use std::alloc::{AllocError, Global};
+use table_store::Store;
 
-/// The picked combinations of a core, in their order. `core` is the core's place, from 0, and `sources` are
-/// its sources in FROM order, each row with a value for each column of its table. Where `keep` is false the
-/// lineages are empty.
+/// The picked combinations of a core over the tables of a store, in their order. `checked` is a query that
+/// was checked against the store's catalog, and `core` the place of one of its cores, from 0. A table's place
+/// in the lineages is its place, from 0, among the names of all tables of the store. Where `keep` is false
+/// the lineages are empty.
+#[tactic(auto, using(crate::proofs::StoredLaws::stored_picks))]
 pub fn picked(
-    alloc: Global,
     checked: &Checked,
     core: usize,
-    sources: &[Source],
+    store: &Store,
     keep: bool,
 ) -> Result<Picks, AllocError>
-    requires core { HasCore checked.now core }
-    requires wide { SourcesAreWide sources.now }
-    ensures { IfOk result (ArePicked checked.now core sources.now keep) }
+    requires { HasCore checked.now core }
+    ensures { IfOk result (ArePicked checked.now core store.now keep) }
 {
-    let none = List::new(alloc);
-    let places = places_or(checked, core, &none);
-    let conds = conditions_of(alloc, core_of(checked, core), places)?;
-    let combinations = join(alloc, sources, conds)?;
-    picks_of(alloc, sources, &combinations, keep)
+    let alloc = checked.places.allocator();
+    let from = core_of(checked, core).from.items();
+    let conds = core_conditions(alloc, checked, core)?;
+    let widths = widths_of(alloc, store, from)?;
+    let masks = masks_of(alloc, conds.items(), widths.as_slice())?;
+    let sources = sources_of(alloc, store, conds.items(), masks.as_slice(), from)?;
+    let combinations = join(alloc, sources.items(), conds)?;
+    let picks = picks_of(alloc, sources.items(), &combinations, keep)?;
+    Ok(picks)
 }
 
 // The picks of combinations.

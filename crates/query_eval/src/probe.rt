@@ -54,7 +54,8 @@ fn is_equal_sign(operator: Operator) -> bool
     }
 }
 
-fn is_equal_test(test: Cmp) -> bool
+/// Whether a comparison is `=`.
+pub(crate) fn is_equal_test(test: Cmp) -> bool
     ensures { result ≡ is_equal_test test }
 {
     match test {

@@ -1,12 +1,11 @@
-use Rattle.std.proofs.Common.{◌≡◌, ◌+◌, ◌++◌, ◌∷◌, [], List, ℕ, drop, map, subst, ap, sym, ◌∙◌}
+use Rattle.std.proofs.Common.{◌≡◌, ◌+◌, ◌++◌, ◌∷◌, List, ℕ, drop, map, subst, ap, sym, ◌∙◌}
 use Rattle.core_parts.specs.Placing.{AllPlaced}
 use Rattle.core_parts.specs.Types.{Item}
 use Rattle.core_parts.specs.declared.placed.Placed.{Placed}
-use Rattle.sql_model.specs.Kinds.{names_in}
 use Rattle.sql_model.specs.Refusals.{names_of_items}
 use Rattle.sql_model.specs.Scope.{places_in}
 use Rattle.core_parts.proofs.Lists.{drop-step, moved-mapped}
-use Rattle.core_parts.proofs.Places.{places-append, placed-front, others-front, placed-more}
+use Rattle.core_parts.proofs.Places.{item-front, placed-front, others-front, placed-more}
 use Rattle.core_parts.proofs.placed.placed_items.Goals as goal
 
 pub loop-item-preserved : goal.loop-item-preserved
@@ -27,10 +26,7 @@ loop-item-preserved c =
       placed = λ scope more is.
           let before = c.loop-item.invariant.placed scope more is in
           let rest : List ℕ = places_in scope (names_of_items (drop (i + 1) items)) ++ more in
-          let here : at ≡ places_in scope (names_in item.expr) ++ rest =
-          before.0
-          ∙ ap (λ (xs : List Item). places_in scope (names_of_items xs) ++ more) split
-          ∙ places-append scope (names_in item.expr) (names_of_items (drop (i + 1) items)) more in (
+          let here = item-front scope (λ (x : Item). x.expr) items i item at more split before.0 in (
             others-front scope item.expr at rest (drop c.placed_at.new.at c.args.places.now) here c.in_ok-placed_at.ensures.others,
             subst (AllPlaced scope) (sym c.in_ok-push.ensures.ok)
                 (placed-more scope made placed before.1

@@ -2,10 +2,22 @@ use Rattle.std.proofs.Common.{◌≡◌, ◌+◌, ◌++◌, ◌∷◌, List, dro
 use Rattle.std.specs.Prelude.{filter}
 use Rattle.lineage.specs.declared.answer.Pick.{Pick}
 use Rattle.group_eval.specs.Grouping.{key_of, is_under, listed, unlisted}
+use Rattle.group_eval.specs.Types.{Value}
 use Rattle.sql_model.specs.QueryAnswer.{distinct}
-use Rattle.group_eval.proofs.GroupLaws.{group_on, first_on}
+use Rattle.group_eval.proofs.GroupLaws.{group_on, first_on, none_listed}
 use Rattle.core_parts.proofs.Lists.{drop-step}
 use Rattle.group_eval.proofs.groups.groups_of.Goals as goal
+
+pub loop-pick-init : goal.loop-pick-init
+loop-pick-init c =
+    let picks = c.args.picks.now in
+    let places = c.args.places.now in
+    let m = c.new-map.result in
+    let keys : List (List Value) = distinct (map (key_of places) picks) in
+    record {
+      picks = λ v. ap (λ (l : List Pick). l ++ filter (is_under places v) picks) (c.new-map.ensures v);
+      firsts = ap (λ (l : List Pick). map (key_of places) l ++ unlisted m keys) c.new-firsts.ensures ∙ none_listed m c.new-map.ensures keys;
+    }
 
 pub loop-pick-preserved : goal.loop-pick-preserved
 loop-pick-preserved c =

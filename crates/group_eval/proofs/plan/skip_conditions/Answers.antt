@@ -1,21 +1,12 @@
-use Rattle.std.proofs.Common.{◌≡◌, ◌+◌, ◌++◌, ◌∷◌, List, drop, ap, ◌∙◌}
-use Rattle.std.specs.List.{flat_map}
-use Rattle.group_eval.specs.Types.{Expr}
-use Rattle.sql_model.specs.Kinds.{names_in}
-use Rattle.sql_model.specs.Scope.{places_in}
+use Rattle.std.proofs.Common.{drop}
 use Rattle.core_parts.proofs.Lists.{drop-step}
-use Rattle.core_parts.proofs.Places.{places-append, others-front}
+use Rattle.core_parts.proofs.Places.{item-passed}
+use Rattle.group_eval.specs.Types.{Expr}
 use Rattle.group_eval.proofs.plan.skip_conditions.Goals as goal
 
 pub loop-condition-preserved : goal.loop-condition-preserved
 loop-condition-preserved c = λ scope more is.
     let all = c.args.conditions.now in
     let i = c.loop-condition.condition-index in
-    let condition = c.condition-item.result in
-    let split : drop i all ≡ condition ∷ drop (i + 1) all = drop-step all i condition c.loop-condition-test.true c.condition-item.is in
-    let rest = places_in scope (flat_map names_in (drop (i + 1) all)) ++ more in
-    let here : drop c.loop-condition.at c.args.places.now ≡ places_in scope (names_in condition) ++ rest =
-    c.loop-condition.invariant scope more is
-    ∙ ap (λ (xs : List Expr). places_in scope (flat_map names_in xs) ++ more) split
-    ∙ places-append scope (names_in condition) (flat_map names_in (drop (i + 1) all)) more in
-    others-front scope condition (drop c.loop-condition.at c.args.places.now) rest (drop c.take_places.new.at c.args.places.now) here c.in_ok-take_places.ensures.others
+    item-passed scope (λ (e : Expr). e) all i c.condition-item.result (drop c.loop-condition.at c.args.places.now) (drop c.take_places.new.at c.args.places.now) more
+    (drop-step all i c.condition-item.result c.loop-condition-test.true c.condition-item.is) (c.loop-condition.invariant scope more is) c.in_ok-take_places.ensures.others

@@ -1,0 +1,71 @@
+//! References under keys.
+
+ghost use Rattle.std.specs.Prelude.{◌≡◌, ◌==◌, [], length, OnOk, unwrap_or};
+ghost use Rattle.std.specs.Option.{option_map};
+ghost use Rattle.core_parts.specs.Listing.{listed, item_added};
+
+use crate::refs::Refs;
+use std::alloc::{AllocError, Global};
+use std::cmp::Ord;
+use std::collections::BTreeMap;
+
+/// References to items that lie elsewhere, each under a key; those of a key in the order in which they came.
+#[derive(Drop)]
+pub struct RefsBy<'a, K: Ord, X> {
+    alloc: Global,
+    map: BTreeMap<K, Refs<'a, X>>,
+}
+
+impl<'a, K: Ord + Drop, X> RefsBy<'a, K, X> {
+    /// No reference. It takes no memory.
+    pub fn new(alloc: Global) -> RefsBy<'a, K, X>
+        ensures { (key : K) → listed K.cmp result key ≡ [] }
+    {
+        RefsBy {
+            alloc,
+            map: BTreeMap::new(alloc),
+        }
+    }
+
+    /// Those under a key, where there are some.
+    pub fn get(&self, key: &K) -> Option<&Refs<'a, X>>
+        ensures { unwrap_or (option_map (λ r. r.now) result) [] ≡ listed K.cmp self.now key.now }
+    {
+        self.map.get(key)
+    }
+
+    /// Whether there is none under a key.
+    pub fn has_none(&self, key: &K) -> bool
+        ensures { result ≡ (length (listed K.cmp self.now key.now) == 0) }
+    {
+        match self.get(key) {
+            None => true,
+            Some(items) => items.len() == 0,
+        }
+    }
+
+    /// Appends a reference to those under a key.
+    pub fn add(&mut self, key: K, item: &'a X) -> Result<(), AllocError>
+        ensures { OnOk result ((other : K) → listed K.cmp self.new other
+            ≡ item_added K.cmp key item.now other (listed K.cmp self.old other)) }
+    {
+        match self.map.get_mut(&key) {
+            Some(items) => items.push(item),
+            None => self.add_first(key, item),
+        }
+    }
+
+    // Puts the first reference under a key.
+    fn add_first(&mut self, key: K, item: &'a X) -> Result<(), AllocError>
+        requires { listed K.cmp self.old key ≡ [] }
+        ensures { OnOk result ((other : K) → listed K.cmp self.new other
+            ≡ item_added K.cmp key item.now other (listed K.cmp self.old other)) }
+    {
+        let mut items = Refs::new(self.alloc);
+        items.push(item)?;
+        match self.map.insert(key, items) {
+            Ok(_) => Ok(()),
+            Err(_) => Err(AllocError),
+        }
+    }
+}

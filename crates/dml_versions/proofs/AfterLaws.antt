@@ -1,0 +1,49 @@
+-- What a change of a store returns and leaves, by what refuses it.
+use Rattle.std.proofs.Common.{◌≡◌, ℕ, ◌<◌, ◌≤◌, List, [], ◌∷◌, map, refl, ap, sym, ◌∙◌, subst, arith, Option, Some, None, Bool, true, false}
+use Rattle.sql_model.proofs.Equations.{reply_is, need_is, made_is, updated_is, after_is}
+use Rattle.sql_model.specs.Changes.{or_else, change_refusal}
+use Rattle.sql_model.specs.Needs.{needs_by, needs_of_reading, sorted_needs, made_unless, updated_unless, updated_rows, need_of, versions_after, read_of}
+use Rattle.sql_model.specs.Refusals.{check_refusal}
+use Rattle.sql_model.specs.Scope.{catalog_of}
+use Rattle.sql_model.specs.Statements.{target, refusal_of, reply_or, after_unless, after}
+use Rattle.table_store.specs.Histories.{tables_now, AreKeptBefore}
+use Rattle.dml_versions.specs.Changing.{IsChange, IsStoreAfter}
+use Rattle.dml_versions.specs.Types.{SqlRefusal, Statement, StoreHistory, Table}
+use Rattle.dml_versions.specs.Versions.{versions_now}
+use Rattle.dml_versions.specs.declared.change.Change.{Change}
+
+-- an accepted statement is refused by its rows alone
+pub refusal-is : (s : Statement) (db : List Table) (o : Option Table) → check_refusal s (catalog_of db) ≡ None → target s db ≡ o
+    → refusal_of (Some s) db ≡ change_refusal s (catalog_of db) o
+refusal-is s db o check found =
+    ap (λ (r : Option SqlRefusal). or_else r (change_refusal s (catalog_of db) (target s db))) check
+    ∙ ap (change_refusal s (catalog_of db)) found
+
+module _ (s : Statement) (store : StoreHistory) (refusal : Option SqlRefusal) (is : refusal_of (Some s) (tables_now store) ≡ refusal) where
+  abbrev db : List Table
+  db = tables_now store
+
+  pub change-by : (change : Change) → change.reply ≡ reply_or refusal (Some s) db → change.made ≡ made_unless refusal (versions_now store) (Some s) db
+      → change.needs ≡ map (read_of (versions_now store)) (sorted_needs (needs_by refusal s db)) → IsChange s store change
+  change-by change reply made needs = record {
+    reply = reply ∙ sym (reply_is (Some s) db ∙ ap (λ (r : Option SqlRefusal). reply_or r (Some s) db) is);
+    made = made ∙ sym (made_is (versions_now store) (Some s) db ∙ ap (λ (r : Option SqlRefusal). made_unless r (versions_now store) (Some s) db) is);
+    needs = needs ∙ ap (map (read_of (versions_now store))) (sym (need_is (Some s) db ∙ ap (λ (r : Option SqlRefusal). sorted_needs (needs_by r s db)) is));
+  }
+
+  pub after-by : (time : ℕ) (new : StoreHistory) → tables_now new ≡ after_unless refusal (Some s) db
+      → versions_now new ≡ versions_after (updated_unless refusal (Some s) db) (versions_now store) → new.time ≤ time → AreKeptBefore time store new
+      → IsStoreAfter s time store new
+  after-by time new tables versions latest earlier = record {
+    tables = tables ∙ sym (after_is (Some s) db ∙ ap (λ (r : Option SqlRefusal). after_unless r (Some s) db) is);
+    versions = versions ∙ sym (ap (λ l. versions_after l (versions_now store)) (updated_is (Some s) db ∙ ap (λ (r : Option SqlRefusal). updated_unless r (Some s) db) is));
+    latest = latest;
+    earlier = earlier;
+  }
+
+-- where a statement is refused the store is as it was
+pub after-refused : (s : Statement) (time : ℕ) (old new : StoreHistory) (refusal : SqlRefusal) → refusal_of (Some s) (tables_now old) ≡ Some refusal
+    → old.time < time → new ≡ old → IsStoreAfter s time old new
+after-refused s time old new refusal is later same =
+    subst (λ (n : StoreHistory). IsStoreAfter s time old n) (sym same)
+    (after-by s old (Some refusal) is time old refl refl (omega (arith, later)) (λ name earlier before. (refl, refl)))

@@ -1,0 +1,64 @@
+-- Where no two rows have the same key, none is refused for its key.
+use Rattle.std.proofs.Common.{◌≡◌, ◌==◌, ◌<◌, ℕ, List, [], ◌∷◌, ◌++◌, map, length, refl, ap, sym, ◌∙◌, arith, Bool, true, false, not, cond, ◌&&◌, Option, Some, None}
+use Rattle.std.specs.Prelude.{filter, find}
+use Rattle.std.specs.List.{list_any, AllByRecursion}
+use Rattle.std.specs.Option.{option_or}
+use Rattle.std.proofs.lemmas.Bool.{ne_eqb}
+use Rattle.ldv_value.proofs.Booleans.{or-parts}
+use Rattle.ldv_value.proofs.Lists.{find-append}
+use Rattle.sql_laws.proofs.UniqueKeys.{values_in, unique-fewer}
+use Rattle.sql_model.specs.Changes.{KeyClash, shares_key, clash_or, clash_after, clash_by}
+use Rattle.sql_model.specs.Keys.{same_values, values_at, repeats}
+use Rattle.sql_model.specs.Tables.{are_keys_unique}
+use Rattle.dml_versions.specs.Types.{TableRow, Value}
+
+module _ (key : List ℕ) where
+  abbrev keys : List TableRow → List (List Value)
+  keys rows = map (values_at key) (values_in rows)
+
+  -- none of the rows has the key of one before
+  abbrev AreApart : List TableRow → List TableRow → Type 0
+  AreApart before rows = AllByRecursion (λ row. find (shares_key key row) before ≡ None) rows
+
+  one_more : (row : TableRow) (before rows : List TableRow) → AreApart before rows → list_any (same_values (values_at key row.values)) (keys rows) ≡ false
+      → AreApart (before ++ row ∷ []) rows
+  one_more row before [] all differ = tt
+  one_more row before (next ∷ rows) all differ =
+      let parts = or-parts (same_values (values_at key row.values) (values_at key next.values)) (list_any (same_values (values_at key row.values)) (keys rows)) differ in (
+        find-append (shares_key key next) before (row ∷ [])
+            ∙ ap (λ (o : Option TableRow). option_or o (find (shares_key key next) (row ∷ []))) all.0
+            ∙ ap (λ (b : Bool). cond b (Some row) None) parts.0,
+        one_more row before rows all.1 parts.1,
+      )
+
+  none_before : (rows : List TableRow) → AreApart [] rows
+  none_before [] = tt
+  none_before (row ∷ rows) = (refl, none_before rows)
+
+  clear : (before rows : List TableRow) → AreApart before rows → repeats same_values (keys rows) ≡ false → clash_after key before rows ≡ None
+  clear before [] all differ = refl
+  clear before (row ∷ rows) all differ =
+      let parts = or-parts (list_any (same_values (values_at key row.values)) (keys rows)) (repeats same_values (keys rows)) differ in
+      ap (λ (o : Option TableRow). clash_or o row (clash_after key (before ++ row ∷ []) rows)) all.0
+      ∙ clear (before ++ row ∷ []) rows (one_more row before rows all.1 parts.0) parts.1
+
+apart_by : (b twice : Bool) → b ≡ true → not (b && twice) ≡ true → twice ≡ false
+apart_by true true here is = cc
+apart_by true false here is = refl
+apart_by false twice here is = cc
+
+pub no-clash : (key : List ℕ) (rows : List TableRow) → are_keys_unique key (values_in rows) ≡ true → clash_by key rows ≡ None
+no-clash [] rows is = refl
+no-clash (place ∷ places) rows is =
+    let some : (length (place ∷ places) == 0) ≡ false = ne_eqb (length (place ∷ places)) 0 (λ none. absurd (omega (arith, none))) in
+    clear (place ∷ places) [] rows (none_before (place ∷ places) rows)
+    (apart_by (not (length (place ∷ places) == 0)) (repeats same_values (keys (place ∷ places) rows)) (ap not some) is)
+
+pub no-clash-fewer : (key : List ℕ) (keep : TableRow → Bool) (rows : List TableRow) → are_keys_unique key (values_in rows) ≡ true → clash_by key (filter keep rows) ≡ None
+no-clash-fewer key keep rows is = no-clash key (filter keep rows) (unique-fewer key keep rows is)
+
+-- where keys are unique, none is there twice
+pub unique-repeats : (key : List ℕ) (rows : List TableRow) → 0 < length key → are_keys_unique key (values_in rows) ≡ true → repeats same_values (keys key rows) ≡ false
+unique-repeats key rows some is =
+    let there : (length key == 0) ≡ false = ne_eqb (length key) 0 (λ none. absurd (omega (arith, none, some))) in
+    apart_by (not (length key == 0)) (repeats same_values (keys key rows)) (ap not there) is

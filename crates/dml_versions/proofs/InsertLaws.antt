@@ -1,0 +1,152 @@
+-- What an INSERT returns and leaves.
+use Rattle.std.proofs.Common.{◌≡◌, ◌==◌, ℕ, ◌+◌, ◌<◌, ◌≤◌, List, [], ◌∷◌, ◌++◌, map, length, refl, ap, sym, ◌∙◌, subst, arith, Option, Some, None, Bool, true, false}
+use Rattle.std.specs.Prelude.{find, unwrap_or, nat_lt, Result, Err, if◌then◌else◌}
+use Rattle.std.specs.List.{list_any, list_all, AllByRecursion}
+use Rattle.std.specs.Option.{option_map, option_and_then, option_or}
+use Rattle.std.proofs.lemmas.Bool.Decides.{Decides-eqb}
+use Rattle.ldv_value.proofs.Booleans.{and-parts, and-from}
+use Rattle.ldv_value.proofs.Lists.{length-map}
+use Rattle.ldv_value.proofs.Options.{same-some}
+use Rattle.ldv_value.specs.Limits.{max_next}
+use Rattle.ldv_value.specs.Sorted.{is_strictly_sorted}
+use Rattle.sql_laws.proofs.NewRows.{AllFirst, all_first, new_kinds}
+use Rattle.sql_model.specs.Changes.{KeyClash, new_values, numbered, inserted, with_rows, after_insert, has_null, lacks_value, key_clash, changed, is_full}
+use Rattle.sql_model.specs.Needs.{new_member, members_made, made_unless, sorted_needs, needs_by, updated_unless, updated_in, versions_after, read_of}
+use Rattle.sql_model.specs.Refusals.{check_refusal, row_fits, target_columns}
+use Rattle.sql_model.specs.Scope.{table_at, is_table, catalog_of, has_column}
+use Rattle.sql_model.specs.Statements.{target, refusal_of, accepted_reply, after_unless}
+use Rattle.sql_model.specs.Tables.{is_valid_table, table_precedes, has_kind, each_value}
+use Rattle.table_store.specs.Histories.{tables_now, table_now, history_at, last_next, changed_at, added, inserted as history_inserted, AreKeptBefore, history_of_row}
+use Rattle.table_store.specs.RowOrder.{AreInOrder}
+use Rattle.table_store.specs.Stops.{with_inserted, with_changed, have_shape, has_shape, insert_stop, key_stop, stop_if, StopsAs}
+use Rattle.table_store.specs.declared.stop.StoreStop.{StoreStop}
+use Rattle.table_store.specs.declared.stop.StoreStop.TheVariants as stop
+use Rattle.dml_versions.proofs.AfterLaws.{change-by, after-by}
+use Rattle.dml_versions.proofs.CheckLaws.{found-valid, found-distinct, names-there, rows-fit}
+use Rattle.dml_versions.proofs.MatchLaws.{same-changed}
+use Rattle.dml_versions.proofs.RefuseLaws.{stop_by, not-refused, not-full, refused-change, refused-after}
+use Rattle.dml_versions.proofs.TableLaws.{table-now, history-name, schema-now}
+use Rattle.dml_versions.proofs.VersionLaws.{updates-added, versions-changed}
+use Rattle.dml_versions.specs.Changing.{IsChange, IsStoreAfter, AreWellFormed, inserted_change, refused_change}
+use Rattle.dml_versions.specs.Needing.{made_new}
+use Rattle.dml_versions.specs.Types.{Statement, TheInsert, Insert, Changed, Column, Expr, Member, Value, Table, TableRow, StoreHistory, TableHistory}
+use Rattle.dml_versions.specs.Versions.{versions_now, updates_of}
+use Rattle.dml_versions.specs.declared.change.Change.{Change}
+
+module _ (store : StoreHistory) (insert : Insert) (table : TableHistory) (there : history_at insert.table store ≡ Some table)
+    (order : AreInOrder table.slots (last_next table.nexts)) (formed : AreWellFormed (tables_now store))
+    (check : check_refusal (TheInsert insert) (catalog_of (tables_now store)) ≡ None) where
+  abbrev s : Statement
+  s = TheInsert insert
+
+  abbrev db : List Table
+  db = tables_now store
+
+  abbrev t : Table
+  t = table_now table
+
+  abbrev columns : List Column
+  columns = table.schema.columns
+
+  abbrev new : List (List Value)
+  new = map (new_values insert.columns columns) insert.rows
+
+  target_is : table_at insert.table db ≡ Some t
+  target_is = table-now insert.table store table there
+
+  named : t.name ≡ insert.table
+  named = history-name insert.table store table there
+
+  -- ---- what is given to the store
+
+  first : AllFirst columns columns
+  first = all_first columns (found-distinct db formed insert.table t target_is)
+
+  given_there : list_all (has_column columns) (unwrap_or insert.columns []) ≡ true
+  given_there = names-there insert (catalog_of db) check table.schema (schema-now insert.table store table there)
+
+  shape_of : (rows : List (List Expr)) → list_all (row_fits (target_columns insert.columns columns)) rows ≡ true
+      → list_all (has_shape columns) (map (new_values insert.columns columns) rows) ≡ true
+  shape_of [] fit = refl
+  shape_of (exprs ∷ rows) fit =
+      let both = and-parts (row_fits (target_columns insert.columns columns) exprs) (list_all (row_fits (target_columns insert.columns columns)) rows) fit in
+      let kinds = new_kinds columns insert.columns exprs first given_there both.0 in
+      let values : List Value = new_values insert.columns columns exprs in
+      and-from (has_shape columns values) (list_all (has_shape columns) (map (new_values insert.columns columns) rows))
+      (and-from (length values == length columns) (each_value has_kind columns values) ((Decides-eqb (length values) (length columns)).1 kinds.0) kinds.1)
+      (shape_of rows both.1)
+
+  module _ (rows : List (List Value)) (rows_is : rows ≡ new) where
+    pub insert-shape : have_shape rows t ≡ true
+    insert-shape = ap (λ (l : List (List Value)). have_shape l t) rows_is ∙ shape_of insert.rows (rows-fit insert (catalog_of db) check table.schema (schema-now insert.table store table there))
+
+    count_is : length new ≡ length insert.rows
+    count_is = length-map insert.rows (new_values insert.columns columns)
+
+    inserted_is : with_inserted new t ≡ changed s (catalog_of db) t
+    inserted_is = ap (λ (n : ℕ). with_rows t (t.rows ++ inserted insert t) (t.next + n)) count_is
+
+    -- what refuses it
+    due_is : option_and_then (insert_stop rows) (table_at insert.table db) ≡ stop_by t (lacks_value s (catalog_of db) t) (key_clash (changed s (catalog_of db) t)) (is_full s t)
+    due_is =
+        ap (option_and_then (insert_stop rows)) target_is
+        ∙ ap (λ (l : List (List Value)). insert_stop l t) rows_is
+        ∙ (λ j. option_or (stop_if (lacks_value s (catalog_of db) t) stop.NotNull) (option_or (key_stop t (key_clash (inserted_is j))) (stop_if (nat_lt max_next (t.next + count_is j)) stop.Full)))
+
+    -- ---- nothing refuses it
+
+    module _ (fine : option_and_then (insert_stop rows) (table_at insert.table db) ≡ None) where
+      refused_not : refusal_of (Some s) db ≡ None
+      refused_not = not-refused store s insert.table table there order target_is check (sym due_is ∙ fine)
+
+      pub insert-fits : nat_lt max_next (t.next + length rows) ≡ false
+      insert-fits =
+          ap (λ (l : List (List Value)). nat_lt max_next (t.next + length l)) rows_is
+          ∙ ap (λ (n : ℕ). nat_lt max_next (t.next + n)) count_is
+          ∙ not-full t (lacks_value s (catalog_of db) t) (key_clash (changed s (catalog_of db) t)) (is_full s t) (sym due_is ∙ fine)
+
+      made_is : made_unless None (versions_now store) (Some s) db ≡ map (new_member t) (inserted insert t)
+      made_is = ap (members_made (versions_now store) s (catalog_of db)) target_is
+
+      pub insert-change : (next : ℕ) → next ≡ t.next → IsChange s store (inserted_change insert.table next rows)
+      insert-change next next_is =
+          change-by s store None refused_not (inserted_change insert.table next rows)
+          (ap Changed (ap length rows_is ∙ count_is))
+          ((λ j. map (made_new (sym named j)) (numbered (next_is j) (rows_is j))) ∙ sym made_is)
+          refl
+
+      tables_are : with_changed insert.table (with_inserted rows) db ≡ after_unless None (Some s) db
+      tables_are =
+          ap (λ (l : List (List Value)). with_changed insert.table (with_inserted l) db) rows_is
+          ∙ same-changed (with_inserted new) (changed s (catalog_of db)) insert.table t inserted_is db target_is
+          (and-parts (list_all is_valid_table db) (is_strictly_sorted table_precedes db) formed.database).1
+
+      none_updated : updated_unless None (Some s) db ≡ []
+      none_updated = ap (updated_in s (catalog_of db)) target_is
+
+      module _ (time : ℕ) where
+        pub insert-after : (made : StoreHistory) → tables_now made ≡ with_changed insert.table (with_inserted rows) db
+            → made ≡ changed_at time insert.table (history_inserted time rows) store → AreKeptBefore time store made
+            → IsStoreAfter s time store made
+        insert-after made tables is_made earlier =
+            after-by s store None refused_not time made
+            (tables ∙ tables_are)
+            (ap versions_now is_made
+            ∙ versions-changed insert.table store table there time (history_inserted time rows) (λ u. refl) [] (λ other number apart. refl)
+            (λ number. updates-added table.slots time (numbered (last_next table.nexts) rows) number)
+            ∙ ap (λ l. versions_after l (versions_now store)) (sym none_updated))
+            (subst (λ (n : StoreHistory). n.time ≤ time) (sym is_made) (omega arith))
+            earlier
+
+    -- ---- the store refuses it
+
+    module _ (X : Type 0) (at : StoreStop) (change : Change) (stops : StopsAs {X = X} (option_and_then (insert_stop rows) (table_at insert.table db)) (Err at))
+        (made : refused_change insert.table table.slots [] at ≡ Some change) where
+      stops_by : StopsAs {X = X} (stop_by t (lacks_value s (catalog_of db) t) (key_clash (changed s (catalog_of db) t)) (is_full s t)) (Err at)
+      stops_by = subst (λ (o : Option StoreStop). StopsAs {X = X} o (Err at)) due_is stops
+
+      pub insert-refused : IsChange s store change
+      insert-refused = refused-change store s insert.table table there order target_is check [] refl refl tt X at change stops_by made
+
+      pub insert-kept : (time : ℕ) (after : StoreHistory) → store.time < time → after ≡ store → IsStoreAfter s time store after
+      insert-kept time after later same = refused-after store s insert.table table there order target_is check [] refl refl tt X at change stops_by made time after later same

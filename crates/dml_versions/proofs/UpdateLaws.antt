@@ -1,0 +1,249 @@
+-- What an UPDATE returns and leaves, from the rows that were found.
+use Rattle.std.proofs.Common.{◌≡◌, ◌==◌, ℕ, ◌+◌, ◌<◌, ◌≤◌, List, [], ◌∷◌, map, length, refl, ap, sym, ◌∙◌, subst, arith, Option, Some, None, Bool, true, false}
+use Rattle.std.specs.Prelude.{filter, find, zip, Result, Ok, Err, if◌then◌else◌, ◌&&◌}
+use Rattle.std.specs.List.{list_any, list_all, AllByRecursion}
+use Rattle.std.specs.Option.{option_map, option_or, option_and_then}
+use Rattle.std.proofs.lemmas.Bool.Decides.{Decides-eqb}
+use Rattle.ldv_value.proofs.Booleans.{and-parts, and-from, and-true}
+use Rattle.ldv_value.proofs.Lists.{map-map, length-map, list_all-map, list_all-filter, list_all-weaker, list_any-map, list_any-false}
+use Rattle.ldv_value.proofs.Options.{option_or-none}
+use Rattle.ldv_value.proofs.SameBytes.{bytes_eq-itself}
+use Rattle.ldv_value.specs.Sorted.{is_strictly_sorted}
+use Rattle.sql_laws.proofs.NewRows.{all_first, updated_kinds, updated_length}
+use Rattle.sql_model.proofs.ValidTables.{table-parts, kinds-fits}
+use Rattle.sql_model.specs.Changes.{KeyClash, is_matched, matched_in, matched, changed, after_update, updated_row, updated_values, update_one, with_rows, has_null, new_rows, lacks_value, key_clash}
+use Rattle.sql_model.specs.Needs.{matched_row, matched_rows, next_member, members_made, made_unless, sorted_needs, needs_by, updated_unless, updated_in, updated_origin, versions_after, read_of, is_row_of}
+use Rattle.sql_model.specs.Refusals.{check_refusal, set_fits}
+use Rattle.sql_model.specs.Scope.{InScope, same_text, table_at, is_table, catalog_of, own_scope}
+use Rattle.sql_model.specs.Statements.{target, refusal_of, accepted_reply, matched_count, after_unless}
+use Rattle.sql_model.specs.Tables.{is_valid_table, table_precedes, has_kind, fits, each_value, is_row, are_distinct}
+use Rattle.table_store.specs.Histories.{tables_now, table_now, history_at, rows_now, last_next, changed_at, replaced, rewritten, AreKeptBefore, history_of_row}
+use Rattle.table_store.specs.RowOrder.{AreInOrder}
+use Rattle.table_store.specs.Stops.{with_replaced, with_changed, are_sorted_rows, all_stood, have_shape, has_shape, values_of, replace_stop, replaced_by, stop_if, key_stop, StopsAs}
+use Rattle.table_store.specs.declared.stop.StoreStop.{StoreStop}
+use Rattle.table_store.specs.declared.stop.StoreStop.TheVariants as stop
+use Rattle.dml_versions.proofs.AfterLaws.{change-by, after-by}
+use Rattle.dml_versions.proofs.CheckLaws.{found-valid, found-distinct, sets-fit}
+use Rattle.dml_versions.proofs.MatchLaws.{rows-sorted, same-changed, made-is, needs-is, matched-stand}
+use Rattle.dml_versions.proofs.NeedLaws.{needs-matched}
+use Rattle.dml_versions.proofs.NumberLaws.{AreSorted, replaced-some, made-sorted, some-sorted, made-in}
+use Rattle.dml_versions.proofs.RefuseLaws.{stop_by, not-refused, refused-change, refused-after}
+use Rattle.dml_versions.proofs.StandingLaws.{Stands}
+use Rattle.dml_versions.proofs.TableLaws.{table-now, scope-is, history-name, schema-now}
+use Rattle.dml_versions.proofs.VersionLaws.{updates-rewritten, versions-changed}
+use Rattle.dml_versions.specs.Changing.{IsChange, IsStoreAfter, AreWellFormed, matched_change, refused_change}
+use Rattle.dml_versions.specs.Finding.{scope_in, test_in, found_row, row_of}
+use Rattle.dml_versions.specs.Needing.{need_found, made_found}
+use Rattle.dml_versions.specs.Types.{Statement, TheUpdate, Update, SqlRefusal, Changed, Column, Value, Schema, Table, TableRow, StoreHistory, TableHistory}
+use Rattle.dml_versions.specs.Versions.{versions_now, updates_of}
+use Rattle.dml_versions.specs.declared.change.Change.{Change}
+use Rattle.dml_versions.specs.declared.found.Found.{Found}
+
+map_itself : {X : Type 0} (xs : List X) → map (λ x. x) xs ≡ xs
+map_itself [] = refl
+map_itself (x ∷ xs) = ap (λ l. x ∷ l) (map_itself xs)
+
+module _ (store : StoreHistory) (update : Update) (table : TableHistory) (there : history_at update.table store ≡ Some table)
+    (order : AreInOrder table.slots (last_next table.nexts)) (formed : AreWellFormed (tables_now store))
+    (check : check_refusal (TheUpdate update) (catalog_of (tables_now store)) ≡ None) where
+  abbrev s : Statement
+  s = TheUpdate update
+
+  abbrev db : List Table
+  db = tables_now store
+
+  abbrev t : Table
+  t = table_now table
+
+  abbrev columns : List Column
+  columns = table.schema.columns
+
+  abbrev test : TableRow → Bool
+  test = test_in table update.pick
+
+  -- the rows that it changes, and what it makes of them
+  abbrev old : List TableRow
+  old = filter test (rows_now table.slots)
+
+  abbrev make : TableRow → TableRow
+  make = updated_row (scope_in table) update columns
+
+  abbrev new : List TableRow
+  new = map make old
+
+  target_is : table_at update.table db ≡ Some t
+  target_is = table-now update.table store table there
+
+  valid : is_valid_table t ≡ true
+  valid = found-valid db formed update.table t target_is
+
+  abbrev scope : List InScope
+  scope = own_scope update.table (catalog_of db)
+
+  own_is : scope ≡ scope_in table
+  own_is = scope-is update.table store table there
+
+  old_is : matched s (catalog_of db) t ≡ old
+  old_is = ap (λ (l : List InScope). matched_in l update.pick t.rows) own_is
+
+  new_is : new_rows s (catalog_of db) t ≡ new
+  new_is = (λ j. map (updated_row (own_is j) update columns) (old_is j))
+
+  sorted_all : AreSorted t.rows
+  sorted_all = rows-sorted t valid
+
+  old_sorted : AreSorted old
+  old_sorted = some-sorted test t.rows sorted_all
+
+  abbrev AllStand : List TableRow → Type 0
+  AllStand rows = AllByRecursion (λ row. Stands table.slots row.number) rows
+
+  old_stand : AllStand old
+  old_stand = matched-stand store update.table table there order test
+
+  -- ---- the kinds of the new values
+
+  fit : list_all (set_fits columns (scope_in table)) update.sets ≡ true
+  fit = ap (λ (l : List InScope). list_all (set_fits columns l) update.sets) (sym own_is)
+      ∙ sets-fit update (catalog_of db) check table.schema (schema-now update.table store table there)
+
+  shape_of : (row : TableRow) → is_row columns row.values ≡ true → has_shape columns (make row).values ≡ true
+  shape_of row is =
+      let both = and-parts (length row.values == length columns) (each_value fits columns row.values) is in
+      let long : length (updated_values (scope_in table) update.sets columns row.values) ≡ length columns =
+      updated_length (scope_in table) update.sets columns row.values ((Decides-eqb (length row.values) (length columns)).0 both.0) in
+      and-from (length (updated_values (scope_in table) update.sets columns row.values) == length columns) (each_value has_kind columns (updated_values (scope_in table) update.sets columns row.values))
+      ((Decides-eqb (length (updated_values (scope_in table) update.sets columns row.values)) (length columns)).1 long)
+      (updated_kinds table.name columns update.sets row.values (kinds-fits (zip columns row.values) both.1) fit (all_first columns (found-distinct db formed update.table t target_is)))
+
+  new_shape : have_shape (values_of new) t ≡ true
+  new_shape =
+      ap (list_all (has_shape columns)) (map-map (λ (row : TableRow). row.values) make old)
+      ∙ list_all-map (has_shape columns) (λ row. (make row).values) old
+      ∙ list_all-weaker (λ row. is_row columns row.values) (λ row. has_shape columns (make row).values) shape_of old
+      (list_all-filter (λ row. is_row columns row.values) test t.rows (table-parts t valid).rows)
+
+  -- ---- the table afterwards
+
+  replaced_is : with_replaced new t ≡ changed s (catalog_of db) t
+  replaced_is =
+      ap (λ (l : List TableRow). with_rows t l t.next) (replaced-some make (λ row. refl) test t.rows sorted_all)
+      ∙ ap (λ (l : List InScope). after_update l update t) (sym own_is)
+
+  -- what refuses it
+  stop_is : replace_stop new t ≡ stop_by t (lacks_value s (catalog_of db) t) (key_clash (changed s (catalog_of db) t)) false
+  stop_is =
+      (λ j. option_or (stop_if (list_any (has_null columns) (sym new_is j)) stop.NotNull) (key_stop t (key_clash (replaced_is j))))
+      ∙ ap (option_or (stop_if (lacks_value s (catalog_of db) t) stop.NotNull)) (sym (option_or-none (key_stop t (key_clash (changed s (catalog_of db) t)))))
+
+  -- ---- what is given to the store
+
+  module _ (found : List Found) (rows : List TableRow) (found_is : found ≡ map (found_row table.slots) old) (rows_are : rows ≡ map make (map row_of found)) where
+    rows_is : rows ≡ new
+    rows_is =
+        rows_are
+        ∙ ap (map make) (ap (map row_of) found_is ∙ map-map row_of (found_row table.slots) old ∙ map_itself old)
+
+    pub update-shape : have_shape (values_of rows) t ≡ true
+    update-shape = ap (λ (l : List TableRow). have_shape (values_of l) t) rows_is ∙ new_shape
+
+    pub update-sorted : are_sorted_rows rows ≡ true
+    update-sorted = ap are_sorted_rows rows_is ∙ made-sorted make (λ row. refl) old old_sorted
+
+    pub update-stand : all_stood rows t ≡ true
+    update-stand = ap (λ (l : List TableRow). all_stood l t) rows_is ∙ made-in make (λ row. refl) test t.rows
+
+    due_is : option_and_then (replace_stop rows) (table_at update.table db) ≡ stop_by t (lacks_value s (catalog_of db) t) (key_clash (changed s (catalog_of db) t)) false
+    due_is = ap (option_and_then (replace_stop rows)) target_is ∙ ap (λ (l : List TableRow). replace_stop l t) rows_is ∙ stop_is
+
+    -- ---- nothing refuses it
+
+    module _ (fine : option_and_then (replace_stop rows) (table_at update.table db) ≡ None) where
+      refused_not : refusal_of (Some s) db ≡ None
+      refused_not = not-refused store s update.table table there order target_is check (sym due_is ∙ fine)
+
+      reply_is : accepted_reply s db ≡ Changed (length found)
+      reply_is =
+          ap (λ (o : Option Table). Changed (matched_count s (catalog_of db) o)) target_is
+          ∙ ap (λ (l : List TableRow). Changed (length l)) old_is
+          ∙ ap Changed (sym (length-map old (found_row table.slots)) ∙ sym (ap length found_is))
+
+      made_is : made_unless None (versions_now store) (Some s) db ≡ map (next_member (versions_now store) t) old
+      made_is = ap (members_made (versions_now store) s (catalog_of db)) target_is ∙ ap (map (next_member (versions_now store) t)) old_is
+
+      needs_are : sorted_needs (needs_by None s db) ≡ map (matched_row t) old
+      needs_are =
+          ap (λ (o : Option Table). sorted_needs (matched_rows s (catalog_of db) o)) target_is
+          ∙ ap (λ (l : List TableRow). sorted_needs (map (matched_row t) l)) old_is
+          ∙ needs-matched t old old_sorted
+
+      named : t.name ≡ update.table
+      named = history-name update.table store table there
+
+      pub update-change : IsChange s store (matched_change update.table found)
+      update-change =
+          change-by s store None refused_not (matched_change update.table found)
+          (sym reply_is)
+          (ap (map (made_found update.table)) found_is ∙ made-is store update.table table there order t named old old_stand ∙ sym made_is)
+          (ap (map (need_found update.table)) found_is ∙ needs-is store update.table table there order t named old old_stand ∙ ap (map (read_of (versions_now store))) (sym needs_are))
+
+      tables_are : with_changed update.table (with_replaced rows) db ≡ after_unless None (Some s) db
+      tables_are =
+          ap (λ (l : List TableRow). with_changed update.table (with_replaced l) db) rows_is
+          ∙ same-changed (with_replaced new) (changed s (catalog_of db)) update.table t replaced_is db target_is
+          (and-parts (list_all is_valid_table db) (is_strictly_sorted table_precedes db) formed.database).1
+
+      updated_are : updated_unless None (Some s) db ≡ map (updated_origin t) old
+      updated_are = ap (updated_in s (catalog_of db)) target_is ∙ ap (map (updated_origin t)) old_is
+
+      other_rows : (other : List ℕ) (number : ℕ) → same_text update.table other ≡ false → list_any (is_row_of other number) (map (updated_origin t) old) ≡ false
+      other_rows other number apart =
+          list_any-map (is_row_of other number) (updated_origin t) old
+          ∙ ap (λ (b : Bool). list_any (λ (row : TableRow). b && row.number == number) old) (ap (λ (n : List ℕ). same_text n other) named ∙ apart)
+          ∙ list_any-false old
+
+      own_rows : (number : ℕ) → list_any (is_row_of update.table number) (map (updated_origin t) old) ≡ list_any (λ row. row.number == number) new
+      own_rows number =
+          list_any-map (is_row_of update.table number) (updated_origin t) old
+          ∙ ap (λ (b : Bool). list_any (λ (row : TableRow). b && row.number == number) old) (ap (λ (n : List ℕ). same_text n update.table) named ∙ bytes_eq-itself update.table)
+          ∙ sym (list_any-map (λ (row : TableRow). row.number == number) make old)
+
+      new_stand : (rows : List TableRow) → AllStand rows → AllStand (map make rows)
+      new_stand [] all = tt
+      new_stand (row ∷ rows) all = (all.0, new_stand rows all.1)
+
+      module _ (time : ℕ) where
+        versions_are : (number : ℕ) → updates_of (history_of_row number (rewritten time rows table.slots))
+            ≡ (if list_any (is_row_of update.table number) (map (updated_origin t) old) then updates_of (history_of_row number table.slots) + 1 else updates_of (history_of_row number table.slots))
+        versions_are number =
+            ap (λ (l : List TableRow). updates_of (history_of_row number (rewritten time l table.slots))) rows_is
+            ∙ updates-rewritten table.slots time new (new_stand old old_stand) number
+            ∙ ap (λ (b : Bool). if b then updates_of (history_of_row number table.slots) + 1 else updates_of (history_of_row number table.slots)) (sym (own_rows number))
+
+        pub update-after : (made : StoreHistory) → tables_now made ≡ with_changed update.table (with_replaced rows) db
+            → made ≡ changed_at time update.table (replaced time rows) store → AreKeptBefore time store made
+            → IsStoreAfter s time store made
+        update-after made tables is_made earlier =
+            after-by s store None refused_not time made
+            (tables ∙ tables_are)
+            (ap versions_now is_made
+            ∙ versions-changed update.table store table there time (replaced time rows) (λ u. refl) (map (updated_origin t) old) other_rows versions_are
+            ∙ ap (λ l. versions_after l (versions_now store)) (sym updated_are))
+            (subst (λ (n : StoreHistory). n.time ≤ time) (sym is_made) (omega arith))
+            earlier
+
+    -- ---- the store refuses it
+
+    module _ (X : Type 0) (at : StoreStop) (change : Change) (stops : StopsAs {X = X} (option_and_then (replace_stop rows) (table_at update.table db)) (Err at))
+        (made : refused_change update.table table.slots (map (need_found update.table) found) at ≡ Some change) where
+      stops_by : StopsAs {X = X} (stop_by t (lacks_value s (catalog_of db) t) (key_clash (changed s (catalog_of db) t)) false) (Err at)
+      stops_by = subst (λ (o : Option StoreStop). StopsAs {X = X} o (Err at)) due_is stops
+
+      made_by : refused_change update.table table.slots (map (need_found update.table) (map (found_row table.slots) old)) at ≡ Some change
+      made_by = ap (λ (l : List Found). refused_change update.table table.slots (map (need_found update.table) l) at) (sym found_is) ∙ made
+
+      pub update-refused : IsChange s store change
+      update-refused = refused-change store s update.table table there order target_is check old old_is old_sorted old_stand X at change stops_by made_by
+
+      pub update-kept : (time : ℕ) (after : StoreHistory) → store.time < time → after ≡ store → IsStoreAfter s time store after
+      update-kept time after later same = refused-after store s update.table table there order target_is check old old_is old_sorted old_stand X at change stops_by made_by time after later same

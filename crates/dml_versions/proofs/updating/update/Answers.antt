@@ -1,0 +1,133 @@
+use Rattle.std.proofs.Common.{◌≡◌, ◌+◌, ◌<◌, ◌^◌, ℕ, List, map, ap, sym, ◌∙◌, subst, arith, true, Option, Some}
+use Rattle.std.specs.Prelude.{filter, IsSome, IfSome, Err}
+use Rattle.std.specs.List.{AllByRecursion}
+use Rattle.std.specs.Option.{option_and_then}
+use Rattle.ldv_value.proofs.Options.{same-some}
+use Rattle.sql_model.specs.Scope.{table_at}
+use Rattle.table_store.specs.Histories.{tables_now, table_now, rows_now, history_at, changed_at, replaced}
+use Rattle.table_store.specs.Stops.{with_changed, with_replaced, have_shape, values_of, all_stood, replace_stop, StopsAs}
+use Rattle.table_store.specs.declared.stop.StoreStop.{StoreStop}
+use Rattle.dml_versions.proofs.EntryLaws.{check-of, there-of, versions-fit}
+use Rattle.dml_versions.proofs.TableLaws.{table-now, history-some}
+use Rattle.dml_versions.proofs.UpdateLaws.{update-shape, update-sorted, update-stand, update-change, update-after, update-refused, update-kept}
+use Rattle.dml_versions.specs.Changing.{IsChange, IsStoreAfter, refused_change}
+use Rattle.dml_versions.specs.Finding.{test_in}
+use Rattle.dml_versions.specs.Needing.{need_found}
+use Rattle.dml_versions.specs.Types.{Need, RowHistory, Statement, TheUpdate, Table, StoreHistory, TableHistory}
+use Rattle.dml_versions.specs.declared.change.Change.{Change}
+use Rattle.dml_versions.specs.declared.found.Found.{Found}
+use Rattle.dml_versions.proofs.updating.update.Goals as goal
+
+pub matched_change-requires : goal.matched_change-requires
+matched_change-requires c =
+    let f = c.in_ok-prepared.ensures in
+    subst (λ (l : List Found). AllByRecursion (λ row. row.version + 1 < 2 ^ 32) l) (sym f.found_is)
+    (versions-fit c.args.store.now.time f.table.slots f.held.timed c.args.time c.requires.later (omega arith)
+    (filter (test_in f.table c.update_of-update.result.now.pick) (rows_now f.table.slots)))
+
+pub replace_all-requires-clause-there : goal.replace_all-requires-clause-there
+replace_all-requires-clause-there c =
+    subst (λ (n : List ℕ). IsSome (table_at n (tables_now c.args.store.now))) (sym c.as_str-name.ensures)
+    (there-of (tables_now c.args.store.now) c.args.checked.now c.requires.checked (TheUpdate c.update_of-update.result.now) c.update_of-update.ensures tt)
+
+pub replace_all-requires-clause-shape : goal.replace_all-requires-clause-shape
+replace_all-requires-clause-shape c =
+    let f = c.in_ok-prepared.ensures in
+    let update = c.update_of-update.result.now in
+    let old = c.args.store.now in
+    let check = check-of (tables_now old) c.args.checked.now c.requires.checked (TheUpdate update) c.update_of-update.ensures in
+    let there : table_at c.as_str-name.result.now (tables_now old) ≡ Some (table_now f.table) =
+    ap (λ (n : List ℕ). table_at n (tables_now old)) c.as_str-name.ensures ∙ table-now update.table old f.table f.there in
+    subst (λ (o : Option Table). IfSome o (λ table. have_shape (values_of c.in_ok-prepared.prepared.rows) table ≡ true)) (sym there)
+    (update-shape old update f.table f.there f.held.order c.requires.formed check c.in_ok-prepared.prepared.found c.in_ok-prepared.prepared.rows f.found_is f.rows_are)
+
+pub replace_all-requires-clause-sorted : goal.replace_all-requires-clause-sorted
+replace_all-requires-clause-sorted c =
+    let f = c.in_ok-prepared.ensures in
+    let update = c.update_of-update.result.now in
+    let old = c.args.store.now in
+    let check = check-of (tables_now old) c.args.checked.now c.requires.checked (TheUpdate update) c.update_of-update.ensures in
+    update-sorted old update f.table f.there f.held.order c.requires.formed check c.in_ok-prepared.prepared.found c.in_ok-prepared.prepared.rows f.found_is f.rows_are
+
+pub replace_all-requires-clause-stand : goal.replace_all-requires-clause-stand
+replace_all-requires-clause-stand c =
+    let f = c.in_ok-prepared.ensures in
+    let update = c.update_of-update.result.now in
+    let old = c.args.store.now in
+    let check = check-of (tables_now old) c.args.checked.now c.requires.checked (TheUpdate update) c.update_of-update.ensures in
+    let there : table_at c.as_str-name.result.now (tables_now old) ≡ Some (table_now f.table) =
+    ap (λ (n : List ℕ). table_at n (tables_now old)) c.as_str-name.ensures ∙ table-now update.table old f.table f.there in
+    subst (λ (o : Option Table). IfSome o (λ table. all_stood c.in_ok-prepared.prepared.rows table ≡ true)) (sym there)
+    (update-stand old update f.table f.there f.held.order c.requires.formed check c.in_ok-prepared.prepared.found c.in_ok-prepared.prepared.rows f.found_is f.rows_are)
+
+-- ---- accepted
+
+pub returns-in-Ok-clause-change : goal.returns-in-Ok-clause-change
+returns-in-Ok-clause-change c =
+    let f = c.in_ok-prepared.ensures in
+    let update = c.update_of-update.result.now in
+    let old = c.args.store.now in
+    let rows = c.in_ok-prepared.prepared.rows in
+    let check = check-of (tables_now old) c.args.checked.now c.requires.checked (TheUpdate update) c.update_of-update.ensures in
+    let fine = ap (λ (n : List ℕ). option_and_then (replace_stop rows) (table_at n (tables_now old))) (sym c.as_str-name.ensures) ∙ c.in-Ok.ensures.stop in
+    subst (λ (s : Statement). IsChange s old c.in_ok-change.change) (sym c.update_of-update.ensures)
+    (subst (λ (made : Change). IsChange (TheUpdate update) old made) (sym c.in_ok-change.ensures)
+    (update-change old update f.table f.there f.held.order c.requires.formed check c.in_ok-prepared.prepared.found rows f.found_is f.rows_are fine))
+
+pub returns-in-Ok-clause-after : goal.returns-in-Ok-clause-after
+returns-in-Ok-clause-after c =
+    let f = c.in_ok-prepared.ensures in
+    let update = c.update_of-update.result.now in
+    let old = c.args.store.now in
+    let rows = c.in_ok-prepared.prepared.rows in
+    let check = check-of (tables_now old) c.args.checked.now c.requires.checked (TheUpdate update) c.update_of-update.ensures in
+    let fine = ap (λ (n : List ℕ). option_and_then (replace_stop rows) (table_at n (tables_now old))) (sym c.as_str-name.ensures) ∙ c.in-Ok.ensures.stop in
+    subst (λ (s : Statement). IsStoreAfter s c.args.time old c.replace_all.new.self) (sym c.update_of-update.ensures)
+    (update-after old update f.table f.there f.held.order c.requires.formed check c.in_ok-prepared.prepared.found rows f.found_is f.rows_are fine c.args.time c.replace_all.new.self
+    (c.in-Ok.ensures.now ∙ ap (λ (n : List ℕ). with_changed n (with_replaced rows) (tables_now old)) c.as_str-name.ensures)
+    (c.in-Ok.ensures.ok ∙ ap (λ (n : List ℕ). changed_at c.args.time n (replaced c.args.time rows) old) c.as_str-name.ensures)
+    c.in-Ok.ensures.earlier)
+
+-- ---- refused
+
+pub table_of-table-requires : goal.table_of-table-requires
+table_of-table-requires c =
+    let update = c.update_of-update.result.now in
+    subst (λ (store : StoreHistory). IsSome (history_at update.table store)) (sym c.in-Err.ensures.err)
+    (history-some update.table c.args.store.now
+    (there-of (tables_now c.args.store.now) c.args.checked.now c.requires.checked (TheUpdate update) c.update_of-update.ensures tt))
+
+pub returns-clause-change : goal.returns-clause-change
+returns-clause-change c =
+    let f = c.in_ok-prepared.ensures in
+    let update = c.update_of-update.result.now in
+    let old = c.args.store.now in
+    let found = c.in_ok-prepared.prepared.found in
+    let rows = c.in_ok-prepared.prepared.rows in
+    let check = check-of (tables_now old) c.args.checked.now c.requires.checked (TheUpdate update) c.update_of-update.ensures in
+    let stops = subst (λ (n : List ℕ). StopsAs {X = Unit {0}} (option_and_then (replace_stop rows) (table_at n (tables_now old))) (Err c.in-Err.stop)) c.as_str-name.ensures c.in-Err.ensures.stop in
+    let same : c.table_of-table.result.now ≡ f.table =
+    same-some c.table_of-table.result.now f.table (sym c.table_of-table.ensures.found ∙ ap (history_at update.table) c.in-Err.ensures.err ∙ f.there) in
+    let needs : c.in_ok-change.change.needs ≡ map (need_found update.table) found = ap (λ (made : Change). made.needs) c.in_ok-change.ensures in
+    let made : refused_change update.table f.table.slots (map (need_found update.table) found) c.in-Err.stop ≡ Some c.in_ok-refused-in-Err.refused =
+    (λ j. refused_change update.table (sym same j).slots (sym needs j) c.in-Err.stop) ∙ c.in_ok-refused-in-Err.ensures in
+    subst (λ (s : Statement). IsChange s old c.in_ok-refused-in-Err.refused) (sym c.update_of-update.ensures)
+    (update-refused old update f.table f.there f.held.order c.requires.formed check found rows f.found_is f.rows_are (Unit {0}) c.in-Err.stop c.in_ok-refused-in-Err.refused stops made)
+
+pub returns-clause-after : goal.returns-clause-after
+returns-clause-after c =
+    let f = c.in_ok-prepared.ensures in
+    let update = c.update_of-update.result.now in
+    let old = c.args.store.now in
+    let found = c.in_ok-prepared.prepared.found in
+    let rows = c.in_ok-prepared.prepared.rows in
+    let check = check-of (tables_now old) c.args.checked.now c.requires.checked (TheUpdate update) c.update_of-update.ensures in
+    let stops = subst (λ (n : List ℕ). StopsAs {X = Unit {0}} (option_and_then (replace_stop rows) (table_at n (tables_now old))) (Err c.in-Err.stop)) c.as_str-name.ensures c.in-Err.ensures.stop in
+    let same : c.table_of-table.result.now ≡ f.table =
+    same-some c.table_of-table.result.now f.table (sym c.table_of-table.ensures.found ∙ ap (history_at update.table) c.in-Err.ensures.err ∙ f.there) in
+    let needs : c.in_ok-change.change.needs ≡ map (need_found update.table) found = ap (λ (made : Change). made.needs) c.in_ok-change.ensures in
+    let made : refused_change update.table f.table.slots (map (need_found update.table) found) c.in-Err.stop ≡ Some c.in_ok-refused-in-Err.refused =
+    (λ j. refused_change update.table (sym same j).slots (sym needs j) c.in-Err.stop) ∙ c.in_ok-refused-in-Err.ensures in
+    subst (λ (s : Statement). IsStoreAfter s c.args.time old c.replace_all.new.self) (sym c.update_of-update.ensures)
+    (update-kept old update f.table f.there f.held.order c.requires.formed check found rows f.found_is f.rows_are (Unit {0}) c.in-Err.stop c.in_ok-refused-in-Err.refused stops made
+    c.args.time c.replace_all.new.self c.requires.later c.in-Err.ensures.err)

@@ -1,0 +1,118 @@
+-- What INSERT, UPDATE and DELETE return over a store, and what they make of it.
+use Rattle.std.specs.Prelude.{◌≡◌, ℕ, ◌≤◌, List, [], map, length, Bool, true, Option, Some, None, Ok}
+use Rattle.sql_laws.specs.DatabaseLaw.{have_distinct_columns}
+use Rattle.sql_model.specs.Changes.{numbered, new_values, updated_row}
+use Rattle.sql_model.specs.Needs.{need_of, made_by, updated_rows, versions_after, read_of}
+use Rattle.sql_model.specs.Places.{checked_of}
+use Rattle.sql_model.specs.Scope.{catalog_of}
+use Rattle.sql_model.specs.Statements.{reply_of, after}
+use Rattle.sql_model.specs.Tables.{is_database}
+use Rattle.table_store.specs.Histories.{tables_now, history_at, AreKeptBefore}
+use Rattle.table_store.specs.declared.stop.StoreStop.{StoreStop}
+use Rattle.table_store.specs.declared.stop.StoreStop.TheVariants as stop
+use Rattle.dml_versions.specs.Finding.{scope_in, test_in, row_of, found_from}
+use Rattle.dml_versions.specs.Holding.{IsHeld}
+use Rattle.dml_versions.specs.Needing.{need_found, made_found, made_new, with_key_rows}
+use Rattle.dml_versions.specs.Types.{Checked, Expr, Need, Changed, Refused, SqlRefusal, NotNull, KeyTaken}
+use Rattle.dml_versions.specs.Types.{Full}
+use Rattle.dml_versions.specs.Types.{Statement, TheQuery, TheInsert, TheUpdate, TheDelete, Insert, Update}
+use Rattle.dml_versions.specs.Types.{Table, TableRow}
+use Rattle.dml_versions.specs.Types.{Value, RowHistory, StoreHistory, TableHistory}
+use Rattle.dml_versions.specs.Versions.{versions_now}
+use Rattle.dml_versions.specs.declared.change.Change.{Change}
+use Rattle.dml_versions.specs.declared.found.Found.{Found}
+
+abbrev pub IsInsert : Statement → Type 0
+IsInsert (TheQuery query) = ⊥
+IsInsert (TheInsert insert) = Unit {0}
+IsInsert (TheUpdate update) = ⊥
+IsInsert (TheDelete delete) = ⊥
+
+abbrev pub IsUpdate : Statement → Type 0
+IsUpdate (TheQuery query) = ⊥
+IsUpdate (TheInsert insert) = ⊥
+IsUpdate (TheUpdate update) = Unit {0}
+IsUpdate (TheDelete delete) = ⊥
+
+abbrev pub IsDelete : Statement → Type 0
+IsDelete (TheQuery query) = ⊥
+IsDelete (TheInsert insert) = ⊥
+IsDelete (TheUpdate update) = ⊥
+IsDelete (TheDelete delete) = Unit {0}
+
+-- a check against the tables gave the statement with its places
+abbrev pub IsCheckedOver : List Table → Checked → Type 0
+IsCheckedOver db checked = checked_of checked.statement (catalog_of db) ≡ Ok checked
+
+-- the tables are a database, and none has two columns of one name
+pub record AreWellFormed (db : List Table) : Type 0 where
+  pub database : is_database db ≡ true
+  pub distinct : have_distinct_columns db ≡ true
+
+-- the reply of a statement, the versions that it makes, and the rows that it needs at their versions
+pub record IsChange (statement : Statement) (store : StoreHistory) (change : Change) : Type 0 where
+  pub reply : change.reply ≡ reply_of (Some statement) (tables_now store)
+  pub made : change.made ≡ made_by (versions_now store) (Some statement) (tables_now store)
+  pub needs : change.needs ≡ map (read_of (versions_now store)) (need_of (Some statement) (tables_now store))
+
+-- the store after a statement at a time: its tables and their versions are those after the statement, and
+-- what the tables were before the time stays
+pub record IsStoreAfter (statement : Statement) (time : ℕ) (old new : StoreHistory) : Type 0 where
+  pub tables : tables_now new ≡ after (Some statement) (tables_now old)
+  pub versions : versions_now new
+      ≡ versions_after (updated_rows (Some statement) (tables_now old)) (versions_now old)
+  pub latest : new.time ≤ time
+  pub earlier : AreKeptBefore time old new
+
+-- ---- on the way
+
+-- the rows that WHERE matches in the table of a name
+pub record AreFound (name : List ℕ) (pick : Option Expr) (store : StoreHistory) (found : List Found)
+    : Type 0 where
+  pub table : TableHistory
+  pub there : history_at name store ≡ Some table
+  pub held : IsHeld store.time table
+  pub found_is : found ≡ found_from (test_in table pick) table.slots 0
+
+-- where nothing refuses a change of matched rows
+abbrev pub matched_change : List ℕ → List Found → Change
+matched_change name found = record {
+  reply = Changed (length found);
+  made = map (made_found name) found;
+  needs = map (need_found name) found;
+}
+
+-- where nothing refuses new rows
+abbrev pub inserted_change : List ℕ → ℕ → List (List Value) → Change
+inserted_change name next rows = record {
+  reply = Changed (length rows);
+  made = map (made_new name) (numbered next rows);
+  needs = [];
+}
+
+abbrev pub refused_by : SqlRefusal → List Need → Change
+refused_by refusal needs = record { reply = Refused refusal; made = []; needs = needs }
+
+-- where the store refuses a change that needs rows; nothing is said where memory is out
+abbrev pub refused_change : List ℕ → List RowHistory → List Need → StoreStop → Option Change
+refused_change name slots needs stop.NotNull = Some (refused_by NotNull needs)
+refused_change name slots needs (stop.KeyTaken earlier later key) =
+    Some (refused_by (KeyTaken name key) (with_key_rows name slots earlier later needs))
+refused_change name slots needs stop.Full = Some (refused_by Full [])
+refused_change name slots needs stop.NoMemory = None
+
+-- the rows that an UPDATE matches, and what it makes of them
+pub record ArePrepared (update : Update) (store : StoreHistory) (found : List Found) (rows : List TableRow)
+    : Type 0 where
+  pub table : TableHistory
+  pub there : history_at update.table store ≡ Some table
+  pub held : IsHeld store.time table
+  pub found_is : found ≡ found_from (test_in table update.pick) table.slots 0
+  pub rows_are : rows ≡ map (updated_row (scope_in table) update table.schema.columns) (map row_of found)
+
+-- the values of the new rows of an INSERT
+pub record AreNewRows (insert : Insert) (store : StoreHistory) (rows : List (List Value)) : Type 0 where
+  pub table : TableHistory
+  pub there : history_at insert.table store ≡ Some table
+  pub held : IsHeld store.time table
+  pub rows_are : rows ≡ map (new_values insert.columns table.schema.columns) insert.rows

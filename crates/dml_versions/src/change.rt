@@ -1,0 +1,108 @@
+//! What a change returns.
+
+ghost use Rattle.std.specs.Prelude.{◌≡◌, ◌+◌, ◌<◌, ◌^◌, Some, IfOk, length, map, nat_lt, false};
+ghost use Rattle.std.specs.List.{AllByRecursion};
+ghost use Rattle.ldv_value.specs.Limits.{max_next};
+ghost use Rattle.dml_versions.specs.Changing.{matched_change, inserted_change, refused_change, refused_by};
+ghost use Rattle.dml_versions.specs.Needing.{made_new};
+ghost use Rattle.sql_model.specs.Changes.{numbered};
+
+use crate::found::FoundRows;
+use crate::needs::{made_new, made_of, needs_of, with_key_rows};
+use ldv_value::{List, MAX_NEXT, RowList, Utf8};
+use sql_model::{Members, Needs, Reply, SqlRefusal};
+use std::alloc::{AllocError, Global};
+use table_store::{StoreStop, TableStore};
+
+/// The reply to a statement, the versions that it made, and the rows that it needed at their versions, both
+/// lists sorted by row number.
+#[derive(Drop)]
+pub struct Change {
+    pub reply: Reply,
+    pub made: Members,
+    pub needs: Needs,
+}
+
+/// What a change of matched rows returns where nothing refuses it.
+pub(crate) fn matched_change(
+    alloc: Global,
+    name: &Utf8,
+    found: &FoundRows,
+) -> Result<Change, AllocError>
+    requires { AllByRecursion (λ row. row.version + 1 < 2 ^ 32) found.now }
+    ensures { IfOk result (λ change. change ≡ matched_change name.now found.now) }
+{
+    Ok(Change {
+        reply: Reply::Changed(found.len() as u64),
+        made: made_of(alloc, name, found)?,
+        needs: needs_of(alloc, name, found)?,
+    })
+}
+
+/// What an INSERT returns where nothing refuses it: its rows are numbered from `next` on.
+pub(crate) fn inserted_change(
+    alloc: Global,
+    name: &Utf8,
+    next: u32,
+    rows: &RowList,
+) -> Result<Change, AllocError>
+    ensures { IfOk result (λ change. nat_lt max_next (next + length rows.now) ≡ false
+        → change ≡ inserted_change name.now next rows.now) }
+{
+    Ok(Change {
+        reply: Reply::Changed(rows.len() as u64),
+        made: made_within(alloc, name, next, rows)?,
+        needs: List::new(alloc),
+    })
+}
+
+// The versions that an INSERT makes, where the numbers of its rows are within the limit.
+fn made_within(alloc: Global, name: &Utf8, next: u32, rows: &RowList) -> Result<Members, AllocError>
+    ensures { IfOk result (λ made. nat_lt max_next (next + length rows.now) ≡ false
+        → made ≡ map (made_new name.now) (numbered next rows.now)) }
+{
+    if rows.len() > (MAX_NEXT - next) as usize {
+        return Ok(List::new(alloc));
+    }
+    made_new(alloc, name, next, rows)
+}
+
+/// What a change returns that the store refuses. `needs` are the rows that it matches.
+pub(crate) fn refused_change(
+    alloc: Global,
+    name: &Utf8,
+    table: &TableStore,
+    needs: Needs,
+    stop: StoreStop,
+) -> Result<Change, AllocError>
+    ensures { IfOk result (λ change. refused_change name.now table.now.slots needs stop ≡ Some change) }
+{
+    match stop {
+        StoreStop::NotNull => Ok(refused_by(alloc, SqlRefusal::NotNull, needs)),
+        StoreStop::KeyTaken {
+            earlier,
+            later,
+            key,
+        } => {
+            let table_name = name.copy()?;
+            let needs = with_key_rows(name, table, earlier, later, needs)?;
+            let refusal = SqlRefusal::KeyTaken {
+                table: table_name,
+                key,
+            };
+            Ok(refused_by(alloc, refusal, needs))
+        }
+        StoreStop::Full => Ok(refused_by(alloc, SqlRefusal::Full, List::new(alloc))),
+        StoreStop::NoMemory => Err(AllocError),
+    }
+}
+
+fn refused_by(alloc: Global, refusal: SqlRefusal, needs: Needs) -> Change
+    ensures { result ≡ refused_by refusal needs }
+{
+    Change {
+        reply: Reply::Refused(refusal),
+        made: List::new(alloc),
+        needs,
+    }
+}

@@ -1,0 +1,57 @@
+//! DELETE.
+
+ghost use Rattle.std.specs.Prelude.{◌≡◌, ◌<◌, IfOk, OnOk, OnErr};
+ghost use Rattle.dml_versions.specs.Changing.{IsDelete, IsCheckedOver, AreWellFormed, IsChange, IsStoreAfter};
+ghost use Rattle.dml_versions.specs.Changing.{AreFound};
+ghost use Rattle.dml_versions.specs.Types.{TheDelete};
+ghost use Rattle.table_store.specs.Histories.{tables_now};
+
+use crate::change::{Change, matched_change};
+use crate::finding::found_rows;
+use crate::found::FoundRows;
+use crate::needs::numbers_of;
+use crate::places::pick_places;
+use crate::statements::delete_of;
+use crate::tables::table_of;
+use core_parts::places_or;
+use ldv_value::List;
+use sql_model::{Checked, Delete};
+use std::alloc::AllocError;
+use table_store::Store;
+
+/// Drops the rows for which WHERE is True, or all where it is missing, at a time. The statement is a DELETE
+/// that was checked against the store's tables, and the time is later than that of the store's last change.
+/// On `AllocError` the store is as it was.
+pub fn delete(checked: &Checked, store: &mut Store, time: u32) -> Result<Change, AllocError>
+    requires kind { IsDelete checked.now.statement }
+    requires checked { IsCheckedOver (tables_now store.old) checked.now }
+    requires formed { AreWellFormed (tables_now store.old) }
+    requires later { store.old.time < time }
+    ensures change { IfOk result (IsChange checked.now.statement store.old) }
+    ensures after { OnOk result (IsStoreAfter checked.now.statement time store.old store.new) }
+    ensures err { OnErr result (store.new ≡ store.old) }
+{
+    let alloc = checked.places.allocator();
+    let delete = delete_of(checked);
+    let found = deleted_rows(checked, delete, store)?;
+    let numbers = numbers_of(alloc, &found)?;
+    let change = matched_change(alloc, &delete.table, &found)?;
+    let name = delete.table.as_str();
+    store.delete_all(name, &numbers, time)?;
+    Ok(change)
+}
+
+// The rows that a DELETE drops.
+fn deleted_rows(checked: &Checked, delete: &Delete, store: &Store) -> Result<FoundRows, AllocError>
+    requires statement { checked.now.statement ≡ TheDelete delete.now }
+    requires checked { IsCheckedOver (tables_now store.now) checked.now }
+    requires formed { AreWellFormed (tables_now store.now) }
+    ensures { IfOk result (AreFound delete.now.table delete.now.pick store.now) }
+{
+    let alloc = checked.places.allocator();
+    let none = List::new(alloc);
+    let places = pick_places(alloc, &delete.pick, places_or(checked, 0, &none), 0)?;
+    let table = table_of(store, &delete.table);
+    let found = found_rows(alloc, table, &delete.pick, &places)?;
+    Ok(found)
+}

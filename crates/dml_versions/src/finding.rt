@@ -1,0 +1,128 @@
+//! The rows of a table for which WHERE is True.
+
+ghost use Rattle.std.specs.Prelude.{◌≡◌, ◌++◌, true, IfOk, OnOk};
+ghost use Rattle.dml_versions.specs.Finding.{IsPickPlaced, scope_in, test_in, found_at, found_from};
+ghost use Rattle.sql_model.specs.Changes.{is_matched};
+ghost use Rattle.sql_model.specs.Scope.{InScope};
+ghost use Rattle.sql_model.specs.Tables.{are_keys_unique, row_values};
+ghost use Rattle.dml_versions.specs.Fixing.{FixesKey};
+ghost use Rattle.table_store.specs.Histories.{table_now};
+ghost use Rattle.std.specs.Prelude.{ℕ, List as Items};
+
+use crate::found::{Found, FoundRows};
+use crate::keys::fixed_key;
+use crate::needs::version_of;
+use core_parts::is_certain;
+use ldv_value::{List, Places, Values};
+use sql_model::{Expr, truth_of};
+use std::alloc::{AllocError, Global};
+use table_store::TableStore;
+
+/// The rows of a table for which WHERE is True, or missing, in the order of their numbers. `places` are those
+/// of WHERE's columns.
+pub(crate) fn found_rows(
+    alloc: Global,
+    table: &TableStore,
+    pick: &Option<Expr>,
+    places: &Places,
+) -> Result<FoundRows, AllocError>
+    requires placed { IsPickPlaced (scope_in table.now) pick.now places.now }
+    requires unique { are_keys_unique table.now.schema.key (row_values (table_now table.now)) ≡ true }
+    ensures { IfOk result (λ found. found ≡ found_from (test_in table.now pick.now) table.now.slots 0) }
+{
+    let fixed = fixed_key(alloc, &table.schema().key, pick, places)?;
+    match fixed {
+        None => found_in_slots(alloc, table, pick, places),
+        Some(key) => found_by_key(alloc, table, &key, pick, places),
+    }
+}
+
+// The same slot by slot.
+fn found_in_slots(
+    alloc: Global,
+    table: &TableStore,
+    pick: &Option<Expr>,
+    places: &Places,
+) -> Result<FoundRows, AllocError>
+    requires placed { IsPickPlaced (scope_in table.now) pick.now places.now }
+    ensures { IfOk result (λ found. found ≡ found_from (test_in table.now pick.now) table.now.slots 0) }
+{
+    let mut found = List::new(alloc);
+    for slot in 0..table.slots() {
+        add_found(alloc, table, slot, pick, places, &mut found)?;
+    }
+    Ok(found)
+}
+
+// The same by the values of the key, which WHERE fixes.
+fn found_by_key(
+    alloc: Global,
+    table: &TableStore,
+    key: &Values,
+    pick: &Option<Expr>,
+    places: &Places,
+) -> Result<FoundRows, AllocError>
+    requires placed { IsPickPlaced (scope_in table.now) pick.now places.now }
+    requires fixed { FixesKey pick.now places.now table.now.schema.key key.now }
+    requires unique { are_keys_unique table.now.schema.key (row_values (table_now table.now)) ≡ true }
+    ensures { IfOk result (λ found. found ≡ found_from (test_in table.now pick.now) table.now.slots 0) }
+{
+    table.tell_order();
+    let mut found = List::new(alloc);
+    match table.by_key(key) {
+        None => Ok(found),
+        Some(number) => match table.slot_of(number) {
+            None => unreachable!(),
+            Some(slot) => {
+                add_found(alloc, table, slot, pick, places, &mut found)?;
+                Ok(found)
+            }
+        },
+    }
+}
+
+// Adds the row in a slot, if it stands and WHERE is True for it.
+fn add_found(
+    alloc: Global,
+    table: &TableStore,
+    slot: u64,
+    pick: &Option<Expr>,
+    places: &Places,
+    found: &mut FoundRows,
+) -> Result<(), AllocError>
+    requires placed { IsPickPlaced (scope_in table.now) pick.now places.now }
+    ensures { OnOk result
+        (found.new ≡ found.old ++ found_at (test_in table.now pick.now) table.now.slots slot) }
+{
+    match table.slot_row(slot) {
+        None => Ok(()),
+        Some(number) => {
+            let values = table.row_values(slot)?;
+            if !meets(alloc, pick, &values, places)? {
+                return Ok(());
+            }
+            let version = version_of(table, number);
+            found.push(Found {
+                number,
+                version,
+                values,
+            })
+        }
+    }
+}
+
+// Whether WHERE is True over a row, or missing.
+fn meets(
+    alloc: Global,
+    pick: &Option<Expr>,
+    values: &Values,
+    places: &Places,
+) -> Result<bool, AllocError>
+    ensures { IfOk result (λ is. (scope : Items InScope) (number : ℕ) → IsPickPlaced scope pick.now places.now
+        → is ≡ is_matched scope pick.now (record { number = number; values = values.now })) }
+{
+    match pick {
+        None => Ok(true),
+        Some(expr) => Ok(is_certain(truth_of(alloc, expr, values, places)?)),
+    }
+}

@@ -1,0 +1,77 @@
+//! UPDATE.
+
+ghost use Rattle.std.specs.Prelude.{◌≡◌, ◌<◌, IfOk, OnOk, OnErr};
+ghost use Rattle.dml_versions.specs.Changing.{IsUpdate, IsCheckedOver, AreWellFormed, IsChange, IsStoreAfter};
+ghost use Rattle.dml_versions.specs.Changing.{ArePrepared};
+ghost use Rattle.dml_versions.specs.Types.{TheUpdate};
+ghost use Rattle.table_store.specs.Histories.{tables_now};
+
+use crate::change::{Change, matched_change, refused_change};
+use crate::finding::found_rows;
+use crate::found::FoundRows;
+use crate::places::update_places;
+use crate::statements::update_of;
+use crate::tables::table_of;
+use crate::updates::updated_rows;
+use core_parts::places_or;
+use ldv_value::List;
+use sql_model::{Checked, TableRows, Update};
+use std::alloc::AllocError;
+use table_store::Store;
+
+/// Gives the rows for which WHERE is True, or all where it is missing, their new values at a time, each
+/// computed from the old row. The statement is an UPDATE that was checked against the store's tables, and the
+/// time is later than that of the store's last change. On `AllocError`, and where the statement is refused,
+/// the store is as it was.
+pub fn update(checked: &Checked, store: &mut Store, time: u32) -> Result<Change, AllocError>
+    requires kind { IsUpdate checked.now.statement }
+    requires checked { IsCheckedOver (tables_now store.old) checked.now }
+    requires formed { AreWellFormed (tables_now store.old) }
+    requires later { store.old.time < time }
+    ensures change { IfOk result (IsChange checked.now.statement store.old) }
+    ensures after { OnOk result (IsStoreAfter checked.now.statement time store.old store.new) }
+    ensures err { OnErr result (store.new ≡ store.old) }
+{
+    let alloc = checked.places.allocator();
+    let update = update_of(checked);
+    let prepared = prepare(checked, update, store)?;
+    let Prepared { found, rows } = prepared;
+    let change = matched_change(alloc, &update.table, &found)?;
+    let name = update.table.as_str();
+    match store.replace_all(name, rows, time) {
+        Ok(()) => Ok(change),
+        Err(stop) => {
+            let Change {
+                reply: _reply,
+                made: _made,
+                needs,
+            } = change;
+            let table = table_of(store, &update.table);
+            let refused = refused_change(alloc, &update.table, table, needs, stop)?;
+            Ok(refused)
+        }
+    }
+}
+
+// The rows that an UPDATE matches, and what it makes of them.
+#[derive(Drop)]
+struct Prepared {
+    found: FoundRows,
+    rows: TableRows,
+}
+
+fn prepare(checked: &Checked, update: &Update, store: &Store) -> Result<Prepared, AllocError>
+    requires statement { checked.now.statement ≡ TheUpdate update.now }
+    requires checked { IsCheckedOver (tables_now store.now) checked.now }
+    requires formed { AreWellFormed (tables_now store.now) }
+    ensures { IfOk result (λ made. ArePrepared update.now store.now made.found made.rows) }
+{
+    let alloc = checked.places.allocator();
+    let none = List::new(alloc);
+    let places = update_places(alloc, update, places_or(checked, 0, &none))?;
+    let table = table_of(store, &update.table);
+    let found = found_rows(alloc, table, &update.pick, &places.pick)?;
+    let columns = table.schema().columns.items();
+    let rows = updated_rows(alloc, columns, update, &places.sets, &found)?;
+    Ok(Prepared { found, rows })
+}

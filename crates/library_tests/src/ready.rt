@@ -1,0 +1,230 @@
+//! The set of processes that may run, by hand: what is in it, and whom the scheduler chooses. In a run with
+//! `--fail-alloc` a set whose room can't grow is as it was.
+
+use ready_set::ReadySet;
+use std::alloc::{AllocError, Global};
+use std::process::Abort;
+use std::test::Fail;
+
+// Makes the next number, in the set or not.
+fn make(rt: &impl Abort, set: &mut ReadySet, is_in: bool) -> Result<(), AllocError> {
+    assert!(rt; set.made() < 100_000);
+    set.reserve()?;
+    set.push(is_in);
+    Ok(())
+}
+
+// The same. Where memory runs out, the set is as it was, and a second try goes on from there.
+fn make_next(rt: &impl Abort, set: &mut ReadySet, is_in: bool) -> Result<(), AllocError> {
+    let before = (set.made(), set.len());
+    if make(rt, set, is_in).is_err() {
+        assert_eq!(rt; (set.made(), set.len()), before);
+        make(rt, set, is_in)?;
+    }
+    Ok(())
+}
+
+// The set of some of the numbers below one.
+fn set_of(
+    rt: &impl Abort,
+    alloc: Global,
+    made: u32,
+    numbers: &[u32],
+) -> Result<ReadySet, AllocError> {
+    let mut set = ReadySet::new(alloc)?;
+    for number in 0..made {
+        make_next(rt, &mut set, numbers.contains(&number))?;
+    }
+    Ok(set)
+}
+
+fn expect_number(rt: &impl Abort, set: &ReadySet, k: u32, want: Option<u32>) {
+    assert_eq!(rt; set.nth(k), want, "at {k}");
+}
+
+// Expects just these numbers, which are sorted.
+fn expect_numbers(rt: &impl Abort, set: &ReadySet, wants: &[u32]) {
+    assert_eq!(rt; set.len() as usize, wants.len());
+    assert_eq!(rt; set.is_empty(), wants.is_empty());
+    for (want, k) in wants.iter().zip(0..set.len()) {
+        expect_number(rt, set, k, Some(*want));
+    }
+    expect_number(rt, set, set.len(), None);
+}
+
+fn expect_contained(rt: &impl Abort, set: &ReadySet, number: u32, want: bool) {
+    assert_eq!(rt; set.contains(number), want, "has {number}");
+}
+
+fn expect_after(rt: &impl Abort, set: &ReadySet, last: u32, want: Option<u32>) {
+    assert_eq!(rt; set.next_after(last), want, "after {last}");
+}
+
+// Puts a number that was made into the set, or takes it out.
+fn change(rt: &impl Abort, set: &mut ReadySet, number: u32, is_in: bool) {
+    assert!(rt; number < set.made());
+    if is_in {
+        set.add(number);
+    } else {
+        set.remove(number);
+    }
+}
+
+#[test]
+fn lists_its_numbers(rt: HostRuntime) -> Result<(), Fail> {
+    let cases: [(u32, &[u32]); 7] = [
+        (0, &[]),
+        (1, &[0]),
+        (2, &[1]),
+        (3, &[0, 2]),
+        (3, &[0, 1, 2]),
+        (64, &[0, 31, 32, 63]),
+        (65, &[0, 31, 32, 63, 64]),
+    ];
+    for (made, numbers) in cases {
+        let set = set_of(&rt, rt.alloc(), made, numbers)?;
+        expect_numbers(&rt, &set, numbers);
+        expect_contained(&rt, &set, 0, numbers.contains(&0));
+        expect_contained(&rt, &set, made, false);
+    }
+    Ok(())
+}
+
+// A number may be put in and taken out twice.
+#[test]
+fn changes(rt: HostRuntime) -> Result<(), Fail> {
+    let mut set = set_of(&rt, rt.alloc(), 10, &[0, 3, 6, 9])?;
+    for (number, is_in) in [
+        (3, true),
+        (4, true),
+        (6, false),
+        (7, false),
+        (4, true),
+        (0, false),
+        (0, false),
+    ] {
+        change(&rt, &mut set, number, is_in);
+        expect_contained(&rt, &set, number, is_in);
+    }
+    expect_numbers(&rt, &set, &[3, 4, 9]);
+    for (last, want) in [
+        (0, Some(3)),
+        (3, Some(4)),
+        (4, Some(9)),
+        (9, None),
+        (10, None),
+        (u32::MAX, None),
+    ] {
+        expect_after(&rt, &set, last, want);
+    }
+    Ok(())
+}
+
+// A process that waits is out of the set, and alone in it another may run.
+#[test]
+fn empties(rt: HostRuntime) -> Result<(), Fail> {
+    let mut set = set_of(&rt, rt.alloc(), 2, &[0, 1])?;
+    change(&rt, &mut set, 0, false);
+    expect_numbers(&rt, &set, &[1]);
+    change(&rt, &mut set, 1, false);
+    expect_numbers(&rt, &set, &[]);
+    expect_after(&rt, &set, 0, None);
+    Ok(())
+}
+
+// In turn: the seed is 0, and the generator doesn't count.
+fn expect_turn(rt: &impl Abort, set: &ReadySet, last: u32, want: u32) {
+    assert!(rt; 0 < set.len());
+    assert_eq!(rt;
+        set.pick(0, last, 12_345_678_901_234_567_890),
+        want,
+        "after {last}"
+    );
+}
+
+#[test]
+fn takes_turns(rt: HostRuntime) -> Result<(), Fail> {
+    let cases: [(u32, &[u32], &[(u32, u32)]); 6] = [
+        (1, &[0], &[(0, 0)]),
+        (2, &[0, 1], &[(0, 1), (1, 0)]),
+        (3, &[0, 1, 2], &[(0, 1), (1, 2), (2, 0)]),
+        (6, &[0, 2, 5], &[(0, 2), (3, 5), (5, 0)]),
+        (8, &[1, 4], &[(7, 1), (0, 1), (1, 4)]),
+        (
+            65,
+            &[0, 31, 32, 63, 64],
+            &[(0, 31), (31, 32), (40, 63), (63, 64), (64, 0)],
+        ),
+    ];
+    for (made, numbers, turns) in cases {
+        let set = set_of(&rt, rt.alloc(), made, numbers)?;
+        for (last, want) in turns {
+            expect_turn(&rt, &set, *last, *want);
+        }
+    }
+    Ok(())
+}
+
+// At random: the last one doesn't count, nor do the 33 lowest bits of the generator.
+fn expect_draw(rt: &impl Abort, set: &ReadySet, x: u64, want: u32) {
+    assert!(rt; 0 < set.len());
+    assert_eq!(rt; set.pick(7, 1, x), want, "by {x}");
+}
+
+// What the generator has after the steps 2, 3 and 4 under seed 7, without its 33 lowest bits.
+fn expect_draws(rt: &impl Abort, set: &ReadySet, wants: &[u32]) {
+    let highs: [u64; 3] = [2_052_263_231, 1_946_856_753, 585_718_673];
+    for (high, want) in highs.iter().zip(wants) {
+        expect_draw(rt, set, *high << 33, *want);
+        expect_draw(rt, set, (*high << 33) | 0x1_ffff_ffff, *want);
+    }
+}
+
+#[test]
+fn draws(rt: HostRuntime) -> Result<(), Fail> {
+    let cases: [(u32, &[u32], &[u32]); 4] = [
+        (1, &[0], &[0, 0, 0]),
+        (2, &[0, 1], &[1, 1, 1]),
+        (9, &[3, 5, 8], &[8, 3, 8]),
+        (65, &[0, 31, 32, 63, 64], &[31, 63, 63]),
+    ];
+    for (made, numbers, wants) in cases {
+        let set = set_of(&rt, rt.alloc(), made, numbers)?;
+        expect_draws(&rt, &set, wants);
+    }
+    Ok(())
+}
+
+fn expect_pick(rt: &impl Abort, set: &ReadySet, k: u64, want: u32) {
+    assert!(rt; 0 < set.len());
+    assert_eq!(rt; set.pick_at(k), want, "at {k}");
+}
+
+// The index is counted round; the largest one leaves 0 by three.
+#[test]
+fn picks_at_an_index(rt: HostRuntime) -> Result<(), Fail> {
+    let set = set_of(&rt, rt.alloc(), 9, &[3, 5, 8])?;
+    for (k, want) in [(0, 3), (2, 8), (3, 3), (7, 5), (u64::MAX, 3)] {
+        expect_pick(&rt, &set, k, want);
+    }
+    Ok(())
+}
+
+fn every_third(rt: &impl Abort, alloc: Global, made: u32) -> Result<ReadySet, AllocError> {
+    let mut set = ReadySet::new(alloc)?;
+    for number in 0..made {
+        make(rt, &mut set, number % 3 == 0)?;
+    }
+    Ok(set)
+}
+
+#[test]
+fn holds_as_many_as_there_may_be(rt: HostRuntime) -> Result<(), Fail> {
+    let set = every_third(&rt, rt.alloc(), 65_535)?;
+    assert_eq!(rt; set.len(), 21_845);
+    expect_number(&rt, &set, 10_000, Some(30_000));
+    expect_number(&rt, &set, 21_844, Some(65_532));
+    expect_after(&rt, &set, 40_000, Some(40_002));
+    expect_turn(&rt, &set, 65_532, 0);
+    Ok(())
+}

@@ -1,0 +1,393 @@
+-- The sources of a core from a store, as the definitions want them.
+use Rattle.std.proofs.Common.{◌≡◌, ◌==◌, ◌∙◌, sym, ap, subst, refl, ℕ, zero, suc, ◌+◌, ◌<◌, ◌≤◌, Bool, true, false, ◌&&◌, ◌||◌, not, List, [], ◌∷◌, ◌++◌, map, length, drop, get_or, append_assoc, append-nil, inl, inr, arith, Option, Some, None}
+use Rattle.std.specs.Prelude.{filter, find, is_none, option_map, slice_get, zip, IfSome}
+use Rattle.std.specs.Cmp.Lexicographic.{slice_cmp, nat_list_cmp_total}
+use Rattle.std.specs.List.{flat_map, list_all, list_any, AllByRecursion}
+use Rattle.std.specs.List.Sorted.{IsStrictlySortedBy}
+use Rattle.std.specs.Ordering.{nat_cmp, is_lt}
+use Rattle.std.specs.declared.cmp.Ordering.{Ordering}
+use Rattle.std.specs.declared.cmp.Ordering.TheVariants.{Less, Equal, Greater}
+use Rattle.std.proofs.lemmas.Bool.Decides.{Decides-eqb}
+use Rattle.std.proofs.lemmas.Bool.{cases_Bool}
+use Rattle.std.proofs.lemmas.List.{drop_all, length-append}
+use Rattle.core_parts.proofs.Checks.{checked-is, tables-there}
+use Rattle.core_parts.specs.Checking.{core_at, IsChecked}
+use Rattle.core_parts.specs.Placing.{AllPlaced}
+use Rattle.core_parts.specs.declared.placed.Placed.{Placed}
+use Rattle.ldv_value.proofs.Booleans.{and-first, and-parts, and-second, true≢false}
+use Rattle.ldv_value.proofs.Lists.{all-tested, all-weaker, list_all-map}
+use Rattle.ldv_value.proofs.SameBytes.{bytes_eq-true}
+use Rattle.ldv_value.specs.Sorted.{is_strictly_sorted, precedes_first}
+use Rattle.lineage.specs.Lineage.{name_at}
+use Rattle.lineage.specs.declared.answer.Pick.{Pick}
+use Rattle.query_eval.proofs.FixingLaws.{fixed-key}
+use Rattle.query_eval.proofs.KeyedLaws.{keyed-rows}
+use Rattle.query_eval.proofs.LeavingLaws.{rows-left}
+use Rattle.query_eval.proofs.MaskLaws.{all-wide, masks-keep}
+use Rattle.query_eval.proofs.Picks.{all-stand}
+use Rattle.query_eval.proofs.Projections.{some-same}
+use Rattle.query_eval.specs.Conditions.{AreConditions, AreOfCore}
+use Rattle.query_eval.specs.Fixing.{FixesKey}
+use Rattle.query_eval.specs.Joining.{combos, meets, tests}
+use Rattle.query_eval.specs.Leaving.{own_masks, is_own, passes_all, has_numbers}
+use Rattle.query_eval.specs.Picking.{pick_of, ArePicked}
+use Rattle.query_eval.specs.Masking.{AreMasks, HaveWidths, kept_by, keeps_from, row_passes, TablesAreWide}
+use Rattle.query_eval.specs.Sourcing.{table_row, source_rows, all_kept, AreSources, AreWide, SourcesAreWide, LeavesPicked}
+use Rattle.query_eval.specs.Stored.{table_names, TellVersions, HasVersion, AreChosenOf, IsTaken, chosen_rows, columns_in, width_at, is_name, IsPlace, IsStored, AreStored}
+use Rattle.query_eval.specs.declared.masking.Mask.{Mask}
+use Rattle.query_eval.specs.declared.source.Source.{Source}
+use Rattle.query_eval.specs.declared.source.SourceRow.{SourceRow}
+use Rattle.sql_model.proofs.ValidTables.{table-parts}
+use Rattle.sql_model.specs.Needs.{Versions}
+use Rattle.sql_model.specs.QueryAnswer.{Combination, combinations, joined_values, meets_all, row_environment}
+use Rattle.sql_model.specs.Refusals.{cores_of, doubles_source, is_missing, tables_of_core}
+use Rattle.sql_model.specs.Scope.{InScope, catalog_of, is_schema, rows_of, same_text, schema_in, scope_of, table_at}
+use Rattle.sql_model.specs.Tables.{is_database, is_row, is_valid_table, table_precedes}
+use Rattle.query_eval.specs.Types.{Catalog, Checked, Column, Core, FromItem, Query, Schema, Statement, Table, TableRow, Value}
+use Rattle.table_store.specs.Histories.{TableHistory, StoreHistory, history_at, is_history, rows_now, table_now, tables_now}
+use Rattle.table_store.specs.KeyIndex.{has_key}
+
+-- ---- the tables of a store, as they are now
+
+pub table-now : (name : List ℕ) (tables : List TableHistory) → table_at name (map table_now tables) ≡ option_map table_now (find (is_history name) tables)
+table-now name [] = refl
+table-now name (table ∷ tables) = elim (cases_Bool (same_text table.name name)) [
+  | inl hit ↦ rw hit refl
+  | inr miss ↦ rw miss (table-now name tables)
+]
+
+abbrev IsValid : TableHistory → Type 0
+IsValid table = is_valid_table (table_now table) ≡ true
+
+all-found : {A : Type 0} (p q : A → Bool) (xs : List A) → list_all q xs ≡ true → IfSome (find p xs) (λ x. q x ≡ true)
+all-found p q [] all = tt
+all-found p q (x ∷ xs) all = elim (cases_Bool (p x)) [
+  | inl hit ↦ rw hit (and-first (q x) (list_all q xs) all)
+  | inr miss ↦ rw miss (all-found p q xs (and-second (q x) (list_all q xs) all))
+]
+
+-- ---- the rows of a source
+
+-- which rows of a table stay
+abbrev keep_by : List Mask → Option (List Value) → TableHistory → TableRow → Bool
+keep_by masks (Some key) table = has_key table.schema.key key
+keep_by masks None table = passes_all masks
+
+module _ (conds : List Placed) (masks : List Mask) (place before : ℕ) where
+  abbrev pub keep_of : (table : Option TableHistory) (rows : List SourceRow) → AreChosenOf conds masks place before table rows → TableRow → Bool
+  keep_of None rows chosen = λ row. true
+  keep_of (Some table) rows chosen = keep_by (own_masks place table.schema.columns masks) chosen.key table
+
+  by-key : (table : TableHistory) (key : Option (List Value)) → IfSome key (FixesKey conds before (length table.schema.columns) table.schema.key) → IsValid table
+      → map table_row (chosen_rows (own_masks place table.schema.columns masks) key table) ≡ filter (keep_by (own_masks place table.schema.columns masks) key table) (rows_now table.slots)
+  by-key table None fixed valid = rows-left (own_masks place table.schema.columns masks) table.slots table.slots
+  by-key table (Some key) fixed valid = keyed-rows table key fixed.some (table-parts (table_now table) valid).keys
+
+  -- the rows of a source are those of its table that stay
+  pub chosen-are : (table : Option TableHistory) (rows : List SourceRow) (chosen : AreChosenOf conds masks place before table rows) → IfSome table IsValid
+      → map table_row rows ≡ filter (keep_of table rows chosen) (rows_of (option_map table_now table))
+  chosen-are None rows chosen valid = ap (map table_row) chosen
+  chosen-are (Some table) rows chosen valid = ap (map table_row) chosen.are ∙ by-key table chosen.key chosen.fixed valid
+
+-- ---- only rows are left out that are in no picked combination
+
+one-own : (place : ℕ) (columns : List Column) (row : TableRow) (masks : List Mask) → kept_by masks place row ≡ true → passes_all (own_masks place columns masks) row ≡ true
+one-own place columns row [] kept = refl
+one-own place columns row (mask ∷ masks) kept =
+    let both = and-parts (not (mask.source == place) || row_passes mask row) (kept_by masks place row) kept in
+    elim (cases_Bool (is_own place columns mask)) [
+      | inl own ↦
+          let source : (mask.source == place) ≡ true = (and-parts (mask.source == place) (has_numbers columns mask.column) own).0 in
+          let passed : row_passes mask row ≡ true = sym (ap (λ (b : Bool). not b || row_passes mask row) source) ∙ both.0 in
+          rw own (λ j. passed j && one-own place columns row masks both.1 j)
+      | inr other ↦ rw other (one-own place columns row masks both.1)
+    ]
+
+-- which rows of each source stay
+module _ (store : StoreHistory) (conds : List Placed) (masks : List Mask) where
+  abbrev pub keeps_of : (from : List FromItem) (place before : ℕ) (sources : List Source) → AreStored store conds masks from place before sources → List (TableRow → Bool)
+  keeps_of [] place before sources are = []
+  keeps_of (item ∷ from) place before [] are = []
+  keeps_of (item ∷ from) place before (source ∷ sources) are =
+      keep_of conds masks place before (history_at item.table store) source.rows are.0.taken.rows
+      ∷ keeps_of from (suc place) (before + width_at store item) sources are.1
+
+module _ (scope : List InScope) (conds : List Placed) (placed : AllPlaced scope conds) (masks : List Mask) where
+  module _ (place before : ℕ) (row : TableRow) (front rest : List Value) (long : length front ≡ before) (met : meets scope conds (front ++ (row.values ++ rest)) ≡ true)
+      (kept : kept_by masks place row ≡ true) where
+    stays-by : (table : TableHistory) (key : Option (List Value)) → IfSome key (FixesKey conds before (length table.schema.columns) table.schema.key)
+        → length row.values ≡ length table.schema.columns → keep_by (own_masks place table.schema.columns masks) key table row ≡ true
+    stays-by table None fixed wide = one-own place table.schema.columns row masks kept
+    stays-by table (Some key) fixed wide = fixed-key scope conds placed before (length table.schema.columns) front row.values rest long wide met table.schema.key key fixed
+
+    stays : (table : Option TableHistory) (rows : List SourceRow) (chosen : AreChosenOf conds masks place before table rows) → length row.values ≡ length (columns_in table)
+        → keep_of conds masks place before table rows chosen row ≡ true
+    stays None rows chosen wide = refl
+    stays (Some table) rows chosen wide = stays-by table chosen.key chosen.fixed wide
+
+  module _ (store : StoreHistory) where
+    pub all-stay : (from : List FromItem) (place before : ℕ) (sources : List Source) (are : AreStored store conds masks from place before sources) (rows : Combination) (front : List Value)
+        → length front ≡ before → HaveWidths (map (width_at store) from) rows → meets scope conds (front ++ joined_values rows) ≡ true
+        → all_kept (keeps_from masks place (map (width_at store) from)) rows ≡ true → all_kept (keeps_of store conds masks from place before sources are) rows ≡ true
+    all-stay [] place before sources are rows front long wide met kept = refl
+    all-stay (item ∷ from) place before [] are rows front long wide met kept = absurd are
+    all-stay (item ∷ from) place before (source ∷ sources) are [] front long wide met kept = refl
+    all-stay (item ∷ from) place before (source ∷ sources) are (row ∷ rows) front long wide met kept =
+        let both = and-parts (kept_by masks place row) (all_kept (keeps_from masks (suc place) (map (width_at store) from)) rows) kept in
+        let here : keep_of conds masks place before (history_at item.table store) source.rows are.0.taken.rows row ≡ true =
+        stays place before row front (joined_values rows) long met both.0 (history_at item.table store) source.rows are.0.taken.rows wide.0 in
+        let longer : length (front ++ row.values) ≡ before + width_at store item =
+        length-append front row.values ∙ (λ j. long j + wide.0 j) in
+        let next : meets scope conds ((front ++ row.values) ++ joined_values rows) ≡ true =
+        ap (meets scope conds) (append_assoc front row.values (joined_values rows)) ∙ met in
+        let there : all_kept (keeps_of store conds masks from (suc place) (before + width_at store item) sources are.1) rows ≡ true =
+        all-stay from (suc place) (before + width_at store item) sources are.1 rows (front ++ row.values) longer wide.1 next both.1 in
+        λ j. here j && there j
+
+-- ---- the widths of rows
+
+rows-wide : (table : Table) → is_valid_table table ≡ true → AllByRecursion (λ row. length row.values ≡ length table.schema.columns) table.rows
+rows-wide table valid =
+    all-weaker (λ (row : TableRow). is_row table.schema.columns row.values ≡ true) (λ row. length row.values ≡ length table.schema.columns)
+    (λ row is. (Decides-eqb (length row.values) (length table.schema.columns)).0 (and-parts (length row.values == length table.schema.columns) _ is).0)
+    table.rows (all-tested (λ (row : TableRow). is_row table.schema.columns row.values) table.rows (table-parts table valid).rows)
+
+wide-of : (table : Option TableHistory) → IfSome table IsValid → AllByRecursion (λ row. length row.values ≡ length (columns_in table)) (rows_of (option_map table_now table))
+wide-of None valid = tt
+wide-of (Some table) valid = rows-wide (table_now table) valid
+
+filtered : {A : Type 0} (P : A → Type 0) (p : A → Bool) (xs : List A) → AllByRecursion P xs → AllByRecursion P (filter p xs)
+filtered P p [] all = tt
+filtered P p (x ∷ xs) all = elim (cases_Bool (p x)) [
+  | inl hit ↦ rw hit (all.0, filtered P p xs all.1)
+  | inr miss ↦ rw miss (filtered P p xs all.1)
+]
+
+mapped : (width : ℕ) (rows : List SourceRow) → AllByRecursion (λ (row : TableRow). length row.values ≡ width) (map table_row rows) → AllByRecursion (λ (row : SourceRow). length row.values ≡ width) rows
+mapped width [] all = tt
+mapped width (row ∷ rows) all = (all.0, mapped width rows all.1)
+
+module _ (store : StoreHistory) (database : is_database (tables_now store) ≡ true) where
+  valid-at : (name : List ℕ) → IfSome (history_at name store) IsValid
+  valid-at name =
+      all-found (is_history name) (λ table. is_valid_table (table_now table)) store.tables
+      (sym (list_all-map is_valid_table table_now store.tables) ∙ and-first (list_all is_valid_table (tables_now store)) (is_strictly_sorted table_precedes (tables_now store)) database)
+
+  table-wide : (item : FromItem) → AllByRecursion (λ row. length row.values ≡ width_at store item) (rows_of (table_at item.table (tables_now store)))
+  table-wide item =
+      subst (λ (o : Option Table). AllByRecursion (λ row. length row.values ≡ width_at store item) (rows_of o)) (sym (table-now item.table store.tables))
+      (wide-of (history_at item.table store) (valid-at item.table))
+
+  pub tables-wide : (from : List FromItem) → TablesAreWide from (tables_now store) (map (width_at store) from)
+  tables-wide [] = tt
+  tables-wide (item ∷ from) = (table-wide item, tables-wide from)
+
+  module _ (conds : List Placed) (masks : List Mask) where
+    -- the rows of a source are those of the table now that stay
+    stored-rows : (item : FromItem) (place before : ℕ) (source : Source) (stored : IsStored store conds masks item place before source)
+        → map table_row source.rows ≡ filter (keep_of conds masks place before (history_at item.table store) source.rows stored.taken.rows) (rows_of (table_at item.table (tables_now store)))
+    stored-rows item place before source stored =
+        chosen-are conds masks place before (history_at item.table store) source.rows stored.taken.rows (valid-at item.table)
+        ∙ ap (λ (o : Option Table). filter (keep_of conds masks place before (history_at item.table store) source.rows stored.taken.rows) (rows_of o)) (sym (table-now item.table store.tables))
+
+    source-wide : (item : FromItem) (place before : ℕ) (source : Source) → IsStored store conds masks item place before source → AreWide source.width source.rows
+    source-wide item place before source stored =
+        subst (λ (width : ℕ). AreWide width source.rows) (sym stored.taken.width)
+        (mapped (width_at store item) source.rows
+        (subst (AllByRecursion (λ (row : TableRow). length row.values ≡ width_at store item)) (sym (stored-rows item place before source stored))
+        (filtered (λ (row : TableRow). length row.values ≡ width_at store item) (keep_of conds masks place before (history_at item.table store) source.rows stored.taken.rows)
+        (rows_of (table_at item.table (tables_now store))) (table-wide item))))
+
+    pub sources-wide : (from : List FromItem) (place before : ℕ) (sources : List Source) → AreStored store conds masks from place before sources → SourcesAreWide sources
+    sources-wide [] place before [] are = tt
+    sources-wide [] place before (source ∷ sources) are = absurd are
+    sources-wide (item ∷ from) place before [] are = absurd are
+    sources-wide (item ∷ from) place before (source ∷ sources) are =
+        (source-wide item place before source are.0, sources-wide from (suc place) (before + width_at store item) sources are.1)
+
+-- ---- the names of tables
+
+abbrev First : List ℕ → List Table → Type 0
+First name [] = Unit {0}
+First name (table ∷ tables) = slice_cmp nat_cmp name table.name ≡ Less
+
+less-is : (o : Ordering) → is_lt o ≡ true → o ≡ Less
+less-is Less is = refl
+less-is Equal is = cc
+less-is Greater is = cc
+
+first-is : (table : Table) (tables : List Table) → precedes_first table_precedes table tables ≡ true → First table.name tables
+first-is table [] is = tt
+first-is table (other ∷ tables) is = less-is (slice_cmp nat_cmp table.name other.name) is
+
+first-next : (name : List ℕ) (table : Table) (tables : List Table) → slice_cmp nat_cmp name table.name ≡ Less → First table.name tables → First name tables
+first-next name table [] before first = tt
+first-next name table (other ∷ tables) before first = nat_list_cmp_total.trans name table.name other.name before first
+
+all-after : (name : List ℕ) (tables : List Table) → First name tables → is_strictly_sorted table_precedes tables ≡ true
+    → AllByRecursion (λ other. slice_cmp nat_cmp name other ≡ Less) (map (λ table. table.name) tables)
+all-after name [] first sorted = tt
+all-after name (table ∷ tables) first sorted =
+    let both = and-parts (precedes_first table_precedes table tables) (is_strictly_sorted table_precedes tables) sorted in
+    (first, all-after name tables (first-next name table tables first (first-is table tables both.0)) both.1)
+
+pub names-sorted : (tables : List Table) → is_strictly_sorted table_precedes tables ≡ true → IsStrictlySortedBy (slice_cmp nat_cmp) (map (λ table. table.name) tables)
+unfolding IsStrictlySortedBy
+names-sorted [] sorted = tt
+names-sorted (table ∷ tables) sorted =
+    let both = and-parts (precedes_first table_precedes table tables) (is_strictly_sorted table_precedes tables) sorted in
+    (all-after table.name tables (first-is table tables both.0) both.1, names-sorted tables both.1)
+
+there : (name : List ℕ) (names : List (List ℕ)) (schemas : List Schema) → is_none (option_map schema_in (find (is_schema name) (zip names schemas))) ≡ false
+    → list_any (is_name name) names ≡ true
+there name [] schemas is = cc
+there name (other ∷ names) [] is = cc
+there name (other ∷ names) (schema ∷ schemas) is = elim (cases_Bool (same_text other name)) [
+  | inl hit ↦ ap (λ (b : Bool). b || list_any (is_name name) names) hit
+  | inr miss ↦
+      let later : is_none (option_map schema_in (find (is_schema name) (zip names schemas))) ≡ false = rw miss at is in
+      ap (λ (b : Bool). b || list_any (is_name name) names) miss ∙ there name names schemas later
+]
+
+none-any : {A : Type 0} (p : A → Bool) (xs ys : List A) → list_any p (xs ++ ys) ≡ false → (list_any p xs ≡ false) × (list_any p ys ≡ false)
+none-any p [] ys none = (refl, none)
+none-any p (x ∷ xs) ys none = elim (cases_Bool (p x)) [
+  | inl hit ↦ absurd (true≢false (sym (ap (λ (b : Bool). b || list_any p (xs ++ ys)) hit) ∙ none))
+  | inr miss ↦
+      let rest = none-any p xs ys (sym (ap (λ (b : Bool). b || list_any p (xs ++ ys)) miss) ∙ none) in
+      (ap (λ (b : Bool). b || list_any p xs) miss ∙ rest.0, rest.1)
+]
+
+core-at : (catalog : Catalog) (cores : List Core) (place : ℕ) (core : Core) → slice_get cores place ≡ Some core → list_any (is_missing catalog) (flat_map tables_of_core cores) ≡ false
+    → list_any (is_missing catalog) (tables_of_core core) ≡ false
+core-at catalog [] place core got none = cc
+core-at catalog (first ∷ cores) zero core got none =
+    let same : first ≡ core = cc in
+    ap (λ (c : Core). list_any (is_missing catalog) (tables_of_core c)) (sym same) ∙ (none-any (is_missing catalog) (tables_of_core first) (flat_map tables_of_core cores) none).0
+core-at catalog (first ∷ cores) (suc place) core got none =
+    core-at catalog cores place core got (none-any (is_missing catalog) (tables_of_core first) (flat_map tables_of_core cores) none).1
+
+abbrev AllThere : StoreHistory → List FromItem → Type 0
+AllThere store from = AllByRecursion (λ item. list_any (is_name item.table) (table_names store) ≡ true) from
+
+all-there : (store : StoreHistory) (from : List FromItem) → list_any (is_missing (catalog_of (tables_now store))) (map (λ item. item.table) from) ≡ false → AllThere store from
+all-there store [] none = tt
+all-there store (item ∷ from) none = elim (cases_Bool (is_missing (catalog_of (tables_now store)) item.table)) [
+  | inl hit ↦ absurd (true≢false (sym (ap (λ (b : Bool). b || list_any (is_missing (catalog_of (tables_now store))) (map (λ item. item.table) from)) hit) ∙ none))
+  | inr miss ↦ (
+    there item.table (table_names store) (map (λ table. table.schema) (tables_now store)) miss,
+    all-there store from (sym (ap (λ (b : Bool). b || list_any (is_missing (catalog_of (tables_now store))) (map (λ item. item.table) from)) miss) ∙ none),
+  )
+]
+
+first-false : (a b : Bool) → (a || b) ≡ false → a ≡ false
+first-false true b is = cc
+first-false false b is = refl
+
+-- ---- sources
+
+module _ (store : StoreHistory) (database : is_database (tables_now store) ≡ true) (versions : Versions) (tell : TellVersions store versions) (conds : List Placed) (masks : List Mask) where
+  source-versions : (item : FromItem) (rows : List SourceRow) → AllByRecursion (HasVersion (history_at item.table store)) rows → AllByRecursion (λ row. row.version ≡ versions item.table row.number) rows
+  source-versions item rows all =
+      all-weaker (HasVersion (history_at item.table store)) (λ row. row.version ≡ versions item.table row.number) (λ row is. sym (tell item.table row.number row.version is)) rows all
+
+  pub are-sources : (from : List FromItem) (place before : ℕ) (sources : List Source) → AllThere store from → (are : AreStored store conds masks from place before sources)
+      → AreSources (table_names store) versions (tables_now store) from (keeps_of store conds masks from place before sources are) sources
+  are-sources [] place before [] all are = tt
+  are-sources [] place before (source ∷ sources) all are = absurd are
+  are-sources (item ∷ from) place before [] all are = absurd are
+  are-sources (item ∷ from) place before (source ∷ sources) all are =
+      let named = are.0.table all.0 in (
+        record {
+          rows = stored-rows store database conds masks item place before source are.0;
+          at_versions = source-versions item source.rows are.0.taken.versions;
+          within = named.0;
+          named = named.1;
+        },
+        are-sources from (suc place) (before + width_at store item) sources all.1 are.1,
+      )
+
+-- ---- places of names
+
+got-name : (names : List (List ℕ)) (i : ℕ) (d : List ℕ) → i < length names → get_or names i d ≡ name_at names i
+got-name [] i d below = absurd (omega (arith, below))
+got-name (name ∷ names) zero d below = refl
+got-name (name ∷ names) (suc i) d below = got-name names i d (omega (arith, below))
+
+pub place_here : (names : List (List ℕ)) (name other d : List ℕ) (i place : ℕ) → i < length names → other ≡ get_or names i d → same_text other name ≡ true → place ≡ i → IsPlace names name place
+place_here names name other d i place below is same at there =
+    subst (λ (k : ℕ). (k < length names) × (name_at names k ≡ name)) (sym at)
+    (below, sym (is ∙ got-name names i d below) ∙ bytes_eq-true other name same)
+
+pub place_none : (names : List (List ℕ)) (name : List ℕ) (n place : ℕ) → length names ≤ n → list_any (is_name name) (drop n names) ≡ list_any (is_name name) names → IsPlace names name place
+place_none names name n place over same there =
+    absurd (true≢false (sym there ∙ sym same ∙ ap (list_any (is_name name)) (drop_all n names over)))
+
+-- ---- sources of the code
+
+pub stored_is : (store : StoreHistory) (conds : List Placed) (masks : List Mask) (item : FromItem) (place before table : ℕ) (source : Source) (held : Option TableHistory)
+    → held ≡ history_at item.table store
+    → IsTaken conds masks place before held source → source.table ≡ table → IsPlace (table_names store) item.table table → IsStored store conds masks item place before source
+stored_is store conds masks item place before table source held is taken at there = record {
+  taken = subst (λ (o : Option TableHistory). IsTaken conds masks place before o source) is taken;
+  table = subst (IsPlace (table_names store) item.table) (sym at) there;
+}
+
+-- one source more
+pub sources_step : (store : StoreHistory) (conds : List Placed) (masks : List Mask) (from others : List FromItem) (item : FromItem) (place before after : ℕ) (sources new : List Source) (source : Source)
+    → new ≡ sources ++ source ∷ [] → after ≡ before + source.width → IsStored store conds masks item place before source
+    → ((rest : List Source) → AreStored store conds masks (item ∷ others) place before rest → AreStored store conds masks from 0 0 (sources ++ rest))
+    → (rest : List Source) → AreStored store conds masks others (place + 1) after rest → AreStored store conds masks from 0 0 (new ++ rest)
+sources_step store conds masks from others item place before after sources new source made sum stored all rest are =
+    let next : place + 1 ≡ suc place = omega arith in
+    let width : after ≡ before + width_at store item = sum ∙ ap (λ (n : ℕ). before + n) stored.taken.width in
+    let moved : AreStored store conds masks others (suc place) (before + width_at store item) rest =
+    subst (λ (n : ℕ). AreStored store conds masks others (suc place) n rest) width (subst (λ (n : ℕ). AreStored store conds masks others n after rest) next are) in
+    let whole : AreStored store conds masks from 0 0 (sources ++ (source ∷ rest)) = all (source ∷ rest) (stored, moved) in
+    subst (AreStored store conds masks from 0 0) (sym (ap (λ (l : List Source). l ++ rest) made ∙ append_assoc sources (source ∷ []) rest)) whole
+
+pub sources_none : (store : StoreHistory) (conds : List Placed) (masks : List Mask) (from left : List FromItem) (place before : ℕ) (sources : List Source) → length left < 1
+    → ((rest : List Source) → AreStored store conds masks left place before rest → AreStored store conds masks from 0 0 (sources ++ rest)) → AreStored store conds masks from 0 0 sources
+sources_none store conds masks from [] place before sources end all = subst (AreStored store conds masks from 0 0) (append-nil sources) (all [] tt)
+sources_none store conds masks from (item ∷ left) place before sources end all = absurd (omega (arith, end))
+
+pub ruleset sources_end = (sources_step, sources_none)
+
+-- the picks of a core's sources in a store are those of its tables
+pub stored-picked : (checked : Checked) (place : ℕ) (store : StoreHistory) (keep : Bool) (conds : List Placed) (masks : List Mask) (sources : List Source) (found : List (List SourceRow)) (picks : List Pick) (of : Core)
+    → core_at checked place ≡ Some of
+    → AreOfCore checked place conds
+    → AreMasks conds (map (width_at store) of.from) masks
+    → AreStored store conds masks of.from 0 0 sources
+    → ((scope : List InScope) → AllPlaced scope conds → SourcesAreWide sources → found ≡ filter (tests scope conds) (combos (map source_rows sources)))
+    → picks ≡ map (pick_of keep sources) found
+    → ArePicked checked place store keep picks
+stored-picked checked place store keep conds masks sources found picks of at conditions are stored joins made query core versions given got database tell =
+    let same : of ≡ core = some-same of core (sym at ∙ got) in
+    let own : AreStored store conds masks core.from 0 0 sources = subst (λ (c : Core). AreStored store conds masks c.from 0 0 sources) same stored in
+    let catalog : Catalog = catalog_of (tables_now store) in
+    let scope : List InScope = scope_of core.from catalog in
+    let widths : List ℕ = map (width_at store) core.from in
+    let masked : AreMasks conds widths masks = subst (λ (c : Core). AreMasks conds (map (width_at store) c.from) masks) same are in
+    let whole : IsChecked checked query catalog = checked-is checked query catalog given in
+    let tested : AreConditions scope core.picks conds = conditions query catalog core whole got in
+    let lists : slice_get query.cores place ≡ Some core = ap (λ (s : Statement). slice_get (cores_of s) place) (sym (ap (λ (c : Checked). c.statement) whole)) ∙ got in
+    let all : AllThere store core.from =
+    all-there store core.from (core-at catalog query.cores place core lists
+    (first-false (list_any (is_missing catalog) (flat_map tables_of_core query.cores)) (list_any doubles_source query.cores) (tables-there checked query catalog given))) in
+    let keeps : List (TableRow → Bool) = keeps_of store conds masks core.from 0 0 sources own in
+    let leaves : LeavesPicked core (tables_now store) keeps =
+    all-weaker (HaveWidths widths) (λ rows. meets_all core.picks (row_environment scope rows) ≡ true → all_kept keeps rows ≡ true)
+    (λ rows wide holds.
+    let met : meets scope conds (joined_values rows) ≡ true = tested.same (joined_values rows) ∙ holds in
+    all-stay scope conds tested.placed masks store core.from 0 0 sources own rows [] refl wide met (masks-keep scope conds widths masks tested.placed masked rows wide met))
+    (combinations core.from (tables_now store))
+    (all-wide core.from (tables_now store) widths (tables-wide store database core.from)) in
+    all-stand (table_names store) versions
+    (names-sorted (tables_now store) (and-second (list_all is_valid_table (tables_now store)) (is_strictly_sorted table_precedes (tables_now store)) database))
+    keep (tables_now store) core keeps sources conds picks
+    (are-sources store database versions tell conds masks core.from 0 0 sources all own)
+    leaves tested
+    (made ∙ ap (map (pick_of keep sources)) (joins scope tested.placed (sources-wide store database conds masks core.from 0 0 sources own)))
+
+pub ruleset stored_picks = (stored-picked)

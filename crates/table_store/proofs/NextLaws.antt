@@ -1,0 +1,57 @@
+-- The number of the next row after a time.
+use Rattle.std.proofs.Common.{◌≡◌, ℕ, zero, suc, ◌+◌, ◌-◌, ◌<◌, ◌≤◌, Bool, true, false, leb, List, [], ◌∷◌, ◌++◌, map, length, take, get_or, refl, ap, sym, ◌∙◌, arith, Option, Some, None, add-one}
+use Rattle.std.specs.Prelude.{filter, nat_le, slice_get}
+use Rattle.std.specs.List.{last_or}
+use Rattle.std.specs.List.Sorted.{IsNonDecreasingBy}
+use Rattle.std.specs.Option.{option_map_or}
+use Rattle.std.proofs.lemmas.List.Sorted.{IsNonDecreasingBy-short, IsNonDecreasingBy-from_all_adjacent}
+use Rattle.table_store.specs.Histories.{NextSince as Since, last_next, last_since, noted}
+use Rattle.table_store.specs.Nexts.{since_of, nexts_of, AreInTimeFrom, AreInTime}
+use Rattle.table_store.specs.declared.nexts.NextSince.{NextSince}
+
+-- ---- the last number
+
+last_from : (first : NextSince) (rest : List NextSince) → option_map_or (λ (s : NextSince). s.next) (slice_get (first ∷ rest) (length rest)) 0 ≡ last_next (nexts_of (first ∷ rest))
+last_from first [] = refl
+last_from first (next ∷ rest) = last_from next rest
+
+pub last_is : (held : List NextSince) → option_map_or (λ (s : NextSince). s.next) (slice_get held (length held - 1)) 0 ≡ last_next (nexts_of held)
+last_is [] = refl
+last_is (first ∷ rest) =
+    let last : length (first ∷ rest) - 1 ≡ length rest = omega arith in
+    ap (λ (k : ℕ). option_map_or (λ (s : NextSince). s.next) (slice_get (first ∷ rest) k) 0) last ∙ last_from first rest
+
+-- ---- in the order of time
+
+later_by : (first : NextSince) (rest : List NextSince) → AreInTimeFrom first.time (nexts_of rest) → (k : ℕ) (d : NextSince) → k < length rest → (get_or (first ∷ rest) k d).time ≤ (get_or rest k d).time
+later_by first [] ordered k d within = absurd (omega (arith, within))
+later_by first (next ∷ rest) ordered zero d within = omega (arith, ordered.0)
+later_by first (next ∷ rest) ordered (suc k) d within = later_by next rest ordered.1 k d (omega (arith, within))
+
+pub times_sorted : (held : List NextSince) → AreInTime (nexts_of held) → IsNonDecreasingBy (λ (n : NextSince). n.time) held
+times_sorted [] ordered = IsNonDecreasingBy-short (λ (n : NextSince). n.time) [] (omega arith)
+times_sorted (first ∷ rest) ordered =
+    IsNonDecreasingBy-from_all_adjacent (λ (n : NextSince). n.time) (first ∷ rest) (λ k d within. rw add-one (later_by first rest ordered.1 k d (omega arith)))
+
+-- what is kept by a time comes before what isn't
+pub kept_in_front : (held : List NextSince) (time i : ℕ)
+    → ((k : ℕ) (d : NextSince) → k < i → leb (get_or held k d).time time ≡ true)
+    → ((k : ℕ) (d : NextSince) → i ≤ k → k < length held → leb (get_or held k d).time time ≡ false)
+    → filter (λ (s : Since). nat_le s.time time) (nexts_of held) ≡ nexts_of (take i held)
+kept_in_front [] time zero early late = refl
+kept_in_front [] time (suc i) early late = refl
+kept_in_front (first ∷ rest) time zero early late =
+    let miss : leb first.time time ≡ false = late 0 first (omega arith) (omega arith) in
+    rw miss (kept_in_front rest time zero (λ k d below. absurd (omega arith)) (λ k d from within. late (suc k) d (omega arith) (omega arith)))
+kept_in_front (first ∷ rest) time (suc i) early late =
+    let hit : leb first.time time ≡ true = early 0 first (omega arith) in
+    rw hit (ap (λ (l : List Since). since_of first ∷ l) (kept_in_front rest time i (λ k d below. early (suc k) d (omega arith)) (λ k d from within. late (suc k) d (omega arith) (omega arith))))
+
+noted_from : (last : Option Since) (low time next : ℕ) (nexts : List Since) → low ≤ option_map_or (λ (s : Since). s.time) last 0 → option_map_or (λ (s : Since). s.time) (last_or last nexts) 0 < time → AreInTimeFrom low nexts
+    → AreInTimeFrom low (nexts ++ record { time = time; next = next } ∷ [])
+noted_from last low time next [] from later ordered = (omega (arith, from, later), tt)
+noted_from last low time next (since ∷ rest) from later ordered = (ordered.0, noted_from (Some since) since.time time next rest (omega arith) later ordered.1)
+
+-- and so it stays with a later change
+pub noted_in_time : (time next : ℕ) (nexts : List Since) → last_since nexts < time → AreInTime nexts → AreInTime (noted time next nexts)
+noted_in_time time next nexts later ordered = noted_from None 0 time next nexts (omega arith) later ordered

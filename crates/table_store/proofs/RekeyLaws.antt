@@ -1,0 +1,351 @@
+-- Keys of rows once others took the place of some of them.
+use Rattle.std.proofs.Common.{◌≡◌, ◌==◌, ℕ, zero, suc, ◌+◌, ◌<◌, ◌≤◌, inl, inr, Bool, true, false, cond, List, [], ◌∷◌, ◌++◌, map, length, get_or, take, drop, refl, ap, sym, subst, ◌∙◌, arith, Option, Some, None, is_some, eqb-true, eq-eqb, append_assoc, append-nil}
+use Rattle.std.specs.Prelude.{find, IsSome, IfOk, Result, Ok, Err, nat_lt, unwrap_or, slice_get, if◌then◌else◌, ◌&&◌}
+use Rattle.std.specs.List.{filter_map, cons_option, list_any}
+use Rattle.std.specs.Option.{option_map, option_or, option_to_list}
+use Rattle.std.specs.List.Sorted.{IsPartitionedBy}
+use Rattle.std.specs.Ordering.{is_eq}
+use Rattle.std.specs.BTreeMap.{is_at}
+use Rattle.std.proofs.lemmas.Bool.{cases_Bool, cases_lt, ne_eqb, ltb-true, lt-ltb}
+use Rattle.std.proofs.lemmas.List.{take_more}
+use Rattle.std.proofs.lemmas.List.Folds.{find-append}
+use Rattle.std.proofs.lemmas.List.Elements.{filter_map-append}
+use Rattle.row_version.specs.History.{current}
+use Rattle.sql_model.specs.Changes.{KeyClash, key_clash, clash_or, clash_after, clash_by, shares_key, has_null}
+use Rattle.sql_model.specs.KeyOrder.{key_order, key_order_total}
+use Rattle.sql_model.specs.Keys.{same_values, values_at, key_at}
+use Rattle.ldv_value.specs.Sorted.{precedes_first}
+use Rattle.table_store.specs.Types.{Value, RowKey, Table, TableRow}
+use Rattle.table_store.specs.Claims.{row_then, rows_then, IsIndexOf, both_stop}
+use Rattle.table_store.specs.Histories.{RowHistory, TableHistory, no_history, row_of, row_now, rows_now, table_now}
+use Rattle.table_store.specs.KeyIndex.{has_key, row_of_key, Held, AreHeld, AreIndexed}
+use Rattle.table_store.specs.Stops.{replaced_by, with_replaced, are_sorted_rows, key_stop, stop_if, replace_stop, StopsAs}
+use Rattle.table_store.specs.declared.stop.StoreStop.{StoreStop}
+use Rattle.table_store.specs.declared.stop.StoreStop.TheVariants.{NotNull, KeyTaken, Full, NoMemory}
+use Rattle.table_store.proofs.IndexLaws.{key, same_turned, equal_from, held_pushed, indexed_by}
+use Rattle.table_store.proofs.ClaimLaws.{keyed_clash, unkeyed_clash}
+use Rattle.table_store.proofs.InsertLaws.{AllRows, clash_all, any_self}
+use Rattle.table_store.proofs.TableLaws.{left_more}
+
+-- ---- the same key
+
+alike_left : (k q : List Value) → same_values k q ≡ true → (x : List Value) → same_values k x ≡ same_values q x
+alike_left k q same x = ap is_eq (key_order_total.congr (key k) (key q) (key x) (equal_from (key_order (key k) (key q)) same))
+
+alike_right : (k q : List Value) → same_values k q ≡ true → (x : List Value) → same_values x k ≡ same_values x q
+alike_right k q same x = same_turned x k ∙ alike_left k q same x ∙ same_turned q x
+
+find_alike : (places : List ℕ) (k q : List Value) → same_values k q ≡ true → (rows : List TableRow) → find (has_key places k) rows ≡ find (has_key places q) rows
+find_alike places k q same [] = refl
+find_alike places k q same (row ∷ rows) = λ j. cond (alike_right k q same (values_at places row.values) j) (Some row) (find_alike places k q same rows j)
+
+or_none : {X : Type 0} (o : Option X) → option_or o None ≡ o
+or_none None = refl
+or_none (Some x) = refl
+
+-- ---- an index of just these rows
+
+pub index_none : (places : List ℕ) (held : Held) → ((q : RowKey) → held q ≡ None) → IsIndexOf places held []
+index_none places held none = record { each = tt; only = none }
+
+pub index_more : (places : List ℕ) (old new : Held) (row : TableRow) (rows : List TableRow) → IsIndexOf places old rows → row_of_key places (values_at places row.values) rows ≡ None
+    → ((q : RowKey) → new q ≡ cond (is_at (key_order (key_at places row.values)) q) (Some row.number) (old q)) → IsIndexOf places new (rows ++ row ∷ [])
+index_more places old new row rows index none put = record {
+  each = held_pushed places old new row rows put index.each none;
+  only = λ q. elim (cases_Bool (same_values (values_at places row.values) q.values)) [
+    | inl same ↦
+        let gone : find (has_key places q.values) rows ≡ None = sym (find_alike places (values_at places row.values) q.values same rows) ∙ none in
+        put q ∙ ap (λ b. cond b (Some row.number) (old q)) same
+        ∙ sym (ap (option_map (λ (one : TableRow). one.number))
+        (find-append (has_key places q.values) rows (row ∷ []) ∙ ap (λ (o : Option TableRow). option_or o (find (has_key places q.values) (row ∷ []))) gone ∙ ap (λ b. cond b (Some row) None) same))
+    | inr apart ↦
+        put q ∙ ap (λ b. cond b (Some row.number) (old q)) apart ∙ index.only q
+        ∙ sym (ap (option_map (λ (one : TableRow). one.number))
+        (find-append (has_key places q.values) rows (row ∷ []) ∙ ap (λ b. option_or (find (has_key places q.values) rows) (cond b (Some row) None)) apart ∙ or_none (find (has_key places q.values) rows)))
+  ];
+}
+
+-- ---- clashes of some rows and of more
+
+clash_or_split : (o : Option TableRow) (row : TableRow) (a b : Option KeyClash) → clash_or o row (option_or a b) ≡ option_or (clash_or o row a) b
+clash_or_split None row a b = refl
+clash_or_split (Some other) row a b = refl
+
+pub clash_split : (places : List ℕ) (before xs ys : List TableRow) → clash_after places before (xs ++ ys) ≡ option_or (clash_after places before xs) (clash_after places (before ++ xs) ys)
+clash_split places before [] ys = ap (λ (l : List TableRow). clash_after places l ys) (sym (append-nil before))
+clash_split places before (x ∷ xs) ys =
+    ap (clash_or (find (shares_key places x) before) x) (clash_split places (before ++ x ∷ []) xs ys)
+    ∙ clash_or_split (find (shares_key places x) before) x (clash_after places (before ++ x ∷ []) xs) (clash_after places ((before ++ x ∷ []) ++ xs) ys)
+    ∙ ap (λ (l : List TableRow). option_or (clash_after places before (x ∷ xs)) (clash_after places l ys)) (append_assoc before (x ∷ []) xs)
+
+pub none_both : (places : List ℕ) (o : Option KeyClash) → both_stop places o ≡ None → o ≡ None
+none_both places None is = refl
+none_both places (Some clash) is = cc
+
+pub both_first : (X Y : Type 0) (places : List ℕ) (a b : Option KeyClash) (stop : StoreStop) → StopsAs {X = X} (both_stop places a) (Err stop) → StopsAs {X = Y} (both_stop places (option_or a b)) (Err stop)
+both_first X Y places a b NoMemory is = tt
+both_first X Y places None b NotNull is = cc
+both_first X Y places None b (KeyTaken earlier later key) is = cc
+both_first X Y places None b Full is = cc
+both_first X Y places (Some clash) b NotNull is = is
+both_first X Y places (Some clash) b (KeyTaken earlier later key) is = is
+both_first X Y places (Some clash) b Full is = is
+
+-- a refusal is one, whatever else would have come
+pub stop_as : (X Y : Type 0) (due : Option StoreStop) (stop : StoreStop) → StopsAs {X = X} due (Err stop) → StopsAs {X = Y} due (Err stop)
+stop_as X Y due NoMemory is = tt
+stop_as X Y due NotNull is = is
+stop_as X Y due (KeyTaken earlier later key) is = is
+stop_as X Y due Full is = is
+
+-- ---- the row of a slot
+
+-- of a row that has a key and a number
+module _ (places : List ℕ) (before : List TableRow) (k : RowKey) (number : ℕ) where
+  one_taken : (row : TableRow) (n : ℕ) → key_at places row.values ≡ k → row.number ≡ number → option_map (λ (one : TableRow). one.number) (row_of_key places k.values before) ≡ Some n
+      → both_stop places (clash_after places before (row ∷ [])) ≡ Some (KeyTaken (Some n) (Some number) k.values)
+  one_taken row n same is found =
+      let at : find (shares_key places row) before ≡ row_of_key places k.values before = ap (λ (q : RowKey). row_of_key places q.values before) same in
+      ap (λ (o : Option TableRow). both_stop places (clash_or o row None)) at ∙ by (row_of_key places k.values before) found where
+        by : (o : Option TableRow) → option_map (λ (one : TableRow). one.number) o ≡ Some n → both_stop places (clash_or o row None) ≡ Some (KeyTaken (Some n) (Some number) k.values)
+        by None none = cc
+        by (Some other) one =
+            let first : other.number ≡ n = some_is one in
+            λ j. Some (KeyTaken (Some (first j)) (Some (is j)) (same j).values) where
+              some_is : {a b : ℕ} → Some a ≡ Some b → a ≡ b
+              some_is e = cc
+
+  pub slot_taken : (o : Option TableRow) (n : ℕ) → option_map (λ (row : TableRow). key_at places row.values) o ≡ Some k → option_map (λ (row : TableRow). row.number) o ≡ Some number
+      → option_map (λ (one : TableRow). one.number) (row_of_key places k.values before) ≡ Some n → both_stop places (clash_after places before (option_to_list o)) ≡ Some (KeyTaken (Some n) (Some number) k.values)
+  slot_taken None n same is found = cc
+  slot_taken (Some row) n same is found = one_taken row n (key_is same) (number_is is) found where
+    key_is : {a b : RowKey} → Some a ≡ Some b → a ≡ b
+    key_is e = cc
+
+    number_is : {a b : ℕ} → Some a ≡ Some b → a ≡ b
+    number_is e = cc
+
+  none_from : (o : Option TableRow) → option_map (λ (one : TableRow). one.number) o ≡ None → o ≡ None
+  none_from None is = refl
+  none_from (Some row) is = cc
+
+  pub slot_free : (o : Option TableRow) → option_map (λ (row : TableRow). key_at places row.values) o ≡ Some k → option_map (λ (one : TableRow). one.number) (row_of_key places k.values before) ≡ None
+      → both_stop places (clash_after places before (option_to_list o)) ≡ None
+  slot_free None same found = refl
+  slot_free (Some row) same found =
+      let at : find (shares_key places row) before ≡ None = ap (λ (q : RowKey). row_of_key places q.values before) (key_is same) ∙ none_from (row_of_key places k.values before) found in
+      ap (λ (o : Option TableRow). both_stop places (clash_or o row None)) at where
+        key_is : {a b : RowKey} → Some a ≡ Some b → a ≡ b
+        key_is e = cc
+
+  pub slot_put : (old new : Held) (o : Option TableRow) → IsIndexOf places old before → option_map (λ (row : TableRow). key_at places row.values) o ≡ Some k → option_map (λ (row : TableRow). row.number) o ≡ Some number
+      → option_map (λ (one : TableRow). one.number) (row_of_key places k.values before) ≡ None → ((q : RowKey) → new q ≡ cond (is_at (key_order k) q) (Some number) (old q)) → IsIndexOf places new (before ++ option_to_list o)
+  slot_put old new None index same is found put = cc
+  slot_put old new (Some row) index same is found put =
+      let here : key_at places row.values ≡ k = key_is same in
+      let one : row.number ≡ number = number_is is in
+      index_more places old new row before index (ap (λ (q : RowKey). row_of_key places q.values before) here ∙ none_from (row_of_key places k.values before) found)
+      (λ q. put q ∙ (λ j. cond (is_at (key_order (sym here j)) q) (Some (sym one j)) (old q))) where
+        key_is : {a b : RowKey} → Some a ≡ Some b → a ≡ b
+        key_is e = cc
+
+        number_is : {a b : ℕ} → Some a ≡ Some b → a ≡ b
+        number_is e = cc
+
+-- ---- rows slot by slot
+
+one_of : {X : Type 0} (o : Option X) → cons_option o [] ≡ option_to_list o
+one_of None = refl
+one_of (Some x) = refl
+
+module _ (given : List TableRow) where
+  pub rows_more : (slots : List RowHistory) (slot : ℕ) → slot < length slots → rows_then given (take (slot + 1) slots) ≡ rows_then given (take slot slots) ++ option_to_list (row_then given (get_or slots slot no_history))
+  rows_more slots slot within =
+      ap (rows_then given) (take_more slots slot no_history within) ∙ filter_map-append (row_then given) (take slot slots) (get_or slots slot no_history ∷ [])
+      ∙ ap (λ (l : List TableRow). rows_then given (take slot slots) ++ l) (one_of (row_then given (get_or slots slot no_history)))
+
+  pub rows_left : (slots : List RowHistory) (slot : ℕ) → slot < length slots → rows_then given (drop slot slots) ≡ option_to_list (row_then given (get_or slots slot no_history)) ++ rows_then given (drop (slot + 1) slots)
+  rows_left slots slot within = left_more (row_then given) slots slot within
+
+  pub rows_then_are : (slots : List RowHistory) → rows_then given slots ≡ map (replaced_by given) (rows_now slots)
+  rows_then_are [] = refl
+  rows_then_are (row ∷ slots) = by (current row.changes) (rows_then_are slots) where
+    by : (now : Option (List Value)) → rows_then given slots ≡ map (replaced_by given) (rows_now slots)
+        → cons_option (option_map (replaced_by given) (row_of row.number now)) (rows_then given slots) ≡ map (replaced_by given) (cons_option (row_of row.number now) (rows_now slots))
+    by None rest = rest
+    by (Some values) rest = ap (λ (l : List TableRow). replaced_by given (record { number = row.number; values = values }) ∷ l) rest
+
+  -- a given row has the number that it is found by
+  pub found_number : (number : ℕ) (rows : List TableRow) (row : TableRow) → find (λ new. new.number == number) rows ≡ Some row → row.number ≡ number
+  found_number number [] row is = cc
+  found_number number (first ∷ rows) row is = elim (cases_Bool (first.number == number)) [
+    | inl hit ↦
+        let same : first ≡ row = some_is (sym (ap (λ b. cond b (Some first) (find (λ new. new.number == number) rows)) hit) ∙ is) in
+        ap (λ (r : TableRow). r.number) (sym same) ∙ eqb-true first.number number hit
+    | inr miss ↦ found_number number rows row (sym (ap (λ b. cond b (Some first) (find (λ new. new.number == number) rows)) miss) ∙ is)
+  ] where
+    some_is : {a b : TableRow} → Some a ≡ Some b → a ≡ b
+    some_is e = cc
+
+  pub number_kept : (row : TableRow) → (replaced_by given row).number ≡ row.number
+  number_kept row = by (find (λ new. new.number == row.number) given) refl where
+    by : (o : Option TableRow) → find (λ new. new.number == row.number) given ≡ o → (unwrap_or o row).number ≡ row.number
+    by None is = refl
+    by (Some new) is = found_number row.number given new is
+
+  -- what is left in a slot whose row stands has its number
+  pub number_then : (row : RowHistory) → IsSome (current row.changes) → option_map (λ (one : TableRow). one.number) (row_then given row) ≡ Some row.number
+  number_then row stands = by (current row.changes) stands where
+    by : (now : Option (List Value)) → IsSome now → option_map (λ (one : TableRow). one.number) (option_map (replaced_by given) (row_of row.number now)) ≡ Some row.number
+    by None some = cc
+    by (Some values) some = ap (λ (n : ℕ). Some n) (number_kept (record { number = row.number; values = values }))
+
+  pub gone_then : (row : RowHistory) → is_some (current row.changes) ≡ false → row_then given row ≡ None
+  gone_then row gone = by (current row.changes) gone where
+    by : (now : Option (List Value)) → is_some now ≡ false → option_map (replaced_by given) (row_of row.number now) ≡ None
+    by None is = refl
+    by (Some values) is = cc
+
+  -- the key that the row of a slot has then
+  pub key_given : (places : List ℕ) (row : RowHistory) (new : TableRow) → IsSome (current row.changes) → find (λ one. one.number == row.number) given ≡ Some new
+      → option_map (λ (one : TableRow). key_at places one.values) (row_then given row) ≡ Some (key_at places new.values)
+  key_given places row new stands is = by (current row.changes) stands where
+    by : (now : Option (List Value)) → IsSome now → option_map (λ (one : TableRow). key_at places one.values) (option_map (replaced_by given) (row_of row.number now)) ≡ Some (key_at places new.values)
+    by None some = cc
+    by (Some values) some = ap (λ (o : Option TableRow). Some (key_at places (unwrap_or o (record { number = row.number; values = values })).values)) is
+
+  pub key_kept : (places : List ℕ) (row : RowHistory) (values : List Value) → Some values ≡ current row.changes → find (λ one. one.number == row.number) given ≡ None
+      → option_map (λ (one : TableRow). key_at places one.values) (row_then given row) ≡ Some (key_at places values)
+  key_kept places row values now is =
+      ap (λ (o : Option (List Value)). option_map (λ (one : TableRow). key_at places one.values) (option_map (replaced_by given) (row_of row.number o))) (sym now)
+      ∙ ap (λ (o : Option TableRow). Some (key_at places (unwrap_or o (record { number = row.number; values = values })).values)) is
+
+  -- all rows have small numbers
+  pub found_below : (next : ℕ) (p : TableRow → Bool) (n : ℕ) (slots : List RowHistory) → ((i : ℕ) → i < length slots → (get_or slots i no_history).number < next)
+      → (number : ℕ) → option_map (λ (one : TableRow). one.number) (find p (rows_then given (take n slots))) ≡ Some number → number < next
+  found_below next p zero slots below number is = cc
+  found_below next p (suc n) [] below number is = cc
+  found_below next p (suc n) (row ∷ slots) below number is =
+      by (row_then given row) refl (λ found. found_below next p n slots (λ i within. below (suc i) (omega (arith, within))) number found) is where
+        one_number : (now : Option (List Value)) (one : TableRow) → option_map (replaced_by given) (row_of row.number now) ≡ Some one → one.number ≡ row.number
+        one_number None one same = cc
+        one_number (Some values) one same = ap (λ (r : TableRow). r.number) (sym (some_is same)) ∙ number_kept (record { number = row.number; values = values }) where
+          some_is : {a b : TableRow} → Some a ≡ Some b → a ≡ b
+          some_is e = cc
+
+        by : (o : Option TableRow) → row_then given row ≡ o → (option_map (λ (one : TableRow). one.number) (find p (rows_then given (take n slots))) ≡ Some number → number < next)
+            → option_map (λ (one : TableRow). one.number) (find p (cons_option o (rows_then given (take n slots)))) ≡ Some number → number < next
+        by None was rest found = rest found
+        by (Some one) was rest found = elim (cases_Bool (p one)) [
+          | inl hit ↦
+              let same : one.number ≡ number = some_is (sym (ap (λ b. option_map (λ (r : TableRow). r.number) (cond b (Some one) (find p (rows_then given (take n slots))))) hit) ∙ found) in
+              omega (arith, same, one_number (current row.changes) one was, below 0 (omega arith))
+          | inr miss ↦ rest (sym (ap (λ b. option_map (λ (r : TableRow). r.number) (cond b (Some one) (find p (rows_then given (take n slots))))) miss) ∙ found)
+        ] where
+          some_is : {a b : ℕ} → Some a ≡ Some b → a ≡ b
+          some_is e = cc
+
+-- ---- the given row of a number
+
+abbrev pub at_number : ℕ → Option TableRow → Option TableRow
+at_number number None = None
+at_number number (Some row) = cond (row.number == number) (Some row) None
+
+both_true : (a b : Bool) → (a && b) ≡ true → (a ≡ true) × (b ≡ true)
+both_true true true is = (refl, refl)
+both_true true false is = cc
+both_true false b is = cc
+
+above_none : (number : ℕ) (row : TableRow) (rows : List TableRow) → number < row.number → are_sorted_rows (row ∷ rows) ≡ true → find (λ new. new.number == number) rows ≡ None
+above_none number row [] above sorted = refl
+above_none number row (next ∷ rows) above sorted =
+    let both = both_true (nat_lt row.number next.number) (are_sorted_rows (next ∷ rows)) sorted in
+    let higher : row.number < next.number = ltb-true row.number next.number both.0 in
+    ap (λ b. cond b (Some next) (find (λ new. new.number == number) rows)) (ne_eqb next.number number (omega (arith, above, higher)))
+    ∙ above_none number next rows (omega (arith, above, higher)) both.1
+
+pub given_found : (number : ℕ) (rows : List TableRow) (place : ℕ) → are_sorted_rows rows ≡ true → ((k : ℕ) (d : TableRow) → k < place → nat_lt (get_or rows k d).number number ≡ true)
+    → ((k : ℕ) (d : TableRow) → place ≤ k → k < length rows → nat_lt (get_or rows k d).number number ≡ false) → find (λ new. new.number == number) rows ≡ at_number number (slice_get rows place)
+given_found number [] place sorted before after = refl
+given_found number (row ∷ rows) zero sorted before after = elim (cases_Bool (row.number == number)) [
+  | inl hit ↦ (λ j. cond (hit j) (Some row) (find (λ new. new.number == number) rows)) ∙ sym (ap (λ b. cond b (Some row) None) hit)
+  | inr miss ↦
+      let from : number ≤ row.number = not_below row.number number (after 0 row (omega arith) (omega arith)) in
+      let above : number < row.number = elim (cases_lt number row.number) [
+        | inl less ↦ less
+        | inr to ↦ let wrong : true ≡ false = sym (eq-eqb row.number number (omega (arith, from, to))) ∙ miss in absurd cc
+      ] in
+      ap (λ b. cond b (Some row) (find (λ new. new.number == number) rows)) miss ∙ above_none number row rows above sorted ∙ sym (ap (λ b. cond b (Some row) None) miss)
+] where
+  not_below : (a b : ℕ) → nat_lt a b ≡ false → b ≤ a
+  not_below a b is = elim (cases_lt a b) [
+    | inl less ↦ let wrong : true ≡ false = sym (lt-ltb a b less) ∙ is in absurd cc
+    | inr from ↦ from
+  ]
+given_found number (row ∷ rows) (suc place) sorted before after =
+    let both = both_true (precedes_first (λ (a b : TableRow). nat_lt a.number b.number) row rows) (are_sorted_rows rows) sorted in
+    let less : row.number < number = ltb-true row.number number (before 0 row (omega arith)) in
+    ap (λ b. cond b (Some row) (find (λ new. new.number == number) rows)) (ne_eqb row.number number (omega (arith, less)))
+    ∙ given_found number rows place both.1 (λ k d below. before (suc k) d (omega (arith, below))) (λ k d from below. after (suc k) d (omega (arith, from)) (omega (arith, below)))
+
+-- ---- results
+
+pub if_ok_is : {E : Type 0} (r : Result RowKey E) (o : Option RowKey) (k : RowKey) → o ≡ Some k → IfOk r (λ one. one ≡ k) → IfOk r (λ one. o ≡ Some one)
+if_ok_is (Ok one) o k is same = is ∙ ap (λ (q : RowKey). Some q) (sym same)
+if_ok_is (Err e) o k is same = tt
+
+pub if_ok : {X E : Type 0} (P Q : X → Type 0) (r : Result X E) → ((x : X) → P x → Q x) → IfOk r P → IfOk r Q
+if_ok P Q (Ok x) to holds = to x holds
+if_ok P Q (Err e) to holds = tt
+
+-- ---- both rows of a clash stood before
+
+module _ (table : Table) (given : List TableRow) where
+  abbrev Stood : TableRow → Type 0
+  Stood row = list_any (λ old. old.number == row.number) table.rows ≡ true
+
+  then_stood : (rows : List TableRow) → AllRows (λ row. list_any (λ old. old.number == row.number) table.rows ≡ true) rows → AllRows (λ row. list_any (λ old. old.number == row.number) table.rows ≡ true) (map (replaced_by given) rows)
+  then_stood [] all = tt
+  then_stood (row ∷ rows) all =
+      (subst (λ (n : ℕ). list_any (λ old. old.number == n) table.rows ≡ true) (sym (number_kept given row)) all.0, then_stood rows all.1)
+
+  key_by : (clash : Option KeyClash) → clash_after table.schema.key [] (map (replaced_by given) table.rows) ≡ clash → key_stop table clash ≡ both_stop table.schema.key clash
+  key_by None is = refl
+  key_by (Some clash) is =
+      let stood = then_stood table.rows (any_self table.rows) in
+      let both = clash_all (λ row. list_any (λ old. old.number == row.number) table.rows ≡ true) (λ row. list_any (λ old. old.number == row.number) table.rows ≡ true) table.schema.key [] (map (replaced_by given) table.rows) tt stood stood clash is in
+      λ j. Some (KeyTaken (if both.0 j then Some clash.earlier.number else None) (if both.1 j then Some clash.later.number else None) (values_at table.schema.key clash.later.values))
+
+  pub key_both : key_stop table (clash_by table.schema.key (map (replaced_by given) table.rows)) ≡ both_stop table.schema.key (clash_by table.schema.key (map (replaced_by given) table.rows))
+  key_both = elim (cases_Bool (length table.schema.key == 0)) [
+    | inl none ↦
+        let is : clash_by table.schema.key (map (replaced_by given) table.rows) ≡ None = unkeyed_clash table.schema.key (map (replaced_by given) table.rows) none in
+        ap (key_stop table) is ∙ sym (ap (both_stop table.schema.key) is)
+    | inr some ↦
+        let is : clash_by table.schema.key (map (replaced_by given) table.rows) ≡ clash_after table.schema.key [] (map (replaced_by given) table.rows) = keyed_clash table.schema.key (map (replaced_by given) table.rows) some in
+        ap (key_stop table) is ∙ key_by (clash_after table.schema.key [] (map (replaced_by given) table.rows)) refl ∙ sym (ap (both_stop table.schema.key) is)
+  ]
+
+-- the smaller numbers come first
+pub given_parted : (number : ℕ) (rows : List TableRow) → are_sorted_rows rows ≡ true → IsPartitionedBy (λ (row : TableRow). nat_lt row.number number) rows
+given_parted number rows sorted i j d to within below = lt-ltb (get_or rows i d).number number (omega (arith, at_most rows sorted i j d to within, ltb-true (get_or rows j d).number number below)) where
+  first_most : (row : TableRow) (some : List TableRow) → are_sorted_rows (row ∷ some) ≡ true → (k : ℕ) (e : TableRow) → k < length some → row.number ≤ (get_or some k e).number
+  first_most row [] ok k e inside = absurd (omega (arith, inside))
+  first_most row (next ∷ some) ok zero e inside = let both = both_true (nat_lt row.number next.number) (are_sorted_rows (next ∷ some)) ok in omega (arith, ltb-true row.number next.number both.0)
+  first_most row (next ∷ some) ok (suc k) e inside =
+      let both = both_true (nat_lt row.number next.number) (are_sorted_rows (next ∷ some)) ok in
+      omega (arith, ltb-true row.number next.number both.0, first_most next some both.1 k e (omega (arith, inside)))
+
+  at_most : (some : List TableRow) → are_sorted_rows some ≡ true → (a b : ℕ) (e : TableRow) → a ≤ b → b < length some → (get_or some a e).number ≤ (get_or some b e).number
+  at_most [] ok a b e up inside = absurd (omega (arith, inside))
+  at_most (row ∷ some) ok zero zero e up inside = omega arith
+  at_most (row ∷ some) ok zero (suc b) e up inside = first_most row some ok b e (omega (arith, inside))
+  at_most (row ∷ some) ok (suc a) zero e up inside = absurd (omega (arith, up))
+  at_most (row ∷ some) ok (suc a) (suc b) e up inside =
+      at_most some (both_true (precedes_first (λ (x y : TableRow). nat_lt x.number y.number) row some) (are_sorted_rows some) ok).1 a b e (omega (arith, up)) (omega (arith, inside))
+
+-- what refuses other values of rows
+pub replace_stop_is : (rows : List TableRow) (t : TableHistory) → list_any (has_null t.schema.columns) rows ≡ false
+    → replace_stop rows (table_now t) ≡ both_stop t.schema.key (clash_by t.schema.key (map (replaced_by rows) (rows_now t.slots)))
+replace_stop_is rows t is =
+    ap (λ b. option_or (stop_if b NotNull) (key_stop (table_now t) (key_clash (with_replaced rows (table_now t))))) is ∙ key_both (table_now t) rows

@@ -1,0 +1,78 @@
+use Rattle.std.proofs.Common.{rules, ◌≡◌, ◌∙◌, ◌++◌, ◌+◌, ap, sym, subst, ℕ, List, take, drop, length, get_or, [], Some, None, Option, arith, append-nil}
+use Rattle.std.specs.Prelude.{find, Err}
+use Rattle.std.specs.BTreeMap.{get}
+use Rattle.std.proofs.lemmas.List.{take_all}
+use Rattle.sql_model.specs.Changes.{KeyClash, clash_or, clash_after, numbered}
+use Rattle.sql_model.specs.KeyOrder.{key_order}
+use Rattle.sql_model.specs.Keys.{values_at}
+use Rattle.table_store.specs.Types.{Value, TableRow}
+use Rattle.table_store.specs.Claims.{claim_stop}
+use Rattle.table_store.specs.Histories.{rows_now}
+use Rattle.table_store.specs.KeyIndex.{Held, AreHeld, has_key}
+use Rattle.table_store.specs.Stops.{StopsAs}
+use Rattle.table_store.proofs.ClaimLaws.{left_clash, not_taken, claim_taken, held_front, none_left}
+use Rattle.table_store.proofs.claim.claim_all.Goals as goal
+
+pub loop-count-init : goal.loop-count-init
+loop-count-init c =
+    let places = c.args.places.now in
+    let values = c.args.values.now in
+    let rows : List TableRow = rows_now c.args.stored.now.slots in
+    let old : Held = λ q. get key_order c.args.index.now.held q in
+    let start : c.args.next + 0 ≡ c.args.next = omega arith in
+    record {
+      held = subst (λ (l : List TableRow). AreHeld places old l) (sym (append-nil rows)) c.requires.held;
+      clash = ap (λ (l : List TableRow). clash_after places l (numbered (c.args.next + 0) values)) (append-nil rows)
+          ∙ ap (λ (n : ℕ). clash_after places rows (numbered n values)) start;
+    }
+
+pub loop-count-preserved : goal.loop-count-preserved
+loop-count-preserved c =
+    let places = c.args.places.now in
+    let values = c.args.values.now in
+    let next = c.args.next in
+    let rows = rows_now c.args.stored.now.slots in
+    let count = c.loop-count.count in
+    let within = c.loop-count-test.true in
+    let earlier = find (has_key places (values_at places (get_or values count []))) (rows ++ numbered next (take count values)) in
+    let row : TableRow = record { number = next + count; values = get_or values count [] } in
+    let none : earlier ≡ None = not_taken places next (get_or values count []) earlier c.in-Ok.ensures.stop in
+    record {
+      held = c.in-Ok.ensures.ok;
+      clash = sym (left_clash places next rows values count within
+          ∙ ap (λ (o : Option TableRow). clash_or o row (clash_after places (rows ++ numbered next (take (count + 1) values)) (numbered (next + (count + 1)) (drop (count + 1) values)))) none)
+          ∙ c.loop-count.invariant.clash;
+    }
+
+pub returns-in-Err-clause-kept : goal.returns-in-Err-clause-kept
+returns-in-Err-clause-kept c =
+    held_front c.args.places.now (λ q. get key_order c.claim_one.new.index.held q) (rows_now c.args.stored.now.slots) (numbered c.args.next (take c.loop-count.count c.args.values.now)) c.claim_one.ensures.kept
+
+pub returns-in-Err-clause-stop : goal.returns-in-Err-clause-stop
+returns-in-Err-clause-stop c =
+    let places = c.args.places.now in
+    let values = c.args.values.now in
+    let next = c.args.next in
+    let rows = rows_now c.args.stored.now.slots in
+    let count = c.loop-count.count in
+    let within = c.loop-count-test.true in
+    let earlier = find (has_key places (values_at places (get_or values count []))) (rows ++ numbered next (take count values)) in
+    let row : TableRow = record { number = next + count; values = get_or values count [] } in
+    let rest = clash_after places (rows ++ numbered next (take (count + 1) values)) (numbered (next + (count + 1)) (drop (count + 1) values)) in
+    subst (λ (o : Option KeyClash). StopsAs {X = Unit {0}} (claim_stop places next o) (Err c.in-Err.stop)) (sym (left_clash places next rows values count within) ∙ c.loop-count.invariant.clash)
+    (claim_taken places next row earlier rest c.in-Err.stop c.in-Err.ensures.stop)
+
+pub returns-clause-kept : goal.returns-clause-kept
+returns-clause-kept c =
+    held_front c.args.places.now (λ q. get key_order c.loop-count.index.held q) (rows_now c.args.stored.now.slots) (numbered c.args.next (take c.loop-count.count c.args.values.now)) c.loop-count.invariant.held
+
+pub returns-clause-ok : goal.returns-clause-ok
+returns-clause-ok c =
+    let all : take c.loop-count.count c.args.values.now ≡ c.args.values.now = take_all c.loop-count.count c.args.values.now (omega arith) in
+    subst (λ (l : List (List Value)). AreHeld c.args.places.now (λ q. get key_order c.loop-count.index.held q) (rows_now c.args.stored.now.slots ++ numbered c.args.next l)) all c.loop-count.invariant.held
+
+pub returns-clause-stop : goal.returns-clause-stop
+returns-clause-stop c =
+    let places = c.args.places.now in
+    let rows = rows_now c.args.stored.now.slots ++ numbered c.args.next (take c.loop-count.count c.args.values.now) in
+    ap (claim_stop places c.args.next) (sym c.loop-count.invariant.clash ∙ none_left places rows (c.args.next + c.loop-count.count) c.args.values.now c.loop-count.count (omega arith))

@@ -1,0 +1,31 @@
+use Rattle.std.proofs.Common.{◌≡◌, ◌∙◌, ◌<◌, ap, sym, subst, ℕ, length, List, Bool, true, set, arith}
+use Rattle.table_store.specs.Types.{Value}
+use Rattle.table_store.specs.Grid.{Slot, Rows, slots_of, slot_of, kinds_of, fits_kinds}
+use Rattle.table_store.proofs.GridLaws.{in_parts, seen_slot, slots_replaced, set_seen, fits_columns, fits_width, same_kinds}
+use Rattle.table_store.proofs.grid.Grid.set.Goals as goal
+
+pub set_cells-requires-clause-within : goal.set_cells-requires-clause-within
+set_cells-requires-clause-within c = λ k below.
+    let a = c.self.inside in
+    let within : c.args.slot < length a.numbers.items = in_parts a.numbers.items a.since.items a.standing.items a.columns.items c.args.self.now.slots (ap (λ (r : Rows). r.slots) c.self.view_is) c.args.slot c.requires.within in
+    omega (arith, within, c.self.invariant.long k below)
+
+pub set_cells-requires-clause-kinds : goal.set_cells-requires-clause-kinds
+set_cells-requires-clause-kinds c =
+    fits_columns c.self.inside.columns.items c.args.values (ap (λ (r : Rows). fits_kinds r.kinds c.args.values) c.self.view_is ∙ c.requires.kinds)
+
+pub returns : goal.returns
+returns c =
+    let a = c.self.inside in
+    let values = c.args.values in
+    let new = c.set_cells.new.columns.items in
+    let changed = c.set_cells.ensures.set in
+    let slots : slots_of a.numbers.items a.since.items a.standing.items a.columns.items ≡ c.args.self.now.slots = ap (λ (r : Rows). r.slots) c.self.view_is in
+    let within : c.args.slot < length a.numbers.items = in_parts a.numbers.items a.since.items a.standing.items a.columns.items c.args.self.now.slots slots c.args.slot c.requires.within in
+    let there = slot_of a.numbers.items a.since.items a.standing.items a.columns.items c.args.slot in
+    let width : length values ≡ length a.columns.items = fits_width a.columns.items values (ap (λ (r : Rows). fits_kinds r.kinds values) c.self.view_is ∙ c.requires.kinds) in
+    let put = slots_replaced a.columns.items values new a.numbers.items a.since.items a.standing.items a.next c.args.slot c.self.invariant changed width within
+    ∙ set_seen (slots_of a.numbers.items a.since.items a.standing.items a.columns.items) c.args.self.now.slots c.args.slot there (λ (s : Slot). record s { values = values }) slots
+    (seen_slot a.numbers.items a.since.items a.standing.items a.columns.items c.args.self.now.slots slots c.args.slot within) in
+    let kinds = same_kinds a.columns.items values new changed.count changed.kinds ∙ ap (λ (r : Rows). r.kinds) c.self.view_is in
+    (λ j. record { slots = put j; kinds = kinds j; next = (ap (λ (r : Rows). r.next) c.self.view_is) j })

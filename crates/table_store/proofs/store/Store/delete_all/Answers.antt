@@ -1,0 +1,65 @@
+use Rattle.std.proofs.Common.{◌≡◌, ◌∙◌, ◌<◌, ap, sym, subst, ℕ, List, Option, Some, true, refl, length, get_or, arith}
+use Rattle.std.specs.Prelude.{Result, Ok, Err, IfSome}
+use Rattle.std.specs.Option.{option_and_then, option_map}
+use Rattle.sql_model.specs.Scope.{table_at}
+use Rattle.table_store.specs.Types.{Value, Table, TableRow}
+use Rattle.table_store.specs.Histories.{StoreHistory, TableHistory, tables_now, table_now, removed}
+use Rattle.table_store.specs.Stops.{with_removed, StopsAs, all_stand}
+use Rattle.table_store.specs.StoreView.{no_table}
+use Rattle.table_store.proofs.StoreChangeLaws.{remove_is, at_place, later_there, given_there, after_stored, after_is, after_now, after_kept, not_missing}
+use Rattle.table_store.proofs.TableChangeLaws.{removed_now}
+use Rattle.table_store.proofs.store.Store.delete_all.Goals as goal
+
+pub unreachable-requires : goal.unreachable-requires
+unreachable-requires c =
+    let a = c.self.inside in
+    not_missing a.tables.items a.time c.args.self.now c.self.view_is c.args.table.now c.requires.there (c.place_in.ensures.absent c.in-None.is)
+
+pub delete_in-requires-clause-later : goal.delete_in-requires-clause-later
+delete_in-requires-clause-later c =
+    let a = c.self.inside in
+    let tables = a.tables.items in
+    let place = c.in-Some.place in
+    let found = c.in-Some.ensures.found in
+    later_there a.catalog tables a.time c.self.invariant c.args.self.now c.self.view_is c.args.table.now place found c.args.time c.requires.later
+
+pub delete_in-requires-clause-stand : goal.delete_in-requires-clause-stand
+delete_in-requires-clause-stand c =
+    let a = c.self.inside in
+    let tables = a.tables.items in
+    let place = c.in-Some.place in
+    let found = c.in-Some.ensures.found in
+    given_there a.catalog tables a.time c.self.invariant c.args.self.now c.self.view_is c.args.table.now place found c.args.time c.requires.later (λ table. all_stand c.args.numbers.now table ≡ true) c.requires.stand
+
+pub invariant_of-self-in-Ok : goal.invariant_of-self-in-Ok
+invariant_of-self-in-Ok c =
+    let a = c.self.inside in
+    let tables = a.tables.items in
+    let place = c.in-Some.place in
+    let found = c.in-Some.ensures.found in
+    after_stored a.catalog tables a.time c.self.invariant c.args.self.now c.self.view_is c.args.table.now place found c.args.time c.requires.later (removed c.args.time c.args.numbers.now) (remove_is c.args.time c.args.numbers.now) c.delete_in.new.tables.items c.in-Ok.ensures.ok
+
+pub returns-in-Ok-clause-ok : goal.returns-in-Ok-clause-ok
+returns-in-Ok-clause-ok c =
+    let a = c.self.inside in
+    let tables = a.tables.items in
+    let place = c.in-Some.place in
+    let found = c.in-Some.ensures.found in
+    after_is a.catalog tables a.time c.self.invariant c.args.self.now c.self.view_is c.args.table.now place found c.args.time c.requires.later (removed c.args.time c.args.numbers.now) (remove_is c.args.time c.args.numbers.now) c.delete_in.new.tables.items c.in-Ok.ensures.ok
+
+pub returns-in-Ok-clause-now : goal.returns-in-Ok-clause-now
+returns-in-Ok-clause-now c =
+    let a = c.self.inside in
+    let tables = a.tables.items in
+    let place = c.in-Some.place in
+    let found = c.in-Some.ensures.found in
+    let there : TableHistory = get_or tables place no_table in
+    after_now a.catalog tables a.time c.self.invariant c.args.self.now c.self.view_is c.args.table.now place found c.args.time c.requires.later (removed c.args.time c.args.numbers.now) (remove_is c.args.time c.args.numbers.now) c.delete_in.new.tables.items c.in-Ok.ensures.ok (with_removed c.args.numbers.now) (removed_now c.args.time c.args.numbers.now there)
+
+pub returns-in-Ok-clause-earlier : goal.returns-in-Ok-clause-earlier
+returns-in-Ok-clause-earlier c =
+    let a = c.self.inside in
+    let tables = a.tables.items in
+    let place = c.in-Some.place in
+    let found = c.in-Some.ensures.found in
+    after_kept a.catalog tables a.time c.self.invariant c.args.self.now c.self.view_is c.args.table.now place found c.args.time c.requires.later (removed c.args.time c.args.numbers.now) (remove_is c.args.time c.args.numbers.now) c.delete_in.new.tables.items c.in-Ok.ensures.ok

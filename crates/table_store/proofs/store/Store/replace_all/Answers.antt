@@ -1,0 +1,88 @@
+use Rattle.std.proofs.Common.{◌≡◌, ◌∙◌, ◌<◌, ap, sym, subst, ℕ, List, Option, Some, true, refl, length, get_or, arith}
+use Rattle.std.specs.Prelude.{Result, Ok, Err, IfSome}
+use Rattle.std.specs.Option.{option_and_then, option_map}
+use Rattle.sql_model.specs.Scope.{table_at}
+use Rattle.table_store.specs.Types.{Value, Table, TableRow}
+use Rattle.table_store.specs.Histories.{StoreHistory, TableHistory, tables_now, table_now, replaced}
+use Rattle.table_store.specs.Stops.{with_replaced, StopsAs, have_shape, values_of, all_stood, replace_stop}
+use Rattle.table_store.specs.StoreView.{no_table}
+use Rattle.table_store.proofs.StoreChangeLaws.{replace_is, at_place, later_there, given_there, after_stored, after_is, after_now, after_kept, not_missing}
+use Rattle.table_store.proofs.store.Store.replace_all.Goals as goal
+
+pub unreachable-requires : goal.unreachable-requires
+unreachable-requires c =
+    let a = c.self.inside in
+    not_missing a.tables.items a.time c.args.self.now c.self.view_is c.args.table.now c.requires.there (c.place_in.ensures.absent c.in-None.is)
+
+pub replace_in-requires-clause-later : goal.replace_in-requires-clause-later
+replace_in-requires-clause-later c =
+    let a = c.self.inside in
+    let tables = a.tables.items in
+    let place = c.in-Some.place in
+    let found = c.in-Some.ensures.found in
+    later_there a.catalog tables a.time c.self.invariant c.args.self.now c.self.view_is c.args.table.now place found c.args.time c.requires.later
+
+pub replace_in-requires-clause-shape : goal.replace_in-requires-clause-shape
+replace_in-requires-clause-shape c =
+    let a = c.self.inside in
+    let tables = a.tables.items in
+    let place = c.in-Some.place in
+    let found = c.in-Some.ensures.found in
+    given_there a.catalog tables a.time c.self.invariant c.args.self.now c.self.view_is c.args.table.now place found c.args.time c.requires.later (λ table. have_shape (values_of c.args.rows) table ≡ true) c.requires.shape
+
+pub replace_in-requires-clause-stand : goal.replace_in-requires-clause-stand
+replace_in-requires-clause-stand c =
+    let a = c.self.inside in
+    let tables = a.tables.items in
+    let place = c.in-Some.place in
+    let found = c.in-Some.ensures.found in
+    given_there a.catalog tables a.time c.self.invariant c.args.self.now c.self.view_is c.args.table.now place found c.args.time c.requires.later (λ table. all_stood c.args.rows table ≡ true) c.requires.stand
+
+pub invariant_of-self-in-Ok : goal.invariant_of-self-in-Ok
+invariant_of-self-in-Ok c =
+    let a = c.self.inside in
+    let tables = a.tables.items in
+    let place = c.in-Some.place in
+    let found = c.in-Some.ensures.found in
+    after_stored a.catalog tables a.time c.self.invariant c.args.self.now c.self.view_is c.args.table.now place found c.args.time c.requires.later (replaced c.args.time c.args.rows) (replace_is c.args.time c.args.rows) c.replace_in.new.tables.items c.in-Ok.ensures.ok
+
+pub returns-in-Ok-clause-ok : goal.returns-in-Ok-clause-ok
+returns-in-Ok-clause-ok c =
+    let a = c.self.inside in
+    let tables = a.tables.items in
+    let place = c.in-Some.place in
+    let found = c.in-Some.ensures.found in
+    after_is a.catalog tables a.time c.self.invariant c.args.self.now c.self.view_is c.args.table.now place found c.args.time c.requires.later (replaced c.args.time c.args.rows) (replace_is c.args.time c.args.rows) c.replace_in.new.tables.items c.in-Ok.ensures.ok
+
+pub returns-in-Ok-clause-now : goal.returns-in-Ok-clause-now
+returns-in-Ok-clause-now c =
+    let a = c.self.inside in
+    let tables = a.tables.items in
+    let place = c.in-Some.place in
+    let found = c.in-Some.ensures.found in
+    let there : TableHistory = get_or tables place no_table in
+    after_now a.catalog tables a.time c.self.invariant c.args.self.now c.self.view_is c.args.table.now place found c.args.time c.requires.later (replaced c.args.time c.args.rows) (replace_is c.args.time c.args.rows) c.replace_in.new.tables.items c.in-Ok.ensures.ok (with_replaced c.args.rows) c.in-Ok.ensures.now
+
+pub returns-in-Ok-clause-earlier : goal.returns-in-Ok-clause-earlier
+returns-in-Ok-clause-earlier c =
+    let a = c.self.inside in
+    let tables = a.tables.items in
+    let place = c.in-Some.place in
+    let found = c.in-Some.ensures.found in
+    after_kept a.catalog tables a.time c.self.invariant c.args.self.now c.self.view_is c.args.table.now place found c.args.time c.requires.later (replaced c.args.time c.args.rows) (replace_is c.args.time c.args.rows) c.replace_in.new.tables.items c.in-Ok.ensures.ok
+
+pub returns-in-Ok-clause-stop : goal.returns-in-Ok-clause-stop
+returns-in-Ok-clause-stop c =
+    let a = c.self.inside in
+    let tables = a.tables.items in
+    let place = c.in-Some.place in
+    let found = c.in-Some.ensures.found in
+    ap (option_and_then (replace_stop c.args.rows)) (at_place a.catalog tables a.time c.self.invariant c.args.self.now c.self.view_is c.args.table.now place found c.args.time c.requires.later) ∙ c.in-Ok.ensures.stop
+
+pub returns-in-Err-clause-stop : goal.returns-in-Err-clause-stop
+returns-in-Err-clause-stop c =
+    let a = c.self.inside in
+    let tables = a.tables.items in
+    let place = c.in-Some.place in
+    let found = c.in-Some.ensures.found in
+    subst (λ (o : Option Table). StopsAs {X = Unit {0}} (option_and_then (replace_stop c.args.rows) o) (Err c.in-Err.stop)) (sym (at_place a.catalog tables a.time c.self.invariant c.args.self.now c.self.view_is c.args.table.now place found c.args.time c.requires.later)) c.in-Err.ensures.stop

@@ -1,0 +1,26 @@
+use Rattle.std.proofs.Common.{◌≡◌, ◌∙◌, ◌++◌, ◌∷◌, [], ap, refl, subst, sym, Bool, List, map, arith}
+use Rattle.std.specs.BTreeMap.{get}
+use Rattle.sql_model.specs.KeyOrder.{key_order}
+use Rattle.table_store.specs.Types.{Schema, TableRow}
+use Rattle.table_store.specs.Histories.{NextSince, added}
+use Rattle.table_store.specs.KeyIndex.{Held, AreIndexed}
+use Rattle.table_store.specs.Nexts.{nexts_of}
+use Rattle.table_store.specs.RowChains.{RowsHistory}
+use Rattle.table_store.specs.TableView.{IsStored, kinds_in}
+use Rattle.table_store.proofs.TableLaws.{added_timed, added_indexed}
+use Rattle.table_store.proofs.table.TableStore.of_table.Goals as goal
+
+pub invariant_of-result : goal.invariant_of-result
+invariant_of-result c =
+    let table = c.args.table in
+    let schema : Schema = record { columns = table.schema.columns; key = table.schema.key } in
+    let held : Held = λ key. get key_order c.in_ok-index.index.held key in
+    let rows : RowsHistory = record { slots = map (added 0) table.rows; kinds = kinds_in table.schema.columns; next = table.next } in
+    let made : c.set_next.new.self ≡ rows =
+    c.set_next.ensures ∙ ap (λ (r : RowsHistory). record r { next = table.next }) c.in_ok-push_all.ensures.ok
+    ∙ ap (λ (r : RowsHistory). record { slots = r.slots ++ map (added 0) table.rows; kinds = r.kinds; next = table.next }) c.in_ok-held.ensures
+    ∙ ap (λ (kinds : List Bool). record { slots = map (added 0) table.rows; kinds = kinds; next = table.next }) (c.as_slice.ensures.value ∙ c.in_ok-texts.ensures) in
+    let indexed = added_indexed table.schema.key held 0 table.rows (subst (λ (l : List TableRow). AreIndexed table.schema.key held l) c.items.ensures c.in_ok-index.ensures) in
+    let whole : IsStored schema rows held (record { time = 0; next = table.next } ∷ []) = record { kinds = refl; next = refl; in_time = (omega arith, tt); timed = added_timed 0 table.rows; indexed = indexed } in
+    subst (λ (r : RowsHistory). IsStored schema r held (nexts_of c.in_ok-nexts.nexts.items)) (sym made)
+    (subst (λ (n : List NextSince). IsStored schema rows held n) (sym c.in_ok-nexts.ensures) whole)

@@ -1,0 +1,110 @@
+use Rattle.std.proofs.Common.{rules, ◌≡◌, ◌∙◌, ◌<◌, ap, sym, subst, ℕ, List, Bool, map, true, false, None, Option, arith, refl}
+use Rattle.std.specs.Prelude.{Err}
+use Rattle.std.specs.BTreeMap.{get}
+use Rattle.std.specs.List.{list_all, list_any}
+use Rattle.row_version.specs.History.{Change}
+use Rattle.sql_model.specs.Changes.{has_null, clash_by}
+use Rattle.sql_model.specs.KeyOrder.{key_order}
+use Rattle.table_store.specs.Types.{Column, Schema, TableRow}
+use Rattle.table_store.specs.Claims.{both_stop}
+use Rattle.table_store.specs.Histories.{RowHistory, NextSince, TableHistory, changed_by, last_since, last_next, noted, replaced, rewritten, rows_now, table_now}
+use Rattle.table_store.specs.KeyIndex.{Held, AreIndexed}
+use Rattle.table_store.specs.Nexts.{nexts_of}
+use Rattle.table_store.specs.RowChains.{RowsHistory}
+use Rattle.table_store.specs.RowChanges.{rewrite, changes_given, RiseFrom, AllFitKinds, AllStand, AreBefore}
+use Rattle.table_store.specs.Stops.{have_shape, values_of, has_shape, all_stood, replaced_by, with_replaced, replace_stop, StopsAs}
+use Rattle.table_store.specs.TableView.{IsStored, kinds_in}
+use Rattle.table_store.specs.declared.change.RowChange.{RowChange}
+use Rattle.table_store.specs.declared.stop.StoreStop.{StoreStop}
+use Rattle.table_store.specs.declared.index.Index.{Index}
+use Rattle.table_store.proofs.KeptKeyLaws.{used_holds}
+use Rattle.table_store.proofs.RekeyLaws.{replace_stop_is, stop_as}
+use Rattle.table_store.proofs.TableChangeLaws.{before_all, rewrites_rise, rewrites_stand, rewrites_fit, changes_written, stored_changed, indexed_replaced, GivenStand, given_stand, replaced_now}
+use Rattle.table_store.proofs.table.TableStore.replace_all.Goals as goal
+
+pub change_rows-requires-clause-before : goal.change_rows-requires-clause-before
+change_rows-requires-clause-before c =
+    let a = c.self.inside in
+    before_all (last_since (nexts_of a.nexts.items)) c.args.time a.rows.slots c.self.invariant.timed (subst (λ (t : TableHistory). last_since t.nexts < c.args.time) (sym c.self.view_is) c.requires.later)
+
+pub change_rows-requires-clause-apart : goal.change_rows-requires-clause-apart
+change_rows-requires-clause-apart c =
+    subst (λ (l : List RowChange). RiseFrom 0 l) (sym c.in_ok-given.ensures) (rewrites_rise c.args.rows c.requires.sorted)
+
+pub change_rows-requires-clause-stand : goal.change_rows-requires-clause-stand
+change_rows-requires-clause-stand c =
+    let a = c.self.inside in
+    subst (λ (l : List RowChange). AllStand a.rows.slots l) (sym c.in_ok-given.ensures)
+    (subst (λ (slots : List RowHistory). AllStand slots (map rewrite c.args.rows)) (sym (ap (λ (t : TableHistory). t.slots) c.self.view_is)) (rewrites_stand c.args.self.now.slots c.args.rows c.requires.stand))
+
+pub change_rows-requires-clause-fits : goal.change_rows-requires-clause-fits
+change_rows-requires-clause-fits c =
+    let a = c.self.inside in
+    let shape : list_all (has_shape a.schema.columns) (values_of c.args.rows) ≡ true = subst (λ (t : TableHistory). list_all (has_shape t.schema.columns) (values_of c.args.rows) ≡ true) (sym c.self.view_is) c.requires.shape in
+    subst (λ (l : List RowChange). AllFitKinds a.rows.kinds l) (sym c.in_ok-given.ensures)
+    (subst (λ (k : List Bool). AllFitKinds k (map rewrite c.args.rows)) (sym c.self.invariant.kinds) (rewrites_fit a.schema.columns c.args.rows shape))
+
+pub returns-in-Err-clause-stop : goal.returns-in-Err-clause-stop
+returns-in-Err-clause-stop c =
+    let a = c.self.inside in
+    let made : TableHistory = record { name = a.name; schema = a.schema; slots = a.rows.slots; nexts = nexts_of a.nexts.items } in
+    let lacks : list_any (has_null made.schema.columns) c.args.rows ≡ false = search rules in
+    let given = c.items-3.ensures in
+    let stop = subst (λ (l : List TableRow). StopsAs {X = Unit {0}} (both_stop a.schema.key (clash_by a.schema.key (map (replaced_by l) (rows_now a.rows.slots)))) (Err c.in-Err.stop)) given
+    (stop_as (Option Index) (Unit {0}) (both_stop a.schema.key (clash_by a.schema.key (map (replaced_by c.items-3.result.now) (rows_now a.rows.slots)))) c.in-Err.stop c.in-Err.ensures.stop) in
+    subst (λ (t : TableHistory). StopsAs {X = Unit {0}} (replace_stop c.args.rows (table_now t)) (Err c.in-Err.stop)) c.self.view_is
+    (subst (λ (o : Option StoreStop). StopsAs {X = Unit {0}} o (Err c.in-Err.stop)) (sym (replace_stop_is c.args.rows made lacks)) stop)
+
+pub returns-clause-stop : goal.returns-clause-stop
+returns-clause-stop c =
+    let a = c.self.inside in
+    let made : TableHistory = record { name = a.name; schema = a.schema; slots = a.rows.slots; nexts = nexts_of a.nexts.items } in
+    let lacks : list_any (has_null made.schema.columns) c.args.rows ≡ false = search rules in
+    let given = c.items-3.ensures in
+    let none = subst (λ (l : List TableRow). both_stop a.schema.key (clash_by a.schema.key (map (replaced_by l) (rows_now a.rows.slots))) ≡ None) given c.in-Ok.ensures.stop in
+    subst (λ (t : TableHistory). replace_stop c.args.rows (table_now t) ≡ None) c.self.view_is (replace_stop_is c.args.rows made lacks ∙ none)
+
+pub invariant_of-self-2 : goal.invariant_of-self-2
+invariant_of-self-2 c =
+    let a = c.self.inside in
+    let time = c.args.time in
+    let rows = c.args.rows in
+    let old : Held = λ key. get key_order a.index.held key in
+    let held : Held = λ key. get key_order c.use_index.new.held.held key in
+    let nexts = nexts_of a.nexts.items in
+    let made : TableHistory = record { name = a.name; schema = a.schema; slots = a.rows.slots; nexts = nexts } in
+    let given = c.in_ok-given.given.items in
+    let later : last_since nexts < time = subst (λ (t : TableHistory). last_since t.nexts < time) (sym c.self.view_is) c.requires.later in
+    let stood = subst (λ (t : TableHistory). all_stood rows (table_now t) ≡ true) (sym c.self.view_is) c.requires.stand in
+    let stand : GivenStand rows a.rows.slots = given_stand time rows (table_now made) a.rows.slots a.rows.next refl c.tell_order.ensures.order stood in
+    let used = subst (λ (i : Index). AreIndexed a.schema.key (λ key. get key_order i.held key) (map (replaced_by c.items-3.result.now) (rows_now a.rows.slots))) (sym c.use_index.ensures)
+    (used_holds (λ (i : Index). AreIndexed a.schema.key (λ key. get key_order i.held key) (map (replaced_by c.items-3.result.now) (rows_now a.rows.slots))) c.in-Ok.index a.index c.in-Ok.ensures.ok) in
+    let keys = subst (λ (l : List TableRow). AreIndexed a.schema.key held (map (replaced_by l) (rows_now a.rows.slots))) c.items-3.ensures used in
+    let indexed = subst (λ (l : List RowChange). AreIndexed a.schema.key held (rows_now (map (changed_by (changes_given time l)) a.rows.slots))) (sym c.in_ok-given.ensures) (indexed_replaced a.schema.key held time rows a.rows.slots stand keys) in
+    let whole = stored_changed a.schema a.rows old held nexts time given c.self.invariant later indexed in
+    subst (λ (r : RowsHistory). IsStored a.schema r held (nexts_of c.change_rows.new.nexts.items)) (sym c.in_ok-change_rows.ensures.ok)
+    (subst (λ (n : List NextSince). IsStored a.schema (record a.rows { slots = map (changed_by (changes_given time given)) a.rows.slots }) held n) (sym c.in_ok-change_rows.ensures.nexts) whole)
+
+pub returns-clause-ok : goal.returns-clause-ok
+returns-clause-ok c =
+    let a = c.self.inside in
+    let time = c.args.time in
+    let rows = c.args.rows in
+    let slots : c.change_rows.new.rows.slots ≡ rewritten time rows a.rows.slots =
+    ap (λ (r : RowsHistory). r.slots) c.in_ok-change_rows.ensures.ok
+    ∙ ap (λ (l : List RowChange). map (changed_by (changes_given time l)) a.rows.slots) c.in_ok-given.ensures
+    ∙ ap (λ (changes : List (ℕ × Change)). map (changed_by changes) a.rows.slots) (changes_written time rows) in
+    let nexts : nexts_of c.change_rows.new.nexts.items ≡ noted time (last_next (nexts_of a.nexts.items)) (nexts_of a.nexts.items) =
+    c.in_ok-change_rows.ensures.nexts ∙ ap (λ (n : ℕ). noted time n (nexts_of a.nexts.items)) (sym c.self.invariant.next) in
+    let made : TableHistory = record { name = a.name; schema = a.schema; slots = a.rows.slots; nexts = nexts_of a.nexts.items } in
+    (λ j. record { name = made.name; schema = made.schema; slots = slots j; nexts = nexts j }) ∙ ap (replaced time rows) c.self.view_is
+
+pub returns-clause-now : goal.returns-clause-now
+returns-clause-now c =
+    let a = c.self.inside in
+    let time = c.args.time in
+    let rows = c.args.rows in
+    let made : TableHistory = record { name = a.name; schema = a.schema; slots = a.rows.slots; nexts = nexts_of a.nexts.items } in
+    let stood = subst (λ (t : TableHistory). all_stood rows (table_now t) ≡ true) (sym c.self.view_is) c.requires.stand in
+    let stand : GivenStand rows a.rows.slots = given_stand time rows (table_now made) a.rows.slots a.rows.next refl c.tell_order.ensures.order stood in
+    subst (λ (t : TableHistory). table_now (replaced time rows t) ≡ with_replaced rows (table_now t)) c.self.view_is (replaced_now time rows made stand)

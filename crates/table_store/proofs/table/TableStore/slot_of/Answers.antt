@@ -1,0 +1,16 @@
+use Rattle.std.proofs.Common.{◌≡◌, ◌∙◌, ◌<◌, ap, sym, ℕ, length, Some}
+use Rattle.table_store.specs.Histories.{TableHistory, slot_of_row}
+use Rattle.table_store.proofs.TableLaws.{slot_here_is, slot_none}
+use Rattle.table_store.proofs.table.TableStore.slot_of.Goals as goal
+
+pub returns-in-None : goal.returns-in-None
+returns-in-None c =
+    let a = c.self.inside in
+    sym (slot_none a.rows.slots c.args.row (c.find.ensures.absent c.in-None.is)) ∙ ap (λ (t : TableHistory). slot_of_row c.args.row t.slots) c.self.view_is
+
+pub returns-in-Some : goal.returns-in-Some
+returns-in-Some c =
+    let a = c.self.inside in
+    let found = c.in-Some.ensures.found in
+    sym (slot_here_is a.rows.slots a.rows.next c.tell_order.ensures.order c.args.row c.in-Some.slot found.0 found.1)
+    ∙ ap (λ (t : TableHistory). slot_of_row c.args.row t.slots) c.self.view_is

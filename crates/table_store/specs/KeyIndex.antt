@@ -1,0 +1,29 @@
+-- The index over the key: from the key of each row that stands to the row's number.
+--
+-- It may have more keys than that: those of rows that are gone or have another key now. Whoever looks up a
+-- key looks at the row too.
+use Rattle.std.specs.Prelude.{◌≡◌, ℕ, Bool, List, [], ◌∷◌, Option, Some, find}
+use Rattle.sql_model.specs.Keys.{same_values, values_at, key_at}
+use Rattle.table_store.specs.Types.{Value, RowKey, TableRow}
+
+-- whether a row has a key
+abbrev pub has_key : List ℕ → List Value → TableRow → Bool
+has_key places key row = same_values (values_at places row.values) key
+
+-- the row of a key
+abbrev pub row_of_key : List ℕ → List Value → List TableRow → Option TableRow
+row_of_key places key rows = find (has_key places key) rows
+
+abbrev pub Held : Type 0
+Held = RowKey → Option ℕ
+
+-- each row is held under its key
+abbrev pub AreHeld : List ℕ → Held → List TableRow → Type 0
+AreHeld places held [] = Unit {0}
+AreHeld places held (row ∷ rows) = (held (key_at places row.values) ≡ Some row.number)
+    × AreHeld places held rows
+
+-- the same where there is a key
+abbrev pub AreIndexed : List ℕ → Held → List TableRow → Type 0
+AreIndexed [] held rows = Unit {0}
+AreIndexed (place ∷ places) held rows = AreHeld (place ∷ places) held rows

@@ -1,0 +1,16 @@
+pub mod Cells
+pub mod Claims
+pub mod Flags
+pub mod Grid
+pub mod Histories
+pub mod IntCells
+pub mod KeyIndex
+pub mod LentCells
+pub mod Nexts
+pub mod RowChains
+pub mod RowChanges
+pub mod RowOrder
+pub mod Stops
+pub mod StoreView
+pub mod TableView
+pub mod Types

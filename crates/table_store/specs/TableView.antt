@@ -1,0 +1,57 @@
+-- A table as it is kept.
+use Rattle.std.specs.Prelude.{◌≡◌, ℕ, ◌<◌, ◌≤◌, Bool, List, [], ◌∷◌, length, map, Option, Some, None}
+use Rattle.std.specs.Prelude.{slice_index_or}
+use Rattle.std.specs.BTreeMap.{get}
+use Rattle.row_version.specs.History.{IsSorted, last_time}
+use Rattle.table_store.specs.Types.{Column, Schema, TableRow, Table}
+use Rattle.table_store.specs.Histories.{RowHistory, NextSince, TableHistory, no_history, last_next}
+use Rattle.table_store.specs.Histories.{last_since, added, rows_now}
+use Rattle.sql_model.specs.KeyOrder.{key_order}
+use Rattle.table_store.specs.KeyIndex.{Held, AreIndexed}
+use Rattle.table_store.specs.Nexts.{nexts_of, AreInTime}
+use Rattle.table_store.specs.RowChains.{RowsHistory}
+use Rattle.table_store.specs.declared.table.TableStore.TheInside.{Inside}
+
+abbrev pub seen_table : Inside → TableHistory
+seen_table a = record {
+  name = a.name;
+  schema = a.schema;
+  slots = a.rows.slots;
+  nexts = nexts_of a.nexts.items;
+}
+
+-- the changes are sorted, and none is later than a time
+pub record IsTimed (time : ℕ) (row : RowHistory) : Type 0 where
+  pub sorted : IsSorted row.changes
+  pub by : last_time row.changes ≤ time
+
+abbrev pub AreTimed : ℕ → List RowHistory → Type 0
+AreTimed time slots = (k : ℕ) → k < length slots → IsTimed time (slice_index_or slots k no_history)
+
+abbrev pub kinds_in : List Column → List Bool
+kinds_in columns = map (λ column. column.text) columns
+
+-- the parts fit together
+pub record IsStored (schema : Schema) (rows : RowsHistory) (held : Held) (nexts : List NextSince)
+    : Type 0 where
+  pub kinds : rows.kinds ≡ kinds_in schema.columns
+  pub next : last_next nexts ≡ rows.next
+  pub in_time : AreInTime nexts
+  pub timed : AreTimed (last_since nexts) rows.slots
+  pub indexed : AreIndexed schema.key held (rows_now rows.slots)
+
+-- what the index has at a key
+abbrev pub held_by : Inside → Held
+held_by a = λ key. get key_order a.index.held key
+
+abbrev pub IsTable : Inside → Type 0
+IsTable a = IsStored a.schema a.rows (held_by a) (nexts_of a.nexts.items)
+
+-- a table as it is at the start
+abbrev pub begun : Table → TableHistory
+begun table = record {
+  name = table.name;
+  schema = table.schema;
+  slots = map (added 0) table.rows;
+  nexts = record { time = 0; next = table.next } ∷ [];
+}

@@ -1,0 +1,61 @@
+//! Changes that are given for rows: other values, or that a row is dropped.
+
+ghost use Rattle.std.specs.Prelude.{◌≡◌, List, [], ◌∷◌, ◌++◌, map, IfOk};
+ghost use Rattle.table_store.specs.RowChanges.{removal, rewrite};
+
+use ldv_value::Values;
+use sql_model::{TableRow, TableRows};
+use std::alloc::{AllocError, Global};
+
+/// New values of a row, once for its columns and once for its chain.
+#[derive(Drop)]
+pub(crate) struct Copies {
+    pub(crate) for_columns: Values,
+    pub(crate) for_chain: Values,
+}
+
+/// A change of the row of a number: its new values, or none where it is dropped.
+#[derive(Drop)]
+pub(crate) struct RowChange {
+    pub(crate) number: u32,
+    pub(crate) copies: Option<Copies>,
+}
+
+/// The rows of these numbers are dropped.
+pub(crate) fn removals(alloc: Global, numbers: &[u32]) -> Result<Vec<RowChange>, AllocError>
+    ensures { IfOk result (λ made. made.items ≡ map removal numbers.now) }
+{
+    let mut made = Vec::with_capacity(alloc, numbers.len())?;
+    for number in numbers {
+        made.push(RowChange {
+            number: *number,
+            copies: None,
+        })?;
+    }
+    Ok(made)
+}
+
+/// The rows of these numbers get other values.
+pub(crate) fn rewrites(alloc: Global, rows: TableRows) -> Result<Vec<RowChange>, AllocError>
+    ensures { IfOk result (λ made. made.items ≡ map rewrite rows) }
+{
+    let mut made = Vec::with_capacity(alloc, rows.len())?;
+    for row in rows.into_vec() {
+        made.push(rewrite(row)?)?;
+    }
+    Ok(made)
+}
+
+fn rewrite(row: TableRow) -> Result<RowChange, AllocError>
+    ensures { IfOk result (λ made. made ≡ rewrite row) }
+{
+    let TableRow { number, values } = row;
+    let for_chain = values.copy()?;
+    Ok(RowChange {
+        number,
+        copies: Some(Copies {
+            for_columns: values,
+            for_chain,
+        }),
+    })
+}

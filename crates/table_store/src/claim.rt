@@ -1,0 +1,198 @@
+//! Keys of new rows: which is taken, and how they come into the index.
+
+ghost use Rattle.std.specs.Prelude.{◌≡◌, ◌==◌, ℕ, ◌+◌, ◌^◌, ◌<◌, ◌≤◌, ◌&&◌, Bool, true, false, List, [], ◌∷◌};
+ghost use Rattle.std.specs.Prelude.{◌++◌, if◌then◌else◌, Option, Some, None, find, OnOk, OnErr, IfOk, IfErr};
+ghost use Rattle.std.specs.Prelude.{IsSome, length, map, take, slice_index_or, cond};
+ghost use Rattle.table_store.specs.Types.{RowKey};
+ghost use Rattle.std.specs.BTreeMap.{get, is_at};
+ghost use Rattle.std.specs.Option.{option_map};
+ghost use Rattle.sql_model.specs.Changes.{clash_after, clash_by, numbered};
+ghost use Rattle.sql_model.specs.KeyOrder.{key_order};
+ghost use Rattle.sql_model.specs.Keys.{same_values, values_at};
+ghost use Rattle.table_store.specs.Claims.{claim_stop, taken_stop, old_number};
+ghost use Rattle.table_store.specs.Histories.{rows_now};
+ghost use Rattle.table_store.specs.KeyIndex.{has_key, AreHeld, AreIndexed};
+ghost use Rattle.table_store.specs.Stops.{StopsAs};
+
+use crate::index::{Index, has_key_at, key_of};
+use crate::rows::Rows;
+use crate::stop::StoreStop;
+use ldv_value::{Places, Values};
+use sql_model::RowKey;
+use std::alloc::{AllocError, Global};
+
+/// Puts the keys of new rows, numbered from `next` on, into the index. Where a key is taken, or memory is
+/// out, the rows that stand are still held under their keys.
+pub(crate) fn claim(
+    alloc: Global,
+    index: &mut Index,
+    stored: &Rows,
+    places: &Places,
+    values: &[Values],
+    next: u32,
+) -> Result<(), StoreStop>
+    requires indexed { AreIndexed places.now (λ key. get key_order index.old.held key)
+        (rows_now stored.now.slots) }
+    requires next { stored.now.next ≡ next }
+    ensures kept { AreIndexed places.now (λ key. get key_order index.new.held key)
+        (rows_now stored.now.slots) }
+    ensures ok { OnOk result (AreIndexed places.now (λ key. get key_order index.new.held key)
+        (rows_now stored.now.slots ++ numbered next values.now)) }
+    ensures stop { StopsAs (claim_stop places.now next
+        (clash_by places.now (rows_now stored.now.slots ++ numbered next values.now))) result }
+{
+    if places.is_empty() {
+        return Ok(());
+    }
+    stored.tell_order();
+    claim_all(alloc, index, stored, places, values, next)
+}
+
+// The same where there is a key.
+fn claim_all(
+    alloc: Global,
+    index: &mut Index,
+    stored: &Rows,
+    places: &Places,
+    values: &[Values],
+    next: u32,
+) -> Result<(), StoreStop>
+    requires held { AreHeld places.now (λ key. get key_order index.old.held key) (rows_now stored.now.slots) }
+    requires next { stored.now.next ≡ next }
+    ensures kept { AreHeld places.now (λ key. get key_order index.new.held key) (rows_now stored.now.slots) }
+    ensures ok { OnOk result (AreHeld places.now (λ key. get key_order index.new.held key)
+        (rows_now stored.now.slots ++ numbered next values.now)) }
+    ensures stop { StopsAs (claim_stop places.now next
+        (clash_after places.now (rows_now stored.now.slots) (numbered next values.now))) result }
+{
+    for count in 0..values.len() {
+        match claim_one(alloc, index, stored, places, values, count, next) {
+            Ok(()) => {}
+            Err(stop) => return Err(stop),
+        }
+    }
+    Ok(())
+}
+
+// Puts the key of one more new row into the index, after those before it.
+fn claim_one(
+    alloc: Global,
+    index: &mut Index,
+    stored: &Rows,
+    places: &Places,
+    values: &[Values],
+    count: usize,
+    next: u32,
+) -> Result<(), StoreStop>
+    requires within { count < length values.now }
+    requires held { AreHeld places.now (λ key. get key_order index.old.held key)
+        (rows_now stored.now.slots ++ numbered next (take count values.now)) }
+    requires next { stored.now.next ≡ next }
+    ensures kept { AreHeld places.now (λ key. get key_order index.new.held key)
+        (rows_now stored.now.slots ++ numbered next (take count values.now)) }
+    ensures ok { OnOk result (AreHeld places.now (λ key. get key_order index.new.held key)
+        (rows_now stored.now.slots ++ numbered next (take (count + 1) values.now))) }
+    ensures stop { StopsAs (taken_stop places.now next (slice_index_or values.now count [])
+        (find (has_key places.now (values_at places.now (slice_index_or values.now count [])))
+        (rows_now stored.now.slots ++ numbered next (take count values.now)))) result }
+{
+    let row = &values[count];
+    let key = key_of(alloc, places, row)?;
+    match earlier(alloc, index, stored, places, values, count, next, &key)? {
+        Some(number) => Err(StoreStop::KeyTaken {
+            earlier: old_number(number, next),
+            later: None,
+            key: key.values,
+        }),
+        None => match put_new(index, key, next, count) {
+            Ok(()) => Ok(()),
+            Err(_refused) => Err(StoreStop::NoMemory),
+        },
+    }
+}
+
+// Puts the number of a new row under its key. No list has so many rows that the number doesn't fit.
+fn put_new(index: &mut Index, key: RowKey, next: u32, count: usize) -> Result<(), AllocError>
+    ensures ok { OnOk result ((q : RowKey) → get key_order index.new.held q
+        ≡ cond (is_at (key_order key) q) (Some (next + count)) (get key_order index.old.held q)) }
+    ensures err { OnErr result ((q : RowKey) → get key_order index.new.held q
+        ≡ get key_order index.old.held q) }
+{
+    match (next as u64).checked_add(count as u64) {
+        None => Err(AllocError),
+        Some(number) => index.put(key, number),
+    }
+}
+
+// A number that is below those of the new rows.
+fn old_number(number: u64, next: u32) -> Option<u32>
+    ensures { result ≡ old_number next number }
+{
+    if number < next as u64 {
+        Some(number as u32)
+    } else {
+        None
+    }
+}
+
+// The number of the row that has a key, among those that stand and the first new ones.
+fn earlier(
+    alloc: Global,
+    index: &Index,
+    stored: &Rows,
+    places: &Places,
+    values: &[Values],
+    count: usize,
+    next: u32,
+    key: &RowKey,
+) -> Result<Option<u64>, AllocError>
+    requires within { count < length values.now }
+    requires held { AreHeld places.now (λ key. get key_order index.now.held key)
+        (rows_now stored.now.slots ++ numbered next (take count values.now)) }
+    requires next { stored.now.next ≡ next }
+    ensures { IfOk result (λ number. number ≡ option_map (λ row. row.number)
+        (find (has_key places.now key.now.values)
+        (rows_now stored.now.slots ++ numbered next (take count values.now)))) }
+{
+    match index.number(key) {
+        None => Ok(None),
+        Some(number) => {
+            if is_earlier(alloc, stored, places, values, count, next, key, number)? {
+                Ok(Some(number))
+            } else {
+                Ok(None)
+            }
+        }
+    }
+}
+
+// Whether the row of a number, among those that stand and the first new ones, has a key.
+fn is_earlier(
+    alloc: Global,
+    stored: &Rows,
+    places: &Places,
+    values: &[Values],
+    count: usize,
+    next: u32,
+    key: &RowKey,
+    number: u64,
+) -> Result<bool, AllocError>
+    requires within { count < length values.now }
+    requires next { stored.now.next ≡ next }
+    ensures { IfOk result (λ has. option_map (λ row. row.number)
+        (find (λ row. (row.number == number) && has_key places.now key.now.values row)
+        (rows_now stored.now.slots ++ numbered next (take count values.now)))
+        ≡ (if has then Some number else None)) }
+{
+    if number < next as u64 {
+        return Ok(has_key_at(stored, places, &key.values, number));
+    }
+    stored.tell_order();
+    let at = (number - next as u64) as usize;
+    if at >= count {
+        return Ok(false);
+    }
+    let row = &values[at];
+    let other = key_of(alloc, places, row)?;
+    Ok(other == *key)
+}

@@ -1,0 +1,54 @@
+//! Tables through time: the rows that each table has now, and those that it had after each time.
+//!
+//! Contracts see a store as its tables, each with the changes of every row that it ever held
+//! (`specs/Histories.antt`). The tables as they are now, as they were after a time, and the versions of
+//! rows are functions of that. It promises to the layers above:
+//! - `Store::of_tables` begins with the tables that it is given, at time 0;
+//! - `insert_all`, `replace_all` and `delete_all` make of a table what INSERT, UPDATE and DELETE make of
+//!   it, or refuse the rows for the first cause that holds; a refusal changes nothing (`specs/Stops.antt`);
+//! - `rows_at`, `next_at` and `version` return what those functions say. What tables were before a change
+//!   they stay, and from the last change on they are what they are now;
+//! - `by_key` returns the number of the row that has a key, and `None` exactly where no row has it;
+//! - `slots`, `slot_row`, `row_values` and `scan` give a table slot by slot, for layers that look through
+//!   it. There is a slot for each row that the table ever held, by number;
+//! - of one table, `slot_of` finds the slot of a row, `cell` lends one value, and `tell_order` and `tell_times` lend a caller what is
+//!   known of the order of its rows and of their changes.
+//!
+//! How a table is kept: the last values of its rows stand in columns, one for each column of the schema. A
+//! column of INT is a list of words with a bit for each NULL, and one of TEXT a list of values (`column`).
+//! A bit says of each row whether it stands (`grid`). A row that has changed has a chain of `row_version`
+//! beside it (`chains`, `rows`). An index has the number of each row under its key (`index`). The index may
+//! have keys that no row has any more, so that a change that fails half way needn't take keys back: whoever
+//! looks up a key looks at the row too.
+//!
+//! How rows change: all room that a change takes is made first (`room`), and then the change can't fail
+//! (`apply`). Keys of new rows go into the index one after the other (`claim`). Where rows get other
+//! values and keep their keys, the index stays. Where a key changes, the keys of the whole result are judged,
+//! and the index is made anew (`rekey`).
+#![tactic(auto)]
+
+mod apply;
+mod bits;
+mod cell;
+mod chains;
+mod change;
+mod claim;
+mod column;
+mod columns;
+mod grid;
+mod index;
+mod insert;
+mod int_column;
+mod nexts;
+mod push;
+mod rekey;
+mod room;
+mod rows;
+mod stop;
+mod store;
+mod table;
+
+pub use cell::Cell;
+pub use stop::StoreStop;
+pub use store::Store;
+pub use table::TableStore;

@@ -1,0 +1,92 @@
+//! Rows that are added, by the parts.
+
+ghost use Rattle.std.specs.Prelude.{◌≡◌, ℕ, ◌+◌, ◌^◌, ◌<◌, ◌≤◌, Bool, true, List, [], ◌∷◌, ◌++◌, length, map};
+ghost use Rattle.std.specs.Prelude.{slice_index_or, vec_len, vec_capacity, IsOk, IfOk};
+ghost use Rattle.table_store.specs.Grid.{no_cells, IsGrid, slots_of, kinds_of, new_slot, fits_kinds};
+ghost use Rattle.table_store.specs.Grid.{are_of_kinds, AreNumberedFrom, next_after};
+
+use crate::bits::Bits;
+use crate::column::Column;
+use crate::columns::push_cells;
+use sql_model::{TableRow, TableRows};
+use std::alloc::AllocError;
+
+/// Adds a row, for which there is room.
+pub(crate) fn push_row(
+    numbers: &mut Vec<u32>,
+    since: &mut Vec<u32>,
+    standing: &mut Bits,
+    columns: &mut Vec<Column>,
+    next: u32,
+    row: TableRow,
+    time: u32,
+) -> Result<(), AllocError>
+    requires grid { IsGrid numbers.old.items since.old.items standing.old.items columns.old.items next }
+    requires above { next ≤ row.number }
+    requires few { row.number + 1 < 2 ^ 32 }
+    requires kinds { fits_kinds (kinds_of columns.old.items) row.values ≡ true }
+    requires numbers_room { vec_len numbers.old < vec_capacity numbers.old }
+    requires since_room { vec_len since.old < vec_capacity since.old }
+    requires standing_room { 1 ≤ standing.old.spare }
+    requires cells_room { (k : ℕ) → k < length columns.old.items
+        → 1 ≤ (slice_index_or columns.old.items k no_cells).spare }
+    ensures grid { IsGrid numbers.new.items since.new.items standing.new.items columns.new.items
+        (row.number + 1) }
+    ensures slots { slots_of numbers.new.items since.new.items standing.new.items columns.new.items
+        ≡ slots_of numbers.old.items since.old.items standing.old.items columns.old.items
+        ++ new_slot time row ∷ [] }
+    ensures kinds { kinds_of columns.new.items ≡ kinds_of columns.old.items }
+    ensures width { length columns.new.items ≡ length columns.old.items }
+    ensures numbers_left { (vec_len numbers.new ≡ vec_len numbers.old + 1)
+        × (vec_capacity numbers.old ≤ vec_capacity numbers.new) }
+    ensures since_left { (vec_len since.new ≡ vec_len since.old + 1)
+        × (vec_capacity since.old ≤ vec_capacity since.new) }
+    ensures standing_left { standing.old.spare ≤ standing.new.spare + 1 }
+    ensures cells_left { (k : ℕ) → k < length columns.old.items
+        → (slice_index_or columns.old.items k no_cells).spare
+        ≤ (slice_index_or columns.new.items k no_cells).spare + 1 }
+    ensures succeeds { IsOk result }
+{
+    let TableRow { number, values } = row;
+    numbers.push(number)?;
+    since.push(time)?;
+    standing.push(true)?;
+    push_cells(columns, values)?;
+    Ok(())
+}
+
+/// Adds rows, for which there is room, and returns the number after theirs.
+pub(crate) fn push_rows(
+    numbers: &mut Vec<u32>,
+    since: &mut Vec<u32>,
+    standing: &mut Bits,
+    columns: &mut Vec<Column>,
+    first: u32,
+    rows: TableRows,
+    time: u32,
+) -> Result<u32, AllocError>
+    requires grid { IsGrid numbers.old.items since.old.items standing.old.items columns.old.items first }
+    requires numbered { AreNumberedFrom first rows }
+    requires kinds { are_of_kinds (kinds_of columns.old.items) rows ≡ true }
+    requires numbers_room { vec_len numbers.old + length rows ≤ vec_capacity numbers.old }
+    requires since_room { vec_len since.old + length rows ≤ vec_capacity since.old }
+    requires standing_room { length rows ≤ standing.old.spare }
+    requires cells_room { (k : ℕ) → k < length columns.old.items
+        → length rows ≤ (slice_index_or columns.old.items k no_cells).spare }
+    ensures grid { IfOk result
+        (IsGrid numbers.new.items since.new.items standing.new.items columns.new.items) }
+    ensures slots { slots_of numbers.new.items since.new.items standing.new.items columns.new.items
+        ≡ slots_of numbers.old.items since.old.items standing.old.items columns.old.items
+        ++ map (new_slot time) rows }
+    ensures kinds { kinds_of columns.new.items ≡ kinds_of columns.old.items }
+    ensures next { IfOk result (λ next. next ≡ next_after first rows) }
+    ensures succeeds { IsOk result }
+{
+    let mut next = first;
+    for row in rows.into_vec() {
+        let number = row.number;
+        push_row(numbers, since, standing, columns, next, row, time)?;
+        next = number + 1;
+    }
+    Ok(next)
+}

@@ -1,0 +1,104 @@
+//! Room in the chains of rows that are about to change, made before anything changes.
+
+ghost use Rattle.std.specs.Prelude.{◌≡◌, ◌==◌, ℕ, ◌+◌, ◌<◌, ◌≤◌, Bool, true, false, List, [], ◌∷◌, Option};
+ghost use Rattle.std.specs.Prelude.{Some, None, OnOk, OnErr, IfOk, IsSome, length, slice_index_or};
+ghost use Rattle.std.specs.Ordering.{nat_cmp};
+ghost use Rattle.std.specs.BTreeMap.{get};
+ghost use Rattle.table_store.specs.Grid.{no_slot};
+ghost use Rattle.table_store.specs.RowChains.{AreChained, histories_of, HasRoom};
+ghost use Rattle.table_store.specs.RowChanges.{IsThere, AllThere, AllHaveRoom};
+
+use crate::chains::Chains;
+use crate::change::RowChange;
+use crate::grid::Grid;
+use row_version::Chain;
+use std::alloc::{AllocError, Global};
+
+/// Makes room for a change of each row. What is seen of the rows stays as it was.
+pub(crate) fn make_room(
+    alloc: Global,
+    grid: &Grid,
+    chains: &mut Chains,
+    given: &[RowChange],
+) -> Result<(), AllocError>
+    requires chained { AreChained (λ q. get nat_cmp chains.old.held q) grid.now.slots grid.now.next }
+    requires there { AllThere grid.now.slots given.now }
+    ensures chained { AreChained (λ q. get nat_cmp chains.new.held q) grid.now.slots grid.now.next }
+    ensures seen { histories_of (λ q. get nat_cmp chains.new.held q) grid.now.slots
+        ≡ histories_of (λ q. get nat_cmp chains.old.held q) grid.now.slots }
+    ensures room { OnOk result (AllHaveRoom (λ q. get nat_cmp chains.new.held q) given.now) }
+{
+    for change in given {
+        match make_room_for(alloc, grid, chains, change.number) {
+            Ok(()) => {}
+            Err(refused) => return Err(refused),
+        }
+    }
+    Ok(())
+}
+
+fn make_room_for(
+    alloc: Global,
+    grid: &Grid,
+    chains: &mut Chains,
+    number: u32,
+) -> Result<(), AllocError>
+    requires chained { AreChained (λ q. get nat_cmp chains.old.held q) grid.now.slots grid.now.next }
+    requires there { IsThere grid.now.slots number }
+    ensures chained { AreChained (λ q. get nat_cmp chains.new.held q) grid.now.slots grid.now.next }
+    ensures seen { histories_of (λ q. get nat_cmp chains.new.held q) grid.now.slots
+        ≡ histories_of (λ q. get nat_cmp chains.old.held q) grid.now.slots }
+    ensures kept { (q : ℕ) → HasRoom (get nat_cmp chains.old.held q)
+        → HasRoom (get nat_cmp chains.new.held q) }
+    ensures room { OnOk result (HasRoom (get nat_cmp chains.new.held number)) }
+{
+    match grid.find(number) {
+        None => unreachable!(),
+        Some(slot) => {
+            open_at(alloc, grid, chains, slot, number)?;
+            grow(grid, chains, number)
+        }
+    }
+}
+
+// Opens the chain of the row in a slot, where it has none yet.
+fn open_at(
+    alloc: Global,
+    grid: &Grid,
+    chains: &mut Chains,
+    slot: usize,
+    number: u32,
+) -> Result<(), AllocError>
+    requires chained { AreChained (λ q. get nat_cmp chains.old.held q) grid.now.slots grid.now.next }
+    requires within { slot < length grid.now.slots }
+    requires is { (slice_index_or grid.now.slots slot no_slot).number ≡ number }
+    ensures chained { AreChained (λ q. get nat_cmp chains.new.held q) grid.now.slots grid.now.next }
+    ensures seen { histories_of (λ q. get nat_cmp chains.new.held q) grid.now.slots
+        ≡ histories_of (λ q. get nat_cmp chains.old.held q) grid.now.slots }
+    ensures kept { (q : ℕ) → HasRoom (get nat_cmp chains.old.held q)
+        → HasRoom (get nat_cmp chains.new.held q) }
+    ensures open { OnOk result (IsSome (get nat_cmp chains.new.held number)) }
+{
+    if chains.has(number) {
+        return Ok(());
+    }
+    let chain = Chain::new(alloc, grid.since(slot), grid.copy_values(alloc, slot)?)?;
+    grid.tell_order();
+    chains.open(number, chain)?;
+    Ok(())
+}
+
+// Makes room in the chain of a row.
+fn grow(grid: &Grid, chains: &mut Chains, number: u32) -> Result<(), AllocError>
+    requires chained { AreChained (λ q. get nat_cmp chains.old.held q) grid.now.slots grid.now.next }
+    requires open { IsSome (get nat_cmp chains.old.held number) }
+    ensures chained { AreChained (λ q. get nat_cmp chains.new.held q) grid.now.slots grid.now.next }
+    ensures seen { histories_of (λ q. get nat_cmp chains.new.held q) grid.now.slots
+        ≡ histories_of (λ q. get nat_cmp chains.old.held q) grid.now.slots }
+    ensures kept { (q : ℕ) → HasRoom (get nat_cmp chains.old.held q)
+        → HasRoom (get nat_cmp chains.new.held q) }
+    ensures room { OnOk result (HasRoom (get nat_cmp chains.new.held number)) }
+{
+    let _slots = grid.len();
+    chains.reserve(number)
+}

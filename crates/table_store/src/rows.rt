@@ -1,0 +1,242 @@
+//! Rows through time.
+
+ghost use Rattle.std.specs.Prelude.{◌≡◌, ◌==◌, ℕ, ◌+◌, ◌<◌, ◌≤◌, ◌^◌, Bool, true, List, [], ◌∷◌, ◌++◌};
+ghost use Rattle.std.specs.Prelude.{Option, Some, None, OnOk, OnErr, IfOk, IsOk, IsSome, length, map};
+ghost use Rattle.std.specs.Prelude.{slice_index_or, is_some, IfSome, ◌≢◌, false, slice_get, ◌/◌};
+ghost use Rattle.std.specs.Option.{option_map, option_map_or};
+ghost use Rattle.std.specs.Cmp.Lexicographic.{slice_cmp};
+ghost use Rattle.lanes.specs.Sets.{member};
+ghost use Rattle.ldv_value.specs.Order.{order};
+ghost use Rattle.sql_model.specs.Keys.{values_at};
+ghost use Rattle.sql_model.specs.Scope.{value_at};
+ghost use Rattle.table_store.specs.LentCells.{lent_value};
+ghost use Rattle.table_store.specs.Cells.{passes_test};
+ghost use Rattle.table_store.specs.Types.{Null};
+ghost use Rattle.row_version.specs.History.{written, current, as_of, version};
+ghost use Rattle.table_store.specs.Grid.{are_of_kinds, AreNumberedFrom, next_after};
+ghost use Rattle.table_store.specs.Histories.{added, changed_by, no_history};
+ghost use Rattle.table_store.specs.RowChanges.{changes_given, RiseFrom, AllFitKinds, AllStand, AreBefore};
+ghost use Rattle.table_store.specs.RowOrder.{AreInOrder};
+
+use crate::apply::apply_all;
+use crate::cell::Cell;
+use crate::chains::Chains;
+use crate::change::RowChange;
+use crate::grid::Grid;
+use crate::room::make_room;
+use ldv_value::{Cmp, Places, Values};
+use sql_model::TableRows;
+use std::alloc::{AllocError, Global};
+use std::cmp::Ordering;
+use std::marker::Model;
+
+/// Rows through time: contracts see the changes of each.
+#[derive(Drop)]
+pub(crate) struct Rows {
+    grid: Grid,
+    chains: Chains,
+}
+
+impl Model for Rows {
+    ghost use Rattle.table_store.specs.RowChains.{RowsHistory};
+
+    ghost Value = { RowsHistory };
+
+    ghost use Rattle.table_store.specs.RowChains.{seen_histories, IsRows};
+
+    ghost view = { seen_histories };
+
+    ghost invariant = { IsRows };
+}
+
+impl Rows {
+    /// No rows, and columns of texts where that is said.
+    #[tactic(auto, using(crate::proofs::RowLaws::none_chained))]
+    pub(crate) fn new(alloc: Global, texts: &[bool]) -> Result<Rows, AllocError>
+        ensures { IfOk result (λ rows. rows ≡ record { slots = []; kinds = texts.now; next = 0 }) }
+    {
+        Ok(Rows {
+            grid: Grid::new(alloc, texts)?,
+            chains: Chains::new(alloc),
+        })
+    }
+
+    /// How many rows there ever were.
+    #[tactic(auto, using(crate::proofs::RowLaws::row_rules))]
+    pub(crate) fn len(&self) -> usize
+        ensures { result ≡ length self.now.slots }
+    {
+        self.grid.len()
+    }
+
+    /// The number of the row in a slot.
+    #[tactic(auto, using(crate::proofs::RowLaws::row_rules))]
+    pub(crate) fn number(&self, slot: usize) -> u32
+        requires { slot < length self.now.slots }
+        ensures { result ≡ (slice_index_or self.now.slots slot no_history).number }
+    {
+        self.grid.number(slot)
+    }
+
+    /// Whether the row in a slot stands.
+    #[tactic(auto, using(crate::proofs::RowLaws::row_rules))]
+    pub(crate) fn stands(&self, slot: usize) -> bool
+        requires { slot < length self.now.slots }
+        ensures { result ≡ is_some (current (slice_index_or self.now.slots slot no_history).changes) }
+    {
+        self.grid.stands(slot)
+    }
+
+    /// A copy of the values that the row in a slot has now.
+    #[tactic(auto, using(crate::proofs::RowLaws::row_rules))]
+    pub(crate) fn copy_values(&self, alloc: Global, slot: usize) -> Result<Values, AllocError>
+        requires within { slot < length self.now.slots }
+        requires stands { IsSome (current (slice_index_or self.now.slots slot no_history).changes) }
+        ensures { IfOk result (λ values. Some values
+            ≡ current (slice_index_or self.now.slots slot no_history).changes) }
+    {
+        self.grid.copy_values(alloc, slot)
+    }
+
+    /// The value that the row in a slot, which stands, has in a column, lent. Past the last column there is
+    /// NULL.
+    pub(crate) fn cell(&self, slot: usize, column: usize) -> Cell<'_>
+        requires within { slot < length self.now.slots }
+        requires stands { IsSome (current (slice_index_or self.now.slots slot no_history).changes) }
+        ensures { Some (lent_value result) ≡ option_map (λ values. value_at values column)
+            (current (slice_index_or self.now.slots slot no_history).changes) }
+    {
+        self.grid.cell(slot, column)
+    }
+
+    /// A copy of the values that the row in a slot had after a time.
+    #[tactic(auto, using(crate::proofs::RowLaws::row_rules))]
+    pub(crate) fn values_as_of(
+        &self,
+        alloc: Global,
+        slot: usize,
+        time: u32,
+    ) -> Result<Option<Values>, AllocError>
+        requires { slot < length self.now.slots }
+        ensures { IfOk result (λ values. values
+            ≡ as_of (slice_index_or self.now.slots slot no_history).changes time) }
+    {
+        match self.chains.chain(self.grid.number(slot)) {
+            Some(chain) => match chain.as_of(time) {
+                Some(values) => Ok(Some(values.copy()?)),
+                None => Ok(None),
+            },
+            None => {
+                if self.grid.since(slot) <= time {
+                    Ok(Some(self.grid.copy_values(alloc, slot)?))
+                } else {
+                    Ok(None)
+                }
+            }
+        }
+    }
+
+    /// How often the row in a slot has changed.
+    #[tactic(auto, using(crate::proofs::RowLaws::row_rules))]
+    pub(crate) fn version(&self, slot: usize) -> u32
+        requires { slot < length self.now.slots }
+        ensures { result ≡ version (slice_index_or self.now.slots slot no_history).changes }
+    {
+        match self.chains.chain(self.grid.number(slot)) {
+            Some(chain) => chain.version(),
+            None => 0,
+        }
+    }
+
+    /// The slot of the row of a number, found by bisection.
+    pub(crate) fn find(&self, number: u32) -> Option<usize>
+        ensures found { IfSome result (λ slot. (slot < length self.now.slots)
+            × ((slice_index_or self.now.slots slot no_history).number ≡ number)) }
+        ensures absent { result ≡ None → (k : ℕ) → k < length self.now.slots
+            → (slice_index_or self.now.slots k no_history).number ≢ number }
+    {
+        self.grid.find(number)
+    }
+
+    /// The numbers are strictly increasing and below the next one.
+    pub(crate) fn tell_order(&self)
+        ensures order { AreInOrder self.now.slots self.now.next }
+        ensures small { self.now.next < 2 ^ 32 }
+    {
+        self.grid.tell_order();
+    }
+
+    /// How the key of the row in a slot, which stands, compares to values.
+    pub(crate) fn compare_key(&self, slot: usize, places: &Places, values: &Values) -> Ordering
+        requires within { slot < length self.now.slots }
+        requires stands { IsSome (current (slice_index_or self.now.slots slot no_history).changes) }
+        ensures { Some result ≡ option_map (λ row. slice_cmp order (values_at places.now row) values.now)
+            (current (slice_index_or self.now.slots slot no_history).changes) }
+    {
+        self.grid.compare_key(slot, places, values)
+    }
+
+    /// Sets the bits of the slots whose row stands and has a number in the column that compares so to the
+    /// constant, and clears all others.
+    pub(crate) fn scan(&self, column: usize, op: Cmp, constant: i64, mask: &mut [u64])
+        requires column { slice_get self.now.kinds column ≡ Some false }
+        requires mask { length mask.old ≡ (length self.now.slots + 63) / 64 }
+        ensures { (n : ℕ) → member mask.new n ≡ option_map_or
+            (λ row. passes_test op constant (slice_index_or row column Null))
+            (current (slice_index_or self.now.slots n no_history).changes) false }
+    {
+        self.grid.scan(column, op, constant, mask);
+    }
+
+    /// Moves the number of the next row up.
+    pub(crate) fn set_next(&mut self, next: u32)
+        requires { self.old.next ≤ next }
+        ensures { self.new ≡ record self.old { next = next } }
+    {
+        self.grid.set_next(next);
+    }
+
+    /// The number of the next row.
+    pub(crate) fn next(&self) -> u32
+        ensures { result ≡ self.now.next }
+    {
+        self.grid.next()
+    }
+
+    /// Adds rows at a time. On `AllocError` nothing has changed.
+    pub(crate) fn push_all(&mut self, rows: TableRows, time: u32) -> Result<(), AllocError>
+        requires numbered { AreNumberedFrom self.old.next rows }
+        requires few { length rows < 2 ^ 32 }
+        requires kinds { are_of_kinds self.old.kinds rows ≡ true }
+        ensures ok { OnOk result (self.new
+            ≡ record self.old {
+              slots = self.old.slots ++ map (added time) rows;
+              next = next_after self.old.next rows;
+            }) }
+        ensures err { OnErr result (self.new ≡ self.old) }
+    {
+        self.grid.push_all(rows, time)?;
+        Ok(())
+    }
+
+    /// Changes rows at a time: those of some numbers, which stand. The time is later than that of each
+    /// earlier change. On `AllocError` nothing has changed.
+    pub(crate) fn change_all(
+        &mut self,
+        alloc: Global,
+        given: Vec<RowChange>,
+        time: u32,
+    ) -> Result<(), AllocError>
+        requires before { AreBefore time self.old.slots }
+        requires apart { RiseFrom 0 given.items }
+        requires stand { AllStand self.old.slots given.items }
+        requires fits { AllFitKinds self.old.kinds given.items }
+        ensures ok { OnOk result (self.new
+            ≡ record self.old { slots = map (changed_by (changes_given time given.items)) self.old.slots }) }
+        ensures err { OnErr result (self.new ≡ self.old) }
+    {
+        make_room(alloc, &self.grid, &mut self.chains, given.as_slice())?;
+        apply_all(&mut self.grid, &mut self.chains, given, time)?;
+        Ok(())
+    }
+}

@@ -1,0 +1,433 @@
+//! The tables of a database through time.
+
+ghost use Rattle.std.specs.Prelude.{◌≡◌, ◌==◌, ℕ, ◌+◌, ◌*◌, ◌/◌, ◌<◌, ◌≤◌, Bool, true, false, List, [], ◌∷◌};
+ghost use Rattle.std.specs.Prelude.{◌++◌, Option, Some, None, find, OnOk, OnErr, IfOk, IsOk, IsSome, IfSome};
+ghost use Rattle.std.specs.Prelude.{length, map, slice_get, slice_index_or, slice_set};
+ghost use Rattle.std.specs.List.{list_all};
+ghost use Rattle.std.specs.Option.{option_map, option_map_or, option_and_then};
+ghost use Rattle.lanes.specs.Sets.{member};
+ghost use Rattle.row_version.specs.History.{current};
+ghost use Rattle.ldv_value.specs.Sorted.{text_precedes};
+ghost use Rattle.sql_model.specs.Scope.{catalog_of, table_at};
+ghost use Rattle.sql_model.specs.Tables.{is_database, is_valid_table};
+ghost use Rattle.table_store.specs.Cells.{passes_test};
+ghost use Rattle.table_store.specs.Histories.{history_at, is_history, table_now, tables_now, last_since};
+ghost use Rattle.table_store.specs.Histories.{rows_after, next_number_after, AreKeptBefore, changed_at};
+ghost use Rattle.table_store.specs.Histories.{inserted, replaced, removed, version_now, history_of_row};
+ghost use Rattle.table_store.specs.Histories.{row_now, no_history};
+ghost use Rattle.table_store.specs.KeyIndex.{has_key};
+ghost use Rattle.table_store.specs.Stops.{have_shape, values_of, are_sorted_rows, are_sorted_numbers};
+ghost use Rattle.table_store.specs.Stops.{all_stood, all_stand, insert_stop, replace_stop, with_changed};
+ghost use Rattle.table_store.specs.Stops.{with_inserted, with_replaced, with_removed, StopsAs};
+ghost use Rattle.table_store.specs.StoreView.{started, no_table, are_sorted};
+ghost use Rattle.table_store.specs.TableView.{begun};
+ghost use Rattle.table_store.specs.Types.{Null};
+
+use crate::stop::StoreStop;
+use crate::table::TableStore;
+use ldv_value::{Cmp, Numbers, RowList, Values};
+use sql_model::{Catalog, TableRows, Tables};
+use std::alloc::{AllocError, Global};
+use std::marker::Model;
+
+/// The tables of a database through time, sorted by name.
+#[derive(Drop)]
+pub struct Store {
+    catalog: Catalog,
+    tables: Vec<TableStore>,
+    time: u32,
+}
+
+impl Model for Store {
+    ghost use Rattle.table_store.specs.Histories.{StoreHistory};
+
+    ghost Value = { StoreHistory };
+
+    ghost use Rattle.table_store.specs.StoreView.{seen_store, IsStore};
+
+    ghost view = { seen_store };
+
+    ghost invariant = { IsStore };
+}
+
+impl Store {
+    /// The store of tables at time 0.
+    #[tactic(auto, using(crate::proofs::StoreLaws::start_rules))]
+    pub fn of_tables(alloc: Global, tables: Tables) -> Result<Store, AllocError>
+        requires { is_database tables ≡ true }
+        ensures made { IfOk result (λ store. store ≡ started tables) }
+        ensures now { IfOk result (λ store. tables_now store ≡ tables) }
+    {
+        let catalog = Catalog::of(alloc, &tables)?;
+        let held = stores_of(alloc, tables)?;
+        Ok(Store {
+            catalog,
+            tables: held,
+            time: 0,
+        })
+    }
+
+    /// The names and the schemas of the tables.
+    pub fn catalog(&self) -> &Catalog
+        ensures { result.now ≡ catalog_of (tables_now self.now) }
+    {
+        &self.catalog
+    }
+
+    /// The table of a name.
+    pub fn table(&self, name: &str) -> Option<&TableStore>
+        ensures table { option_map (λ table. table.now) result ≡ history_at name.now self.now }
+        ensures timed { IfSome result (λ table. last_since table.now.nexts ≤ self.now.time) }
+    {
+        match place_in(&self.tables, name) {
+            None => None,
+            Some(place) => Some(&self.tables[place]),
+        }
+    }
+
+    /// The rows of a table, which is there, after a time; from the last change on these are its rows now.
+    pub fn rows_at(&self, table: &str, time: u32) -> Result<TableRows, AllocError>
+        requires { IsSome (table_at table.now (tables_now self.now)) }
+        ensures rows { IfOk result (λ rows. rows_after table.now time self.now ≡ Some rows) }
+        ensures last { self.now.time ≤ time
+            → IfOk result (λ rows. option_map (λ table. table.rows) (table_at table.now (tables_now self.now))
+            ≡ Some rows) }
+    {
+        match self.table(table) {
+            Some(held) => held.rows_at(time),
+            None => unreachable!(),
+        }
+    }
+
+    /// The number of the next row of a table, which is there, after a time; from the last change on it is
+    /// that of now.
+    pub fn next_at(&self, table: &str, time: u32) -> u32
+        requires { IsSome (table_at table.now (tables_now self.now)) }
+        ensures number { next_number_after table.now time self.now ≡ Some result }
+        ensures last { self.now.time ≤ time
+            → option_map (λ table. table.next) (table_at table.now (tables_now self.now)) ≡ Some result }
+    {
+        match self.table(table) {
+            Some(held) => held.next_at(time),
+            None => unreachable!(),
+        }
+    }
+
+    /// The version of a row of a table, which is there: how often the row has changed. `None` where it
+    /// doesn't stand now.
+    pub fn version(&self, table: &str, row: u32) -> Option<u32>
+        requires { IsSome (table_at table.now (tables_now self.now)) }
+        ensures { option_map (λ history. version_now (history_of_row row history.slots))
+            (history_at table.now self.now) ≡ Some result }
+    {
+        match self.table(table) {
+            Some(held) => held.version(row),
+            None => unreachable!(),
+        }
+    }
+
+    /// The number of the row that stands with a key; `None` where no row has it. The table is there and has
+    /// a key.
+    pub fn by_key(&self, table: &str, key: &Values) -> Option<u32>
+        requires there { IsSome (table_at table.now (tables_now self.now)) }
+        requires keyed { IfSome (table_at table.now (tables_now self.now))
+            (λ table. 0 < length table.schema.key) }
+        ensures { option_map (λ table. option_map (λ row. row.number)
+            (find (has_key table.schema.key key.now) table.rows)) (table_at table.now (tables_now self.now))
+            ≡ Some result }
+    {
+        match self.table(table) {
+            Some(held) => held.by_key(key),
+            None => unreachable!(),
+        }
+    }
+
+    /// The number of slots of a table, which is there: one for each row that it ever held, sorted by row
+    /// number.
+    pub fn slots(&self, table: &str) -> u64
+        requires { IsSome (table_at table.now (tables_now self.now)) }
+        ensures { option_map (λ history. length history.slots) (history_at table.now self.now) ≡ Some result }
+    {
+        match self.table(table) {
+            Some(held) => held.slots(),
+            None => unreachable!(),
+        }
+    }
+
+    /// The number of the row in a slot of a table, which is there; `None` where the slot is past the end or
+    /// its row doesn't stand now.
+    pub fn slot_row(&self, table: &str, slot: u64) -> Option<u32>
+        requires { IsSome (table_at table.now (tables_now self.now)) }
+        ensures { option_map (λ history. option_map (λ row. row.number)
+            (row_now (slice_index_or history.slots slot no_history))) (history_at table.now self.now)
+            ≡ Some result }
+    {
+        match self.table(table) {
+            Some(held) => held.slot_row(slot),
+            None => unreachable!(),
+        }
+    }
+
+    /// A copy of the values of the row in a slot of a table; the table is there, and the row stands now.
+    pub fn row_values(&self, table: &str, slot: u64) -> Result<Values, AllocError>
+        requires there { IsSome (table_at table.now (tables_now self.now)) }
+        requires stands { IfSome (history_at table.now self.now)
+            (λ history. IsSome (current (slice_index_or history.slots slot no_history).changes)) }
+        ensures { IfOk result (λ values. option_map
+            (λ history. current (slice_index_or history.slots slot no_history).changes)
+            (history_at table.now self.now) ≡ Some (Some values)) }
+    {
+        match self.table(table) {
+            Some(held) => held.row_values(slot),
+            None => unreachable!(),
+        }
+    }
+
+    /// Sets the bits of the slots of a table whose row stands and has a number in the column that compares
+    /// so to the constant, and clears all others. The table is there, the column is of INT, and the mask
+    /// has a word for each 64 slots, rounded up.
+    pub fn scan(&self, table: &str, column: u64, op: Cmp, constant: i64, mask: &mut [u64])
+        requires there { IsSome (table_at table.now (tables_now self.now)) }
+        requires column { IfSome (history_at table.now self.now)
+            (λ history. option_map (λ column. column.text) (slice_get history.schema.columns column)
+            ≡ Some false) }
+        requires mask { IfSome (history_at table.now self.now)
+            (λ history. length mask.old ≡ (length history.slots + 63) / 64) }
+        ensures { (n : ℕ)
+            → option_map (λ history. option_map_or
+            (λ row. passes_test op constant (slice_index_or row.values column Null))
+            (row_now (slice_index_or history.slots n no_history)) false) (history_at table.now self.now)
+            ≡ Some (member mask.new n) }
+    {
+        match self.table(table) {
+            Some(held) => held.scan(column, op, constant, mask),
+            None => unreachable!(),
+        }
+    }
+
+    /// Adds rows to a table at a time, numbered from the number of its next row on, and returns that
+    /// number. The table is there, the time is later than that of the last change, and each row has a value
+    /// for each column, of its kind. NotNull, KeyTaken, Full: what the rows refuse, in this order;
+    /// NoMemory: out of memory. Nothing has changed then.
+    pub fn insert_all(&mut self, table: &str, rows: RowList, time: u32) -> Result<u32, StoreStop>
+        requires there { IsSome (table_at table.now (tables_now self.old)) }
+        requires later { self.old.time < time }
+        requires shape { IfSome (table_at table.now (tables_now self.old))
+            (λ table. have_shape rows table ≡ true) }
+        ensures stop { StopsAs (option_and_then (insert_stop rows)
+            (table_at table.now (tables_now self.old))) result }
+        ensures first { IfOk result (λ first. option_map (λ table. table.next)
+            (table_at table.now (tables_now self.old)) ≡ Some first) }
+        ensures ok { OnOk result (self.new ≡ changed_at time table.now (inserted time rows) self.old) }
+        ensures now { OnOk result (tables_now self.new
+            ≡ with_changed table.now (with_inserted rows) (tables_now self.old)) }
+        ensures earlier { OnOk result (AreKeptBefore time self.old self.new) }
+        ensures err { OnErr result (self.new ≡ self.old) }
+    {
+        match place_in(&self.tables, table) {
+            None => unreachable!(),
+            Some(place) => {
+                match insert_in(&mut self.tables, place, rows, time) {
+                    Err(stop) => Err(stop),
+                    Ok(first) => {
+                        self.time = time;
+                        Ok(first)
+                    }
+                }
+            }
+        }
+    }
+
+    /// Gives the rows of these numbers other values at a time. The table is there, and the time is later
+    /// than that of the last change. The rows are sorted by number, each has the number of a row that
+    /// stands and a value for each column, of its kind. NotNull, KeyTaken: what the rows refuse, in this
+    /// order, where keys are those of the table afterwards; NoMemory: out of memory. Nothing has changed
+    /// then.
+    pub fn replace_all(&mut self, table: &str, rows: TableRows, time: u32) -> Result<(), StoreStop>
+        requires there { IsSome (table_at table.now (tables_now self.old)) }
+        requires later { self.old.time < time }
+        requires shape { IfSome (table_at table.now (tables_now self.old))
+            (λ table. have_shape (values_of rows) table ≡ true) }
+        requires sorted { are_sorted_rows rows ≡ true }
+        requires stand { IfSome (table_at table.now (tables_now self.old))
+            (λ table. all_stood rows table ≡ true) }
+        ensures stop { StopsAs (option_and_then (replace_stop rows)
+            (table_at table.now (tables_now self.old))) result }
+        ensures ok { OnOk result (self.new ≡ changed_at time table.now (replaced time rows) self.old) }
+        ensures now { OnOk result (tables_now self.new
+            ≡ with_changed table.now (with_replaced rows) (tables_now self.old)) }
+        ensures earlier { OnOk result (AreKeptBefore time self.old self.new) }
+        ensures err { OnErr result (self.new ≡ self.old) }
+    {
+        match place_in(&self.tables, table) {
+            None => unreachable!(),
+            Some(place) => {
+                match replace_in(&mut self.tables, place, rows, time) {
+                    Err(stop) => Err(stop),
+                    Ok(()) => {
+                        self.time = time;
+                        Ok(())
+                    }
+                }
+            }
+        }
+    }
+
+    /// Drops the rows of these numbers at a time. The table is there, and the time is later than that of
+    /// the last change. The numbers are sorted, and each is that of a row that stands. On `AllocError`
+    /// nothing has changed.
+    pub fn delete_all(
+        &mut self,
+        table: &str,
+        numbers: &Numbers,
+        time: u32,
+    ) -> Result<(), AllocError>
+        requires there { IsSome (table_at table.now (tables_now self.old)) }
+        requires later { self.old.time < time }
+        requires sorted { are_sorted_numbers numbers.now ≡ true }
+        requires stand { IfSome (table_at table.now (tables_now self.old))
+            (λ table. all_stand numbers.now table ≡ true) }
+        ensures ok { OnOk result (self.new ≡ changed_at time table.now (removed time numbers.now) self.old) }
+        ensures now { OnOk result (tables_now self.new
+            ≡ with_changed table.now (with_removed numbers.now) (tables_now self.old)) }
+        ensures earlier { OnOk result (AreKeptBefore time self.old self.new) }
+        ensures err { OnErr result (self.new ≡ self.old) }
+    {
+        match place_in(&self.tables, table) {
+            None => unreachable!(),
+            Some(place) => {
+                match delete_in(&mut self.tables, place, numbers, time) {
+                    Err(refused) => Err(refused),
+                    Ok(()) => {
+                        self.time = time;
+                        Ok(())
+                    }
+                }
+            }
+        }
+    }
+}
+
+// The place of the table of a name.
+fn place_in(tables: &Vec<TableStore>, name: &str) -> Option<usize>
+    requires { are_sorted tables.now.items ≡ true }
+    ensures found { IfSome result (λ place. (place < length tables.now.items)
+        × (is_history name.now (slice_index_or tables.now.items place no_table) ≡ true)) }
+    ensures absent { result ≡ None → find (is_history name.now) tables.now.items ≡ None }
+{
+    let place = place_of(tables, name);
+    if place == tables.len() {
+        return None;
+    }
+    let held = &tables[place];
+    if is_named(held, name) {
+        Some(place)
+    } else {
+        None
+    }
+}
+
+fn is_named(held: &TableStore, name: &str) -> bool
+    ensures { result ≡ is_history name.now held.now }
+{
+    held.name() == name
+}
+
+// The place of the first table whose name isn't before the given one, found by bisection.
+fn place_of(tables: &[TableStore], name: &str) -> usize
+    requires { are_sorted tables.now ≡ true }
+    ensures within { result ≤ length tables.now }
+    ensures before { (k : ℕ) → k < result → text_precedes (slice_index_or tables.now k no_table).name name.now
+        ≡ true }
+    ensures after { (k : ℕ) → result ≤ k → k < length tables.now
+        → text_precedes (slice_index_or tables.now k no_table).name name.now ≡ false }
+{
+    tables.partition_point(|held| is_before(held, name))
+}
+
+fn is_before(held: &TableStore, name: &str) -> bool
+    ensures { result ≡ text_precedes held.now.name name.now }
+{
+    held.name().cmp(name).is_lt()
+}
+
+// Adds rows to the table at a place.
+fn insert_in(
+    tables: &mut Vec<TableStore>,
+    place: usize,
+    rows: RowList,
+    time: u32,
+) -> Result<u32, StoreStop>
+    requires within { place < length tables.old.items }
+    requires later { last_since (slice_index_or tables.old.items place no_table).nexts < time }
+    requires shape { have_shape rows (table_now (slice_index_or tables.old.items place no_table)) ≡ true }
+    ensures stop { StopsAs (insert_stop rows (table_now (slice_index_or tables.old.items place no_table)))
+        result }
+    ensures first { IfOk result (λ first. first
+        ≡ (table_now (slice_index_or tables.old.items place no_table)).next) }
+    ensures ok { OnOk result (tables.new.items
+        ≡ slice_set tables.old.items place
+        (inserted time rows (slice_index_or tables.old.items place no_table))) }
+    ensures err { OnErr result (tables.new.items ≡ tables.old.items) }
+{
+    let held = &mut tables[place];
+    held.insert_all(rows, time)
+}
+
+// Gives rows of the table at a place other values.
+fn replace_in(
+    tables: &mut Vec<TableStore>,
+    place: usize,
+    rows: TableRows,
+    time: u32,
+) -> Result<(), StoreStop>
+    requires within { place < length tables.old.items }
+    requires later { last_since (slice_index_or tables.old.items place no_table).nexts < time }
+    requires shape { have_shape (values_of rows) (table_now (slice_index_or tables.old.items place no_table))
+        ≡ true }
+    requires sorted { are_sorted_rows rows ≡ true }
+    requires stand { all_stood rows (table_now (slice_index_or tables.old.items place no_table)) ≡ true }
+    ensures stop { StopsAs (replace_stop rows (table_now (slice_index_or tables.old.items place no_table)))
+        result }
+    ensures ok { OnOk result (tables.new.items
+        ≡ slice_set tables.old.items place
+        (replaced time rows (slice_index_or tables.old.items place no_table))) }
+    ensures now { OnOk result (table_now (replaced time rows (slice_index_or tables.old.items place no_table))
+        ≡ with_replaced rows (table_now (slice_index_or tables.old.items place no_table))) }
+    ensures err { OnErr result (tables.new.items ≡ tables.old.items) }
+{
+    let held = &mut tables[place];
+    held.replace_all(rows, time)
+}
+
+// Drops rows of the table at a place.
+fn delete_in(
+    tables: &mut Vec<TableStore>,
+    place: usize,
+    numbers: &Numbers,
+    time: u32,
+) -> Result<(), AllocError>
+    requires within { place < length tables.old.items }
+    requires later { last_since (slice_index_or tables.old.items place no_table).nexts < time }
+    requires sorted { are_sorted_numbers numbers.now ≡ true }
+    requires stand { all_stand numbers.now (table_now (slice_index_or tables.old.items place no_table))
+        ≡ true }
+    ensures ok { OnOk result (tables.new.items
+        ≡ slice_set tables.old.items place
+        (removed time numbers.now (slice_index_or tables.old.items place no_table))) }
+    ensures err { OnErr result (tables.new.items ≡ tables.old.items) }
+{
+    let held = &mut tables[place];
+    held.delete_all(numbers, time)
+}
+
+fn stores_of(alloc: Global, tables: Tables) -> Result<Vec<TableStore>, AllocError>
+    requires { list_all is_valid_table tables ≡ true }
+    ensures { IfOk result (λ stores. stores.items ≡ map begun tables) }
+{
+    let mut stores = Vec::with_capacity(alloc, tables.len())?;
+    for table in tables.into_vec() {
+        stores.push(TableStore::of_table(table)?)?;
+    }
+    Ok(stores)
+}

@@ -1,0 +1,446 @@
+//! A table through time.
+
+ghost use Rattle.std.specs.Prelude.{◌≡◌, ◌==◌, ℕ, ◌+◌, ◌*◌, ◌/◌, ◌^◌, ◌<◌, ◌≤◌, Bool, true, false, List, []};
+ghost use Rattle.std.specs.Prelude.{◌∷◌, ◌++◌, Option, Some, None, find, OnOk, OnErr, IfOk, IsOk, IsSome};
+ghost use Rattle.std.specs.Prelude.{IfSome, length, map, slice_get, slice_index_or, is_some, if◌then◌else◌};
+ghost use Rattle.std.specs.Option.{option_map, option_map_or, option_to_list};
+ghost use Rattle.std.specs.List.{filter_map};
+ghost use Rattle.lanes.specs.Sets.{member};
+ghost use Rattle.row_version.specs.History.{current, version};
+ghost use Rattle.sql_model.specs.Scope.{value_at};
+ghost use Rattle.sql_model.specs.Tables.{is_valid_table};
+ghost use Rattle.table_store.specs.LentCells.{lent_value};
+ghost use Rattle.table_store.specs.Cells.{passes_test};
+ghost use Rattle.table_store.specs.KeyIndex.{has_key};
+ghost use Rattle.table_store.specs.Types.{Null};
+ghost use Rattle.table_store.specs.Histories.{added, inserted, replaced, removed, noted, changed_by};
+ghost use Rattle.table_store.specs.Histories.{last_next, last_since, table_now, no_history, row_now};
+ghost use Rattle.table_store.specs.Histories.{rows_now, row_as_of, rows_as_of, next_as_of, version_now};
+ghost use Rattle.table_store.specs.Histories.{history_of_row, slot_of_row};
+ghost use Rattle.std.specs.List.{list_all};
+ghost use Rattle.table_store.specs.Grid.{are_of_kinds, AreNumberedFrom, next_after};
+ghost use Rattle.table_store.specs.Nexts.{nexts_of};
+ghost use Rattle.table_store.specs.RowChanges.{changes_given, RiseFrom, AllFitKinds, AllStand, AreBefore};
+ghost use Rattle.table_store.specs.Stops.{has_shape, have_shape, values_of, are_sorted_rows};
+ghost use Rattle.table_store.specs.Stops.{are_sorted_numbers, all_stood, all_stand, insert_stop};
+ghost use Rattle.table_store.specs.Stops.{replace_stop, with_replaced, StopsAs};
+ghost use Rattle.table_store.specs.RowOrder.{AreInOrder};
+ghost use Rattle.table_store.specs.TableView.{begun, kinds_in, AreTimed};
+
+use crate::cell::Cell;
+use crate::change::{RowChange, removals, rewrites};
+use crate::claim::claim;
+use crate::index::{Index, held_number, index_of, number_by_slots, use_index};
+use crate::insert::{any_lacks_value, any_row_lacks_value, is_full, numbered_rows};
+use crate::nexts::{NextSince, first_next, next_as_of};
+use crate::rekey::index_if_changed;
+use crate::rows::Rows;
+use crate::stop::StoreStop;
+use ldv_value::{Cmp, List, Numbers, RowList, Utf8, Values};
+use sql_model::{Columns, RowKey, Schema, Table, TableRow, TableRows};
+use std::alloc::{AllocError, Global};
+use std::marker::Model;
+
+/// A table through time: contracts see the history of each of its rows.
+#[derive(Drop)]
+pub struct TableStore {
+    name: Utf8,
+    schema: Schema,
+    rows: Rows,
+    index: Index,
+    nexts: Vec<NextSince>,
+}
+
+impl Model for TableStore {
+    ghost use Rattle.table_store.specs.Histories.{TableHistory};
+
+    ghost Value = { TableHistory };
+
+    ghost use Rattle.table_store.specs.TableView.{seen_table, IsTable};
+
+    ghost view = { seen_table };
+
+    ghost invariant = { IsTable };
+}
+
+impl TableStore {
+    /// The store of a table at time 0.
+    #[tactic(auto, using(crate::proofs::TableLaws::begun_rules))]
+    pub(crate) fn of_table(table: Table) -> Result<TableStore, AllocError>
+        requires { is_valid_table table ≡ true }
+        ensures { IfOk result (λ made. made ≡ begun table) }
+    {
+        let Table {
+            name,
+            schema,
+            rows,
+            next,
+        } = table;
+        let alloc = name.allocator();
+        let index = index_of(alloc, &schema.key, rows.items())?;
+        let texts = texts_of(alloc, &schema.columns)?;
+        let mut held = Rows::new(alloc, texts.as_slice())?;
+        held.push_all(rows, 0)?;
+        held.set_next(next);
+        let nexts = first_next(alloc, next)?;
+        Ok(TableStore {
+            name,
+            schema,
+            rows: held,
+            index,
+            nexts,
+        })
+    }
+
+    /// The name.
+    pub fn name(&self) -> &str
+        ensures { result.now ≡ self.now.name }
+    {
+        self.name.as_str()
+    }
+
+    /// The schema.
+    pub fn schema(&self) -> &Schema
+        ensures { result.now ≡ self.now.schema }
+    {
+        &self.schema
+    }
+
+    /// The rows are in the order of their numbers, which are below that of the next row. The call does
+    /// nothing; it lends this to the caller.
+    pub fn tell_order(&self)
+        ensures { AreInOrder self.now.slots (last_next self.now.nexts) }
+    {
+        let _nexts = &self.nexts;
+        self.rows.tell_order();
+    }
+
+    /// The changes of each row are sorted by time, and none is later than the last change of the table. The
+    /// call does nothing; it lends this to the caller.
+    pub fn tell_times(&self)
+        ensures { AreTimed (last_since self.now.nexts) self.now.slots }
+    {
+        let _nexts = &self.nexts;
+    }
+
+    /// The number of slots: one for each row that the table ever held, sorted by row number.
+    pub fn slots(&self) -> u64
+        ensures { result ≡ length self.now.slots }
+    {
+        self.rows.len() as u64
+    }
+
+    /// The number of the row in a slot; `None` where the slot is past the end or its row doesn't stand now.
+    #[tactic(auto, using(crate::proofs::TableLaws::slot_rules))]
+    pub fn slot_row(&self, slot: u64) -> Option<u32>
+        ensures { result ≡ option_map (λ row. row.number)
+            (row_now (slice_index_or self.now.slots slot no_history)) }
+    {
+        let slot = slot as usize;
+        if slot >= self.rows.len() {
+            return None;
+        }
+        if !self.rows.stands(slot) {
+            return None;
+        }
+        Some(self.rows.number(slot))
+    }
+
+    /// The slot of the row of a number, whether it stands or not, found by bisection; `None` where the table
+    /// never held it.
+    pub fn slot_of(&self, row: u32) -> Option<u64>
+        ensures { result ≡ slot_of_row row self.now.slots }
+    {
+        self.rows.tell_order();
+        match self.rows.find(row) {
+            None => None,
+            Some(slot) => Some(slot as u64),
+        }
+    }
+
+    /// A copy of the values of the row in a slot, which stands.
+    #[tactic(auto, using(crate::proofs::TableLaws::slot_rules))]
+    pub fn row_values(&self, slot: u64) -> Result<Values, AllocError>
+        requires { IsSome (current (slice_index_or self.now.slots slot no_history).changes) }
+        ensures { IfOk result (λ values. Some values
+            ≡ current (slice_index_or self.now.slots slot no_history).changes) }
+    {
+        self.rows.copy_values(self.name.allocator(), slot as usize)
+    }
+
+    /// The value in a column, by its place from 0, of the row in a slot, which stands; NULL past the last
+    /// column. It is lent, and no row is copied.
+    #[tactic(auto, using(crate::proofs::TableLaws::slot_rules))]
+    pub fn cell(&self, slot: u64, column: u64) -> Cell<'_>
+        requires { IsSome (current (slice_index_or self.now.slots slot no_history).changes) }
+        ensures { Some (lent_value result) ≡ option_map (λ values. value_at values column)
+            (current (slice_index_or self.now.slots slot no_history).changes) }
+    {
+        self.rows.cell(slot as usize, column as usize)
+    }
+
+    /// Sets the bits of the slots whose row stands and has a number in the column that compares so to the
+    /// constant, and clears all others. The column is of INT, and the mask has a word for each 64 slots,
+    /// rounded up.
+    #[tactic(auto, using(crate::proofs::TableLaws::column_kind))]
+    pub fn scan(&self, column: u64, op: Cmp, constant: i64, mask: &mut [u64])
+        requires column { option_map (λ column. column.text) (slice_get self.now.schema.columns column)
+            ≡ Some false }
+        requires mask { length mask.old ≡ (length self.now.slots + 63) / 64 }
+        ensures { (n : ℕ) → member mask.new n ≡ option_map_or
+            (λ row. passes_test op constant (slice_index_or row.values column Null))
+            (row_now (slice_index_or self.now.slots n no_history)) false }
+    {
+        self.rows.scan(column as usize, op, constant, mask);
+    }
+
+    /// The version of a row: how often it has changed. `None` where it doesn't stand now.
+    pub fn version(&self, row: u32) -> Option<u32>
+        ensures { result ≡ version_now (history_of_row row self.now.slots) }
+    {
+        self.rows.tell_order();
+        match self.rows.find(row) {
+            None => None,
+            Some(slot) => version_in(&self.rows, slot),
+        }
+    }
+
+    /// The number of the row that stands with a key; `None` where no row has it. The table has a key.
+    #[tactic(auto, using(crate::proofs::TableLaws::held_keyed))]
+    pub fn by_key(&self, key: &Values) -> Option<u32>
+        requires { 0 < length self.now.schema.key }
+        ensures { result ≡ option_map (λ row. row.number)
+            (find (has_key self.now.schema.key key.now) (rows_now self.now.slots)) }
+    {
+        // A copy of the key is looked up; out of memory, the slots themselves are looked through.
+        match key.copy() {
+            Ok(values) => held_number(
+                &self.index,
+                &self.rows,
+                &self.schema.key,
+                &RowKey { values },
+            ),
+            Err(_refused) => number_by_slots(&self.rows, &self.schema.key, key),
+        }
+    }
+
+    /// The number of the next row after a time, found by bisection; from the last change on it is that of
+    /// now.
+    pub fn next_at(&self, time: u32) -> u32
+        ensures number { result ≡ next_as_of time self.now.nexts }
+        ensures last { last_since self.now.nexts ≤ time → result ≡ last_next self.now.nexts }
+    {
+        next_as_of(self.nexts.as_slice(), time)
+    }
+
+    /// The rows after a time; from the last change on they are those of now.
+    pub fn rows_at(&self, time: u32) -> Result<TableRows, AllocError>
+        ensures rows { IfOk result (λ rows. rows ≡ rows_as_of time self.now.slots) }
+        ensures last { last_since self.now.nexts ≤ time
+            → IfOk result (λ rows. rows ≡ rows_now self.now.slots) }
+    {
+        let mut made = List::new(self.name.allocator());
+        for slot in 0..self.rows.len() {
+            let row = row_as_of(&self.rows, self.name.allocator(), slot, time)?;
+            push_some(&mut made, row)?;
+        }
+        Ok(made)
+    }
+
+    /// Adds rows at a time, numbered from the number of the next row on, and returns that number. The time
+    /// is later than that of each earlier change, and each row has a value for each column, of its kind.
+    /// NotNull, KeyTaken, Full: what the rows refuse, in this order; NoMemory: out of memory. The table is
+    /// then as it was.
+    pub(crate) fn insert_all(&mut self, rows: RowList, time: u32) -> Result<u32, StoreStop>
+        requires later { last_since self.old.nexts < time }
+        requires shape { list_all (has_shape self.old.schema.columns) rows ≡ true }
+        ensures stop { StopsAs (insert_stop rows (table_now self.old)) result }
+        ensures first { IfOk result (λ first. first ≡ last_next self.old.nexts) }
+        ensures ok { OnOk result (self.new ≡ inserted time rows self.old) }
+        ensures err { OnErr result (self.new ≡ self.old) }
+    {
+        if any_lacks_value(self.schema.columns.items(), rows.items()) {
+            return Err(StoreStop::NotNull);
+        }
+        let alloc = self.name.allocator();
+        let next = self.rows.next();
+        self.rows.tell_order();
+        match claim(
+            alloc,
+            &mut self.index,
+            &self.rows,
+            &self.schema.key,
+            rows.items(),
+            next,
+        ) {
+            Ok(()) => {}
+            Err(stop) => return Err(stop),
+        }
+        if is_full(next, rows.len()) {
+            return Err(StoreStop::Full);
+        }
+        let made = numbered_rows(alloc, rows, next)?;
+        add_rows(&mut self.rows, &mut self.nexts, made, time)?;
+        Ok(next)
+    }
+
+    /// Gives the rows of these numbers other values at a time. The time is later than that of each earlier
+    /// change. The rows are sorted by number, each has the number of a row that stands and a value for each
+    /// column, of its kind. NotNull, KeyTaken: what the rows refuse, in this order, where keys are those of
+    /// the table afterwards; NoMemory: out of memory. The table is then as it was.
+    pub(crate) fn replace_all(&mut self, rows: TableRows, time: u32) -> Result<(), StoreStop>
+        requires later { last_since self.old.nexts < time }
+        requires shape { have_shape (values_of rows) (table_now self.old) ≡ true }
+        requires sorted { are_sorted_rows rows ≡ true }
+        requires stand { all_stood rows (table_now self.old) ≡ true }
+        ensures stop { StopsAs (replace_stop rows (table_now self.old)) result }
+        ensures ok { OnOk result (self.new ≡ replaced time rows self.old) }
+        ensures now { OnOk result (table_now (replaced time rows self.old)
+            ≡ with_replaced rows (table_now self.old)) }
+        ensures err { OnErr result (self.new ≡ self.old) }
+    {
+        if any_row_lacks_value(self.schema.columns.items(), rows.items()) {
+            return Err(StoreStop::NotNull);
+        }
+        let alloc = self.name.allocator();
+        let index = match index_if_changed(
+            alloc,
+            &self.index,
+            &self.rows,
+            &self.schema.key,
+            rows.items(),
+        ) {
+            Ok(index) => index,
+            Err(stop) => return Err(stop),
+        };
+        self.rows.tell_order();
+        let given = rewrites(alloc, rows)?;
+        change_rows(alloc, &mut self.rows, &mut self.nexts, given, time)?;
+        use_index(&mut self.index, index);
+        Ok(())
+    }
+
+    /// Drops the rows of these numbers at a time. The time is later than that of each earlier change. The
+    /// numbers are sorted, and each is that of a row that stands. On `AllocError` nothing has changed.
+    pub(crate) fn delete_all(&mut self, numbers: &Numbers, time: u32) -> Result<(), AllocError>
+        requires later { last_since self.old.nexts < time }
+        requires sorted { are_sorted_numbers numbers.now ≡ true }
+        requires stand { all_stand numbers.now (table_now self.old) ≡ true }
+        ensures ok { OnOk result (self.new ≡ removed time numbers.now self.old) }
+        ensures err { OnErr result (self.new ≡ self.old) }
+    {
+        let alloc = self.name.allocator();
+        let given = removals(alloc, numbers.items())?;
+        change_rows(alloc, &mut self.rows, &mut self.nexts, given, time)?;
+        Ok(())
+    }
+}
+
+// Adds rows, and notes the number of the next one.
+fn add_rows(
+    rows: &mut Rows,
+    nexts: &mut Vec<NextSince>,
+    made: TableRows,
+    time: u32,
+) -> Result<(), AllocError>
+    requires numbered { AreNumberedFrom rows.old.next made }
+    requires few { length made < 2 ^ 32 }
+    requires kinds { are_of_kinds rows.old.kinds made ≡ true }
+    ensures ok { OnOk result (rows.new ≡ record rows.old {
+      slots = rows.old.slots ++ map (added time) made;
+      next = next_after rows.old.next made;
+    }) }
+    ensures nexts { OnOk result (nexts_of nexts.new.items
+        ≡ nexts_of nexts.old.items ++ record { time = time; next = next_after rows.old.next made } ∷ []) }
+    ensures err { OnErr result (rows.new ≡ rows.old) }
+    ensures nexts_err { OnErr result (nexts.new.items ≡ nexts.old.items) }
+{
+    nexts.reserve(1)?;
+    rows.push_all(made, time)?;
+    nexts.push(NextSince {
+        time,
+        next: rows.next(),
+    })?;
+    Ok(())
+}
+
+// Changes rows, and notes the time.
+fn change_rows(
+    alloc: Global,
+    rows: &mut Rows,
+    nexts: &mut Vec<NextSince>,
+    given: Vec<RowChange>,
+    time: u32,
+) -> Result<(), AllocError>
+    requires before { AreBefore time rows.old.slots }
+    requires apart { RiseFrom 0 given.items }
+    requires stand { AllStand rows.old.slots given.items }
+    requires fits { AllFitKinds rows.old.kinds given.items }
+    ensures ok { OnOk result (rows.new
+        ≡ record rows.old { slots = map (changed_by (changes_given time given.items)) rows.old.slots }) }
+    ensures nexts { OnOk result (nexts_of nexts.new.items
+        ≡ noted time rows.old.next (nexts_of nexts.old.items)) }
+    ensures err { OnErr result (rows.new ≡ rows.old) }
+    ensures nexts_err { OnErr result (nexts.new.items ≡ nexts.old.items) }
+{
+    nexts.reserve(1)?;
+    rows.change_all(alloc, given, time)?;
+    nexts.push(NextSince {
+        time,
+        next: rows.next(),
+    })?;
+    Ok(())
+}
+
+// The version of the row in a slot, where it stands.
+fn version_in(rows: &Rows, slot: usize) -> Option<u32>
+    requires { slot < length rows.now.slots }
+    ensures { let row = slice_index_or rows.now.slots slot no_history in
+        result ≡ (if is_some (current row.changes) then Some (version row.changes) else None) }
+{
+    if rows.stands(slot) {
+        Some(rows.version(slot))
+    } else {
+        None
+    }
+}
+
+// The row in a slot after a time, where it stood.
+fn row_as_of(
+    rows: &Rows,
+    alloc: Global,
+    slot: usize,
+    time: u32,
+) -> Result<Option<TableRow>, AllocError>
+    requires { slot < length rows.now.slots }
+    ensures { IfOk result (λ row. row ≡ row_as_of time (slice_index_or rows.now.slots slot no_history)) }
+{
+    match rows.values_as_of(alloc, slot, time)? {
+        None => Ok(None),
+        Some(values) => Ok(Some(TableRow {
+            number: rows.number(slot),
+            values,
+        })),
+    }
+}
+
+// Adds a row, where there is one.
+fn push_some(rows: &mut TableRows, row: Option<TableRow>) -> Result<(), AllocError>
+    ensures { OnOk result (rows.new ≡ rows.old ++ option_to_list row) }
+{
+    match row {
+        None => Ok(()),
+        Some(row) => rows.push(row),
+    }
+}
+
+// Which columns are of TEXT.
+fn texts_of(alloc: Global, columns: &Columns) -> Result<Vec<bool>, AllocError>
+    ensures { IfOk result (λ texts. texts.items ≡ kinds_in columns.now) }
+{
+    let mut texts = Vec::with_capacity(alloc, columns.len())?;
+    for column in columns.items() {
+        texts.push(column.text)?;
+    }
+    Ok(texts)
+}
