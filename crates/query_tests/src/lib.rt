@@ -20,8 +20,14 @@ mod merging;
 #[cfg(test)]
 mod parts;
 #[cfg(test)]
+mod picking;
+#[cfg(test)]
 mod rows;
 #[cfg(test)]
 mod shown;
 #[cfg(test)]
 mod statements;
+#[cfg(test)]
+mod stored;
+#[cfg(test)]
+mod validity;

@@ -1,0 +1,126 @@
+//! Whether tables are a database: a store takes no others.
+
+ghost use Rattle.std.specs.Prelude.{◌≡◌, ◌&&◌, IfOk, IsTrue, nat_le, nat_lt, true};
+ghost use Rattle.std.specs.List.{list_all};
+ghost use Rattle.ldv_value.specs.Limits.{max_next};
+ghost use Rattle.ldv_value.specs.Sorted.{is_strictly_sorted, precedes_first};
+ghost use Rattle.sql_model.specs.Tables.{has_kind, allows, fits, each_value, is_row, numbers_test};
+ghost use Rattle.sql_model.specs.Tables.{is_database, is_valid_table};
+
+use ldv_value::{Value, Values};
+use sql_model::{Column, Columns, Table, TableRow, TableRows, has_key_twice};
+use std::alloc::{AllocError, Global};
+
+/// Whether there is one table, and it is valid.
+pub(crate) fn is_one_table(alloc: Global, tables: &[Table]) -> Result<bool, AllocError>
+    ensures { IfOk result (λ holds. IsTrue holds → is_database tables.now ≡ true) }
+{
+    match tables {
+        [table] => is_valid_table(alloc, table),
+        _ => Ok(false),
+    }
+}
+
+fn is_valid_table(alloc: Global, table: &Table) -> Result<bool, AllocError>
+    ensures { IfOk result (λ holds. holds ≡ is_valid_table table.now) }
+{
+    if !are_valid_rows(table) {
+        return Ok(false);
+    }
+    Ok(!has_key_twice(alloc, &table.schema.key, table.rows.items())?)
+}
+
+fn are_valid_rows(table: &Table) -> bool
+    ensures { result ≡ (nat_le table.now.next max_next
+        && numbers_test (λ row. row.number) table.now.next table.now.rows
+        && list_all (λ row. is_row table.now.schema.columns row.values) table.now.rows) }
+{
+    table.next <= u32::MAX
+        && are_numbered(table.next, &table.rows)
+        && each_row(&table.schema.columns, &table.rows)
+}
+
+fn are_numbered(next: u32, rows: &TableRows) -> bool
+    ensures { result ≡ numbers_test (λ row. row.number) next rows.now }
+{
+    are_increasing(rows.items()) && are_below(next, rows)
+}
+
+fn are_increasing(rows: &[TableRow]) -> bool
+    ensures { result ≡ is_strictly_sorted (λ a b. nat_lt a.number b.number) rows.now }
+{
+    let mut left = rows;
+    loop {
+        match left {
+            [] => return true,
+            [first, rest @ ..] => {
+                if !is_before_first(first, rest) {
+                    return false;
+                }
+                left = rest;
+            }
+        }
+    }
+}
+
+fn is_before_first(row: &TableRow, rest: &[TableRow]) -> bool
+    ensures { result ≡ precedes_first (λ a b. nat_lt a.number b.number) row.now rest.now }
+{
+    match rest {
+        [] => true,
+        [next, ..] => row.number < next.number,
+    }
+}
+
+fn are_below(next: u32, rows: &TableRows) -> bool
+    ensures { result ≡ list_all (λ row. nat_lt row.number next) rows.now }
+{
+    rows.items().iter().all(|row| row.number < next)
+}
+
+fn each_row(columns: &Columns, rows: &TableRows) -> bool
+    ensures { result ≡ list_all (λ row. is_row columns.now row.values) rows.now }
+{
+    rows.items().iter().all(|row| is_row(columns, &row.values))
+}
+
+fn is_row(columns: &Columns, values: &Values) -> bool
+    ensures { result ≡ is_row columns.now values.now }
+{
+    values.len() == columns.len() && each_fits(columns, values)
+}
+
+fn each_fits(columns: &Columns, values: &Values) -> bool
+    ensures { result ≡ each_value fits columns.now values.now }
+{
+    columns
+        .items()
+        .iter()
+        .zip(values.items().iter())
+        .all(|(column, value)| fits(column, value))
+}
+
+fn fits(column: &Column, value: &Value) -> bool
+    ensures { result ≡ fits column.now value.now }
+{
+    has_kind(column, value) && allows(column, value)
+}
+
+fn has_kind(column: &Column, value: &Value) -> bool
+    ensures { result ≡ has_kind column.now value.now }
+{
+    match value {
+        Value::Null => true,
+        Value::Int(_) => !column.text,
+        Value::Text(_) => column.text,
+    }
+}
+
+fn allows(column: &Column, value: &Value) -> bool
+    ensures { result ≡ allows column.now value.now }
+{
+    match value {
+        Value::Null => !column.not_null,
+        _ => true,
+    }
+}
