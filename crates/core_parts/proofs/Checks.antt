@@ -1,6 +1,6 @@
 -- What a check of a query says.
-use Rattle.std.proofs.Common.{◌≡◌, refl, sym, ap, ◌∙◌, Bool, true, false, Option, Some, None}
-use Rattle.std.specs.Prelude.{Ok, Err, if◌then◌else◌}
+use Rattle.std.proofs.Common.{◌≡◌, refl, sym, Bool, true, false, Option, Some, None}
+use Rattle.std.specs.Prelude.{Ok, if◌then◌else◌}
 use Rattle.core_parts.specs.Checking.{IsChecked, WasChecked}
 use Rattle.sql_model.specs.Places.{checked_statement, checked_unless}
 use Rattle.sql_model.specs.Refusals.{check_refusal, clashes, lacks_column, lacks_table}

@@ -1,4 +1,7 @@
 pub mod Checks
+pub mod ConjunctLaws
+pub mod Equalities
+pub mod FixingLaws
 pub mod Listings
 pub mod Lists
 pub mod Names

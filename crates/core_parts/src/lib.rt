@@ -1,4 +1,4 @@
-//! The parts of a core of a checked query, for the crates that evaluate it.
+//! The parts of a checked statement, for the crates that evaluate it.
 //!
 //! It promises to the layers above:
 //! - `core_of`, `query_of` and `places_or` lend a core, the query and the places of a core's column names, as
@@ -6,21 +6,34 @@
 //! - `Placed` is an expression with the places of its columns in the joined row. `placed_at`, `placed_items`,
 //!   `take_places` and `take_place` take the places of expressions from the front of a list
 //!   (`specs/Placing.antt`);
+//! - `conjuncts` and `conjuncts_of` take conditions apart at their ANDs (`specs/Conditions.antt`). `fixed_key`
+//!   has the constants to which conditions fix the columns of a key (`specs/Fixing.antt`). `is_column` and
+//!   `is_equal_test` tell the comparisons for that (`specs/Equality.antt`);
 //! - `Refs` is a list of references, which contracts see as the list of what they refer to, and `RefsBy` has
 //!   such lists under keys (`specs/Listing.antt`);
+//! - `ByOrder` is a reference to a value or to the values of a row, as a key of a set or a map;
 //! - `is_certain` tells True from False and Unknown.
 //!
 //! The lemmas on places and lists that proofs above use are in `proofs/Places.antt`, `proofs/Names.antt`,
-//! `proofs/Lists.antt` and `proofs/Listings.antt`.
+//! `proofs/Lists.antt` and `proofs/Listings.antt`, those on conditions in `proofs/Equalities.antt`,
+//! `proofs/ConjunctLaws.antt` and `proofs/FixingLaws.antt`.
 #![tactic(auto)]
 
+mod by_order;
+mod conditions;
 mod cores;
+mod equality;
+mod fixing;
 mod placed;
 mod refs;
 mod refs_by;
 mod truths;
 
+pub use by_order::{ByOrder, Ordered};
+pub use conditions::{conjuncts, conjuncts_of};
 pub use cores::{core_of, places_or, query_of};
+pub use equality::{is_column, is_equal_test};
+pub use fixing::fixed_key;
 pub use placed::{Placed, placed_at, placed_items, take_place, take_places};
 pub use refs::Refs;
 pub use refs_by::RefsBy;

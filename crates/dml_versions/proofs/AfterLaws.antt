@@ -7,7 +7,7 @@ use Rattle.sql_model.specs.Refusals.{check_refusal}
 use Rattle.sql_model.specs.Scope.{catalog_of}
 use Rattle.sql_model.specs.Statements.{target, refusal_of, reply_or, after_unless, after}
 use Rattle.table_store.specs.Histories.{tables_now, AreKeptBefore}
-use Rattle.dml_versions.specs.Changing.{IsChange, IsStoreAfter}
+use Rattle.dml_versions.specs.Changing.{IsWhole, IsStoreAfter}
 use Rattle.dml_versions.specs.Types.{SqlRefusal, Statement, StoreHistory, Table}
 use Rattle.dml_versions.specs.Versions.{versions_now}
 use Rattle.dml_versions.specs.declared.change.Change.{Change}
@@ -24,7 +24,7 @@ module _ (s : Statement) (store : StoreHistory) (refusal : Option SqlRefusal) (i
   db = tables_now store
 
   pub change-by : (change : Change) → change.reply ≡ reply_or refusal (Some s) db → change.made ≡ made_unless refusal (versions_now store) (Some s) db
-      → change.needs ≡ map (read_of (versions_now store)) (sorted_needs (needs_by refusal s db)) → IsChange s store change
+      → change.needs ≡ map (read_of (versions_now store)) (sorted_needs (needs_by refusal s db)) → IsWhole s store change
   change-by change reply made needs = record {
     reply = reply ∙ sym (reply_is (Some s) db ∙ ap (λ (r : Option SqlRefusal). reply_or r (Some s) db) is);
     made = made ∙ sym (made_is (versions_now store) (Some s) db ∙ ap (λ (r : Option SqlRefusal). made_unless r (versions_now store) (Some s) db) is);

@@ -1,15 +1,15 @@
 -- Where no two rows have the same key, none is refused for its key.
-use Rattle.std.proofs.Common.{◌≡◌, ◌==◌, ◌<◌, ℕ, List, [], ◌∷◌, ◌++◌, map, length, refl, ap, sym, ◌∙◌, arith, Bool, true, false, not, cond, ◌&&◌, Option, Some, None}
+use Rattle.std.proofs.Common.{◌≡◌, ℕ, List, [], ◌∷◌, ◌++◌, map, refl, ap, ◌∙◌, arith, Bool, true, false, cond, Option, Some, None}
 use Rattle.std.specs.Prelude.{filter, find}
 use Rattle.std.specs.List.{list_any, AllByRecursion}
 use Rattle.std.specs.Option.{option_or}
-use Rattle.std.proofs.lemmas.Bool.{ne_eqb}
 use Rattle.ldv_value.proofs.Booleans.{or-parts}
 use Rattle.ldv_value.proofs.Lists.{find-append}
 use Rattle.sql_laws.proofs.UniqueKeys.{values_in, unique-fewer}
-use Rattle.sql_model.specs.Changes.{KeyClash, shares_key, clash_or, clash_after, clash_by}
+use Rattle.sql_model.specs.Changes.{shares_key, clash_or, clash_after, clash_by}
 use Rattle.sql_model.specs.Keys.{same_values, values_at, repeats}
 use Rattle.sql_model.specs.Tables.{are_keys_unique}
+use Rattle.table_store.proofs.StandingRows.{none-twice}
 use Rattle.dml_versions.specs.Types.{TableRow, Value}
 
 module _ (key : List ℕ) where
@@ -42,23 +42,10 @@ module _ (key : List ℕ) where
       ap (λ (o : Option TableRow). clash_or o row (clash_after key (before ++ row ∷ []) rows)) all.0
       ∙ clear (before ++ row ∷ []) rows (one_more row before rows all.1 parts.0) parts.1
 
-apart_by : (b twice : Bool) → b ≡ true → not (b && twice) ≡ true → twice ≡ false
-apart_by true true here is = cc
-apart_by true false here is = refl
-apart_by false twice here is = cc
-
 pub no-clash : (key : List ℕ) (rows : List TableRow) → are_keys_unique key (values_in rows) ≡ true → clash_by key rows ≡ None
 no-clash [] rows is = refl
 no-clash (place ∷ places) rows is =
-    let some : (length (place ∷ places) == 0) ≡ false = ne_eqb (length (place ∷ places)) 0 (λ none. absurd (omega (arith, none))) in
-    clear (place ∷ places) [] rows (none_before (place ∷ places) rows)
-    (apart_by (not (length (place ∷ places) == 0)) (repeats same_values (keys (place ∷ places) rows)) (ap not some) is)
+    clear (place ∷ places) [] rows (none_before (place ∷ places) rows) (none-twice (place ∷ places) (values_in rows) (omega arith) is)
 
 pub no-clash-fewer : (key : List ℕ) (keep : TableRow → Bool) (rows : List TableRow) → are_keys_unique key (values_in rows) ≡ true → clash_by key (filter keep rows) ≡ None
 no-clash-fewer key keep rows is = no-clash key (filter keep rows) (unique-fewer key keep rows is)
-
--- where keys are unique, none is there twice
-pub unique-repeats : (key : List ℕ) (rows : List TableRow) → 0 < length key → are_keys_unique key (values_in rows) ≡ true → repeats same_values (keys key rows) ≡ false
-unique-repeats key rows some is =
-    let there : (length key == 0) ≡ false = ne_eqb (length key) 0 (λ none. absurd (omega (arith, none, some))) in
-    apart_by (not (length key == 0)) (repeats same_values (keys key rows)) (ap not there) is

@@ -1,34 +1,32 @@
 -- What a DELETE returns and leaves, from the rows that were found.
-use Rattle.std.proofs.Common.{◌≡◌, ◌==◌, ℕ, ◌<◌, ◌≤◌, List, [], ◌∷◌, map, length, refl, ap, sym, ◌∙◌, subst, arith, Option, Some, None, Bool, true, false, not}
-use Rattle.std.specs.Prelude.{filter, find, if◌then◌else◌}
-use Rattle.std.specs.List.{list_any, list_all, AllByRecursion}
-use Rattle.std.specs.Option.{option_map}
+use Rattle.std.proofs.Common.{◌≡◌, ℕ, ◌≤◌, List, [], map, refl, ap, sym, ◌∙◌, subst, arith, Option, Some, None, Bool, true, not}
+use Rattle.std.specs.Prelude.{filter}
+use Rattle.std.specs.List.{list_all}
 use Rattle.ldv_value.proofs.Booleans.{and-parts}
-use Rattle.ldv_value.proofs.Lists.{map-map, length-map}
+use Rattle.ldv_value.proofs.Lists.{map-map}
 use Rattle.ldv_value.specs.Sorted.{is_strictly_sorted}
 use Rattle.sql_model.proofs.ValidTables.{table-parts}
-use Rattle.sql_model.specs.Changes.{is_matched, matched_in, matched, changed, changed_in, after_delete, change_refusal, key_clash, key_refusal, KeyClash, with_rows, table_of, or_else}
-use Rattle.sql_model.specs.Needs.{matched_row, matched_rows, next_member, members_made, made_unless, sorted_needs, needs_by, accepted_needs, updated_unless, updated_in, versions_after, read_of, is_row_of}
-use Rattle.sql_model.specs.QueryAnswer.{Origin}
+use Rattle.sql_model.specs.Changes.{is_matched, matched_in, matched, after_delete, key_clash, key_refusal, KeyClash, with_rows, or_else}
+use Rattle.sql_model.specs.Needs.{updated_unless, updated_in, versions_after}
 use Rattle.sql_model.specs.Refusals.{check_refusal}
-use Rattle.sql_model.specs.Scope.{InScope, table_at, is_table, catalog_of, own_scope}
-use Rattle.sql_model.specs.Statements.{target, refusal_of, reply_or, accepted_reply, matched_count, after_unless}
-use Rattle.sql_model.specs.Tables.{is_valid_table, is_database, table_precedes}
+use Rattle.sql_model.specs.Scope.{InScope, table_at, catalog_of, own_scope}
+use Rattle.sql_model.specs.Statements.{refusal_of, after_unless}
+use Rattle.sql_model.specs.Tables.{is_valid_table, table_precedes}
 use Rattle.table_store.specs.Histories.{tables_now, table_now, history_at, rows_now, last_next, changed_at, removed, dropped, dropping, changed_by, AreKeptBefore, history_of_row}
 use Rattle.table_store.specs.RowOrder.{AreInOrder}
-use Rattle.table_store.specs.Stops.{with_removed, with_changed, is_among, are_sorted_numbers, all_stand}
-use Rattle.dml_versions.proofs.AfterLaws.{refusal-is, change-by, after-by}
+use Rattle.table_store.specs.Stops.{with_removed, with_changed, are_sorted_numbers, all_stand}
+use Rattle.dml_versions.proofs.AfterLaws.{refusal-is, after-by}
 use Rattle.dml_versions.proofs.CheckLaws.{found-valid}
 use Rattle.dml_versions.proofs.ClashLaws.{no-clash-fewer}
-use Rattle.dml_versions.proofs.MatchLaws.{rows-sorted, same-changed, made-is, needs-is, matched-stand}
-use Rattle.dml_versions.proofs.NeedLaws.{needs-matched}
+use Rattle.dml_versions.proofs.MatchLaws.{rows-sorted, same-changed, matched-stand}
+use Rattle.dml_versions.proofs.MatchedChange.{matched-change}
 use Rattle.dml_versions.proofs.NumberLaws.{AreSorted, removed-some, numbers-sorted, some-sorted, numbers-in}
-use Rattle.dml_versions.proofs.TableLaws.{table-now, scope-is, history-name}
+use Rattle.dml_versions.proofs.TableLaws.{table-now, scope-is}
 use Rattle.dml_versions.proofs.VersionLaws.{updates-dropped, versions-changed}
-use Rattle.dml_versions.specs.Changing.{IsChange, IsStoreAfter, AreWellFormed, matched_change}
-use Rattle.dml_versions.specs.Finding.{scope_in, test_in, found_row, found_from}
-use Rattle.dml_versions.specs.Needing.{number_found, need_found, made_found}
-use Rattle.dml_versions.specs.Types.{Statement, TheDelete, Delete, SqlRefusal, Full, Reply, Changed, Member, Need, Table, TableRow, StoreHistory, TableHistory}
+use Rattle.dml_versions.specs.Changing.{IsWhole, IsStoreAfter, AreWellFormed, matched_change}
+use Rattle.dml_versions.specs.Finding.{scope_in, test_in, found_row}
+use Rattle.dml_versions.specs.Needing.{number_found}
+use Rattle.dml_versions.specs.Types.{Statement, TheDelete, Delete, Table, TableRow, StoreHistory, TableHistory}
 use Rattle.dml_versions.specs.Versions.{versions_now, updates_of}
 use Rattle.dml_versions.specs.declared.found.Found.{Found}
 
@@ -95,31 +93,10 @@ module _ (store : StoreHistory) (delete : Delete) (table : TableHistory) (there 
 
       -- ---- what it returns
 
-      reply_is : accepted_reply s db ≡ Changed (length found)
-      reply_is =
-          ap (λ (o : Option Table). Changed (matched_count s (catalog_of db) o)) target_is
-          ∙ ap (λ (l : List TableRow). Changed (length l)) gone_is
-          ∙ ap Changed (sym (length-map gone (found_row table.slots)) ∙ sym (ap length is))
-
-      made_is : made_unless None (versions_now store) (Some s) db ≡ map (next_member (versions_now store) t) gone
-      made_is = ap (members_made (versions_now store) s (catalog_of db)) target_is ∙ ap (map (next_member (versions_now store) t)) gone_is
-
-      needs_are : sorted_needs (needs_by None s db) ≡ map (matched_row t) gone
-      needs_are =
-          ap (λ (o : Option Table). sorted_needs (matched_rows s (catalog_of db) o)) target_is
-          ∙ ap (λ (l : List TableRow). sorted_needs (map (matched_row t) l)) gone_is
-          ∙ needs-matched t gone gone_sorted
-
-      named : t.name ≡ delete.table
-      named = history-name delete.table store table there
-
-      pub delete-change : IsChange s store (matched_change delete.table found)
+      pub delete-change : IsWhole s store (matched_change delete.table found)
       delete-change =
-          let stand = matched-stand store delete.table table there order test in
-          change-by s store None refused_not (matched_change delete.table found)
-          (sym reply_is)
-          (ap (map (made_found delete.table)) is ∙ made-is store delete.table table there order t named gone stand ∙ sym made_is)
-          (ap (map (need_found delete.table)) is ∙ needs-is store delete.table table there order t named gone stand ∙ ap (map (read_of (versions_now store))) (sym needs_are))
+          matched-change store s delete.table table there order refl refl refl refl
+          gone gone_is gone_sorted (matched-stand store delete.table table there order test) refused_not found is
 
       -- ---- what it leaves
 

@@ -1,28 +1,23 @@
 -- The rows that are found slot by slot.
-use Rattle.std.proofs.Common.{◌≡◌, ℕ, ◌+◌, inl, inr, Bool, true, false, cond, List, [], ◌∷◌, ◌++◌, map, length, get_or, drop, refl, ap, sym, ◌∙◌, arith, Option, Some, None, add-one, drop-cons, append-nil}
+use Rattle.std.proofs.Common.{◌≡◌, ℕ, ◌+◌, inl, inr, Bool, true, false, cond, List, [], ◌∷◌, ◌++◌, map, length, get_or, drop, refl, ap, sym, ◌∙◌, arith, Option, Some, None, append-nil}
 use Rattle.std.specs.Prelude.{filter, IsSome}
-use Rattle.std.specs.List.{filter_map, cons_option}
 use Rattle.std.specs.Option.{option_map, option_to_list}
 use Rattle.std.proofs.lemmas.Bool.{cases_lt}
 use Rattle.std.proofs.lemmas.List.{get_or_past, map-append}
 use Rattle.std.proofs.Math.ListN.{drop_of_length-le}
 use Rattle.ldv_value.proofs.Lists.{filter-append}
 use Rattle.row_version.specs.History.{current}
+use Rattle.table_store.proofs.StandingRows.{not-there}
+use Rattle.table_store.proofs.TableLaws.{left_more}
 use Rattle.table_store.specs.Histories.{RowHistory, no_history, row_of, row_now, rows_now}
 use Rattle.dml_versions.specs.Finding.{found_row, found_at, found_from, version_of}
 use Rattle.dml_versions.specs.Types.{TableRow, Value}
 use Rattle.dml_versions.specs.declared.found.Found.{Found}
 
-cons_is : {X : Type 0} (o : Option X) (xs : List X) → cons_option o xs ≡ option_to_list o ++ xs
-cons_is None xs = refl
-cons_is (Some x) xs = refl
-
 -- the rows of the slots from one on
 pub rows-step : (slots : List RowHistory) (at : ℕ) → rows_now (drop at slots) ≡ option_to_list (row_now (get_or slots at no_history)) ++ rows_now (drop (at + 1) slots)
 rows-step slots at = elim (cases_lt at (length slots)) [
-  | inl within ↦
-      ap rows_now (drop-cons slots at no_history within ∙ ap (λ n. get_or slots at no_history ∷ drop n slots) (sym (add-one at)))
-      ∙ cons_is (row_now (get_or slots at no_history)) (rows_now (drop (at + 1) slots))
+  | inl within ↦ left_more row_now slots at within
   | inr past ↦
       let here : drop at slots ≡ [] = drop_of_length-le slots past in
       let next : drop (at + 1) slots ≡ [] = drop_of_length-le slots (omega arith) in
@@ -41,10 +36,6 @@ module _ (test : TableRow → Bool) (slots : List RowHistory) where
       ∙ map-append (found_row slots) (filter test here) (filter test more)
 
 -- ---- the row of a slot
-
-gone_by : (o : Option TableRow) → None ≡ option_map (λ row. row.number) o → o ≡ None
-gone_by None is = refl
-gone_by (Some row) is = cc
 
 stands_by : (now : Option (List Value)) (own number : ℕ) → Some number ≡ option_map (λ row. row.number) (row_of own now) → IsSome now
 stands_by None own number is = cc
@@ -70,7 +61,7 @@ module _ (slots : List RowHistory) (slot : ℕ) where
     -- no row stands in it
     pub found-gone : None ≡ option_map (λ row. row.number) (row_now here) → old ≡ old ++ found_at test slots slot
     found-gone is =
-        sym (ap (λ (o : Option TableRow). old ++ map (found_row slots) (filter test (option_to_list o))) (gone_by (row_now here) is) ∙ append-nil old)
+        sym (ap (λ (o : Option TableRow). old ++ map (found_row slots) (filter test (option_to_list o))) (not-there (row_now here) is) ∙ append-nil old)
 
     module _ (number : ℕ) (values : List Value) (is : Some number ≡ option_map (λ row. row.number) (row_now here)) (held : Some values ≡ current here.changes) where
       abbrev row : TableRow

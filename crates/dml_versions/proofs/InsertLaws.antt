@@ -27,7 +27,7 @@ use Rattle.dml_versions.proofs.MatchLaws.{same-changed}
 use Rattle.dml_versions.proofs.RefuseLaws.{stop_by, not-refused, not-full, refused-change, refused-after}
 use Rattle.dml_versions.proofs.TableLaws.{table-now, history-name, schema-now}
 use Rattle.dml_versions.proofs.VersionLaws.{updates-added, versions-changed}
-use Rattle.dml_versions.specs.Changing.{IsChange, IsStoreAfter, AreWellFormed, inserted_change, refused_change}
+use Rattle.dml_versions.specs.Changing.{IsWhole, IsStoreAfter, AreWellFormed, inserted_change, refused_change}
 use Rattle.dml_versions.specs.Needing.{made_new}
 use Rattle.dml_versions.specs.Types.{Statement, TheInsert, Insert, Changed, Column, Expr, Member, Value, Table, TableRow, StoreHistory, TableHistory}
 use Rattle.dml_versions.specs.Versions.{versions_now, updates_of}
@@ -108,7 +108,7 @@ module _ (store : StoreHistory) (insert : Insert) (table : TableHistory) (there 
       made_is : made_unless None (versions_now store) (Some s) db ≡ map (new_member t) (inserted insert t)
       made_is = ap (members_made (versions_now store) s (catalog_of db)) target_is
 
-      pub insert-change : (next : ℕ) → next ≡ t.next → IsChange s store (inserted_change insert.table next rows)
+      pub insert-change : (next : ℕ) → next ≡ t.next → IsWhole s store (inserted_change insert.table next rows)
       insert-change next next_is =
           change-by s store None refused_not (inserted_change insert.table next rows)
           (ap Changed (ap length rows_is ∙ count_is))
@@ -145,7 +145,7 @@ module _ (store : StoreHistory) (insert : Insert) (table : TableHistory) (there 
       stops_by : StopsAs {X = X} (stop_by t (lacks_value s (catalog_of db) t) (key_clash (changed s (catalog_of db) t)) (is_full s t)) (Err at)
       stops_by = subst (λ (o : Option StoreStop). StopsAs {X = X} o (Err at)) due_is stops
 
-      pub insert-refused : IsChange s store change
+      pub insert-refused : IsWhole s store change
       insert-refused = refused-change store s insert.table table there order target_is check [] refl refl tt X at change stops_by made
 
       pub insert-kept : (time : ℕ) (after : StoreHistory) → store.time < time → after ≡ store → IsStoreAfter s time store after

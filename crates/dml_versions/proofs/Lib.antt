@@ -6,9 +6,11 @@ pub mod EntryLaws
 pub mod FixingLaws
 pub mod FoundLaws
 pub mod InsertLaws
+pub mod KeptLaws
 pub mod KeyLaws
 pub mod MadeLaws
 pub mod MatchLaws
+pub mod MatchedChange
 pub mod NeedLaws
 pub mod NumberLaws
 pub mod RefuseLaws

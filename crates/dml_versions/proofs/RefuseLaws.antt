@@ -23,7 +23,7 @@ use Rattle.dml_versions.proofs.NeedLaws.{added, needs-matched, needs-refused}
 use Rattle.dml_versions.proofs.NumberLaws.{AreSorted}
 use Rattle.dml_versions.proofs.StandingLaws.{Stands, all-stand}
 use Rattle.dml_versions.proofs.TableLaws.{history-name}
-use Rattle.dml_versions.specs.Changing.{IsChange, IsStoreAfter, refused_change, refused_by}
+use Rattle.dml_versions.specs.Changing.{IsWhole, IsStoreAfter, refused_change, refused_by}
 use Rattle.dml_versions.specs.Finding.{found_row, version_of}
 use Rattle.dml_versions.specs.Needing.{need_found, key_need, put_some, with_key_rows}
 use Rattle.dml_versions.specs.Types.{Need, K, Statement, Reply, Refused, SqlRefusal, NotNull, KeyTaken, Full, Table, TableRow, Value, StoreHistory, TableHistory}
@@ -146,11 +146,11 @@ module _ (store : StoreHistory) (s : Statement) (name : List ℕ) (table : Table
     matched_are : matched_rows s (catalog_of db) (target s db) ≡ map (matched_row t) rows
     matched_are = ap (matched_rows s (catalog_of db)) target_is ∙ ap (map (matched_row t)) rows_are
 
-    null_change : stop_by t lacks clash full ≡ Some stop.NotNull → IsChange s store (refused_by NotNull needs)
+    null_change : stop_by t lacks clash full ≡ Some stop.NotNull → IsWhole s store (refused_by NotNull needs)
     null_change is = change-by s store (Some NotNull) (refusal_of_rows ∙ by_null t lacks clash full is) (refused_by NotNull needs) refl refl
         (needs_are ∙ ap (λ (l : List NeededRow). map (read_of (versions_now store)) (sorted_needs l)) (sym matched_are))
 
-    full_change : stop_by t lacks clash full ≡ Some stop.Full → IsChange s store (refused_by Full [])
+    full_change : stop_by t lacks clash full ≡ Some stop.Full → IsWhole s store (refused_by Full [])
     full_change is = change-by s store (Some Full) (refusal_of_rows ∙ by_full t lacks clash full is) (refused_by Full []) refl refl refl
 
     key_needs : (clash_is : KeyClash) → clash ≡ Some clash_is
@@ -164,7 +164,7 @@ module _ (store : StoreHistory) (s : Statement) (name : List ℕ) (table : Table
         (λ j. sym matched_are j ++ sym (ap (key_rows s (catalog_of db)) target_is ∙ ap (λ (o : Option KeyClash). map (key_row t) (filter (stood t) (clash_rows o))) is) j)
 
     key_change : (earlier later : Option ℕ) (key : List Value) → stop_by t lacks clash full ≡ Some (stop.KeyTaken earlier later key)
-        → IsChange s store (refused_by (KeyTaken name key) (with_key_rows name table.slots earlier later needs))
+        → IsWhole s store (refused_by (KeyTaken name key) (with_key_rows name table.slots earlier later needs))
     key_change earlier later key is =
         let both = by_key t lacks clash full earlier later key is in
         let c = both.0 in
@@ -176,11 +176,11 @@ module _ (store : StoreHistory) (s : Statement) (name : List ℕ) (table : Table
     some_is a b is = cc
 
     pub refused-change : (X : Type 0) (at : StoreStop) (change : Change) → StopsAs {X = X} (stop_by t lacks clash full) (Err at) → refused_change name table.slots needs at ≡ Some change
-        → IsChange s store change
-    refused-change X stop.NotNull change stops is = subst (IsChange s store) (some_is (refused_by NotNull needs) change is) (null_change stops)
+        → IsWhole s store change
+    refused-change X stop.NotNull change stops is = subst (IsWhole s store) (some_is (refused_by NotNull needs) change is) (null_change stops)
     refused-change X (stop.KeyTaken earlier later key) change stops is =
-        subst (IsChange s store) (some_is (refused_by (KeyTaken name key) (with_key_rows name table.slots earlier later needs)) change is) (key_change earlier later key stops)
-    refused-change X stop.Full change stops is = subst (IsChange s store) (some_is (refused_by Full []) change is) (full_change stops)
+        subst (IsWhole s store) (some_is (refused_by (KeyTaken name key) (with_key_rows name table.slots earlier later needs)) change is) (key_change earlier later key stops)
+    refused-change X stop.Full change stops is = subst (IsWhole s store) (some_is (refused_by Full []) change is) (full_change stops)
     refused-change X stop.NoMemory change stops is = cc
 
     pub refused-after : (X : Type 0) (at : StoreStop) (change : Change) → StopsAs {X = X} (stop_by t lacks clash full) (Err at) → refused_change name table.slots needs at ≡ Some change

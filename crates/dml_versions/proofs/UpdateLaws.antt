@@ -1,40 +1,40 @@
 -- What an UPDATE returns and leaves, from the rows that were found.
 use Rattle.std.proofs.Common.{◌≡◌, ◌==◌, ℕ, ◌+◌, ◌<◌, ◌≤◌, List, [], ◌∷◌, map, length, refl, ap, sym, ◌∙◌, subst, arith, Option, Some, None, Bool, true, false}
-use Rattle.std.specs.Prelude.{filter, find, zip, Result, Ok, Err, if◌then◌else◌, ◌&&◌}
+use Rattle.std.specs.Prelude.{filter, zip, Err, if◌then◌else◌, ◌&&◌}
 use Rattle.std.specs.List.{list_any, list_all, AllByRecursion}
-use Rattle.std.specs.Option.{option_map, option_or, option_and_then}
+use Rattle.std.specs.Option.{option_or, option_and_then}
 use Rattle.std.proofs.lemmas.Bool.Decides.{Decides-eqb}
-use Rattle.ldv_value.proofs.Booleans.{and-parts, and-from, and-true}
-use Rattle.ldv_value.proofs.Lists.{map-map, length-map, list_all-map, list_all-filter, list_all-weaker, list_any-map, list_any-false}
+use Rattle.ldv_value.proofs.Booleans.{and-parts, and-from}
+use Rattle.ldv_value.proofs.Lists.{map-map, list_all-map, list_all-filter, list_all-weaker, list_any-map, list_any-false}
 use Rattle.ldv_value.proofs.Options.{option_or-none}
 use Rattle.ldv_value.proofs.SameBytes.{bytes_eq-itself}
 use Rattle.ldv_value.specs.Sorted.{is_strictly_sorted}
 use Rattle.sql_laws.proofs.NewRows.{all_first, updated_kinds, updated_length}
 use Rattle.sql_model.proofs.ValidTables.{table-parts, kinds-fits}
-use Rattle.sql_model.specs.Changes.{KeyClash, is_matched, matched_in, matched, changed, after_update, updated_row, updated_values, update_one, with_rows, has_null, new_rows, lacks_value, key_clash}
-use Rattle.sql_model.specs.Needs.{matched_row, matched_rows, next_member, members_made, made_unless, sorted_needs, needs_by, updated_unless, updated_in, updated_origin, versions_after, read_of, is_row_of}
+use Rattle.sql_model.specs.Changes.{matched_in, matched, changed, after_update, updated_row, updated_values, with_rows, has_null, new_rows, lacks_value, key_clash}
+use Rattle.sql_model.specs.Needs.{updated_unless, updated_in, updated_origin, versions_after, is_row_of}
 use Rattle.sql_model.specs.Refusals.{check_refusal, set_fits}
-use Rattle.sql_model.specs.Scope.{InScope, same_text, table_at, is_table, catalog_of, own_scope}
-use Rattle.sql_model.specs.Statements.{target, refusal_of, accepted_reply, matched_count, after_unless}
-use Rattle.sql_model.specs.Tables.{is_valid_table, table_precedes, has_kind, fits, each_value, is_row, are_distinct}
+use Rattle.sql_model.specs.Scope.{InScope, same_text, table_at, catalog_of, own_scope}
+use Rattle.sql_model.specs.Statements.{refusal_of, after_unless}
+use Rattle.sql_model.specs.Tables.{is_valid_table, table_precedes, has_kind, fits, each_value, is_row}
 use Rattle.table_store.specs.Histories.{tables_now, table_now, history_at, rows_now, last_next, changed_at, replaced, rewritten, AreKeptBefore, history_of_row}
 use Rattle.table_store.specs.RowOrder.{AreInOrder}
-use Rattle.table_store.specs.Stops.{with_replaced, with_changed, are_sorted_rows, all_stood, have_shape, has_shape, values_of, replace_stop, replaced_by, stop_if, key_stop, StopsAs}
+use Rattle.table_store.specs.Stops.{with_replaced, with_changed, are_sorted_rows, all_stood, have_shape, has_shape, values_of, replace_stop, stop_if, key_stop, StopsAs}
 use Rattle.table_store.specs.declared.stop.StoreStop.{StoreStop}
 use Rattle.table_store.specs.declared.stop.StoreStop.TheVariants as stop
-use Rattle.dml_versions.proofs.AfterLaws.{change-by, after-by}
+use Rattle.dml_versions.proofs.AfterLaws.{after-by}
 use Rattle.dml_versions.proofs.CheckLaws.{found-valid, found-distinct, sets-fit}
-use Rattle.dml_versions.proofs.MatchLaws.{rows-sorted, same-changed, made-is, needs-is, matched-stand}
-use Rattle.dml_versions.proofs.NeedLaws.{needs-matched}
+use Rattle.dml_versions.proofs.MatchLaws.{rows-sorted, same-changed, matched-stand}
+use Rattle.dml_versions.proofs.MatchedChange.{matched-change}
 use Rattle.dml_versions.proofs.NumberLaws.{AreSorted, replaced-some, made-sorted, some-sorted, made-in}
 use Rattle.dml_versions.proofs.RefuseLaws.{stop_by, not-refused, refused-change, refused-after}
 use Rattle.dml_versions.proofs.StandingLaws.{Stands}
 use Rattle.dml_versions.proofs.TableLaws.{table-now, scope-is, history-name, schema-now}
 use Rattle.dml_versions.proofs.VersionLaws.{updates-rewritten, versions-changed}
-use Rattle.dml_versions.specs.Changing.{IsChange, IsStoreAfter, AreWellFormed, matched_change, refused_change}
+use Rattle.dml_versions.specs.Changing.{IsWhole, IsStoreAfter, AreWellFormed, matched_change, refused_change}
 use Rattle.dml_versions.specs.Finding.{scope_in, test_in, found_row, row_of}
-use Rattle.dml_versions.specs.Needing.{need_found, made_found}
-use Rattle.dml_versions.specs.Types.{Statement, TheUpdate, Update, SqlRefusal, Changed, Column, Value, Schema, Table, TableRow, StoreHistory, TableHistory}
+use Rattle.dml_versions.specs.Needing.{need_found}
+use Rattle.dml_versions.specs.Types.{Statement, TheUpdate, Update, Column, Table, TableRow, StoreHistory, TableHistory}
 use Rattle.dml_versions.specs.Versions.{versions_now, updates_of}
 use Rattle.dml_versions.specs.declared.change.Change.{Change}
 use Rattle.dml_versions.specs.declared.found.Found.{Found}
@@ -162,30 +162,11 @@ module _ (store : StoreHistory) (update : Update) (table : TableHistory) (there 
       refused_not : refusal_of (Some s) db ≡ None
       refused_not = not-refused store s update.table table there order target_is check (sym due_is ∙ fine)
 
-      reply_is : accepted_reply s db ≡ Changed (length found)
-      reply_is =
-          ap (λ (o : Option Table). Changed (matched_count s (catalog_of db) o)) target_is
-          ∙ ap (λ (l : List TableRow). Changed (length l)) old_is
-          ∙ ap Changed (sym (length-map old (found_row table.slots)) ∙ sym (ap length found_is))
-
-      made_is : made_unless None (versions_now store) (Some s) db ≡ map (next_member (versions_now store) t) old
-      made_is = ap (members_made (versions_now store) s (catalog_of db)) target_is ∙ ap (map (next_member (versions_now store) t)) old_is
-
-      needs_are : sorted_needs (needs_by None s db) ≡ map (matched_row t) old
-      needs_are =
-          ap (λ (o : Option Table). sorted_needs (matched_rows s (catalog_of db) o)) target_is
-          ∙ ap (λ (l : List TableRow). sorted_needs (map (matched_row t) l)) old_is
-          ∙ needs-matched t old old_sorted
-
       named : t.name ≡ update.table
       named = history-name update.table store table there
 
-      pub update-change : IsChange s store (matched_change update.table found)
-      update-change =
-          change-by s store None refused_not (matched_change update.table found)
-          (sym reply_is)
-          (ap (map (made_found update.table)) found_is ∙ made-is store update.table table there order t named old old_stand ∙ sym made_is)
-          (ap (map (need_found update.table)) found_is ∙ needs-is store update.table table there order t named old old_stand ∙ ap (map (read_of (versions_now store))) (sym needs_are))
+      pub update-change : IsWhole s store (matched_change update.table found)
+      update-change = matched-change store s update.table table there order refl refl refl refl old old_is old_sorted old_stand refused_not found found_is
 
       tables_are : with_changed update.table (with_replaced rows) db ≡ after_unless None (Some s) db
       tables_are =
@@ -242,7 +223,7 @@ module _ (store : StoreHistory) (update : Update) (table : TableHistory) (there 
       made_by : refused_change update.table table.slots (map (need_found update.table) (map (found_row table.slots) old)) at ≡ Some change
       made_by = ap (λ (l : List Found). refused_change update.table table.slots (map (need_found update.table) l) at) (sym found_is) ∙ made
 
-      pub update-refused : IsChange s store change
+      pub update-refused : IsWhole s store change
       update-refused = refused-change store s update.table table there order target_is check old old_is old_sorted old_stand X at change stops_by made_by
 
       pub update-kept : (time : ℕ) (after : StoreHistory) → store.time < time → after ≡ store → IsStoreAfter s time store after

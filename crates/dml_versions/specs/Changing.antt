@@ -1,5 +1,5 @@
 -- What INSERT, UPDATE and DELETE return over a store, and what they make of it.
-use Rattle.std.specs.Prelude.{◌≡◌, ℕ, ◌≤◌, List, [], map, length, Bool, true, Option, Some, None, Ok}
+use Rattle.std.specs.Prelude.{◌≡◌, ℕ, ◌≤◌, List, [], map, length, Bool, true, false, IsTrue, Option, Some, None, Ok}
 use Rattle.sql_laws.specs.DatabaseLaw.{have_distinct_columns}
 use Rattle.sql_model.specs.Changes.{numbered, new_values, updated_row}
 use Rattle.sql_model.specs.Needs.{need_of, made_by, updated_rows, versions_after, read_of}
@@ -13,7 +13,7 @@ use Rattle.table_store.specs.declared.stop.StoreStop.TheVariants as stop
 use Rattle.dml_versions.specs.Finding.{scope_in, test_in, row_of, found_from}
 use Rattle.dml_versions.specs.Holding.{IsHeld}
 use Rattle.dml_versions.specs.Needing.{need_found, made_found, made_new, with_key_rows}
-use Rattle.dml_versions.specs.Types.{Checked, Expr, Need, Changed, Refused, SqlRefusal, NotNull, KeyTaken}
+use Rattle.dml_versions.specs.Types.{Checked, Expr, Need, Reply, Changed, Refused, SqlRefusal, NotNull, KeyTaken}
 use Rattle.dml_versions.specs.Types.{Full}
 use Rattle.dml_versions.specs.Types.{Statement, TheQuery, TheInsert, TheUpdate, TheDelete, Insert, Update}
 use Rattle.dml_versions.specs.Types.{Table, TableRow}
@@ -49,11 +49,13 @@ pub record AreWellFormed (db : List Table) : Type 0 where
   pub database : is_database db ≡ true
   pub distinct : have_distinct_columns db ≡ true
 
--- the reply of a statement, the versions that it makes, and the rows that it needs at their versions
-pub record IsChange (statement : Statement) (store : StoreHistory) (change : Change) : Type 0 where
+-- the reply of a statement and, where they are kept, the versions that it makes and the rows that it needs at
+-- their versions
+pub record IsChange (statement : Statement) (keep : Bool) (store : StoreHistory) (change : Change) : Type 0 where
   pub reply : change.reply ≡ reply_of (Some statement) (tables_now store)
-  pub made : change.made ≡ made_by (versions_now store) (Some statement) (tables_now store)
-  pub needs : change.needs ≡ map (read_of (versions_now store)) (need_of (Some statement) (tables_now store))
+  pub made : IsTrue keep → change.made ≡ made_by (versions_now store) (Some statement) (tables_now store)
+  pub needs : IsTrue keep
+      → change.needs ≡ map (read_of (versions_now store)) (need_of (Some statement) (tables_now store))
 
 -- the store after a statement at a time: its tables and their versions are those after the statement, and
 -- what the tables were before the time stays
@@ -65,6 +67,21 @@ pub record IsStoreAfter (statement : Statement) (time : ℕ) (old new : StoreHis
   pub earlier : AreKeptBefore time old new
 
 -- ---- on the way
+
+-- what a statement gives where its lists are kept
+pub record IsWhole (statement : Statement) (store : StoreHistory) (change : Change) : Type 0 where
+  pub reply : change.reply ≡ reply_of (Some statement) (tables_now store)
+  pub made : change.made ≡ made_by (versions_now store) (Some statement) (tables_now store)
+  pub needs : change.needs ≡ map (read_of (versions_now store)) (need_of (Some statement) (tables_now store))
+
+-- a change without its lists
+abbrev pub reply_alone : Reply → Change
+reply_alone reply = record { reply = reply; made = []; needs = [] }
+
+-- a change with its lists, or with its reply alone
+abbrev pub told : Bool → Change → Change
+told true change = change
+told false change = reply_alone change.reply
 
 -- the rows that WHERE matches in the table of a name
 pub record AreFound (name : List ℕ) (pick : Option Expr) (store : StoreHistory) (found : List Found)

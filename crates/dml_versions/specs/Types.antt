@@ -1,15 +1,9 @@
 -- The types of the crates below, under one name each.
-pub use Rattle.ldv_value.specs.declared.value.Cmp.{Cmp}
-pub use Rattle.ldv_value.specs.declared.value.Truth.{Truth}
-pub use Rattle.ldv_value.specs.declared.value.Truth.TheVariants.{True, False, Unknown}
 pub use Rattle.ldv_value.specs.declared.value.Value.{Value}
-pub use Rattle.ldv_value.specs.declared.value.Value.TheVariants.{Null, Int, Text}
 pub use Rattle.sql_model.specs.declared.catalog.Catalog.{Catalog}
 pub use Rattle.sql_model.specs.declared.catalog.Checked.{Checked}
 pub use Rattle.sql_model.specs.declared.expr.ColumnName.{ColumnName}
 pub use Rattle.sql_model.specs.declared.expr.Expr.{Expr}
-pub use Rattle.sql_model.specs.declared.expr.Operator.{Operator}
-pub use Rattle.sql_model.specs.declared.expr.Operator.TheVariants.{And, Compare}
 pub use Rattle.sql_model.specs.declared.need.Member.{Member}
 pub use Rattle.sql_model.specs.declared.need.Need.{Need}
 pub use Rattle.sql_model.specs.declared.need.Rule.{Rule}

@@ -3,7 +3,8 @@
 ghost use Rattle.std.specs.Prelude.{◌≡◌, ◌+◌, ◌<◌, ◌^◌, Some, IfOk, length, map, nat_lt, false};
 ghost use Rattle.std.specs.List.{AllByRecursion};
 ghost use Rattle.ldv_value.specs.Limits.{max_next};
-ghost use Rattle.dml_versions.specs.Changing.{matched_change, inserted_change, refused_change, refused_by};
+ghost use Rattle.dml_versions.specs.Changing.{matched_change, inserted_change, refused_change, refused_by, told};
+ghost use Rattle.dml_versions.specs.Changing.{reply_alone};
 ghost use Rattle.dml_versions.specs.Needing.{made_new};
 ghost use Rattle.sql_model.specs.Changes.{numbered};
 
@@ -15,7 +16,7 @@ use std::alloc::{AllocError, Global};
 use table_store::{StoreStop, TableStore};
 
 /// The reply to a statement, the versions that it made, and the rows that it needed at their versions, both
-/// lists sorted by row number.
+/// lists sorted by row number. Where they aren't kept, the lists may be anything.
 #[derive(Drop)]
 pub struct Change {
     pub reply: Reply,
@@ -23,12 +24,19 @@ pub struct Change {
     pub needs: Needs,
 }
 
-/// What a change of matched rows returns where nothing refuses it.
-pub(crate) fn matched_change(
-    alloc: Global,
-    name: &Utf8,
-    found: &FoundRows,
-) -> Result<Change, AllocError>
+// A change of which no lists are kept.
+fn reply_alone(alloc: Global, reply: Reply) -> Change
+    ensures { result ≡ reply_alone reply }
+{
+    Change {
+        reply,
+        made: List::new(alloc),
+        needs: List::new(alloc),
+    }
+}
+
+// A change of matched rows with its lists.
+fn matched_lists(alloc: Global, name: &Utf8, found: &FoundRows) -> Result<Change, AllocError>
     requires { AllByRecursion (λ row. row.version + 1 < 2 ^ 32) found.now }
     ensures { IfOk result (λ change. change ≡ matched_change name.now found.now) }
 {
@@ -39,8 +47,25 @@ pub(crate) fn matched_change(
     })
 }
 
-/// What an INSERT returns where nothing refuses it: its rows are numbered from `next` on.
-pub(crate) fn inserted_change(
+/// What a change of matched rows returns where nothing refuses it, with its lists where they are kept.
+pub(crate) fn matched_change(
+    alloc: Global,
+    name: &Utf8,
+    found: &FoundRows,
+    keep: bool,
+) -> Result<Change, AllocError>
+    requires { AllByRecursion (λ row. row.version + 1 < 2 ^ 32) found.now }
+    ensures { IfOk result (λ change. change ≡ told keep (matched_change name.now found.now)) }
+{
+    if keep {
+        matched_lists(alloc, name, found)
+    } else {
+        Ok(reply_alone(alloc, Reply::Changed(found.len() as u64)))
+    }
+}
+
+// An INSERT with its lists.
+fn inserted_lists(
     alloc: Global,
     name: &Utf8,
     next: u32,
@@ -54,6 +79,25 @@ pub(crate) fn inserted_change(
         made: made_within(alloc, name, next, rows)?,
         needs: List::new(alloc),
     })
+}
+
+/// What an INSERT returns where nothing refuses it, with its lists where they are kept: its rows are numbered
+/// from `next` on.
+pub(crate) fn inserted_change(
+    alloc: Global,
+    name: &Utf8,
+    next: u32,
+    rows: &RowList,
+    keep: bool,
+) -> Result<Change, AllocError>
+    ensures { IfOk result (λ change. nat_lt max_next (next + length rows.now) ≡ false
+        → change ≡ told keep (inserted_change name.now next rows.now)) }
+{
+    if keep {
+        inserted_lists(alloc, name, next, rows)
+    } else {
+        Ok(reply_alone(alloc, Reply::Changed(rows.len() as u64)))
+    }
 }
 
 // The versions that an INSERT makes, where the numbers of its rows are within the limit.

@@ -21,13 +21,18 @@ use table_store::Store;
 
 /// Drops the rows for which WHERE is True, or all where it is missing, at a time. The statement is a DELETE
 /// that was checked against the store's tables, and the time is later than that of the store's last change.
-/// On `AllocError` the store is as it was.
-pub fn delete(checked: &Checked, store: &mut Store, time: u32) -> Result<Change, AllocError>
+/// The lists are made where `keep` is true. On `AllocError` the store is as it was.
+pub fn delete(
+    checked: &Checked,
+    store: &mut Store,
+    time: u32,
+    keep: bool,
+) -> Result<Change, AllocError>
     requires kind { IsDelete checked.now.statement }
     requires checked { IsCheckedOver (tables_now store.old) checked.now }
     requires formed { AreWellFormed (tables_now store.old) }
     requires later { store.old.time < time }
-    ensures change { IfOk result (IsChange checked.now.statement store.old) }
+    ensures change { IfOk result (IsChange checked.now.statement keep store.old) }
     ensures after { OnOk result (IsStoreAfter checked.now.statement time store.old store.new) }
     ensures err { OnErr result (store.new ≡ store.old) }
 {
@@ -35,7 +40,7 @@ pub fn delete(checked: &Checked, store: &mut Store, time: u32) -> Result<Change,
     let delete = delete_of(checked);
     let found = deleted_rows(checked, delete, store)?;
     let numbers = numbers_of(alloc, &found)?;
-    let change = matched_change(alloc, &delete.table, &found)?;
+    let change = matched_change(alloc, &delete.table, &found, keep)?;
     let name = delete.table.as_str();
     store.delete_all(name, &numbers, time)?;
     Ok(change)

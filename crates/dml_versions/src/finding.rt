@@ -10,11 +10,11 @@ ghost use Rattle.table_store.specs.Histories.{table_now};
 ghost use Rattle.std.specs.Prelude.{ℕ, List as Items};
 
 use crate::found::{Found, FoundRows};
-use crate::keys::fixed_key;
+use crate::keys::picked_key;
 use crate::needs::version_of;
 use core_parts::is_certain;
 use ldv_value::{List, Places, Values};
-use sql_model::{Expr, truth_of};
+use sql_model::{Expr, RowKey, truth_of};
 use std::alloc::{AllocError, Global};
 use table_store::TableStore;
 
@@ -30,10 +30,10 @@ pub(crate) fn found_rows(
     requires unique { are_keys_unique table.now.schema.key (row_values (table_now table.now)) ≡ true }
     ensures { IfOk result (λ found. found ≡ found_from (test_in table.now pick.now) table.now.slots 0) }
 {
-    let fixed = fixed_key(alloc, &table.schema().key, pick, places)?;
+    let fixed = picked_key(alloc, table.schema(), pick, places)?;
     match fixed {
         None => found_in_slots(alloc, table, pick, places),
-        Some(key) => found_by_key(alloc, table, &key, pick, places),
+        Some(values) => found_by_key(alloc, table, &RowKey { values }, pick, places),
     }
 }
 
@@ -58,18 +58,18 @@ fn found_in_slots(
 fn found_by_key(
     alloc: Global,
     table: &TableStore,
-    key: &Values,
+    key: &RowKey,
     pick: &Option<Expr>,
     places: &Places,
 ) -> Result<FoundRows, AllocError>
     requires placed { IsPickPlaced (scope_in table.now) pick.now places.now }
-    requires fixed { FixesKey pick.now places.now table.now.schema.key key.now }
+    requires fixed { FixesKey pick.now places.now table.now.schema.key key.now.values }
     requires unique { are_keys_unique table.now.schema.key (row_values (table_now table.now)) ≡ true }
     ensures { IfOk result (λ found. found ≡ found_from (test_in table.now pick.now) table.now.slots 0) }
 {
     table.tell_order();
     let mut found = List::new(alloc);
-    match table.by_key(key) {
+    match table.by_row_key(key) {
         None => Ok(found),
         Some(number) => match table.slot_of(number) {
             None => unreachable!(),

@@ -17,13 +17,19 @@ use table_store::Store;
 
 /// Adds the rows of VALUES at a time, numbered from the number of the table's next row on. The statement is
 /// an INSERT that was checked against the store's tables, and the time is later than that of the store's last
-/// change. On `AllocError`, and where the statement is refused, the store is as it was.
-pub fn insert(checked: &Checked, store: &mut Store, time: u32) -> Result<Change, AllocError>
+/// change. The lists are made where `keep` is true. On `AllocError`, and where the statement is refused, the
+/// store is as it was.
+pub fn insert(
+    checked: &Checked,
+    store: &mut Store,
+    time: u32,
+    keep: bool,
+) -> Result<Change, AllocError>
     requires kind { IsInsert checked.now.statement }
     requires checked { IsCheckedOver (tables_now store.old) checked.now }
     requires formed { AreWellFormed (tables_now store.old) }
     requires later { store.old.time < time }
-    ensures change { IfOk result (IsChange checked.now.statement store.old) }
+    ensures change { IfOk result (IsChange checked.now.statement keep store.old) }
     ensures after { OnOk result (IsStoreAfter checked.now.statement time store.old store.new) }
     ensures err { OnErr result (store.new ≡ store.old) }
 {
@@ -32,7 +38,7 @@ pub fn insert(checked: &Checked, store: &mut Store, time: u32) -> Result<Change,
     let rows = inserted_rows(checked, insert, store)?;
     let name = insert.table.as_str();
     let next = store.next_at(name, time);
-    let change = inserted_change(alloc, &insert.table, next, &rows)?;
+    let change = inserted_change(alloc, &insert.table, next, &rows, keep)?;
     match store.insert_all(name, rows, time) {
         Ok(_first) => Ok(change),
         Err(stop) => {

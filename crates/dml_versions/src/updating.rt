@@ -21,14 +21,19 @@ use table_store::Store;
 
 /// Gives the rows for which WHERE is True, or all where it is missing, their new values at a time, each
 /// computed from the old row. The statement is an UPDATE that was checked against the store's tables, and the
-/// time is later than that of the store's last change. On `AllocError`, and where the statement is refused,
-/// the store is as it was.
-pub fn update(checked: &Checked, store: &mut Store, time: u32) -> Result<Change, AllocError>
+/// time is later than that of the store's last change. The lists are made where `keep` is true. On
+/// `AllocError`, and where the statement is refused, the store is as it was.
+pub fn update(
+    checked: &Checked,
+    store: &mut Store,
+    time: u32,
+    keep: bool,
+) -> Result<Change, AllocError>
     requires kind { IsUpdate checked.now.statement }
     requires checked { IsCheckedOver (tables_now store.old) checked.now }
     requires formed { AreWellFormed (tables_now store.old) }
     requires later { store.old.time < time }
-    ensures change { IfOk result (IsChange checked.now.statement store.old) }
+    ensures change { IfOk result (IsChange checked.now.statement keep store.old) }
     ensures after { OnOk result (IsStoreAfter checked.now.statement time store.old store.new) }
     ensures err { OnErr result (store.new ≡ store.old) }
 {
@@ -36,7 +41,7 @@ pub fn update(checked: &Checked, store: &mut Store, time: u32) -> Result<Change,
     let update = update_of(checked);
     let prepared = prepare(checked, update, store)?;
     let Prepared { found, rows } = prepared;
-    let change = matched_change(alloc, &update.table, &found)?;
+    let change = matched_change(alloc, &update.table, &found, keep)?;
     let name = update.table.as_str();
     match store.replace_all(name, rows, time) {
         Ok(()) => Ok(change),

@@ -4,7 +4,6 @@ use Rattle.std.specs.List.{list_all, AllByRecursion}
 use Rattle.std.specs.Str.{IsUtf8}
 use Rattle.std.specs.Int.{w8, w32, to_be_bytes}
 use Rattle.ldv_value.proofs.Booleans.{and-parts, and-from}
-use Rattle.ldv_value.proofs.Options.{same-some}
 use Rattle.sql_model.specs.declared.need.Rule.{Rule}
 use Rattle.sql_model.specs.declared.need.Member.{Member}
 use Rattle.sql_model.specs.declared.need.Need.{Need}
@@ -22,7 +21,7 @@ use Rattle.package_layout.specs.Groups.{TypedGroup}
 use Rattle.package_layout.specs.Parts.{read_part_spelling, made_part_spelling, TypedReadPart, TypedMadePart, read_part_at, made_part_at, need_table, need_part, need_of, member_table, member_part, member_of}
 use Rattle.package_layout.specs.Counts.{IsCountable, CountedGroup, CountedAct, CountedEvent}
 use Rattle.package_layout.specs.Events.{flag_number, flag_spelling, flag_of, flag_at, need_groups, member_groups, needs_spelling, members_spelling, names_spelling, flagged_spelling, act_spelling, event_spelling, TypedNeed, TypedMember, TypedAct, TypedEvent, needs_room, members_room, act_room, event_room, names_at, needs_at, members_at, act_of_tag, act_at, event_at}
-use Rattle.package_layout.proofs.Laws.{IsBytes, IsField, just, always, list_all-always, Uncounted, restate, recount, made_law, then_law, struct_law}
+use Rattle.package_layout.proofs.Laws.{number_is, IsBytes, IsField, just, always, list_all-always, Uncounted, restate, recount, made_law, then_law, struct_law}
 use Rattle.package_layout.proofs.Numbers.{wide8, number_law, text_law, short_list_law}
 use Rattle.package_layout.proofs.Tags.{TookTagged, tagged_law, case_took, case_again}
 use Rattle.package_layout.proofs.Tables.{Anything, u32_law, rule_law}
@@ -34,12 +33,9 @@ flag_again : (b : Bool) → (flag_number b < 256) × (true ≡ true) × (flag_of
 flag_again false = (omega arith, refl, refl)
 flag_again true = (omega arith, refl, refl)
 
-flag_is : (n : ℕ) (k b : Bool) → n ≡ flag_number k → just k ≡ just b → n ≡ flag_number b
-flag_is n k b i e = subst (λ y. n ≡ flag_number y) (same-some k b e) i
-
 flag_back : (n : ℕ) (b : Bool) → flag_of n ≡ Some b → n ≡ flag_number b
-flag_back zero b e = flag_is 0 false b refl e
-flag_back (suc zero) b e = flag_is 1 true b refl e
+flag_back zero b e = number_is flag_number 0 false b refl e
+flag_back (suc zero) b e = number_is flag_number 1 true b refl e
 flag_back (suc (suc n)) b e = absurd cc
 
 flag_law : IsField flag_spelling Anything always Uncounted flag_at

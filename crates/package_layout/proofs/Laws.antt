@@ -35,6 +35,10 @@ pub guard_some : {A : Type 0} (b : Bool) (x y : A) → cond b None (Some x) ≡ 
 guard_some true x y e = absurd cc
 guard_some false x y e = (refl, cc)
 
+-- a number that stands for a thing stands for the one that it is decoded as
+pub number_is : {A : Type 0} (number : A → ℕ) (n : ℕ) (k x : A) → n ≡ number k → just k ≡ just x → n ≡ number x
+number_is number n k x i e = subst (λ y. n ≡ number y) (same-some k x e) i
+
 -- ---- a field: its spelling, what its values meet in memory, which of them the format has room for, whose
 -- counts of four bytes fit, and how it is read
 

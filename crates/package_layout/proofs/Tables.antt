@@ -7,7 +7,6 @@ use Rattle.std.specs.Int.{w8, w32, to_be_bytes}
 use Rattle.std.proofs.lemmas.Bool.{ltb-true}
 use Rattle.ldv_value.specs.declared.value.Value.{Value}
 use Rattle.ldv_value.proofs.Booleans.{and-parts, and-from}
-use Rattle.ldv_value.proofs.Options.{same-some}
 use Rattle.sql_model.specs.declared.need.Rule.{Rule}
 use Rattle.sql_model.specs.declared.need.Rule.TheVariants.{L, H, K}
 use Rattle.sql_model.specs.declared.table.Column.{Column}
@@ -20,7 +19,7 @@ use Rattle.package_layout.specs.Typed.{IsU32, TypedValue, TypedValues, TypedColu
 use Rattle.package_layout.specs.Room.{few, key_room, row_room, table_room}
 use Rattle.package_layout.specs.Counts.{CountedList, CountedValue, CountedColumn, CountedRow, CountedTable}
 use Rattle.package_layout.specs.Reading.{value_at, kind_of, kind_at, column_at, rule_of, rule_at, reason_at, cells_at, row_at, rows_at, key_at, schema_at, table_at}
-use Rattle.package_layout.proofs.Laws.{IsField, just, always, list_all-always, Uncounted, all_uncounted, restate, recount, made_law, then_law, struct_law}
+use Rattle.package_layout.proofs.Laws.{number_is, IsField, just, always, list_all-always, Uncounted, all_uncounted, restate, recount, made_law, then_law, struct_law}
 use Rattle.package_layout.proofs.Numbers.{wide8, wide32, number_law, text_law, items_law, byte_list_law, long_law, ltb_from}
 use Rattle.package_layout.proofs.Values.{value_law}
 
@@ -42,15 +41,15 @@ kind_again true true = (omega arith, refl, refl)
 abbrev Kind : Type 0
 Kind = Bool × Bool
 
-kind_is : (n : ℕ) (k p : Kind) → n ≡ kind_number k.0 k.1 → just {A = Kind} k ≡ just {A = Kind} p → n ≡ kind_number p.0 p.1
-kind_is n k p i e = subst (λ (y : Kind). n ≡ kind_number y.0 y.1) (same-some k p e) i
+abbrev number_of_kind : Kind → ℕ
+number_of_kind k = kind_number k.0 k.1
 
 kind_back : (n : ℕ) (p : Kind) → kind_of n ≡ Some p → n ≡ kind_number p.0 p.1
 kind_back zero p e = absurd cc
-kind_back (suc zero) p e = kind_is 1 (false, false) p refl e
-kind_back (suc (suc zero)) p e = kind_is 2 (true, false) p refl e
-kind_back (suc (suc (suc zero))) p e = kind_is 3 (false, true) p refl e
-kind_back (suc (suc (suc (suc zero)))) p e = kind_is 4 (true, true) p refl e
+kind_back (suc zero) p e = number_is number_of_kind 1 (false, false) p refl e
+kind_back (suc (suc zero)) p e = number_is number_of_kind 2 (true, false) p refl e
+kind_back (suc (suc (suc zero))) p e = number_is number_of_kind 3 (false, true) p refl e
+kind_back (suc (suc (suc (suc zero)))) p e = number_is number_of_kind 4 (true, true) p refl e
 kind_back (suc (suc (suc (suc (suc n))))) p e = absurd cc
 
 kind_law : IsField (λ (p : Kind). to_be_bytes w8 (kind_number p.0 p.1)) Anything always Uncounted kind_at
@@ -74,14 +73,11 @@ rule_again L = (omega arith, refl, refl)
 rule_again H = (omega arith, refl, refl)
 rule_again K = (omega arith, refl, refl)
 
-rule_is : (n : ℕ) (k r : Rule) → n ≡ rule_number k → just k ≡ just r → n ≡ rule_number r
-rule_is n k r i e = subst (λ y. n ≡ rule_number y) (same-some k r e) i
-
 rule_back : (n : ℕ) (r : Rule) → rule_of n ≡ Some r → n ≡ rule_number r
 rule_back zero r e = absurd cc
-rule_back (suc zero) r e = rule_is 1 L r refl e
-rule_back (suc (suc zero)) r e = rule_is 2 H r refl e
-rule_back (suc (suc (suc zero))) r e = rule_is 3 K r refl e
+rule_back (suc zero) r e = number_is rule_number 1 L r refl e
+rule_back (suc (suc zero)) r e = number_is rule_number 2 H r refl e
+rule_back (suc (suc (suc zero))) r e = number_is rule_number 3 K r refl e
 rule_back (suc (suc (suc (suc n)))) r e = absurd cc
 
 pub rule_law : IsField (λ r. to_be_bytes w8 (rule_number r)) Anything always Uncounted rule_at

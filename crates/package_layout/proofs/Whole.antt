@@ -23,7 +23,7 @@ use Rattle.package_layout.specs.Reading.{file_at, table_at, log_at}
 use Rattle.package_layout.specs.Events.{names_spelling, names_at, event_spelling, TypedEvent, event_room, event_at}
 use Rattle.package_layout.specs.Version.{Version, One}
 use Rattle.package_layout.specs.Whole.{mode_number, mode_spelling, mode_of, mode_at, trace_spelling, trace_at, sections, IsTyped, has_room, sections_at, all_of}
-use Rattle.package_layout.proofs.Laws.{IsBytes, IsField, just, always, list_all-always, Uncounted, restate, recount, made_law, then_law, struct_law}
+use Rattle.package_layout.proofs.Laws.{number_is, IsBytes, IsField, just, always, list_all-always, Uncounted, restate, recount, made_law, then_law, struct_law}
 use Rattle.package_layout.proofs.Numbers.{wide8, wide64, number_law, short_list_law, long_law}
 use Rattle.package_layout.proofs.Tables.{Anything, u32_law, table_law}
 use Rattle.package_layout.proofs.Values.{file_law, file_filled}
@@ -34,13 +34,10 @@ mode_again : (m : Mode) → (mode_number m < 256) × (true ≡ true) × (mode_of
 mode_again Included = (omega arith, refl, refl)
 mode_again Excluded = (omega arith, refl, refl)
 
-mode_is : (n : ℕ) (k m : Mode) → n ≡ mode_number k → just k ≡ just m → n ≡ mode_number m
-mode_is n k m i e = subst (λ y. n ≡ mode_number y) (same-some k m e) i
-
 mode_back : (n : ℕ) (m : Mode) → mode_of n ≡ Some m → n ≡ mode_number m
 mode_back zero m e = absurd cc
-mode_back (suc zero) m e = mode_is 1 Included m refl e
-mode_back (suc (suc zero)) m e = mode_is 2 Excluded m refl e
+mode_back (suc zero) m e = number_is mode_number 1 Included m refl e
+mode_back (suc (suc zero)) m e = number_is mode_number 2 Excluded m refl e
 mode_back (suc (suc (suc n))) m e = absurd cc
 
 mode_law : IsField mode_spelling Anything always Uncounted mode_at

@@ -10,20 +10,19 @@ use Rattle.ldv_value.specs.declared.value.Cmp.{Cmp}
 use Rattle.ldv_value.specs.declared.value.Cmp.TheVariants.{Eq, Ne, Lt, Le, Gt, Ge}
 use Rattle.query_eval.proofs.Agree.{value_first}
 use Rattle.query_eval.proofs.Probes.{value-next}
-use Rattle.query_eval.specs.Joining.{IsColumn}
+use Rattle.core_parts.proofs.Equalities.{column-first, constant-first, first-place}
+use Rattle.core_parts.specs.Equality.{IsColumn}
 use Rattle.query_eval.specs.Masking.{turned, IsComparison, HaveWidths, values_in, values_of, IsLocated, passes, IsMask}
-use Rattle.query_eval.specs.Types.{ColumnName, Compare, Expr, Null, Int, Text, TableRow, Value}
+use Rattle.query_eval.specs.Types.{Compare, Expr, Null, Int, Text, TableRow, Value}
 use Rattle.query_eval.specs.declared.masking.Comparison.{Comparison}
 use Rattle.query_eval.specs.declared.masking.Located.{Located}
 use Rattle.query_eval.specs.declared.masking.Mask.{Mask}
 use Rattle.core_parts.specs.declared.placed.Placed.{Placed}
-use Rattle.sql_model.proofs.Folds.{fold-Both, fold-Column, fold-Constant}
 use Rattle.sql_model.specs.KeyOrder.{order_total}
-use Rattle.sql_model.specs.Kinds.{names_in, names_step}
-use Rattle.sql_model.specs.Meaning.{Environment, Meaning, eval, eval_step, is_true, truth}
+use Rattle.sql_model.specs.Meaning.{is_true}
 use Rattle.sql_model.specs.QueryAnswer.{Combination, joined_values}
-use Rattle.sql_model.specs.Scope.{environment, place_of, places_in, value_at}
-use Rattle.sql_model.specs.declared.expr.Expr.TheVariants.{Both, Column, Constant}
+use Rattle.sql_model.specs.Scope.{environment, place_of, value_at}
+use Rattle.sql_model.specs.declared.expr.Expr.TheVariants.{Both, Constant}
 
 -- ---- comparisons
 
@@ -55,39 +54,23 @@ test-turned op n Null = refl
 test-turned op n (Int m) = known-turned op (Int n) (Int m)
 test-turned op n (Text t) = known-turned op (Int n) (Text t)
 
-pub truth-both : (test : Cmp) (left right : Expr) (env : Environment) → is_true (truth (Both (Compare test) left right) env) ≡ is_true (test_of test (eval left (env ∷ [])).value (eval right (env ∷ [])).value)
-truth-both test left right env = ap (λ (f : List Environment → Meaning). is_true (f (env ∷ [])).truth) (fold-Both eval_step (Compare test) left right)
-
-pub column-value : (name : ColumnName) (env : Environment) → (eval (Column name) (env ∷ [])).value ≡ env name
-column-value name env = ap (λ (f : List Environment → Meaning). (f (env ∷ [])).value) (fold-Column eval_step name)
-
-pub constant-value : (v : Value) (env : Environment) → (eval (Constant v) (env ∷ [])).value ≡ v
-constant-value v env = ap (λ (f : List Environment → Meaning). (f (env ∷ [])).value) (fold-Constant eval_step v)
-
 pub column_number : (test : Cmp) (left right : Expr) (n : ℤ) → IsColumn left → right ≡ Constant (Int n)
     → IsComparison (Both (Compare test) left right) (record { op = test; constant = n })
-column_number test left right n (name, is) number = record {
-  name = name;
-  names = fold-Both names_step (Compare test) left right
-      ∙ (λ j. (ap names_in is ∙ fold-Column names_step name) j ++ (ap names_in number ∙ fold-Constant names_step (Int n)) j);
-  same = λ env. truth-both test left right env
-      ∙ (λ j. is_true (test_of test
-      ((ap (λ (e : Expr). (eval e (env ∷ [])).value) is ∙ column-value name env) j)
-      ((ap (λ (e : Expr). (eval e (env ∷ [])).value) number ∙ constant-value (Int n) env) j)));
-}
+column_number test left right n (name, is) number =
+    let compared = column-first test left right name (Int n) is number in record {
+      name = name;
+      names = compared.0;
+      same = compared.1;
+    }
 
 pub number_column : (test : Cmp) (left right : Expr) (n : ℤ) → left ≡ Constant (Int n) → IsColumn right
     → IsComparison (Both (Compare test) left right) (record { op = turned test; constant = n })
-number_column test left right n number (name, is) = record {
-  name = name;
-  names = fold-Both names_step (Compare test) left right
-      ∙ (λ j. (ap names_in number ∙ fold-Constant names_step (Int n)) j ++ (ap names_in is ∙ fold-Column names_step name) j);
-  same = λ env. truth-both test left right env
-      ∙ (λ j. is_true (test_of test
-      ((ap (λ (e : Expr). (eval e (env ∷ [])).value) number ∙ constant-value (Int n) env) j)
-      ((ap (λ (e : Expr). (eval e (env ∷ [])).value) is ∙ column-value name env) j)))
-      ∙ ap is_true (test-turned test n (env name));
-}
+number_column test left right n number (name, is) =
+    let compared = constant-first test left right (Int n) name number is in record {
+      name = name;
+      names = compared.0;
+      same = λ env. compared.1 env ∙ ap is_true (test-turned test n (env name));
+    }
 
 -- ---- places
 
@@ -138,16 +121,12 @@ pub mask-is : (cond : Placed) (widths : List ℕ) (comparison : Comparison) (pla
     → mask ≡ record { source = located.source; column = located.column; op = comparison.op; constant = comparison.constant }
     → IsMask cond widths mask
 mask-is cond widths comparison place more located mask is places at made scope rows placed wide holds =
-    let first : place_of scope is.name ≡ place =
-    heads (place_of scope is.name) place [] more (sym (ap (places_in scope) is.names) ∙ placed ∙ places) in
+    let first : place_of scope is.name ≡ place = first-place scope cond is.name place more is.names placed places in
     ap (λ (m : Mask). passes m rows) made
     ∙ ap (λ (v : Value). is_true (test_of comparison.op v (Int comparison.constant)))
     (sym (ap (value_at (joined_values rows)) first ∙ at rows wide))
     ∙ sym (is.same (environment scope (joined_values rows)))
     ∙ holds
-  where
-    heads : (a b : ℕ) (xs ys : List ℕ) → a ∷ xs ≡ b ∷ ys → a ≡ b
-    heads a b xs ys h = cc
 
 pub all-more : (P : Mask → Type 0) (masks : List Mask) (mask : Mask) → AllByRecursion P masks → P mask → AllByRecursion P (masks ++ mask ∷ [])
 all-more P [] mask all one = (one, tt)

@@ -5,7 +5,9 @@ use Rattle.std.specs.Prelude.{filter, nat_lt}
 use Rattle.std.specs.List.{list_all, remove, AllByRecursion}
 use Rattle.query_eval.proofs.Agree.{first_rows_tell}
 use Rattle.query_eval.proofs.Product.{extensions, filter_joined, flat_map_joined, goes_on, pushed, EachSplits, all_of, all_there}
-use Rattle.query_eval.specs.Joining.{combos, meets, tests, is_ready, ready, later, remaining, extended, all_extended, EachHas, equals, HasProbe, looked_up}
+use Rattle.core_parts.specs.Conditions.{meets}
+use Rattle.core_parts.specs.Equality.{equals}
+use Rattle.query_eval.specs.Joining.{combos, tests, is_ready, ready, later, remaining, extended, all_extended, EachHas, HasProbe, looked_up}
 use Rattle.core_parts.specs.Placing.{IsPlaced, AllPlaced}
 use Rattle.query_eval.specs.Sourcing.{joined, AreWide}
 use Rattle.query_eval.specs.Types.{ColumnName, Value}

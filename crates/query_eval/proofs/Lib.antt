@@ -1,7 +1,5 @@
 pub mod Agree
-pub mod Conjuncts
 pub mod Finishes
-pub mod FixingLaws
 pub mod Indexes
 pub mod KeyedLaws
 pub mod LeavingLaws

@@ -5,7 +5,7 @@ use Rattle.std.proofs.lemmas.Bool.{cases_Bool}
 use Rattle.std.proofs.lemmas.Bool.Decides.{Decides-eqb}
 use Rattle.core_parts.specs.Placing.{AllPlaced}
 use Rattle.core_parts.specs.declared.placed.Placed.{Placed}
-use Rattle.query_eval.specs.Joining.{meets}
+use Rattle.core_parts.specs.Conditions.{meets}
 use Rattle.query_eval.specs.Masking.{HaveWidths, values_of, passes, AreMasks, row_passes, kept_by, keeps_from, TablesAreWide}
 use Rattle.query_eval.specs.Sourcing.{all_kept}
 use Rattle.query_eval.specs.Types.{FromItem, Int, Table, TableRow, Value}

@@ -15,7 +15,7 @@ use Rattle.lineage.specs.declared.answer.Pick.{Pick}
 use Rattle.lineage.proofs.Origins.{AreDistinct, distinct-sorted, stands-empty, stands-added}
 use Rattle.core_parts.proofs.Lists.{kept_twice}
 use Rattle.query_eval.proofs.Product.{filter_joined}
-use Rattle.query_eval.specs.Conditions.{AreConditions}
+use Rattle.core_parts.specs.Conditions.{AreConditions}
 use Rattle.query_eval.specs.Joining.{combos, tests}
 use Rattle.query_eval.specs.Picking.{rows_added, kept_rows, pick_of}
 use Rattle.query_eval.specs.Sourcing.{table_row, source_rows, joined, AreSources, all_kept, LeavesPicked}

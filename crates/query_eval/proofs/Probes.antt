@@ -1,34 +1,22 @@
 -- Equalities by which rows are looked up.
 use Rattle.std.proofs.Common.{◌≡◌, ◌∙◌, sym, ap, refl, ℕ, zero, suc, ◌+◌, ◌<◌, inl, inr, List, [], ◌∷◌, ◌++◌, length, arith, Option}
 use Rattle.std.specs.Prelude.{slice_get, unwrap_or}
-use Rattle.std.specs.Cmp.{eq_by_cmp_equiv}
-use Rattle.ldv_value.specs.Order.{known}
 use Rattle.ldv_value.specs.declared.value.Cmp.TheVariants.{Eq}
 use Rattle.query_eval.proofs.Agree.{value_first}
 use Rattle.query_eval.proofs.Levels.{joined-one}
-use Rattle.query_eval.specs.Joining.{IsBetween, IsEquality, IsProbeOf, equals}
+use Rattle.core_parts.proofs.Equalities.{equals-turned}
+use Rattle.core_parts.specs.Equality.{equals}
+use Rattle.query_eval.specs.Joining.{IsBetween, IsEquality, IsProbeOf}
 use Rattle.query_eval.specs.Sourcing.{joined}
-use Rattle.query_eval.specs.Types.{ColumnName, Compare, Expr, Null, Int, Text, Value}
+use Rattle.query_eval.specs.Types.{ColumnName, Compare, Expr, Null, Value}
 use Rattle.core_parts.specs.declared.placed.Placed.{Placed}
 use Rattle.query_eval.specs.declared.probe.Probe.{Probe}
 use Rattle.query_eval.specs.declared.source.SourceRow.{SourceRow}
 use Rattle.sql_model.proofs.Folds.{fold-Both, fold-Column}
-use Rattle.sql_model.specs.KeyOrder.{order_total}
 use Rattle.sql_model.specs.Kinds.{names_in, names_step}
 use Rattle.sql_model.specs.Meaning.{Environment, Meaning, eval_step, both, is_true, truth}
 use Rattle.sql_model.specs.Scope.{environment, place_of, places_in, value_at}
 use Rattle.sql_model.specs.declared.expr.Expr.TheVariants.{Both, Column}
-
-pub equals-turned : (a b : Value) → equals a b ≡ equals b a
-equals-turned Null Null = refl
-equals-turned Null (Int n) = refl
-equals-turned Null (Text t) = refl
-equals-turned (Int m) Null = refl
-equals-turned (Int m) (Int n) = ap (λ b. is_true (known b)) ((eq_by_cmp_equiv order_total).symm (Int m) (Int n))
-equals-turned (Int m) (Text t) = refl
-equals-turned (Text s) Null = refl
-equals-turned (Text s) (Int n) = refl
-equals-turned (Text s) (Text t) = ap (λ b. is_true (known b)) ((eq_by_cmp_equiv order_total).symm (Text s) (Text t))
 
 got-next : (first more : List Value) (i j : ℕ) → i ≡ length first + j → slice_get (first ++ more) i ≡ slice_get more j
 got-next [] more i j is = let same : i ≡ j = omega (arith, is) in ap (slice_get more) same

@@ -20,15 +20,19 @@ use Rattle.ldv_value.proofs.SameBytes.{bytes_eq-true}
 use Rattle.ldv_value.specs.Sorted.{is_strictly_sorted, precedes_first}
 use Rattle.lineage.specs.Lineage.{name_at}
 use Rattle.lineage.specs.declared.answer.Pick.{Pick}
-use Rattle.query_eval.proofs.FixingLaws.{fixed-key}
+use Rattle.core_parts.proofs.FixingLaws.{fixed-key}
+use Rattle.query_eval.proofs.Agree.{value_first}
 use Rattle.query_eval.proofs.KeyedLaws.{keyed-rows}
 use Rattle.query_eval.proofs.LeavingLaws.{rows-left}
 use Rattle.query_eval.proofs.MaskLaws.{all-wide, masks-keep}
 use Rattle.query_eval.proofs.Picks.{all-stand}
+use Rattle.query_eval.proofs.Probes.{value-next}
 use Rattle.query_eval.proofs.Projections.{some-same}
-use Rattle.query_eval.specs.Conditions.{AreConditions, AreOfCore}
-use Rattle.query_eval.specs.Fixing.{FixesKey}
-use Rattle.query_eval.specs.Joining.{combos, meets, tests}
+use Rattle.core_parts.specs.Conditions.{AreConditions}
+use Rattle.query_eval.specs.Conditions.{AreOfCore}
+use Rattle.core_parts.specs.Fixing.{FixesKey}
+use Rattle.core_parts.specs.Conditions.{meets}
+use Rattle.query_eval.specs.Joining.{combos, tests}
 use Rattle.query_eval.specs.Leaving.{own_masks, is_own, passes_all, has_numbers}
 use Rattle.query_eval.specs.Picking.{pick_of, ArePicked}
 use Rattle.query_eval.specs.Masking.{AreMasks, HaveWidths, kept_by, keeps_from, row_passes, TablesAreWide}
@@ -41,7 +45,7 @@ use Rattle.sql_model.proofs.ValidTables.{table-parts}
 use Rattle.sql_model.specs.Needs.{Versions}
 use Rattle.sql_model.specs.QueryAnswer.{Combination, combinations, joined_values, meets_all, row_environment}
 use Rattle.sql_model.specs.Refusals.{cores_of, doubles_source, is_missing, tables_of_core}
-use Rattle.sql_model.specs.Scope.{InScope, catalog_of, is_schema, rows_of, same_text, schema_in, scope_of, table_at}
+use Rattle.sql_model.specs.Scope.{InScope, catalog_of, is_schema, rows_of, same_text, schema_in, scope_of, table_at, value_at}
 use Rattle.sql_model.specs.Tables.{is_database, is_row, is_valid_table, table_precedes}
 use Rattle.query_eval.specs.Types.{Catalog, Checked, Column, Core, FromItem, Query, Schema, Statement, Table, TableRow, Value}
 use Rattle.table_store.specs.Histories.{TableHistory, StoreHistory, history_at, is_history, rows_now, table_now, tables_now}
@@ -115,10 +119,16 @@ module _ (store : StoreHistory) (conds : List Placed) (masks : List Mask) where
 module _ (scope : List InScope) (conds : List Placed) (placed : AllPlaced scope conds) (masks : List Mask) where
   module _ (place before : ℕ) (row : TableRow) (front rest : List Value) (long : length front ≡ before) (met : meets scope conds (front ++ (row.values ++ rest)) ≡ true)
       (kept : kept_by masks place row ≡ true) where
+    own_value : (width : ℕ) → length row.values ≡ width → (column : ℕ) → column < width → value_at (front ++ (row.values ++ rest)) (before + column) ≡ value_at row.values column
+    own_value width wide column below =
+        value-next front (row.values ++ rest) (before + column) column (omega (arith, long))
+        ∙ value_first row.values rest column (omega (arith, below, wide))
+
     stays-by : (table : TableHistory) (key : Option (List Value)) → IfSome key (FixesKey conds before (length table.schema.columns) table.schema.key)
         → length row.values ≡ length table.schema.columns → keep_by (own_masks place table.schema.columns masks) key table row ≡ true
     stays-by table None fixed wide = one-own place table.schema.columns row masks kept
-    stays-by table (Some key) fixed wide = fixed-key scope conds placed before (length table.schema.columns) front row.values rest long wide met table.schema.key key fixed
+    stays-by table (Some key) fixed wide =
+        fixed-key scope conds placed before (length table.schema.columns) (front ++ (row.values ++ rest)) row.values (own_value (length table.schema.columns) wide) met table.schema.key key fixed
 
     stays : (table : Option TableHistory) (rows : List SourceRow) (chosen : AreChosenOf conds masks place before table rows) → length row.values ≡ length (columns_in table)
         → keep_of conds masks place before table rows chosen row ≡ true

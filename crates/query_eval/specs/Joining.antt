@@ -2,9 +2,10 @@
 use Rattle.std.specs.Prelude.{◌≡◌, ℕ, ◌+◌, ◌<◌, ◌⊎◌, List, [], ◌∷◌, ◌++◌, map, filter, length, drop, Bool}
 use Rattle.std.specs.Prelude.{true, false, not, nat_lt}
 use Rattle.std.specs.List.{flat_map, list_all, AllByRecursion}
-use Rattle.ldv_value.specs.Order.{order, test_of}
-use Rattle.ldv_value.specs.declared.value.Cmp.{Cmp}
-use Rattle.ldv_value.specs.declared.value.Cmp.TheVariants.{Eq, Ne, Lt, Le, Gt, Ge}
+use Rattle.ldv_value.specs.Order.{order}
+use Rattle.ldv_value.specs.declared.value.Cmp.TheVariants.{Eq}
+use Rattle.core_parts.specs.Conditions.{meets}
+use Rattle.core_parts.specs.Equality.{equals, is_equal_test}
 use Rattle.core_parts.specs.Listing.{listed, item_added}
 use Rattle.core_parts.specs.Placing.{IsPlaced}
 use Rattle.query_eval.specs.Sourcing.{joined}
@@ -24,10 +25,6 @@ combos [] = [] ∷ []
 combos (rows ∷ rest) = flat_map (λ row. map (λ others. row ∷ others) (combos rest)) rows
 
 -- ---- conditions
-
--- each condition is True over a joined row
-abbrev pub meets : List InScope → List Placed → List Value → Bool
-meets scope conds values = list_all (λ c. is_true (truth c.expr (environment scope values))) conds
 
 abbrev pub tests : List InScope → List Placed → List SourceRow → Bool
 tests scope conds rows = meets scope conds (joined rows)
@@ -67,10 +64,6 @@ EachHas n ps = AllByRecursion (λ p. length (joined p) ≡ n) ps
 
 -- ---- rows by the value of a column
 
--- `=` is True
-abbrev pub equals : Value → Value → Bool
-equals a b = is_true (test_of Eq a b)
-
 -- the rows of which a column equals a value; NULL equals nothing
 abbrev pub with_value : ℕ → Value → List SourceRow → List SourceRow
 with_value place v rows = filter (λ row. equals v (value_at row.values place)) rows
@@ -94,14 +87,6 @@ abbrev pub looked_up : List InScope → List Placed → Probe → List (List Sou
 looked_up scope conds probe ps rows =
     flat_map (λ p. extended scope conds p (with_value probe.place (value_at (joined p) probe.from) rows)) ps
 
-abbrev pub is_equal_test : Cmp → Bool
-is_equal_test Eq = true
-is_equal_test Ne = false
-is_equal_test Lt = false
-is_equal_test Le = false
-is_equal_test Gt = false
-is_equal_test Ge = false
-
 abbrev pub is_equal_sign : Operator → Bool
 is_equal_sign (Compare test) = is_equal_test test
 is_equal_sign Add = false
@@ -109,9 +94,6 @@ is_equal_sign Subtract = false
 is_equal_sign Multiply = false
 is_equal_sign And = false
 is_equal_sign Or = false
-
-abbrev pub IsColumn : Expr → Type 0
-IsColumn expr = (name : ColumnName) × (expr ≡ Column name)
 
 -- an equality of two columns
 abbrev pub IsEquality : Expr → Type 0

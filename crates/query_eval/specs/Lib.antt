@@ -1,6 +1,5 @@
 pub mod Conditions
 pub mod Finishing
-pub mod Fixing
 pub mod Joining
 pub mod Keyed
 pub mod Leaving

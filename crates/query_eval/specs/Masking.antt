@@ -6,7 +6,7 @@ use Rattle.ldv_value.specs.Order.{test_of}
 use Rattle.ldv_value.specs.declared.value.Cmp.{Cmp}
 use Rattle.ldv_value.specs.declared.value.Cmp.TheVariants.{Eq, Ne, Lt, Le, Gt, Ge}
 use Rattle.core_parts.specs.Placing.{IsPlaced, AllPlaced}
-use Rattle.query_eval.specs.Joining.{meets}
+use Rattle.core_parts.specs.Conditions.{meets}
 use Rattle.query_eval.specs.Types.{ColumnName, Expr, FromItem, Int, Table, TableRow, Value}
 use Rattle.query_eval.specs.declared.masking.Comparison.{Comparison}
 use Rattle.query_eval.specs.declared.masking.Located.{Located}

@@ -4,7 +4,7 @@ use Rattle.std.specs.Prelude.{Option, Some, None, option_and_then, IfSome}
 use Rattle.std.specs.List.{list_any, AllByRecursion}
 use Rattle.core_parts.specs.declared.placed.Placed.{Placed}
 use Rattle.lineage.specs.Lineage.{name_at}
-use Rattle.query_eval.specs.Fixing.{FixesKey}
+use Rattle.core_parts.specs.Fixing.{FixesKey}
 use Rattle.query_eval.specs.Keyed.{keyed_rows}
 use Rattle.query_eval.specs.Leaving.{own_masks, left_rows}
 use Rattle.query_eval.specs.Types.{Column, FromItem, Value}

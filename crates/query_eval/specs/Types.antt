@@ -1,6 +1,4 @@
 -- The types of the crates below, under one name each.
-pub use Rattle.ldv_value.specs.declared.value.Truth.{Truth}
-pub use Rattle.ldv_value.specs.declared.value.Truth.TheVariants.{True, False, Unknown}
 pub use Rattle.ldv_value.specs.declared.value.Value.{Value}
 pub use Rattle.ldv_value.specs.declared.value.Value.TheVariants.{Null, Int, Text}
 pub use Rattle.sql_model.specs.declared.catalog.Catalog.{Catalog}

@@ -3,55 +3,16 @@
 ghost use Rattle.std.specs.Prelude.{◌≡◌, ◌++◌, List as Items, ℕ, drop, IfOk, OnOk};
 ghost use Rattle.std.specs.List.{flat_map};
 ghost use Rattle.core_parts.specs.Checking.{HasCore};
-ghost use Rattle.query_eval.specs.Conditions.{Adds, AreConditions, AreOfCore};
+ghost use Rattle.core_parts.specs.Conditions.{Adds, AreConditions};
+ghost use Rattle.query_eval.specs.Conditions.{AreOfCore};
 ghost use Rattle.sql_model.specs.Kinds.{names_in};
 ghost use Rattle.sql_model.specs.Refusals.{core_names, items_of, names_of_items};
 ghost use Rattle.sql_model.specs.Scope.{InScope, places_in};
 
-use core_parts::{Placed, core_of, placed_at, places_or, take_places};
+use core_parts::{Placed, conjuncts, core_of, places_or, take_places};
 use ldv_value::{List, Places};
-use sql_model::{Checked, Core, Expr, Item, Operator};
+use sql_model::{Checked, Core, Item};
 use std::alloc::{AllocError, Global};
-
-// Adds a condition as it is.
-fn add_condition(
-    alloc: Global,
-    conds: &mut List<Placed>,
-    expr: &Expr,
-    places: &Places,
-    at: &mut usize,
-) -> Result<(), AllocError>
-    ensures { OnOk result
-        (Adds conds.old expr.now (drop at.old places.now) conds.new (drop at.new places.now)) }
-{
-    let placed = placed_at(alloc, expr, places, at)?;
-    conds.push(placed)?;
-    Ok(())
-}
-
-// Adds the conjuncts of a condition.
-fn add_conjuncts(
-    alloc: Global,
-    conds: &mut List<Placed>,
-    expr: &Expr,
-    places: &Places,
-    at: &mut usize,
-) -> Result<(), AllocError>
-    ensures { OnOk result
-        (Adds conds.old expr.now (drop at.old places.now) conds.new (drop at.new places.now)) }
-{
-    match expr {
-        Expr::Both(operator, left, right) => match operator {
-            Operator::And => {
-                add_conjuncts(alloc, conds, left.get(), places, at)?;
-                add_conjuncts(alloc, conds, right.get(), places, at)?;
-                Ok(())
-            }
-            _ => add_condition(alloc, conds, expr, places, at),
-        },
-        _ => add_condition(alloc, conds, expr, places, at),
-    }
-}
 
 // The items that are written; `*` is none.
 fn items_of(core: &Core) -> &[Item]
@@ -79,25 +40,6 @@ fn skip_items(
         take_places(&item.expr, places, at, &mut passed)?;
     }
     Ok(())
-}
-
-// The conjuncts of conditions.
-fn conjuncts(
-    alloc: Global,
-    picks: &[Expr],
-    places: &Places,
-    from: usize,
-) -> Result<List<Placed>, AllocError>
-    ensures { IfOk result (λ conds. (scope : Items InScope) (more : Items ℕ)
-        → drop from places.now ≡ places_in scope (flat_map names_in picks.now) ++ more
-        → AreConditions scope picks.now conds) }
-{
-    let mut at = from;
-    let mut conds = List::new(alloc);
-    for pick in picks {
-        add_conjuncts(alloc, &mut conds, pick, places, &mut at)?;
-    }
-    Ok(conds)
 }
 
 // The conjuncts of ON and WHERE of a core, with their places among those of the core.

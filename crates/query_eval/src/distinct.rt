@@ -5,15 +5,14 @@ ghost use Rattle.query_eval.specs.Merging.{unseen};
 ghost use Rattle.query_eval.specs.Types.{Value as Seen};
 ghost use Rattle.sql_model.specs.QueryAnswer.{distinct};
 
-use crate::row_values::RowValues;
-use core_parts::Refs;
+use core_parts::{ByOrder, Refs};
 use ldv_value::Values;
 use std::alloc::{AllocError, Global};
 use std::collections::BTreeSet;
 
 // Adds values that weren't seen.
 fn add_new<'a>(
-    seen: &mut BTreeSet<RowValues<'a>>,
+    seen: &mut BTreeSet<ByOrder<'a, Values>>,
     out: &mut Refs<'a, Values>,
     values: &'a Values,
 ) -> Result<(), AllocError>
@@ -21,7 +20,7 @@ fn add_new<'a>(
         → out.new ++ unseen seen.new (distinct rest)
         ≡ out.old ++ unseen seen.old (distinct (values.now ∷ rest))) }
 {
-    if seen.insert(RowValues::of(values))? {
+    if seen.insert(ByOrder::of(values))? {
         out.push(values)?;
     }
     Ok(())

@@ -7,7 +7,8 @@
 ghost use Rattle.std.specs.Prelude.{◌≡◌, ◌<◌, ◌++◌, ◌∷◌, [], ℕ, List as Items, filter, length, map, not};
 ghost use Rattle.std.specs.Prelude.{IfOk, OnOk};
 ghost use Rattle.std.specs.List.{remove};
-ghost use Rattle.query_eval.specs.Joining.{combos, meets, tests, is_ready, ready, later, remaining, extended};
+ghost use Rattle.core_parts.specs.Conditions.{meets};
+ghost use Rattle.query_eval.specs.Joining.{combos, tests, is_ready, ready, later, remaining, extended};
 ghost use Rattle.query_eval.specs.Joining.{all_extended, EachHas, IsIndex, looked_up};
 ghost use Rattle.core_parts.specs.Placing.{IsPlaced, AllPlaced};
 ghost use Rattle.query_eval.specs.Sourcing.{joined, source_rows, AreWide, SourcesAreWide};

@@ -10,7 +10,8 @@ ghost use Rattle.table_store.specs.Histories.{row_now};
 
 use crate::leaving::add_slot;
 use crate::source::SourceRows;
-use ldv_value::{List, Values};
+use ldv_value::List;
+use sql_model::RowKey;
 use std::alloc::{AllocError, Global};
 use table_store::TableStore;
 
@@ -19,10 +20,10 @@ use table_store::TableStore;
 pub(crate) fn rows_of_key(
     alloc: Global,
     table: &TableStore,
-    key: &Values,
+    key: &RowKey,
 ) -> Result<SourceRows, AllocError>
     requires { 0 < length table.now.schema.key }
-    ensures rows { IfOk result (λ rows. rows ≡ keyed_rows key.now table.now) }
+    ensures rows { IfOk result (λ rows. rows ≡ keyed_rows key.now.values table.now) }
     ensures versions { IfOk result (AllByRecursion (HasVersion (Some table.now))) }
 {
     table.tell_order();
@@ -38,13 +39,13 @@ pub(crate) fn rows_of_key(
 
 // The slot of the row that stands with a key.
 #[tactic(auto, using(crate::proofs::KeyedLaws::slot_rules))]
-fn slot_of_key(table: &TableStore, key: &Values) -> Option<u64>
+fn slot_of_key(table: &TableStore, key: &RowKey) -> Option<u64>
     requires { 0 < length table.now.schema.key }
-    ensures { keyed_row key.now table.now
+    ensures { keyed_row key.now.values table.now
         ≡ option_and_then (λ slot. row_now (slot_at table.now.slots slot)) result }
 {
     table.tell_order();
-    match table.by_key(key) {
+    match table.by_row_key(key) {
         None => None,
         Some(number) => table.slot_of(number),
     }

@@ -14,17 +14,16 @@
 //!
 //! Inside, a core reads sources: of each table in FROM the rows that may be in a picked combination, at their
 //! versions (`specs/Sourcing.antt`, `specs/Stored.antt`). Where conditions fix the whole key of a source by
-//! constants (`specs/Fixing.antt`), its table's index has its one row (`specs/Keyed.antt`). Else the
+//! constants (`fixed_key` of `core_parts`), its table's index has its one row (`specs/Keyed.antt`). Else the
 //! conditions on one column of it are its masks (`specs/Masking.antt`). Those on columns of numbers choose
 //! slots of the table by its scans, and only the rows that are left are copied (`specs/Leaving.antt`).
-//! `proofs/MaskLaws.antt` and `proofs/FixingLaws.antt` say why nothing is lost by it, and
-//! `proofs/StoredLaws.antt` that sources of a store are what the definitions want.
+//! `proofs/MaskLaws.antt` says why nothing is lost by masks, and `proofs/StoredLaws.antt` that sources of a
+//! store are what the definitions want.
 #![tactic(auto)]
 
 mod conditions;
 mod distinct;
 mod finishing;
-mod fixing;
 mod index;
 mod joining;
 mod keyed;
@@ -35,13 +34,12 @@ mod merging;
 mod picking;
 mod probe;
 mod projection;
-mod row_values;
 mod sort;
 mod source;
 mod stored;
-mod value_key;
 
 pub use finishing::{Finished, finish};
+pub use lineages::united_set;
 pub use merging::merge;
 pub use picking::picked;
 pub use projection::project;

@@ -16,8 +16,9 @@ fn add_to_set(lineage: &mut LineageSet, answer: &Answer) -> Result<(), AllocErro
     lineage.add_rows(&answer.lineage)
 }
 
-/// The union of the lineages of answers, as a set.
-pub(crate) fn united_set(alloc: Global, answers: &[Answer]) -> Result<LineageSet, AllocError>
+/// The union of the lineages of answers, as a set. It stands for the lineages of all rows for which the
+/// answers stand (`proofs/Merges.antt`).
+pub fn united_set(alloc: Global, answers: &[Answer]) -> Result<LineageSet, AllocError>
     ensures { IfOk result (λ lineage. lineage ≡ united answers.now) }
 {
     let mut lineage = LineageSet::empty(alloc);

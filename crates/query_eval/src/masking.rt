@@ -4,7 +4,7 @@ ghost use Rattle.std.specs.Prelude.{◌≡◌, List as Items, true, IfOk, IfSome
 ghost use Rattle.std.specs.List.{AllByRecursion};
 ghost use Rattle.query_eval.specs.Masking.{turned, IsComparison, IsLocated, HaveWidths, passes, IsMask};
 ghost use Rattle.query_eval.specs.Masking.{AreMasks};
-ghost use Rattle.query_eval.specs.Joining.{IsColumn};
+ghost use Rattle.core_parts.specs.Equality.{IsColumn};
 ghost use Rattle.core_parts.specs.Placing.{IsPlaced};
 ghost use Rattle.query_eval.specs.Types.{Compare, Int};
 ghost use Rattle.sql_model.specs.Meaning.{is_true, truth};
@@ -12,8 +12,7 @@ ghost use Rattle.sql_model.specs.QueryAnswer.{Combination, joined_values};
 ghost use Rattle.sql_model.specs.Scope.{InScope, environment};
 ghost use Rattle.sql_model.specs.declared.expr.Expr.TheVariants.{Both, Constant};
 
-use crate::probe::is_column;
-use core_parts::Placed;
+use core_parts::{Placed, is_column};
 use ldv_value::{Cmp, Value};
 use sql_model::{Expr, Operator};
 use std::alloc::{AllocError, Global};

@@ -12,8 +12,7 @@ ghost use Rattle.sql_model.specs.QueryAnswer.{AnswerRow, distinct, merge};
 
 use crate::distinct::distinct_of;
 use crate::lineages::united_rows;
-use crate::row_values::RowValues;
-use core_parts::{Refs, RefsBy};
+use core_parts::{ByOrder, Refs, RefsBy};
 use ldv_value::{List, Values};
 use lineage::{Answer, Answers, LineageRows};
 use std::alloc::{AllocError, Global};
@@ -21,7 +20,7 @@ use std::alloc::{AllocError, Global};
 // Answers by their values, in their order.
 #[derive(Drop)]
 struct Groups<'a> {
-    map: RefsBy<'a, RowValues<'a>, Answer>,
+    map: RefsBy<'a, ByOrder<'a, Values>, Answer>,
 }
 
 /// One answer for all of the same values, at the place of the first, with the union of their lineages. NULL
@@ -57,13 +56,13 @@ fn values_of<'a>(alloc: Global, answers: &'a [Answer]) -> Result<Refs<'a, Values
 
 // Adds an answer under its values.
 fn add_answer<'a>(
-    map: &mut RefsBy<'a, RowValues<'a>, Answer>,
+    map: &mut RefsBy<'a, ByOrder<'a, Values>, Answer>,
     answer: &'a Answer,
 ) -> Result<(), AllocError>
     ensures { OnOk result ((v : Items Seen)
         → listed map.new v ≡ answer_added answer.now v (listed map.old v)) }
 {
-    map.add(RowValues::of(&answer.values), answer)
+    map.add(ByOrder::of(&answer.values), answer)
 }
 
 // Answers by their values.
@@ -82,7 +81,7 @@ fn groups_of<'a>(alloc: Global, answers: &'a [Answer]) -> Result<Groups<'a>, All
 fn group_at<'b, 'a>(groups: &'b Groups<'a>, values: &'a Values) -> Option<&'b Refs<'a, Answer>>
     ensures { unwrap_or (option_map (λ r. r.now) result) [] ≡ listed groups.now.map values.now }
 {
-    groups.map.get(&RowValues::of(values))
+    groups.map.get(&ByOrder::of(values))
 }
 
 // The union of the lineages under some values.

@@ -1,11 +1,10 @@
 //! The equality by which the rows of the next source are looked up.
 
 ghost use Rattle.std.specs.Prelude.{◌≡◌, IfSome, true};
-ghost use Rattle.query_eval.specs.Joining.{IsBetween, IsColumn, IsEquality, IsProbeOf, HasProbe};
-ghost use Rattle.query_eval.specs.Joining.{is_equal_sign, is_equal_test};
+ghost use Rattle.query_eval.specs.Joining.{IsBetween, IsEquality, IsProbeOf, HasProbe};
+ghost use Rattle.query_eval.specs.Joining.{is_equal_sign};
 
-use core_parts::Placed;
-use ldv_value::Cmp;
+use core_parts::{Placed, is_column, is_equal_test};
 use sql_model::{Expr, Operator};
 
 /// Two columns that are equal: one by its place in the joined row of the earlier sources, and one of the
@@ -51,30 +50,6 @@ fn is_equal_sign(operator: Operator) -> bool
         Operator::Multiply => false,
         Operator::And => false,
         Operator::Or => false,
-    }
-}
-
-/// Whether a comparison is `=`.
-pub(crate) fn is_equal_test(test: Cmp) -> bool
-    ensures { result ≡ is_equal_test test }
-{
-    match test {
-        Cmp::Eq => true,
-        Cmp::Ne => false,
-        Cmp::Lt => false,
-        Cmp::Le => false,
-        Cmp::Gt => false,
-        Cmp::Ge => false,
-    }
-}
-
-/// Whether an expression is a column.
-pub(crate) fn is_column(expr: &Expr) -> bool
-    ensures { result ≡ true → IsColumn expr.now }
-{
-    match expr {
-        Expr::Column(_) => true,
-        _ => false,
     }
 }
 

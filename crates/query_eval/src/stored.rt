@@ -7,14 +7,13 @@ ghost use Rattle.query_eval.specs.Leaving.{own_masks, left_rows};
 ghost use Rattle.query_eval.specs.Stored.{AreChosen, AreStored, HasVersion, IsPlace, IsStored, IsTaken};
 ghost use Rattle.query_eval.specs.Stored.{width_at};
 
-use crate::fixing::fixed_key;
 use crate::keyed::rows_of_key;
 use crate::leaving::{own_masks, rows_left};
 use crate::masking::Mask;
 use crate::source::{Source, SourceRows, Sources};
-use core_parts::Placed;
+use core_parts::{Placed, fixed_key};
 use ldv_value::{List, Names};
-use sql_model::FromItem;
+use sql_model::{FromItem, RowKey};
 use std::alloc::{AllocError, Global};
 use table_store::{Store, TableStore};
 
@@ -94,7 +93,7 @@ fn chosen_rows(
     ensures versions { IfOk result (AllByRecursion (HasVersion (Some held.now))) }
 {
     match fixed_key(alloc, conds, before, held.schema())? {
-        Some(key) => rows_of_key(alloc, held, &key),
+        Some(values) => rows_of_key(alloc, held, &RowKey { values }),
         None => rows_by_masks(alloc, held, masks, place),
     }
 }

@@ -16,7 +16,6 @@ mod SortedLists
 mod TraceLists
 mod Membership
 pub mod WorldRules
-mod NeedsSound
 mod NeedsSorted
 mod RowGroups
 mod TraceState

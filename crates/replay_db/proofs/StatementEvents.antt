@@ -35,7 +35,7 @@ use Rattle.package_layout.specs.Room.{some_thousands}
 use Rattle.package_layout.specs.Trace.{act_rule}
 use Rattle.package_layout.specs.Typed.{IsU32}
 use Rattle.replay_db.proofs.NeedsSorted.{row_under, needs_rise, reads_rise}
-use Rattle.replay_db.proofs.NeedsSound.{needs_good}
+use Rattle.sql_laws.proofs.NeedsSound.{needs_good}
 use Rattle.replay_db.proofs.RowGroups.{is_name_of, groups_few}
 use Rattle.replay_db.proofs.RunSame.{database_of}
 use Rattle.replay_db.proofs.SortedNeeds.{rows_sorted}

@@ -8,43 +8,10 @@ use Rattle.std.specs.Cmp.Lexicographic.{slice_cmp}
 use Rattle.std.proofs.lemmas.Bool.{cases_Bool}
 use Rattle.std.proofs.lemmas.Cmp.{nat_list_cmp_total, tied_itself}
 use Rattle.std.proofs.lemmas.Bool.Decides.{nat_tests}
+pub use Rattle.sql_laws.proofs.ItemLists.{all_append, all_filter, all_found, all_map, all_of_map, all_flat_map}
 use Rattle.sql_laws.proofs.SortedLists.{sorted-filter}
 use Rattle.ldv_value.proofs.Orderings.{is_lt-true}
 use Rattle.package_layout.specs.Order.{rises, is_below}
-
--- ---- each item
-
-module _ {X : Type 0} (P : X → Type 0) where
-  pub all_append : (xs ys : List X) → AllByRecursion P xs → AllByRecursion P ys → AllByRecursion P (xs ++ ys)
-  all_append [] ys h k = k
-  all_append (x ∷ xs) ys h k = (h.0, all_append xs ys h.1 k)
-
-  pub all_filter : (p : X → Bool) (xs : List X) → AllByRecursion P xs → AllByRecursion P (filter p xs)
-  all_filter p [] h = tt
-  all_filter p (x ∷ xs) h = elim (cases_Bool (p x)) [
-    | inl hit ↦ rw hit (h.0, all_filter p xs h.1)
-    | inr miss ↦ rw miss (all_filter p xs h.1)
-  ]
-
-  pub all_found : (p : X → Bool) (xs : List X) (x : X) → AllByRecursion P xs → find p xs ≡ Some x → P x
-  all_found p [] x h is = absurd cc
-  all_found p (y ∷ ys) x h is = elim (cases_Bool (p y)) [
-    | inl hit ↦ let e : Some y ≡ Some x = rw hit at is in let same : y ≡ x = cc in subst P same h.0
-    | inr miss ↦ all_found p ys x h.1 (rw miss at is)
-  ]
-
-module _ {X Y : Type 0} (P : Y → Type 0) where
-  pub all_map : (f : X → Y) (xs : List X) → AllByRecursion (λ x. P (f x)) xs → AllByRecursion P (map f xs)
-  all_map f [] h = tt
-  all_map f (x ∷ xs) h = (h.0, all_map f xs h.1)
-
-  pub all_of_map : (f : X → Y) (xs : List X) → AllByRecursion P (map f xs) → AllByRecursion (λ x. P (f x)) xs
-  all_of_map f [] h = tt
-  all_of_map f (x ∷ xs) h = (h.0, all_of_map f xs h.1)
-
-  pub all_flat_map : (f : X → List Y) (xs : List X) → AllByRecursion (λ x. AllByRecursion P (f x)) xs → AllByRecursion P (flat_map f xs)
-  all_flat_map f [] h = tt
-  all_flat_map f (x ∷ xs) h = all_append P (f x) (flat_map f xs) h.0 (all_flat_map f xs h.1)
 
 -- ---- one text, or number, below another
 

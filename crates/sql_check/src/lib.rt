@@ -27,4 +27,5 @@ mod values;
 mod walk;
 
 pub use checking::check;
+pub use part::groups;
 pub use stop::CheckStop;

@@ -33,7 +33,7 @@ pub(crate) fn names_of(columns: &Option<Names>) -> &[Utf8]
 }
 
 /// Whether a core has GROUP BY, HAVING, or an aggregate in an item.
-pub(crate) fn groups(core: &Core) -> bool
+pub fn groups(core: &Core) -> bool
     ensures { result ≡ groups core.now }
 {
     !core.group.is_empty() || (core.having.is_some() || items_aggregate(items_of(core)))

@@ -4,6 +4,7 @@ pub mod DatabaseLaws
 pub mod FewerTables
 pub mod FewerTablesChanges
 pub mod FewerTablesQueries
+pub mod ItemLists
 pub mod KeptClash
 pub mod KindLaws
 pub mod LeftRows
@@ -11,6 +12,7 @@ pub mod LeftRowsRefusals
 pub mod LeftRowsStatements
 pub mod LineageLaws
 pub mod NeedsLaws
+pub mod NeedsSound
 pub mod NewNumbers
 pub mod NewRows
 pub mod OtherRows

@@ -1,5 +1,5 @@
 -- The cores of a query, the same both ways.
-use Rattle.std.proofs.Common.{◌≡◌, ℕ, ◌≤◌, List, [], ◌∷◌, ◌++◌, length, refl, sym, ap, ◌∙◌, subst, Bool, true, false, inl, inr, ◌⊎◌, append_assoc}
+use Rattle.std.proofs.Common.{◌≡◌, ℕ, ◌≤◌, List, [], ◌∷◌, ◌++◌, length, refl, sym, ap, ◌∙◌, subst, Bool, true, false, append_assoc}
 use Rattle.std.specs.Prelude.{Option, option_to_list, codes}
 use Rattle.sql_model.specs.declared.expr.ColumnName.{ColumnName}
 use Rattle.sql_model.specs.declared.expr.Expr.{Expr}
@@ -7,12 +7,13 @@ use Rattle.sql_model.specs.declared.statement.Core.{Core}
 use Rattle.sql_model.specs.declared.statement.Item.{Item}
 use Rattle.sql_parse.specs.declared.state.Sources.{Sources}
 use Rattle.sql_model.specs.declared.token.Token.{Token}
-use Rattle.sql_model.specs.GrammarOfStatements.{Then, After, Flag, Optionally, Listed, IsExpression, AreItems, IsColumnAt, IsGroup, IsCore, IsFirstCore, IsUnited, AreCores}
+use Rattle.sql_model.specs.GrammarOfStatements.{Then, After, Flag, Optionally, IsExpression, AreItems, IsColumnAt, IsGroup, IsCore, IsFirstCore, IsUnited, AreCores}
 use Rattle.sql_parse.specs.Queries.{reads_group, core_end, core_rest, reads_core, reads_cores}
 use Rattle.sql_parse.specs.Reader.{starts, passed}
-use Rattle.sql_parse.proofs.Follows.{ends_lack, Follows, follows_after, follows_nothing, follows_optional, follows_then}
-use Rattle.sql_parse.proofs.Laws.{Law, state_law, nothing_law, after_law, then_law, made_law, either_law, optional_law, flag_law}
-use Rattle.sql_parse.proofs.PartsLaw.{comma, expr_law, column_law, column_filled, items_law, items_apart, listed_law, after_filled}
+use Rattle.sql_parse.proofs.ClausesLaw.{clause_law}
+use Rattle.sql_parse.proofs.Follows.{Follows, follows_after, follows_nothing, follows_optional, follows_then}
+use Rattle.sql_parse.proofs.Laws.{Law, state_law, after_law, then_law, made_law, optional_law, flag_law}
+use Rattle.sql_parse.proofs.PartsLaw.{comma, expr_law, column_law, column_filled, items_law, items_apart, after_filled}
 use Rattle.sql_parse.proofs.RepeatLaws.{separated_law}
 use Rattle.sql_parse.proofs.SourcesLaw.{after_sources, SourcesForm, sources_law}
 
@@ -31,24 +32,8 @@ after_where = codes "group" ∷ after_group
 
 -- ---- GROUP BY
 
-abbrev GroupForm : List ColumnName → List Token → Type 0
-GroupForm g ts = After "group" (λ ts. After "by" (λ ts. Listed IsColumnAt g ts) ts) ts ⊎ ((g ≡ []) × (ts ≡ []))
-
-group_to : (g : List ColumnName) (ts : List Token) → GroupForm g ts → IsGroup g ts
-group_to [] ts (inl (more, e, (after, by, list))) = absurd list
-group_to (c ∷ cs) ts (inl form) = form
-group_to g ts (inr (is, e)) = subst (λ (h : List ColumnName). IsGroup h ts) (sym is) e
-
-group_from : (g : List ColumnName) (ts : List Token) → IsGroup g ts → GroupForm g ts
-group_from [] ts e = inr (refl, e)
-group_from (c ∷ cs) ts form = inl form
-
 group_law : Law IsGroup after_group reads_group
-group_law =
-    state_law GroupForm IsGroup after_group reads_group
-    (either_law "group" (after_law "by" (listed_law after_group (column_law (comma ∷ after_group) refl) column_filled refl refl)) (nothing_law [] after_group)
-    (λ g front rest form e. ap (λ (l : List Token). starts (codes "group") (l ++ rest)) form.1 ∙ ends_lack (codes "group") after_group rest refl e))
-    group_to group_from
+group_law = clause_law "group" "by" IsColumnAt after_group IsGroup (λ ts. (λ e. e, λ e. e)) (λ c cs ts. (λ form. form, λ form. form)) (column_law (comma ∷ after_group) refl) column_filled refl refl refl
 
 -- ---- what stands after the sources
 

@@ -1,4 +1,5 @@
 pub mod Choices
+pub mod ClausesLaw
 pub mod CoresLaw
 pub mod ExpressionsBack
 pub mod ExpressionsDepth

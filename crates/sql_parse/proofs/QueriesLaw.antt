@@ -1,5 +1,5 @@
 -- Queries, the same both ways.
-use Rattle.std.proofs.Common.{◌≡◌, ℕ, ◌≤◌, ℤ, pos, negsuc, List, [], ◌∷◌, ◌++◌, length, refl, sym, ap, ◌∙◌, subst, Bool, true, false, Some, None, inl, inr, ◌⊎◌, arith, append_assoc}
+use Rattle.std.proofs.Common.{◌≡◌, ℕ, ◌≤◌, ℤ, pos, negsuc, List, [], ◌∷◌, ◌++◌, length, refl, sym, ap, ◌∙◌, subst, Bool, true, false, Some, None, inl, inr, arith, append_assoc}
 use Rattle.std.specs.Prelude.{Option, if◌then◌else◌, codes}
 use Rattle.std.proofs.lemmas.Bool.{cases_Bool}
 use Rattle.ldv_value.specs.declared.value.Value.{Value}
@@ -12,15 +12,16 @@ use Rattle.sql_model.specs.declared.token.Token.{Token}
 use Rattle.sql_model.specs.declared.token.Token.TheVariants.{Word, Number, Quoted, Given}
 use Rattle.ldv_value.specs.Options.{◌>>=◌, only_if}
 use Rattle.sql_model.specs.Grammar.{word, IsName}
-use Rattle.sql_model.specs.GrammarOfStatements.{Then, After, Optionally, Listed, AreCores, IsKey, IsDirection, IsOrder, AreOrders, IsBound, IsQuery}
+use Rattle.sql_model.specs.GrammarOfStatements.{Then, Optionally, AreCores, IsKey, IsDirection, IsOrder, AreOrders, IsBound, IsQuery}
 use Rattle.sql_parse.specs.Queries.{place_of, key_of, reads_key, directed, reads_order, reads_orders, bound_of, reads_bound, reads_limit, reads_query}
 use Rattle.sql_parse.specs.Reader.{starts, tail, passed, name_in}
+use Rattle.sql_parse.proofs.ClausesLaw.{clause_law}
 use Rattle.sql_parse.proofs.ExpressionsLaw.{starts_is}
 use Rattle.sql_parse.proofs.Follows.{ends_by, ends_lack, Follows, follows_after, follows_nothing, follows_optional, follows_then}
-use Rattle.sql_parse.proofs.Laws.{Law, state_law, same_law, nothing_law, token_law, token_read, after_law, then_law, made_law, either_law}
+use Rattle.sql_parse.proofs.Laws.{Law, state_law, same_law, token_law, token_read, then_law, made_law, optional_law}
 use Rattle.sql_parse.proofs.Named.{name_is}
 use Rattle.ldv_value.proofs.Options.{bind-some, same-some}
-use Rattle.sql_parse.proofs.PartsLaw.{comma, listed_law, then_filled}
+use Rattle.sql_parse.proofs.PartsLaw.{comma, then_filled}
 use Rattle.sql_parse.proofs.CoresLaw.{after_cores, cores_law, cores_start}
 
 -- what may stand after a statement, and after ORDER BY
@@ -138,24 +139,8 @@ order_law =
 order_filled : (o : Order) (ts : List Token) → IsOrder o ts → 1 ≤ length ts
 order_filled o ts h = then_filled ts (key_filled o.key) h
 
-abbrev OrdersForm : List Order → List Token → Type 0
-OrdersForm os ts = After "order" (λ ts. After "by" (λ ts. Listed IsOrder os ts) ts) ts ⊎ ((os ≡ []) × (ts ≡ []))
-
-orders_to : (os : List Order) (ts : List Token) → OrdersForm os ts → AreOrders os ts
-orders_to [] ts (inl (more, e, (after, by, list))) = absurd list
-orders_to (o ∷ os) ts (inl form) = form
-orders_to os ts (inr (is, e)) = subst (λ (p : List Order). AreOrders p ts) (sym is) e
-
-orders_from : (os : List Order) (ts : List Token) → AreOrders os ts → OrdersForm os ts
-orders_from [] ts e = inr (refl, e)
-orders_from (o ∷ os) ts form = inl form
-
 orders_law : Law AreOrders after_orders reads_orders
-orders_law =
-    state_law OrdersForm AreOrders after_orders reads_orders
-    (either_law "order" (after_law "by" (listed_law after_orders order_law order_filled refl refl)) (nothing_law [] after_orders)
-    (λ os front rest form e. ap (λ (l : List Token). starts (codes "order") (l ++ rest)) form.1 ∙ ends_lack (codes "order") after_orders rest refl e))
-    orders_to orders_from
+orders_law = clause_law "order" "by" IsOrder after_orders AreOrders (λ ts. (λ e. e, λ e. e)) (λ o os ts. (λ form. form, λ form. form)) order_law order_filled refl refl refl
 
 -- ---- LIMIT
 
@@ -188,23 +173,11 @@ bound_same (Number z ∷ ts) = refl
 bound_same (Quoted t ∷ ts) = refl
 bound_same (Given v ∷ ts) = refl
 
-abbrev LimitForm : Option Value → List Token → Type 0
-LimitForm o ts = After "limit" (λ ts. (v : Value) × (o ≡ Some v) × IsBound v ts) ts ⊎ ((o ≡ None) × (ts ≡ []))
-
-limit_to : (o : Option Value) (ts : List Token) → LimitForm o ts → Optionally "limit" IsBound o ts
-limit_to o ts (inl (more, e, (v, is, form))) = subst (λ (p : Option Value). Optionally "limit" IsBound p ts) (sym is) (more, e, form)
-limit_to o ts (inr (is, e)) = subst (λ (p : Option Value). Optionally "limit" IsBound p ts) (sym is) e
-
-limit_from : (o : Option Value) (ts : List Token) → Optionally "limit" IsBound o ts → LimitForm o ts
-limit_from (Some v) ts (more, e, form) = inl (more, e, (v, refl, form))
-limit_from None ts e = inr (refl, e)
-
 limit_law : Law (λ o ts. Optionally "limit" IsBound o ts) after_all reads_limit
 limit_law =
-    state_law LimitForm (λ o ts. Optionally "limit" IsBound o ts) after_all reads_limit
-    (either_law "limit" (same_law some_bound reads_bound bound_same (made_law (λ (v : Value). Some v) bound_law)) (nothing_law None after_all)
-    (λ o front rest form e. ap (λ (l : List Token). starts (codes "limit") (l ++ rest)) form.1 ∙ ends_lack (codes "limit") after_all rest refl e))
-    limit_to limit_from
+    same_law (λ ts. if starts (codes "limit") ts then some_bound (tail ts) else Some (None, ts)) reads_limit
+    (λ ts. ap (λ (o : Option (Option Value × List Token)). if starts (codes "limit") ts then o else Some (None, ts)) (bound_same (tail ts)))
+    (optional_law "limit" bound_law refl)
 
 -- ---- queries
 

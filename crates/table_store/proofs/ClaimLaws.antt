@@ -1,24 +1,23 @@
 -- New rows after those that stand, and their keys.
-use Rattle.std.proofs.Common.{◌≡◌, ◌==◌, ◌≢◌, ℕ, zero, suc, ◌+◌, ◌<◌, ◌≤◌, inl, inr, Bool, true, false, cond, ◌&&◌, List, [], ◌∷◌, ◌++◌, map, length, get_or, take, drop, refl, ap, sym, subst, ◌∙◌, arith, Option, Some, None, eq-eqb, append_assoc, append-nil, add-one, drop-cons}
-use Rattle.std.specs.Prelude.{find, if◌then◌else◌, Result, Ok, Err, OnOk, nat_lt}
+use Rattle.std.proofs.Common.{◌≡◌, ◌==◌, ℕ, zero, suc, ◌+◌, ◌<◌, ◌≤◌, Bool, true, false, cond, ◌&&◌, List, [], ◌∷◌, ◌++◌, length, get_or, take, drop, refl, ap, sym, subst, ◌∙◌, arith, Option, Some, None, eq-eqb, append_assoc, add-one, drop-cons}
+use Rattle.std.specs.Prelude.{find, if◌then◌else◌, Result, Ok, Err, OnOk}
 use Rattle.std.specs.Option.{option_map, option_or}
 use Rattle.std.specs.BTreeMap.{is_at}
-use Rattle.std.proofs.lemmas.Bool.{cases_Bool, cases_lt, ne_eqb, eqb-true}
+use Rattle.std.proofs.lemmas.Bool.{ne_eqb, eqb-true}
 use Rattle.std.proofs.lemmas.List.{take_more, length-take-le, drop_all}
 use Rattle.std.proofs.lemmas.List.Folds.{find-append}
-use Rattle.sql_model.specs.Changes.{KeyClash, clash_or, clash_after, clash_by, numbered, shares_key}
+use Rattle.sql_model.specs.Changes.{KeyClash, clash_or, clash_after, clash_by, numbered}
 use Rattle.sql_model.specs.KeyOrder.{key_order}
 use Rattle.sql_model.specs.Keys.{same_values, values_at, key_at}
-use Rattle.row_version.specs.History.{current}
 use Rattle.table_store.specs.Types.{Value, RowKey, TableRow}
 use Rattle.table_store.specs.Claims.{claim_stop, taken_stop, old_number}
-use Rattle.table_store.specs.Histories.{RowHistory, no_history, row_of, row_now, rows_now}
+use Rattle.table_store.specs.Histories.{RowHistory, rows_now}
 use Rattle.table_store.specs.KeyIndex.{has_key, Held, AreHeld, AreIndexed}
 use Rattle.table_store.specs.RowOrder.{AreInOrder}
 use Rattle.table_store.specs.Stops.{StopsAs}
 use Rattle.table_store.specs.declared.stop.StoreStop.{StoreStop}
 use Rattle.table_store.specs.declared.stop.StoreStop.TheVariants.{NotNull, KeyTaken, Full, NoMemory}
-use Rattle.table_store.proofs.IndexLaws.{Alike, no_slot_has, held_pushed, still_held}
+use Rattle.table_store.proofs.IndexLaws.{no_slot_has, held_pushed, still_held}
 
 -- ---- numbered rows
 
@@ -93,15 +92,21 @@ taken_some places next number values (Some row) is =
       some_is : {a b : ℕ} → Some a ≡ Some b → a ≡ b
       some_is same = cc
 
+-- a refusal that stays one
+pub stop_kept : (X Y : Type 0) (due more : Option StoreStop) (stop : StoreStop) → ((is : StoreStop) → due ≡ Some is → more ≡ Some is) → StopsAs {X = X} due (Err stop) → StopsAs {X = Y} more (Err stop)
+stop_kept X Y due more NoMemory stays is = tt
+stop_kept X Y due more NotNull stays is = stays NotNull is
+stop_kept X Y due more (KeyTaken earlier later key) stays is = stays (KeyTaken earlier later key) is
+stop_kept X Y due more Full stays is = stays Full is
+
 pub claim_taken : (places : List ℕ) (next : ℕ) (row : TableRow) (o : Option TableRow) (rest : Option KeyClash) (stop : StoreStop)
     → StopsAs {X = Unit {0}} (taken_stop places next row.values o) (Err stop) → StopsAs {X = Unit {0}} (claim_stop places next (clash_or o row rest)) (Err stop)
-claim_taken places next row o rest NoMemory is = tt
-claim_taken places next row None rest NotNull is = cc
-claim_taken places next row None rest (KeyTaken earlier later key) is = cc
-claim_taken places next row None rest Full is = cc
-claim_taken places next row (Some other) rest NotNull is = is
-claim_taken places next row (Some other) rest (KeyTaken earlier later key) is = is
-claim_taken places next row (Some other) rest Full is = is
+claim_taken places next row o rest stop =
+    stop_kept (Unit {0}) (Unit {0}) (taken_stop places next row.values o) (claim_stop places next (clash_or o row rest)) stop (by o)
+  where
+    by : (o : Option TableRow) (is : StoreStop) → taken_stop places next row.values o ≡ Some is → claim_stop places next (clash_or o row rest) ≡ Some is
+    by None is due = cc
+    by (Some other) is due = due
 
 pub not_taken : (places : List ℕ) (next : ℕ) (values : List Value) (o : Option TableRow) → taken_stop places next values o ≡ None → o ≡ None
 not_taken places next values None is = refl
@@ -169,13 +174,11 @@ unkeyed_clash (place ∷ places) rows none = absurd (omega (arith, eqb-true (len
 
 -- the first of two that refuses
 pub stop_first : (X Y : Type 0) (a b : Option StoreStop) (stop : StoreStop) → StopsAs {X = X} a (Err stop) → StopsAs {X = Y} (option_or a b) (Err stop)
-stop_first X Y a b NoMemory is = tt
-stop_first X Y None b NotNull is = cc
-stop_first X Y None b (KeyTaken earlier later key) is = cc
-stop_first X Y None b Full is = cc
-stop_first X Y (Some one) b NotNull is = is
-stop_first X Y (Some one) b (KeyTaken earlier later key) is = is
-stop_first X Y (Some one) b Full is = is
+stop_first X Y a b stop = stop_kept X Y a (option_or a b) stop (by a)
+  where
+    by : (o : Option StoreStop) (is : StoreStop) → o ≡ Some is → option_or o b ≡ Some is
+    by None is due = cc
+    by (Some one) is due = due
 
 pub on_ok : {X E : Type 0} (P Q : Type 0) (r : Result X E) → (P → Q) → OnOk r P → OnOk r Q
 on_ok P Q (Ok x) to holds = to holds

@@ -1,20 +1,20 @@
 -- Rows by their keys.
-use Rattle.std.proofs.Common.{◌≡◌, ◌==◌, ◌≢◌, ℕ, zero, suc, ◌+◌, ◌<◌, ◌≤◌, inl, inr, Bool, true, false, cond, not, ◌&&◌, ◌||◌, List, [], ◌∷◌, ◌++◌, map, length, get_or, take, drop, refl, ap, sym, subst, ◌∙◌, arith, Option, Some, None, eq-eqb}
+use Rattle.std.proofs.Common.{◌≡◌, ◌==◌, ◌≢◌, ℕ, zero, suc, ◌+◌, ◌<◌, inl, inr, Bool, true, false, cond, not, ◌&&◌, List, [], ◌∷◌, ◌++◌, map, length, get_or, take, drop, refl, ap, sym, subst, ◌∙◌, arith, Option, Some, None, eq-eqb}
 use Rattle.std.specs.Prelude.{find, IsSome, is_some, if◌then◌else◌}
-use Rattle.std.specs.List.{filter_map, cons_option, list_any}
+use Rattle.std.specs.List.{cons_option, list_any}
 use Rattle.std.specs.Option.{option_map, option_to_list}
-use Rattle.std.specs.Ordering.{is_eq, eq_by_cmp}
+use Rattle.std.specs.Ordering.{is_eq}
 use Rattle.std.specs.declared.cmp.Ordering.{Ordering}
-use Rattle.std.specs.declared.cmp.Ordering.TheVariants.{Less, Equal, Greater}
 use Rattle.std.specs.Cmp.{eq_by_cmp_equiv}
 use Rattle.std.specs.Cmp.Lexicographic.{slice_cmp}
 use Rattle.std.specs.BTreeMap.{BTreeMap, get, get_by, is_at}
-use Rattle.std.proofs.lemmas.Bool.{cases_Bool, cases_lt, cases_eq, ne_eqb, eqb-true}
-use Rattle.std.proofs.lemmas.List.{take_more}
+use Rattle.std.proofs.lemmas.Bool.{cases_Bool, cases_lt, ne_eqb, eqb-true}
+use Rattle.ldv_value.proofs.Orderings.{is_eq-true}
+use Rattle.ldv_value.proofs.Booleans.{and-false, not-true, or-parts}
 use Rattle.ldv_value.specs.Order.{order}
 use Rattle.row_version.specs.History.{current}
 use Rattle.sql_model.specs.KeyOrder.{key_order, key_order_total}
-use Rattle.sql_model.specs.Keys.{same_values, values_at, key_at, repeats, has_two_of_a_key}
+use Rattle.sql_model.specs.Keys.{same_values, values_at, key_at, repeats}
 use Rattle.sql_model.specs.Tables.{are_keys_unique}
 use Rattle.table_store.specs.Types.{Value, RowKey, TableRow}
 use Rattle.table_store.specs.Histories.{RowHistory, no_history, row_of, row_now, rows_now}
@@ -32,18 +32,13 @@ same_turned a b = (eq_by_cmp_equiv key_order_total).symm (key a) (key b)
 pub same_itself : (a : List Value) → same_values a a ≡ true
 same_itself a = (eq_by_cmp_equiv key_order_total).refl (key a)
 
-pub equal_from : (o : Ordering) → is_eq o ≡ true → o ≡ Equal
-equal_from Less is = cc
-equal_from Equal is = refl
-equal_from Greater is = cc
-
 -- the same keys are held alike
 pub Alike : Held → Type 0
 Alike held = (a b : RowKey) → same_values a.values b.values ≡ true → held a ≡ held b
 
 pub get_alike : (m : BTreeMap RowKey ℕ) → Alike (λ q. get key_order m q)
 unfolding Alike
-get_alike m a b same = ap (λ (f : RowKey → Ordering). get_by f m) (λ j q. key_order_total.congr a b q (equal_from (key_order a b) same) j)
+get_alike m a b same = ap (λ (f : RowKey → Ordering). get_by f m) (λ j q. key_order_total.congr a b q (is_eq-true (key_order a b) same) j)
 
 pub alike_held : (held : Held) → Alike held → (a b : RowKey) → same_values a.values b.values ≡ true → held a ≡ held b
 unfolding Alike
@@ -79,11 +74,8 @@ held_key places held alike k number (row ∷ rows) are is = elim (cases_Bool (ha
       ap (λ b. cond b (Some row) (find (has_key places k.values) rows)) not_here
       ∙ held_key places held alike k number rows are.1 is
       ∙ sym (ap (λ b. cond ((row.number == number) && b) (Some row) (find (λ row. (row.number == number) && has_key places k.values row) rows)) not_here
-      ∙ ap (λ b. cond b (Some row) (find (λ row. (row.number == number) && has_key places k.values row) rows)) (and_false (row.number == number)))
-] where
-  and_false : (b : Bool) → (b && false) ≡ false
-  and_false true = refl
-  and_false false = refl
+      ∙ ap (λ b. cond b (Some row) (find (λ row. (row.number == number) && has_key places k.values row) rows)) (and-false (row.number == number)))
+]
 
 -- ---- a key that is put
 
@@ -114,29 +106,21 @@ held_pushed places old new row rows put are none =
 
 -- ---- keys that are unique
 
-or_false : (a b : Bool) → (a || b) ≡ false → (a ≡ false) × (b ≡ false)
-or_false true b is = cc
-or_false false b is = (refl, is)
-
-not_true : (b : Bool) → not b ≡ true → b ≡ false
-not_true true is = cc
-not_true false is = refl
-
 no_earlier : (places : List ℕ) (front : List TableRow) (row : TableRow) (rest : List TableRow)
     → repeats same_values (map (values_at places) (map (λ (one : TableRow). one.values) (front ++ row ∷ rest))) ≡ false → find (has_key places (values_at places row.values)) front ≡ None
 no_earlier places [] row rest is = refl
 no_earlier places (first ∷ front) row rest is =
-    let both = or_false (list_any (same_values (values_at places first.values)) (map (values_at places) (map (λ (one : TableRow). one.values) (front ++ row ∷ rest))))
+    let both = or-parts (list_any (same_values (values_at places first.values)) (map (values_at places) (map (λ (one : TableRow). one.values) (front ++ row ∷ rest))))
     (repeats same_values (map (values_at places) (map (λ (one : TableRow). one.values) (front ++ row ∷ rest)))) is in
     ap (λ b. cond b (Some first) (find (has_key places (values_at places row.values)) front)) (apart front both.0)
     ∙ no_earlier places front row rest both.1 where
       apart : (others : List TableRow) → list_any (same_values (values_at places first.values)) (map (values_at places) (map (λ (one : TableRow). one.values) (others ++ row ∷ rest))) ≡ false
           → same_values (values_at places first.values) (values_at places row.values) ≡ false
-      apart [] none = (or_false _ _ none).0
-      apart (other ∷ others) none = apart others (or_false _ _ none).1
+      apart [] none = (or-parts _ _ none).0
+      apart (other ∷ others) none = apart others (or-parts _ _ none).1
 
-unique_by : (places : List ℕ) (rows : List (List Value)) → are_keys_unique places rows ≡ true → (length places == 0) ≡ false → repeats same_values (map (values_at places) rows) ≡ false
-unique_by places rows unique keyed = by (length places == 0) (repeats same_values (map (values_at places) rows)) keyed (not_true _ unique) where
+pub unique_by : (places : List ℕ) (rows : List (List Value)) → are_keys_unique places rows ≡ true → (length places == 0) ≡ false → repeats same_values (map (values_at places) rows) ≡ false
+unique_by places rows unique keyed = by (length places == 0) (repeats same_values (map (values_at places) rows)) keyed (not-true _ unique) where
   by : (a b : Bool) → a ≡ false → (not a && b) ≡ false → b ≡ false
   by true b none is = cc
   by false b none is = is

@@ -1,35 +1,28 @@
 -- New rows of a table: their numbers, their kinds, and which of them clash.
-use Rattle.std.proofs.Common.{◌≡◌, ◌==◌, ◌≢◌, ℕ, zero, suc, ◌+◌, ◌<◌, ◌≤◌, inl, inr, Bool, true, false, cond, ◌&&◌, ◌||◌, List, [], ◌∷◌, ◌++◌, map, length, get_or, refl, ap, sym, subst, ◌∙◌, arith, Option, Some, None, eq-eqb, append_assoc, append-nil}
+use Rattle.std.proofs.Common.{◌≡◌, ◌==◌, ℕ, zero, suc, ◌+◌, ◌<◌, ◌≤◌, inl, inr, Bool, true, false, cond, ◌&&◌, ◌||◌, List, [], ◌∷◌, ◌++◌, map, length, get_or, refl, ap, sym, subst, ◌∙◌, arith, Option, Some, None, eq-eqb, append_assoc, append-nil}
 use Rattle.std.specs.Prelude.{find, if◌then◌else◌, nat_lt, zip, ◌^◌}
-use Rattle.std.specs.List.{list_all, list_any, filter_map, cons_option}
+use Rattle.std.specs.List.{list_all, list_any, cons_option}
 use Rattle.std.specs.Option.{option_or}
 use Rattle.ldv_value.specs.Limits.{max_next}
-use Rattle.std.proofs.lemmas.Bool.{cases_Bool, cases_lt, ne_eqb, lt-ltb, le-ltb}
-use Rattle.std.proofs.lemmas.List.{length-map}
+use Rattle.std.proofs.lemmas.Bool.{cases_Bool, ne_eqb, lt-ltb, le-ltb}
 use Rattle.std.proofs.lemmas.List.Elements.{filter_map-append}
+use Rattle.ldv_value.proofs.Booleans.{and-parts}
 use Rattle.sql_model.specs.Changes.{KeyClash, key_clash, clash_or, clash_after, clash_by, numbered, shares_key, has_null, refuses_null}
-use Rattle.sql_model.specs.Keys.{same_values, values_at, key_at}
+use Rattle.sql_model.specs.Keys.{values_at, key_at}
 use Rattle.sql_model.specs.Needs.{stood}
-use Rattle.sql_model.specs.Tables.{each_value, has_kind}
 use Rattle.row_version.specs.History.{current}
-use Rattle.table_store.specs.Types.{Value, Null, Int, Text, Column, Schema, RowKey, Table, TableRow}
-use Rattle.table_store.specs.Cells.{is_of_kind}
-use Rattle.table_store.specs.Claims.{claim_stop, old_number}
-use Rattle.table_store.specs.Grid.{fits_kinds, are_of_kinds, AreNumberedFrom, next_after}
+use Rattle.table_store.specs.Types.{Value, Column, TableRow}
+use Rattle.table_store.specs.Claims.{claim_stop}
+use Rattle.table_store.specs.Grid.{are_of_kinds, AreNumberedFrom, next_after}
 use Rattle.table_store.specs.Histories.{RowHistory, TableHistory, no_history, row_of, row_now, rows_now, added, table_now, last_next}
-use Rattle.table_store.specs.KeyIndex.{has_key, Held, AreHeld, AreIndexed}
+use Rattle.table_store.specs.KeyIndex.{Held, AreHeld, AreIndexed}
 use Rattle.table_store.specs.RowOrder.{AreInOrder}
-use Rattle.table_store.specs.Stops.{has_shape, stood_number, key_stop, stop_if, insert_stop, with_inserted}
+use Rattle.table_store.specs.Stops.{has_shape, key_stop, stop_if, insert_stop, with_inserted}
 use Rattle.table_store.specs.TableView.{kinds_in, AreTimed}
 use Rattle.table_store.specs.declared.stop.StoreStop.{StoreStop}
 use Rattle.table_store.specs.declared.stop.StoreStop.TheVariants.{NotNull, KeyTaken, Full}
 use Rattle.table_store.proofs.IndexLaws.{Alike, alike_held}
-use Rattle.table_store.proofs.TableLaws.{added_now, added_timed}
-
-both_true : (a b : Bool) → (a && b) ≡ true → (a ≡ true) × (b ≡ true)
-both_true true true is = (refl, refl)
-both_true true false is = cc
-both_true false b is = cc
+use Rattle.table_store.proofs.TableLaws.{added_now, added_timed, shape_fits}
 
 -- ---- numbers
 
@@ -47,27 +40,10 @@ numbered_len next (values ∷ rows) = ap suc (numbered_len (next + 1) rows)
 
 -- ---- kinds
 
-kind_is : (column : Column) (value : Value) → has_kind column value ≡ true → is_of_kind column.text value ≡ true
-kind_is column Null is = refl
-kind_is column (Int number) is = is
-kind_is column (Text text) is = is
-
-kinds_are : (columns : List Column) (values : List Value) → each_value has_kind columns values ≡ true → list_all (λ p. is_of_kind p.0 p.1) (zip (kinds_in columns) values) ≡ true
-kinds_are [] values is = refl
-kinds_are (column ∷ columns) [] is = refl
-kinds_are (column ∷ columns) (value ∷ values) is =
-    let both = both_true (has_kind column value) (each_value has_kind columns values) is in
-    λ j. (kind_is column value both.0 j && kinds_are columns values both.1 j)
-
-pub shape_fits : (columns : List Column) (values : List Value) → has_shape columns values ≡ true → fits_kinds (kinds_in columns) values ≡ true
-shape_fits columns values is =
-    let both = both_true (length values == length columns) (each_value has_kind columns values) is in
-    λ j. ((ap (λ (n : ℕ). length values == n) (length-map columns (λ (column : Column). column.text)) ∙ both.0) j && kinds_are columns values both.1 j)
-
 pub shapes_fit : (columns : List Column) (next : ℕ) (rows : List (List Value)) → list_all (has_shape columns) rows ≡ true → are_of_kinds (kinds_in columns) (numbered next rows) ≡ true
 shapes_fit columns next [] is = refl
 shapes_fit columns next (values ∷ rows) is =
-    let both = both_true (has_shape columns values) (list_all (has_shape columns) rows) is in
+    let both = and-parts (has_shape columns values) (list_all (has_shape columns) rows) is in
     λ j. (shape_fits columns values both.0 j && shapes_fit columns (next + 1) rows both.1 j)
 
 -- ---- code 5

@@ -1,12 +1,13 @@
 -- Rows that get other values and keep their keys.
-use Rattle.std.proofs.Common.{◌≡◌, ◌==◌, ℕ, zero, suc, ◌+◌, ◌<◌, ◌≤◌, inl, inr, Bool, true, false, cond, ◌&&◌, List, [], ◌∷◌, ◌++◌, map, length, take, get_or, add-one, refl, ap, sym, subst, ◌∙◌, arith, Option, Some, None, eq-eqb, append-nil}
+use Rattle.std.proofs.Common.{◌≡◌, ◌==◌, ℕ, zero, suc, ◌+◌, ◌<◌, ◌≤◌, inl, inr, Bool, true, cond, ◌&&◌, List, [], ◌∷◌, map, length, take, get_or, add-one, refl, ap, sym, subst, ◌∙◌, arith, Option, Some, None, eq-eqb, append-nil}
 use Rattle.std.specs.Prelude.{find, MatchOption, unwrap_or}
 use Rattle.std.specs.List.{AllByRecursion}
 use Rattle.std.specs.Option.{option_map}
 use Rattle.std.proofs.lemmas.Bool.{cases_Bool, ne_eqb}
+use Rattle.table_store.proofs.TableLaws.{number_found}
 use Rattle.sql_model.specs.Changes.{clash_after, clash_by}
-use Rattle.sql_model.specs.Keys.{same_values, values_at, key_at}
-use Rattle.table_store.specs.Types.{Value, TableRow}
+use Rattle.sql_model.specs.Keys.{values_at, key_at}
+use Rattle.table_store.specs.Types.{TableRow}
 use Rattle.table_store.specs.Claims.{KeepsKey}
 use Rattle.table_store.specs.Histories.{RowHistory, rows_now}
 use Rattle.table_store.specs.KeyIndex.{has_key, Held, AreHeld, AreIndexed}
@@ -14,7 +15,7 @@ use Rattle.table_store.specs.RowOrder.{AreInOrder}
 use Rattle.table_store.specs.Stops.{replaced_by}
 use Rattle.table_store.proofs.IndexLaws.{Alike, alike_held}
 use Rattle.table_store.proofs.InsertLaws.{AllRows, RisesFrom, rows_rise, clash_front}
-use Rattle.table_store.proofs.RekeyLaws.{number_kept, found_number}
+use Rattle.table_store.proofs.RekeyLaws.{number_kept}
 
 some_row : {a b : TableRow} → Some a ≡ Some b → a ≡ b
 some_row same = cc
@@ -63,10 +64,10 @@ module _ (places : List ℕ) (given : List TableRow) where
   all_keep low [] rises keep = tt
   all_keep low (row ∷ rows) rises keep = (
     (λ new is.
-        let same : new.number ≡ row.number = found_number given row.number given new is in
+        let same : new.number ≡ row.number = number_found row.number given new is in
         first_has new.number (has_key places (values_at places new.values)) row rows (sym same) rises.1 (keep row.number new rises.0 is)),
     all_keep (row.number + 1) rows rises.1 (λ number new from is.
-        let same : new.number ≡ number = found_number given number given new is in
+        let same : new.number ≡ number = number_found number given new is in
         later_has new.number (has_key places (values_at places new.values)) row rows (omega (arith, from, same)) (keep number new (omega (arith, from, rises.0)) is)),
   )
 

@@ -12,6 +12,7 @@ pub mod NextLaws
 pub mod NowLaws
 pub mod RekeyLaws
 pub mod RowLaws
+pub mod StandingRows
 pub mod StoreChangeLaws
 pub mod StoreLaws
 pub mod TableChangeLaws

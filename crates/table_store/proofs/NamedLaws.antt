@@ -1,6 +1,6 @@
 -- Lists of tables that are sorted by name.
-use Rattle.std.proofs.Common.{◌≡◌, ◌≢◌, ℕ, zero, suc, ◌+◌, ◌<◌, ◌≤◌, inl, inr, Bool, true, false, cond, ◌&&◌, List, [], ◌∷◌, map, length, get_or, set, refl, ap, sym, subst, ◌∙◌, arith, Option, Some, None}
-use Rattle.std.specs.Prelude.{find, IfSome}
+use Rattle.std.proofs.Common.{◌≡◌, ◌≢◌, ℕ, zero, suc, ◌<◌, inl, inr, Bool, true, false, cond, ◌&&◌, List, [], ◌∷◌, map, length, get_or, set, refl, ap, sym, ◌∙◌, arith, Some, None}
+use Rattle.std.specs.Prelude.{find}
 use Rattle.std.specs.Ordering.{nat_cmp, is_lt, is_eq, ordering_reverse}
 use Rattle.std.specs.List.Sorted.{IsPartitionedBy}
 use Rattle.std.specs.Option.{option_map}
@@ -9,14 +9,10 @@ use Rattle.std.specs.declared.cmp.Ordering.TheVariants.{Less, Equal, Greater}
 use Rattle.std.specs.Cmp.Lexicographic.{slice_cmp, nat_list_cmp_total}
 use Rattle.std.proofs.lemmas.Bool.{cases_lt}
 use Rattle.std.proofs.lemmas.Map.Text.{is_eq-slice_cmp}
+use Rattle.ldv_value.proofs.Booleans.{and-parts}
 use Rattle.ldv_value.specs.Sorted.{is_strictly_sorted, precedes_first, text_precedes}
 use Rattle.ldv_value.proofs.SameBytes.{bytes_eq-true, bytes_eq-itself, bytes_eq-other}
 use Rattle.sql_model.specs.Scope.{same_text}
-
-both_true : (a b : Bool) → (a && b) ≡ true → (a ≡ true) × (b ≡ true)
-both_true true true is = (refl, refl)
-both_true true false is = cc
-both_true false b is = cc
 
 -- ---- names
 
@@ -61,7 +57,7 @@ module _ {X : Type 0} (name_of : X → List ℕ) (d : X) where
   after_first x [] first sorted k below = absurd (omega (arith, below))
   after_first x (y ∷ ys) first sorted zero below = first
   after_first x (y ∷ ys) first sorted (suc k) below =
-      let both = both_true (first_is_before y ys) (is_sorted ys) sorted in
+      let both = and-parts (first_is_before y ys) (is_sorted ys) sorted in
       text_trans (name_of x) (name_of y) (name_at ys k) first (after_first y ys both.0 both.1 k (omega (arith, below)))
 
   -- names rise along the list
@@ -69,9 +65,9 @@ module _ {X : Type 0} (name_of : X → List ℕ) (d : X) where
   names_rise [] sorted i j less below = absurd (omega (arith, below))
   names_rise (x ∷ xs) sorted i zero less below = absurd (omega (arith, less))
   names_rise (x ∷ xs) sorted zero (suc j) less below =
-      let both = both_true (first_is_before x xs) (is_sorted xs) sorted in after_first x xs both.0 both.1 j (omega (arith, below))
+      let both = and-parts (first_is_before x xs) (is_sorted xs) sorted in after_first x xs both.0 both.1 j (omega (arith, below))
   names_rise (x ∷ xs) sorted (suc i) (suc j) less below =
-      let both = both_true (first_is_before x xs) (is_sorted xs) sorted in names_rise xs both.1 i j (omega (arith, less)) (omega (arith, below))
+      let both = and-parts (first_is_before x xs) (is_sorted xs) sorted in names_rise xs both.1 i j (omega (arith, less)) (omega (arith, below))
 
   module _ (name : List ℕ) where
     abbrev pub is_named : X → Bool
@@ -94,10 +90,10 @@ module _ {X : Type 0} (name_of : X → List ℕ) (d : X) where
         → set xs place (f (get_or xs place d)) ≡ map (λ x. cond (is_named x) (f x) x) xs
     named_set f [] place sorted within is = absurd (omega (arith, within))
     named_set f (x ∷ xs) zero sorted within is =
-        let both = both_true (first_is_before x xs) (is_sorted xs) sorted in
+        let both = and-parts (first_is_before x xs) (is_sorted xs) sorted in
         λ j. sym (ap (λ b. cond b (f x) x) is) j ∷ none_changed f xs (λ k below. other_after x (get_or xs k d) (after_first x xs both.0 both.1 k below) is) j
     named_set f (x ∷ xs) (suc place) sorted within is =
-        let both = both_true (first_is_before x xs) (is_sorted xs) sorted in
+        let both = and-parts (first_is_before x xs) (is_sorted xs) sorted in
         let below : place < length xs = omega (arith, within) in
         let away : is_named x ≡ false = other_before x (get_or xs place d) (after_first x xs both.0 both.1 place below) is in
         λ j. sym (ap (λ b. cond b (f x) x) away) j ∷ named_set f xs place both.1 below is j
@@ -107,7 +103,7 @@ module _ {X : Type 0} (name_of : X → List ℕ) (d : X) where
     named_found [] place sorted within is = absurd (omega (arith, within))
     named_found (x ∷ xs) zero sorted within is = ap (λ b. cond b (Some x) (find (λ y. is_named y) xs)) is
     named_found (x ∷ xs) (suc place) sorted within is =
-        let both = both_true (first_is_before x xs) (is_sorted xs) sorted in
+        let both = and-parts (first_is_before x xs) (is_sorted xs) sorted in
         let below : place < length xs = omega (arith, within) in
         let away : is_named x ≡ false = other_before x (get_or xs place d) (after_first x xs both.0 both.1 place below) is in
         ap (λ b. cond b (Some x) (find (λ y. is_named y) xs)) away ∙ named_found xs place both.1 below is

@@ -1,7 +1,7 @@
 -- Keys of rows once others took the place of some of them.
-use Rattle.std.proofs.Common.{◌≡◌, ◌==◌, ℕ, zero, suc, ◌+◌, ◌<◌, ◌≤◌, inl, inr, Bool, true, false, cond, List, [], ◌∷◌, ◌++◌, map, length, get_or, take, drop, refl, ap, sym, subst, ◌∙◌, arith, Option, Some, None, is_some, eqb-true, eq-eqb, append_assoc, append-nil}
-use Rattle.std.specs.Prelude.{find, IsSome, IfOk, Result, Ok, Err, nat_lt, unwrap_or, slice_get, if◌then◌else◌, ◌&&◌}
-use Rattle.std.specs.List.{filter_map, cons_option, list_any}
+use Rattle.std.proofs.Common.{◌≡◌, ◌==◌, ℕ, zero, suc, ◌+◌, ◌<◌, ◌≤◌, inl, inr, Bool, true, false, cond, List, [], ◌∷◌, ◌++◌, map, length, get_or, take, drop, refl, ap, sym, subst, ◌∙◌, arith, Option, Some, None, is_some, eq-eqb, append_assoc, append-nil}
+use Rattle.std.specs.Prelude.{find, IsSome, IfOk, Result, Ok, Err, nat_lt, unwrap_or, slice_get, if◌then◌else◌}
+use Rattle.std.specs.List.{cons_option, list_any}
 use Rattle.std.specs.Option.{option_map, option_or, option_to_list}
 use Rattle.std.specs.List.Sorted.{IsPartitionedBy}
 use Rattle.std.specs.Ordering.{is_eq}
@@ -10,6 +10,8 @@ use Rattle.std.proofs.lemmas.Bool.{cases_Bool, cases_lt, ne_eqb, ltb-true, lt-lt
 use Rattle.std.proofs.lemmas.List.{take_more}
 use Rattle.std.proofs.lemmas.List.Folds.{find-append}
 use Rattle.std.proofs.lemmas.List.Elements.{filter_map-append}
+use Rattle.ldv_value.proofs.Orderings.{is_eq-true}
+use Rattle.ldv_value.proofs.Booleans.{and-parts}
 use Rattle.row_version.specs.History.{current}
 use Rattle.sql_model.specs.Changes.{KeyClash, key_clash, clash_or, clash_after, clash_by, shares_key, has_null}
 use Rattle.sql_model.specs.KeyOrder.{key_order, key_order_total}
@@ -17,20 +19,20 @@ use Rattle.sql_model.specs.Keys.{same_values, values_at, key_at}
 use Rattle.ldv_value.specs.Sorted.{precedes_first}
 use Rattle.table_store.specs.Types.{Value, RowKey, Table, TableRow}
 use Rattle.table_store.specs.Claims.{row_then, rows_then, IsIndexOf, both_stop}
-use Rattle.table_store.specs.Histories.{RowHistory, TableHistory, no_history, row_of, row_now, rows_now, table_now}
-use Rattle.table_store.specs.KeyIndex.{has_key, row_of_key, Held, AreHeld, AreIndexed}
+use Rattle.table_store.specs.Histories.{RowHistory, TableHistory, no_history, row_of, rows_now, table_now}
+use Rattle.table_store.specs.KeyIndex.{has_key, row_of_key, Held}
 use Rattle.table_store.specs.Stops.{replaced_by, with_replaced, are_sorted_rows, key_stop, stop_if, replace_stop, StopsAs}
 use Rattle.table_store.specs.declared.stop.StoreStop.{StoreStop}
-use Rattle.table_store.specs.declared.stop.StoreStop.TheVariants.{NotNull, KeyTaken, Full, NoMemory}
-use Rattle.table_store.proofs.IndexLaws.{key, same_turned, equal_from, held_pushed, indexed_by}
-use Rattle.table_store.proofs.ClaimLaws.{keyed_clash, unkeyed_clash}
+use Rattle.table_store.specs.declared.stop.StoreStop.TheVariants.{NotNull, KeyTaken}
+use Rattle.table_store.proofs.IndexLaws.{key, same_turned, held_pushed}
+use Rattle.table_store.proofs.ClaimLaws.{keyed_clash, unkeyed_clash, stop_kept}
 use Rattle.table_store.proofs.InsertLaws.{AllRows, clash_all, any_self}
-use Rattle.table_store.proofs.TableLaws.{left_more}
+use Rattle.table_store.proofs.TableLaws.{left_more, number_found}
 
 -- ---- the same key
 
 alike_left : (k q : List Value) → same_values k q ≡ true → (x : List Value) → same_values k x ≡ same_values q x
-alike_left k q same x = ap is_eq (key_order_total.congr (key k) (key q) (key x) (equal_from (key_order (key k) (key q)) same))
+alike_left k q same x = ap is_eq (key_order_total.congr (key k) (key q) (key x) (is_eq-true (key_order (key k) (key q)) same))
 
 alike_right : (k q : List Value) → same_values k q ≡ true → (x : List Value) → same_values x k ≡ same_values x q
 alike_right k q same x = same_turned x k ∙ alike_left k q same x ∙ same_turned q x
@@ -83,20 +85,15 @@ none_both places None is = refl
 none_both places (Some clash) is = cc
 
 pub both_first : (X Y : Type 0) (places : List ℕ) (a b : Option KeyClash) (stop : StoreStop) → StopsAs {X = X} (both_stop places a) (Err stop) → StopsAs {X = Y} (both_stop places (option_or a b)) (Err stop)
-both_first X Y places a b NoMemory is = tt
-both_first X Y places None b NotNull is = cc
-both_first X Y places None b (KeyTaken earlier later key) is = cc
-both_first X Y places None b Full is = cc
-both_first X Y places (Some clash) b NotNull is = is
-both_first X Y places (Some clash) b (KeyTaken earlier later key) is = is
-both_first X Y places (Some clash) b Full is = is
+both_first X Y places a b stop = stop_kept X Y (both_stop places a) (both_stop places (option_or a b)) stop (by a)
+  where
+    by : (o : Option KeyClash) (is : StoreStop) → both_stop places o ≡ Some is → both_stop places (option_or o b) ≡ Some is
+    by None is due = cc
+    by (Some clash) is due = due
 
 -- a refusal is one, whatever else would have come
 pub stop_as : (X Y : Type 0) (due : Option StoreStop) (stop : StoreStop) → StopsAs {X = X} due (Err stop) → StopsAs {X = Y} due (Err stop)
-stop_as X Y due NoMemory is = tt
-stop_as X Y due NotNull is = is
-stop_as X Y due (KeyTaken earlier later key) is = is
-stop_as X Y due Full is = is
+stop_as X Y due stop = stop_kept X Y due due stop (λ is same. same)
 
 -- ---- the row of a slot
 
@@ -175,23 +172,11 @@ module _ (given : List TableRow) where
     by None rest = rest
     by (Some values) rest = ap (λ (l : List TableRow). replaced_by given (record { number = row.number; values = values }) ∷ l) rest
 
-  -- a given row has the number that it is found by
-  pub found_number : (number : ℕ) (rows : List TableRow) (row : TableRow) → find (λ new. new.number == number) rows ≡ Some row → row.number ≡ number
-  found_number number [] row is = cc
-  found_number number (first ∷ rows) row is = elim (cases_Bool (first.number == number)) [
-    | inl hit ↦
-        let same : first ≡ row = some_is (sym (ap (λ b. cond b (Some first) (find (λ new. new.number == number) rows)) hit) ∙ is) in
-        ap (λ (r : TableRow). r.number) (sym same) ∙ eqb-true first.number number hit
-    | inr miss ↦ found_number number rows row (sym (ap (λ b. cond b (Some first) (find (λ new. new.number == number) rows)) miss) ∙ is)
-  ] where
-    some_is : {a b : TableRow} → Some a ≡ Some b → a ≡ b
-    some_is e = cc
-
   pub number_kept : (row : TableRow) → (replaced_by given row).number ≡ row.number
   number_kept row = by (find (λ new. new.number == row.number) given) refl where
     by : (o : Option TableRow) → find (λ new. new.number == row.number) given ≡ o → (unwrap_or o row).number ≡ row.number
     by None is = refl
-    by (Some new) is = found_number row.number given new is
+    by (Some new) is = number_found row.number given new is
 
   -- what is left in a slot whose row stands has its number
   pub number_then : (row : RowHistory) → IsSome (current row.changes) → option_map (λ (one : TableRow). one.number) (row_then given row) ≡ Some row.number
@@ -251,15 +236,10 @@ abbrev pub at_number : ℕ → Option TableRow → Option TableRow
 at_number number None = None
 at_number number (Some row) = cond (row.number == number) (Some row) None
 
-both_true : (a b : Bool) → (a && b) ≡ true → (a ≡ true) × (b ≡ true)
-both_true true true is = (refl, refl)
-both_true true false is = cc
-both_true false b is = cc
-
 above_none : (number : ℕ) (row : TableRow) (rows : List TableRow) → number < row.number → are_sorted_rows (row ∷ rows) ≡ true → find (λ new. new.number == number) rows ≡ None
 above_none number row [] above sorted = refl
 above_none number row (next ∷ rows) above sorted =
-    let both = both_true (nat_lt row.number next.number) (are_sorted_rows (next ∷ rows)) sorted in
+    let both = and-parts (nat_lt row.number next.number) (are_sorted_rows (next ∷ rows)) sorted in
     let higher : row.number < next.number = ltb-true row.number next.number both.0 in
     ap (λ b. cond b (Some next) (find (λ new. new.number == number) rows)) (ne_eqb next.number number (omega (arith, above, higher)))
     ∙ above_none number next rows (omega (arith, above, higher)) both.1
@@ -283,7 +263,7 @@ given_found number (row ∷ rows) zero sorted before after = elim (cases_Bool (r
     | inr from ↦ from
   ]
 given_found number (row ∷ rows) (suc place) sorted before after =
-    let both = both_true (precedes_first (λ (a b : TableRow). nat_lt a.number b.number) row rows) (are_sorted_rows rows) sorted in
+    let both = and-parts (precedes_first (λ (a b : TableRow). nat_lt a.number b.number) row rows) (are_sorted_rows rows) sorted in
     let less : row.number < number = ltb-true row.number number (before 0 row (omega arith)) in
     ap (λ b. cond b (Some row) (find (λ new. new.number == number) rows)) (ne_eqb row.number number (omega (arith, less)))
     ∙ given_found number rows place both.1 (λ k d below. before (suc k) d (omega (arith, below))) (λ k d from below. after (suc k) d (omega (arith, from)) (omega (arith, below)))
@@ -331,9 +311,9 @@ pub given_parted : (number : ℕ) (rows : List TableRow) → are_sorted_rows row
 given_parted number rows sorted i j d to within below = lt-ltb (get_or rows i d).number number (omega (arith, at_most rows sorted i j d to within, ltb-true (get_or rows j d).number number below)) where
   first_most : (row : TableRow) (some : List TableRow) → are_sorted_rows (row ∷ some) ≡ true → (k : ℕ) (e : TableRow) → k < length some → row.number ≤ (get_or some k e).number
   first_most row [] ok k e inside = absurd (omega (arith, inside))
-  first_most row (next ∷ some) ok zero e inside = let both = both_true (nat_lt row.number next.number) (are_sorted_rows (next ∷ some)) ok in omega (arith, ltb-true row.number next.number both.0)
+  first_most row (next ∷ some) ok zero e inside = let both = and-parts (nat_lt row.number next.number) (are_sorted_rows (next ∷ some)) ok in omega (arith, ltb-true row.number next.number both.0)
   first_most row (next ∷ some) ok (suc k) e inside =
-      let both = both_true (nat_lt row.number next.number) (are_sorted_rows (next ∷ some)) ok in
+      let both = and-parts (nat_lt row.number next.number) (are_sorted_rows (next ∷ some)) ok in
       omega (arith, ltb-true row.number next.number both.0, first_most next some both.1 k e (omega (arith, inside)))
 
   at_most : (some : List TableRow) → are_sorted_rows some ≡ true → (a b : ℕ) (e : TableRow) → a ≤ b → b < length some → (get_or some a e).number ≤ (get_or some b e).number
@@ -342,7 +322,7 @@ given_parted number rows sorted i j d to within below = lt-ltb (get_or rows i d)
   at_most (row ∷ some) ok zero (suc b) e up inside = first_most row some ok b e (omega (arith, inside))
   at_most (row ∷ some) ok (suc a) zero e up inside = absurd (omega (arith, up))
   at_most (row ∷ some) ok (suc a) (suc b) e up inside =
-      at_most some (both_true (precedes_first (λ (x y : TableRow). nat_lt x.number y.number) row some) (are_sorted_rows some) ok).1 a b e (omega (arith, up)) (omega (arith, inside))
+      at_most some (and-parts (precedes_first (λ (x y : TableRow). nat_lt x.number y.number) row some) (are_sorted_rows some) ok).1 a b e (omega (arith, up)) (omega (arith, inside))
 
 -- what refuses other values of rows
 pub replace_stop_is : (rows : List TableRow) (t : TableHistory) → list_any (has_null t.schema.columns) rows ≡ false

@@ -1,6 +1,7 @@
 -- Tables of a store at the start.
-use Rattle.std.proofs.Common.{◌≡◌, ℕ, zero, suc, ◌<◌, ◌≤◌, Bool, true, false, ◌&&◌, List, [], ◌∷◌, map, length, get_or, refl, ap, sym, subst, ◌∙◌, arith}
+use Rattle.std.proofs.Common.{◌≡◌, ℕ, zero, suc, ◌<◌, ◌≤◌, true, ◌&&◌, List, [], ◌∷◌, map, length, get_or, refl, ap, sym, subst, ◌∙◌, arith}
 use Rattle.std.specs.List.{list_all}
+use Rattle.ldv_value.proofs.Booleans.{and-parts}
 use Rattle.ldv_value.specs.Sorted.{is_strictly_sorted, precedes_first, text_precedes}
 use Rattle.sql_model.specs.Scope.{catalog_of}
 use Rattle.sql_model.specs.Tables.{is_database, is_valid_table, table_precedes}
@@ -9,11 +10,6 @@ use Rattle.table_store.specs.Histories.{TableHistory, table_now, last_since}
 use Rattle.table_store.specs.TableView.{begun}
 use Rattle.table_store.specs.StoreView.{AreStored, are_sorted, no_table}
 use Rattle.table_store.proofs.TableLaws.{begun_all}
-
-both_true : (a b : Bool) → (a && b) ≡ true → (a ≡ true) × (b ≡ true)
-both_true true true is = (refl, refl)
-both_true true false is = cc
-both_true false b is = cc
 
 first_begun : (table : Table) (tables : List Table) → precedes_first (λ (a b : TableHistory). text_precedes a.name b.name) (begun table) (map begun tables) ≡ precedes_first table_precedes table tables
 first_begun table [] = refl
@@ -29,13 +25,13 @@ timed_begun (table ∷ tables) zero below = omega arith
 timed_begun (table ∷ tables) (suc k) below = timed_begun tables k (omega (arith, below))
 
 pub valid_tables : (tables : List Table) → is_database tables ≡ true → list_all is_valid_table tables ≡ true
-valid_tables tables is = (both_true (list_all is_valid_table tables) (is_strictly_sorted table_precedes tables) is).0
+valid_tables tables is = (and-parts (list_all is_valid_table tables) (is_strictly_sorted table_precedes tables) is).0
 
 pub stored_begun : (catalog : Catalog) (tables : List Table) (held : List TableHistory) → is_database tables ≡ true → catalog ≡ catalog_of tables → held ≡ map begun tables → AreStored catalog held 0
 stored_begun catalog tables held is listed made =
     subst (λ (l : List TableHistory). AreStored catalog l 0) (sym made) (record {
       catalog_is = listed ∙ ap catalog_of (sym (begun_all tables));
-      sorted = sorted_begun tables ∙ (both_true (list_all is_valid_table tables) (is_strictly_sorted table_precedes tables) is).1;
+      sorted = sorted_begun tables ∙ (and-parts (list_all is_valid_table tables) (is_strictly_sorted table_precedes tables) is).1;
       timed = timed_begun tables;
     })
 

@@ -1,35 +1,29 @@
 -- Changes of a table: what its rows are afterwards, and before.
-use Rattle.std.proofs.Common.{◌≡◌, ◌==◌, ◌≢◌, ℕ, zero, suc, ◌+◌, ◌<◌, ◌≤◌, inl, inr, Bool, true, false, cond, not, ◌&&◌, ◌||◌, List, [], ◌∷◌, ◌++◌, map, length, get_or, refl, ap, sym, subst, ◌∙◌, arith, Option, Some, None, is_some, eq-eqb, eqb-true, append-nil, length-append}
-use Rattle.std.specs.Prelude.{find, filter, IsSome, nat_le, nat_lt, unwrap_or, zip}
-use Rattle.std.specs.List.{filter_map, cons_option, list_any, list_all, last_or}
+use Rattle.std.proofs.Common.{◌≡◌, ◌==◌, ℕ, zero, suc, ◌+◌, ◌<◌, ◌≤◌, inl, inr, Bool, true, false, cond, not, ◌||◌, List, [], ◌∷◌, ◌++◌, map, length, get_or, refl, ap, sym, subst, ◌∙◌, arith, Option, Some, None, eqb-true, append-nil}
+use Rattle.std.specs.Prelude.{find, filter, IsSome, nat_le, nat_lt, unwrap_or}
+use Rattle.std.specs.List.{cons_option, list_any, list_all, last_or}
 use Rattle.std.specs.Option.{option_map, option_map_or}
-use Rattle.std.proofs.lemmas.Bool.{cases_Bool, cases_lt, ne_eqb, ltb-true, lt-leb, le-leb}
-use Rattle.std.proofs.lemmas.List.{length-map, get_or-map, map-append}
+use Rattle.std.proofs.lemmas.Bool.{cases_Bool, cases_lt, ltb-true, lt-leb}
 use Rattle.std.proofs.lemmas.List.Elements.{filter-append, filter_map-append}
+use Rattle.ldv_value.proofs.Booleans.{and-parts}
 use Rattle.ldv_value.specs.Sorted.{is_strictly_sorted, precedes_first}
 use Rattle.row_version.specs.History.{Change, written, deleted, current, as_of, last_time, IsSorted}
-use Rattle.row_version.proofs.Later.{current_after, last_time_after, as_of_earlier, as_of_now, sorted_after}
+use Rattle.row_version.proofs.Later.{current_after, last_time_after, as_of_earlier, sorted_after}
 use Rattle.sql_model.specs.Changes.{numbered}
 use Rattle.sql_model.specs.Needs.{stood}
-use Rattle.sql_model.specs.Tables.{each_value, has_kind}
 use Rattle.table_store.specs.Types.{Value, Column, Schema, Table, TableRow}
-use Rattle.table_store.specs.Grid.{fits_kinds, next_after}
+use Rattle.table_store.specs.Grid.{next_after}
 use Rattle.table_store.specs.Histories.{RowHistory, NextSince, TableHistory, no_history, row_of, row_now, rows_now, row_as_of, rows_as_of, added, with_change, changed_by, writing, dropping, rewritten, dropped, last_next, last_since, next_as_of, noted, table_now, inserted, replaced, removed}
 use Rattle.table_store.specs.KeyIndex.{Held, AreHeld, AreIndexed}
-use Rattle.table_store.specs.RowChanges.{removal, rewrite, no_change, change_given, changes_given, RiseFrom, FitKinds, AllFitKinds, Stands, AllStand, AreBefore}
+use Rattle.table_store.specs.RowChanges.{removal, rewrite, change_given, changes_given, RiseFrom, AllFitKinds, Stands, AllStand, AreBefore}
 use Rattle.table_store.specs.RowOrder.{AreInOrder}
-use Rattle.table_store.specs.Stops.{has_shape, have_shape, values_of, are_sorted_rows, are_sorted_numbers, has_number, all_stood, all_stand, replaced_by, is_among, with_inserted, with_replaced, with_removed}
+use Rattle.table_store.specs.Stops.{has_shape, values_of, are_sorted_rows, are_sorted_numbers, replaced_by, is_among, with_inserted, with_replaced, with_removed}
 use Rattle.table_store.specs.RowChains.{RowsHistory}
 use Rattle.table_store.specs.TableView.{kinds_in, IsTimed, AreTimed, IsStored}
 use Rattle.table_store.specs.declared.change.RowChange.{RowChange}
-use Rattle.table_store.proofs.InsertLaws.{shape_fits, timed_more, now_more, numbered_after}
+use Rattle.table_store.proofs.InsertLaws.{timed_more, now_more, numbered_after}
 use Rattle.table_store.proofs.NextLaws.{noted_in_time}
-use Rattle.table_store.proofs.TableLaws.{added_now}
-
-both_true : (a b : Bool) → (a && b) ≡ true → (a ≡ true) × (b ≡ true)
-both_true true true is = (refl, refl)
-both_true true false is = cc
-both_true false b is = cc
+use Rattle.table_store.proofs.TableLaws.{added_now, number_found, shape_fits}
 
 -- ---- what is given
 
@@ -49,7 +43,7 @@ AtLeast number low (first ∷ rest) = low ≤ number first
 rise_numbers : (low : ℕ) (numbers : List ℕ) → AtLeast (λ n. n) low numbers → are_sorted_numbers numbers ≡ true → RiseFrom low (map removal numbers)
 rise_numbers low [] first sorted = tt
 rise_numbers low (number ∷ numbers) first sorted =
-    let both = both_true (precedes_first nat_lt number numbers) (is_strictly_sorted nat_lt numbers) sorted in
+    let both = and-parts (precedes_first nat_lt number numbers) (is_strictly_sorted nat_lt numbers) sorted in
     (first, rise_numbers (number + 1) numbers (next numbers both.0) both.1) where
       next : (rest : List ℕ) → precedes_first nat_lt number rest ≡ true → AtLeast (λ n. n) (number + 1) rest
       next [] is = tt
@@ -58,7 +52,7 @@ rise_numbers low (number ∷ numbers) first sorted =
 rise_rows : (low : ℕ) (rows : List TableRow) → AtLeast (λ (row : TableRow). row.number) low rows → are_sorted_rows rows ≡ true → RiseFrom low (map rewrite rows)
 rise_rows low [] first sorted = tt
 rise_rows low (row ∷ rows) first sorted =
-    let both = both_true (precedes_first (λ (a b : TableRow). nat_lt a.number b.number) row rows) (is_strictly_sorted (λ (a b : TableRow). nat_lt a.number b.number) rows) sorted in
+    let both = and-parts (precedes_first (λ (a b : TableRow). nat_lt a.number b.number) row rows) (is_strictly_sorted (λ (a b : TableRow). nat_lt a.number b.number) rows) sorted in
     (first, rise_rows (row.number + 1) rows (next rows both.0) both.1) where
       next : (rest : List TableRow) → precedes_first (λ (a b : TableRow). nat_lt a.number b.number) row rest ≡ true → AtLeast (λ (one : TableRow). one.number) (row.number + 1) rest
       next [] is = tt
@@ -83,7 +77,7 @@ removals_fit kinds (number ∷ numbers) = (tt, removals_fit kinds numbers)
 pub rewrites_fit : (columns : List Column) (rows : List TableRow) → list_all (has_shape columns) (values_of rows) ≡ true → AllFitKinds (kinds_in columns) (map rewrite rows)
 rewrites_fit columns [] shape = tt
 rewrites_fit columns (row ∷ rows) shape =
-    let both = both_true (has_shape columns row.values) (list_all (has_shape columns) (values_of rows)) shape in
+    let both = and-parts (has_shape columns row.values) (list_all (has_shape columns) (values_of rows)) shape in
     ((shape_fits columns row.values both.0, refl), rewrites_fit columns rows both.1)
 
 -- ---- rows that stand
@@ -105,16 +99,16 @@ stands_among number (slot ∷ slots) is = by (current slot.changes) refl (stands
 pub removals_stand : (slots : List RowHistory) (numbers : List ℕ) → list_all (λ number. list_any (λ (row : TableRow). row.number == number) (rows_now slots)) numbers ≡ true → AllStand slots (map removal numbers)
 removals_stand slots [] all j below = absurd (omega (arith, below))
 removals_stand slots (number ∷ numbers) all zero below =
-    stands_among number slots (both_true _ (list_all (λ n. list_any (λ (row : TableRow). row.number == n) (rows_now slots)) numbers) all).0
+    stands_among number slots (and-parts _ (list_all (λ n. list_any (λ (row : TableRow). row.number == n) (rows_now slots)) numbers) all).0
 removals_stand slots (number ∷ numbers) all (suc j) below =
-    removals_stand slots numbers (both_true (list_any (λ (row : TableRow). row.number == number) (rows_now slots)) _ all).1 j (omega (arith, below))
+    removals_stand slots numbers (and-parts (list_any (λ (row : TableRow). row.number == number) (rows_now slots)) _ all).1 j (omega (arith, below))
 
 pub rewrites_stand : (slots : List RowHistory) (rows : List TableRow) → list_all (λ (one : TableRow). list_any (λ (row : TableRow). row.number == one.number) (rows_now slots)) rows ≡ true → AllStand slots (map rewrite rows)
 rewrites_stand slots [] all j below = absurd (omega (arith, below))
 rewrites_stand slots (one ∷ rows) all zero below =
-    stands_among one.number slots (both_true _ (list_all (λ (other : TableRow). list_any (λ (row : TableRow). row.number == other.number) (rows_now slots)) rows) all).0
+    stands_among one.number slots (and-parts _ (list_all (λ (other : TableRow). list_any (λ (row : TableRow). row.number == other.number) (rows_now slots)) rows) all).0
 rewrites_stand slots (one ∷ rows) all (suc j) below =
-    rewrites_stand slots rows (both_true (list_any (λ (row : TableRow). row.number == one.number) (rows_now slots)) _ all).1 j (omega (arith, below))
+    rewrites_stand slots rows (and-parts (list_any (λ (row : TableRow). row.number == one.number) (rows_now slots)) _ all).1 j (omega (arith, below))
 
 pub before_all : (last time : ℕ) (slots : List RowHistory) → AreTimed last slots → last < time → AreBefore time slots
 before_all last time slots timed later k below = let one = timed k below in (one.sorted, omega (arith, one.by, later))
@@ -231,17 +225,6 @@ module _ (time : ℕ) (rows : List TableRow) where
         ∙ sym (ap (λ b. option_map (writing time) (cond b (Some first) (find (λ new. new.number == number) some))) miss)
   ]
 
-  new_number : (number : ℕ) (some : List TableRow) (new : TableRow) → find (λ one. one.number == number) some ≡ Some new → new.number ≡ number
-  new_number number [] new is = cc
-  new_number number (first ∷ some) new is = elim (cases_Bool (first.number == number)) [
-    | inl hit ↦
-        let same : first ≡ new = some_is (sym (ap (λ b. cond b (Some first) (find (λ one. one.number == number) some)) hit) ∙ is) in
-        ap (λ (r : TableRow). r.number) (sym same) ∙ eqb-true first.number number hit
-    | inr miss ↦ new_number number some new (sym (ap (λ b. cond b (Some first) (find (λ one. one.number == number) some)) miss) ∙ is)
-  ] where
-    some_is : {a b : TableRow} → Some a ≡ Some b → a ≡ b
-    some_is e = cc
-
   row_written : (row : RowHistory) → (IsSome (find (λ new. new.number == row.number) rows) → IsSome (current row.changes)) → row_now (changed_by (map (writing time) rows) row) ≡ option_map (replaced_by rows) (row_now row)
   row_written row stands = ap (λ (o : Option (ℕ × Change)). row_now (with_change o row)) (find_written row.number rows) ∙ by (find (λ new. new.number == row.number) rows) refl where
     kept : (now : Option (List Value)) → find (λ new. new.number == row.number) rows ≡ None → row_of row.number now ≡ option_map (replaced_by rows) (row_of row.number now)
@@ -251,7 +234,7 @@ module _ (time : ℕ) (rows : List TableRow) where
     put : (now : Option (List Value)) (new : TableRow) → IsSome now → find (λ one. one.number == row.number) rows ≡ Some new → Some (record { number = row.number; values = new.values }) ≡ option_map (replaced_by rows) (row_of row.number now)
     put None new some is = cc
     put (Some values) new some is =
-        let same : new.number ≡ row.number = new_number row.number rows new is in
+        let same : new.number ≡ row.number = number_found row.number rows new is in
         (λ j. Some (record { number = sym same j; values = new.values }))
         ∙ sym (ap (λ (o : Option TableRow). Some (unwrap_or o (record { number = row.number; values = values }))) is)
 
@@ -273,7 +256,7 @@ module _ (time : ℕ) (rows : List TableRow) where
   given_stood : (table : Table) (number : ℕ) (some : List TableRow) → list_all (stood table) some ≡ true → IsSome (find (λ new. new.number == number) some) → list_any (λ (old : TableRow). old.number == number) table.rows ≡ true
   given_stood table number [] all is = cc
   given_stood table number (first ∷ some) all is =
-      let both = both_true (stood table first) (list_all (stood table) some) all in
+      let both = and-parts (stood table first) (list_all (stood table) some) all in
       elim (cases_Bool (first.number == number)) [
         | inl hit ↦ subst (λ (n : ℕ). list_any (λ (old : TableRow). old.number == n) table.rows ≡ true) (eqb-true first.number number hit) both.0
         | inr miss ↦ given_stood table number some both.1 (subst (λ (o : Option TableRow). IsSome o) (ap (λ b. cond b (Some first) (find (λ new. new.number == number) some)) miss) is)

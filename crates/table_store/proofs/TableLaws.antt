@@ -1,22 +1,26 @@
 -- Rows of a table by their slots and numbers.
-use Rattle.std.proofs.Common.{◌≡◌, ◌==◌, ◌≢◌, ℕ, zero, suc, ◌+◌, ◌<◌, ◌≤◌, inl, inr, Bool, true, false, cond, not, ◌&&◌, List, [], ◌∷◌, ◌++◌, map, length, get_or, drop, take, refl, ap, sym, subst, ◌∙◌, arith, Option, Some, None, is_some, eq-eqb, add-one, drop-cons}
-use Rattle.std.specs.Prelude.{ℤ, IsSome, IfSome, slice_get, find, nat_le, nat_lt, ◌^◌, zip}
-use Rattle.std.specs.List.{filter_map, cons_option, list_all, last_or, filter, position_or_len}
+use Rattle.std.proofs.Common.{◌≡◌, ◌==◌, ◌≢◌, ℕ, zero, suc, ◌+◌, ◌<◌, ◌≤◌, inl, inr, Bool, true, false, cond, not, ◌&&◌, List, [], ◌∷◌, ◌++◌, map, length, get_or, drop, refl, ap, sym, subst, ◌∙◌, arith, Option, Some, None, is_some, eq-eqb, add-one, drop-cons}
+use Rattle.std.specs.Prelude.{ℤ, IsSome, slice_get, find, nat_le, nat_lt, ◌^◌, zip}
+use Rattle.std.specs.List.{filter_map, cons_option, list_all, position_or_len}
 use Rattle.std.specs.Option.{option_map, option_map_or, option_to_list}
-use Rattle.std.proofs.lemmas.Bool.{cases_lt, cases_eq, ne_eqb, ltb-true, leb-true, lt-ltb, le-ltb}
+use Rattle.std.proofs.lemmas.Bool.{cases_lt, ne_eqb, ltb-true, leb-true, lt-ltb, le-ltb, eqb-true}
 use Rattle.std.proofs.lemmas.List.Sums.{prefix_len_is}
 use Rattle.std.proofs.lemmas.List.{get_or_past, length-map}
+use Rattle.table_store.specs.Stops.{has_shape}
+use Rattle.sql_model.proofs.ValidTables.{kinds-fits}
+use Rattle.ldv_value.proofs.Lists.{found-passes}
+use Rattle.ldv_value.proofs.Booleans.{and-parts, and-from}
 use Rattle.ldv_value.specs.Limits.{max_next}
 use Rattle.ldv_value.specs.Sorted.{is_strictly_sorted, precedes_first}
-use Rattle.row_version.specs.History.{Change, written, current, version}
+use Rattle.row_version.specs.History.{current, version}
 use Rattle.sql_model.specs.Tables.{has_kind, each_value, fits, is_row, numbers_test, is_valid_table, are_keys_unique, row_values}
-use Rattle.table_store.specs.Types.{Cmp, Value, Null, Int, Text, Column, Schema, Table, TableRow}
+use Rattle.table_store.specs.Types.{Cmp, Value, Null, Int, Text, Column, Table, TableRow}
 use Rattle.table_store.specs.Cells.{is_of_kind, passes_test}
 use Rattle.table_store.specs.Grid.{fits_kinds, are_of_kinds, AreNumberedFrom, next_after}
-use Rattle.table_store.specs.Histories.{RowHistory, NextSince, no_history, slot_of_row, row_of, row_now, rows_now, row_as_of, rows_as_of, is_of_number, history_of_row, version_now, added, last_next, table_now}
+use Rattle.table_store.specs.Histories.{RowHistory, no_history, slot_of_row, row_of, row_now, rows_now, is_of_number, history_of_row, version_now, added, table_now}
 use Rattle.table_store.specs.KeyIndex.{Held, AreHeld, AreIndexed}
 use Rattle.table_store.specs.RowOrder.{AreInOrder}
-use Rattle.table_store.specs.TableView.{kinds_in, IsTimed, AreTimed, begun}
+use Rattle.table_store.specs.TableView.{kinds_in, AreTimed, begun}
 
 -- ---- slots
 
@@ -61,6 +65,10 @@ scanned column op constant row = by (current row.changes) where
   by (Some values) = refl
 
 -- ---- rows by number
+
+-- a row has the number that it is found by
+pub number_found : (number : ℕ) (rows : List TableRow) (row : TableRow) → find (λ one. one.number == number) rows ≡ Some row → row.number ≡ number
+number_found number rows row is = eqb-true row.number number (found-passes (λ (one : TableRow). one.number == number) rows row is)
 
 find_none : (number : ℕ) (slots : List RowHistory) → ((k : ℕ) → k < length slots → (get_or slots k no_history).number ≢ number) → find (is_of_number number) slots ≡ None
 find_none number [] absent = refl
@@ -116,11 +124,6 @@ left_more f slots slot within =
 
 -- ---- tables at the start
 
-both_true : (a b : Bool) → (a && b) ≡ true → (a ≡ true) × (b ≡ true)
-both_true true true is = (refl, refl)
-both_true true false is = cc
-both_true false b is = cc
-
 -- the first row, if there is one, has at least a number
 abbrev AtLeast : ℕ → List TableRow → Type 0
 AtLeast low [] = Unit {0}
@@ -133,14 +136,14 @@ above_first row (other ∷ rows) is = omega (arith, ltb-true row.number other.nu
 pub numbered_from : (low next : ℕ) (rows : List TableRow) → next ≤ max_next → AtLeast low rows → is_strictly_sorted (λ a b. nat_lt a.number b.number) rows ≡ true → list_all (λ (row : TableRow). nat_lt row.number next) rows ≡ true → AreNumberedFrom low rows
 numbered_from low next [] small first sorted below = tt
 numbered_from low next (row ∷ rows) small first sorted below =
-    let s = both_true _ _ sorted in
-    let b = both_true _ _ below in
+    let s = and-parts _ _ sorted in
+    let b = and-parts _ _ below in
     (first, omega (arith, small, ltb-true row.number next b.0), numbered_from (row.number + 1) next rows small (above_first row rows s.0) s.1 b.1)
 
 pub after_at_most : (low next : ℕ) (rows : List TableRow) → low ≤ next → list_all (λ (row : TableRow). nat_lt row.number next) rows ≡ true → next_after low rows ≤ next
 after_at_most low next [] from below = from
 after_at_most low next (row ∷ rows) from below =
-    let b = both_true _ _ below in
+    let b = and-parts _ _ below in
     after_at_most (row.number + 1) next rows (omega (arith, ltb-true row.number next b.0)) b.1
 
 pub count_at_most : (low : ℕ) (rows : List TableRow) → AreNumberedFrom low rows → low + length rows ≤ next_after low rows
@@ -149,27 +152,33 @@ count_at_most low (row ∷ rows) numbered = omega (arith, numbered.0, count_at_m
 
 -- ---- kinds
 
-kind_fits : (column : Column) (value : Value) → fits column value ≡ true → is_of_kind column.text value ≡ true
-kind_fits column Null is = refl
-kind_fits column (Int number) is = (both_true _ _ is).0
-kind_fits column (Text text) is = (both_true _ _ is).0
+kind_is : (column : Column) (value : Value) → has_kind column value ≡ true → is_of_kind column.text value ≡ true
+kind_is column Null is = refl
+kind_is column (Int number) is = is
+kind_is column (Text text) is = is
 
-kinds_fit : (columns : List Column) (values : List Value) → each_value fits columns values ≡ true → list_all (λ p. is_of_kind p.0 p.1) (zip (kinds_in columns) values) ≡ true
-kinds_fit [] values is = refl
-kinds_fit (column ∷ columns) [] is = refl
-kinds_fit (column ∷ columns) (value ∷ values) is =
-    let both = both_true (fits column value) (each_value fits columns values) is in
-    λ j. (kind_fits column value both.0 j && kinds_fit columns values both.1 j)
+pub kinds_are : (columns : List Column) (values : List Value) → each_value has_kind columns values ≡ true → list_all (λ p. is_of_kind p.0 p.1) (zip (kinds_in columns) values) ≡ true
+kinds_are [] values is = refl
+kinds_are (column ∷ columns) [] is = refl
+kinds_are (column ∷ columns) (value ∷ values) is =
+    let both = and-parts (has_kind column value) (each_value has_kind columns values) is in
+    λ j. (kind_is column value both.0 j && kinds_are columns values both.1 j)
+
+pub shape_fits : (columns : List Column) (values : List Value) → has_shape columns values ≡ true → fits_kinds (kinds_in columns) values ≡ true
+shape_fits columns values is =
+    let both = and-parts (length values == length columns) (each_value has_kind columns values) is in
+    λ j. ((ap (λ (n : ℕ). length values == n) (length-map columns (λ (column : Column). column.text)) ∙ both.0) j && kinds_are columns values both.1 j)
 
 row_fits : (columns : List Column) (values : List Value) → is_row columns values ≡ true → fits_kinds (kinds_in columns) values ≡ true
 row_fits columns values is =
-    let both = both_true (length values == length columns) (each_value fits columns values) is in
-    λ j. ((ap (λ (n : ℕ). length values == n) (length-map columns (λ (column : Column). column.text)) ∙ both.0) j && kinds_fit columns values both.1 j)
+    let both = and-parts (length values == length columns) (each_value fits columns values) is in
+    shape_fits columns values
+    (and-from (length values == length columns) (each_value has_kind columns values) both.0 (kinds-fits (zip columns values) both.1))
 
 pub rows_fit : (columns : List Column) (rows : List TableRow) → list_all (λ (row : TableRow). is_row columns row.values) rows ≡ true → are_of_kinds (kinds_in columns) rows ≡ true
 rows_fit columns [] is = refl
 rows_fit columns (row ∷ rows) is =
-    let both = both_true (is_row columns row.values) (list_all (λ (one : TableRow). is_row columns one.values) rows) is in
+    let both = and-parts (is_row columns row.values) (list_all (λ (one : TableRow). is_row columns one.values) rows) is in
     λ j. (row_fits columns row.values both.0 j && rows_fit columns rows both.1 j)
 
 -- ---- rows that were added at one time
@@ -207,10 +216,10 @@ valid_parts table valid =
     let small = nat_le table.next max_next in
     let numbers = numbers_test (λ (row : TableRow). row.number) table.next table.rows in
     let rows = list_all (λ (row : TableRow). is_row table.schema.columns row.values) table.rows in
-    let one = both_true ((small && numbers) && rows) (are_keys_unique table.schema.key (row_values table)) valid in
-    let two = both_true (small && numbers) rows one.0 in
-    let three = both_true small numbers two.0 in
-    let four = both_true (is_strictly_sorted (λ (a b : TableRow). nat_lt a.number b.number) table.rows) (list_all (λ (row : TableRow). nat_lt row.number table.next) table.rows) three.1 in
+    let one = and-parts ((small && numbers) && rows) (are_keys_unique table.schema.key (row_values table)) valid in
+    let two = and-parts (small && numbers) rows one.0 in
+    let three = and-parts small numbers two.0 in
+    let four = and-parts (is_strictly_sorted (λ (a b : TableRow). nat_lt a.number b.number) table.rows) (list_all (λ (row : TableRow). nat_lt row.number table.next) table.rows) three.1 in
     record { small = leb-true table.next max_next three.0; sorted = four.0; below = four.1; rows = two.1; unique = one.1 }
 
 module _ (table : Table) (valid : is_valid_table table ≡ true) where

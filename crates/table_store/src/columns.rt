@@ -13,6 +13,7 @@ ghost use Rattle.table_store.specs.Grid.{FitColumns};
 use crate::cell::Cell;
 use crate::column::Column;
 use ldv_value::{List, Value, Values, compare};
+use sql_model::compare_values;
 use std::alloc::{AllocError, Global};
 use std::cmp::Ordering;
 use std::mem;
@@ -123,7 +124,7 @@ pub(crate) fn compare_cells(
     let mut right = values;
     loop {
         match left {
-            [] => return compare_none(right),
+            [] => return compare_values(&[], right),
             [place, rest @ ..] => match right {
                 [] => return Ordering::Greater,
                 [value, more @ ..] => {
@@ -136,16 +137,6 @@ pub(crate) fn compare_cells(
                 }
             },
         }
-    }
-}
-
-// No places against some values.
-fn compare_none(values: &[Value]) -> Ordering
-    ensures { result ≡ slice_cmp order [] values.now }
-{
-    match values {
-        [] => Ordering::Equal,
-        [_first, ..] => Ordering::Less,
     }
 }
 

@@ -11,8 +11,8 @@
 //! - `by_key` returns the number of the row that has a key, and `None` exactly where no row has it;
 //! - `slots`, `slot_row`, `row_values` and `scan` give a table slot by slot, for layers that look through
 //!   it. There is a slot for each row that the table ever held, by number;
-//! - of one table, `slot_of` finds the slot of a row, `cell` lends one value, and `tell_order` and `tell_times` lend a caller what is
-//!   known of the order of its rows and of their changes.
+//! - of one table, `slot_of` finds the slot of a row, `cell` lends one value, and `tell_order` and
+//!   `tell_times` lend a caller what is known of the order of its rows and of their changes.
 //!
 //! How a table is kept: the last values of its rows stand in columns, one for each column of the schema. A
 //! column of INT is a list of words with a bit for each NULL, and one of TEXT a list of values (`column`).

@@ -206,7 +206,6 @@ impl TableStore {
     }
 
     /// The number of the row that stands with a key; `None` where no row has it. The table has a key.
-    #[tactic(auto, using(crate::proofs::TableLaws::held_keyed))]
     pub fn by_key(&self, key: &Values) -> Option<u32>
         requires { 0 < length self.now.schema.key }
         ensures { result ≡ option_map (λ row. row.number)
@@ -214,14 +213,19 @@ impl TableStore {
     {
         // A copy of the key is looked up; out of memory, the slots themselves are looked through.
         match key.copy() {
-            Ok(values) => held_number(
-                &self.index,
-                &self.rows,
-                &self.schema.key,
-                &RowKey { values },
-            ),
+            Ok(values) => self.by_row_key(&RowKey { values }),
             Err(_refused) => number_by_slots(&self.rows, &self.schema.key, key),
         }
+    }
+
+    /// The same by a key as the index has it. It takes no memory.
+    #[tactic(auto, using(crate::proofs::TableLaws::held_keyed))]
+    pub fn by_row_key(&self, key: &RowKey) -> Option<u32>
+        requires { 0 < length self.now.schema.key }
+        ensures { result ≡ option_map (λ row. row.number)
+            (find (has_key self.now.schema.key key.now.values) (rows_now self.now.slots)) }
+    {
+        held_number(&self.index, &self.rows, &self.schema.key, key)
     }
 
     /// The number of the next row after a time, found by bisection; from the last change on it is that of
@@ -242,7 +246,7 @@ impl TableStore {
         let mut made = List::new(self.name.allocator());
         for slot in 0..self.rows.len() {
             let row = row_as_of(&self.rows, self.name.allocator(), slot, time)?;
-            push_some(&mut made, row)?;
+            made.push_some(row)?;
         }
         Ok(made)
     }
@@ -421,16 +425,6 @@ fn row_as_of(
             number: rows.number(slot),
             values,
         })),
-    }
-}
-
-// Adds a row, where there is one.
-fn push_some(rows: &mut TableRows, row: Option<TableRow>) -> Result<(), AllocError>
-    ensures { OnOk result (rows.new ≡ rows.old ++ option_to_list row) }
-{
-    match row {
-        None => Ok(()),
-        Some(row) => rows.push(row),
     }
 }
 

@@ -6,11 +6,11 @@ use Rattle.table_store.specs.Histories.{tables_now, table_now, rows_now, changed
 use Rattle.table_store.specs.Stops.{with_changed, with_removed, are_sorted_numbers, all_stand}
 use Rattle.dml_versions.proofs.DeleteLaws.{delete-sorted, delete-stand, delete-change, delete-after}
 use Rattle.dml_versions.proofs.EntryLaws.{check-of, there-of, versions-fit}
+use Rattle.dml_versions.proofs.KeptLaws.{told-change}
 use Rattle.dml_versions.proofs.TableLaws.{table-now}
-use Rattle.dml_versions.specs.Changing.{IsChange, IsStoreAfter, AreFound}
+use Rattle.dml_versions.specs.Changing.{IsChange, IsStoreAfter, AreFound, matched_change}
 use Rattle.dml_versions.specs.Finding.{test_in}
 use Rattle.dml_versions.specs.Types.{Statement, TheDelete, Table, StoreHistory}
-use Rattle.dml_versions.specs.declared.change.Change.{Change}
 use Rattle.dml_versions.specs.declared.found.Found.{Found}
 use Rattle.dml_versions.proofs.deleting.delete.Goals as goal
 
@@ -47,9 +47,10 @@ returns-clause-change c =
     let f = c.in_ok-found.ensures in
     let delete = c.delete_of-delete.result.now in
     let check = check-of (tables_now c.args.store.now) c.args.checked.now c.requires.checked (TheDelete delete) c.delete_of-delete.ensures in
-    subst (λ (s : Statement). IsChange s c.args.store.now c.in_ok-change.change) (sym c.delete_of-delete.ensures)
-    (subst (λ (made : Change). IsChange (TheDelete delete) c.args.store.now made) (sym c.in_ok-change.ensures)
-    (delete-change c.args.store.now delete f.table f.there f.held.order c.requires.formed c.in_ok-found.found f.found_is check))
+    subst (λ (s : Statement). IsChange s c.args.keep c.args.store.now c.in_ok-change.change) (sym c.delete_of-delete.ensures)
+    (told-change (TheDelete delete) c.args.keep c.args.store.now (matched_change delete.table c.in_ok-found.found) c.in_ok-change.change
+    (delete-change c.args.store.now delete f.table f.there f.held.order c.requires.formed c.in_ok-found.found f.found_is check)
+    c.in_ok-change.ensures)
 
 pub returns-clause-after : goal.returns-clause-after
 returns-clause-after c =

@@ -8,10 +8,10 @@ use Rattle.table_store.specs.Histories.{tables_now, table_now, history_at, chang
 use Rattle.table_store.specs.Stops.{with_changed, with_inserted, have_shape, insert_stop, StopsAs}
 use Rattle.dml_versions.proofs.EntryLaws.{check-of, there-of}
 use Rattle.dml_versions.proofs.InsertLaws.{insert-shape, insert-fits, insert-change, insert-after, insert-refused, insert-kept}
+use Rattle.dml_versions.proofs.KeptLaws.{told-change, whole-change}
 use Rattle.dml_versions.proofs.TableLaws.{table-now, history-some}
 use Rattle.dml_versions.specs.Changing.{IsChange, IsStoreAfter, inserted_change, refused_change}
 use Rattle.dml_versions.specs.Types.{Statement, TheInsert, Table, StoreHistory}
-use Rattle.dml_versions.specs.declared.change.Change.{Change}
 use Rattle.dml_versions.proofs.inserting.insert.Goals as goal
 
 pub next_at-next-requires : goal.next_at-next-requires
@@ -50,9 +50,10 @@ returns-in-Ok-clause-change c =
     let next : c.next_at-next.result ≡ t.next =
     same-some c.next_at-next.result t.next (sym (c.next_at-next.ensures.last later) ∙ ap (option_map (λ (table : Table). table.next)) there) in
     let fits = ap (λ (n : ℕ). nat_lt max_next (n + length rows)) next ∙ insert-fits old insert f.table f.there f.held.order c.requires.formed check rows f.rows_are fine in
-    subst (λ (s : Statement). IsChange s old c.in_ok-change.change) (sym c.insert_of-insert.ensures)
-    (subst (λ (made : Change). IsChange (TheInsert insert) old made) (sym (c.in_ok-change.ensures fits))
-    (insert-change old insert f.table f.there f.held.order c.requires.formed check rows f.rows_are fine c.next_at-next.result next))
+    subst (λ (s : Statement). IsChange s c.args.keep old c.in_ok-change.change) (sym c.insert_of-insert.ensures)
+    (told-change (TheInsert insert) c.args.keep old (inserted_change insert.table c.next_at-next.result rows) c.in_ok-change.change
+    (insert-change old insert f.table f.there f.held.order c.requires.formed check rows f.rows_are fine c.next_at-next.result next)
+    (c.in_ok-change.ensures fits))
 
 pub returns-in-Ok-clause-after : goal.returns-in-Ok-clause-after
 returns-in-Ok-clause-after c =
@@ -89,8 +90,9 @@ returns-in_ok-refused-in-Err-clause-change c =
     same-some c.table_of-table.result.now f.table (sym c.table_of-table.ensures.found ∙ ap (history_at insert.table) c.in-Err.ensures.err ∙ f.there) in
     let made : refused_change insert.table f.table.slots [] c.in-Err.stop ≡ Some c.in_ok-refused-in-Err.refused =
     (λ j. refused_change insert.table (sym same j).slots (sym c.new.ensures j) c.in-Err.stop) ∙ c.in_ok-refused-in-Err.ensures in
-    subst (λ (s : Statement). IsChange s old c.in_ok-refused-in-Err.refused) (sym c.insert_of-insert.ensures)
-    (insert-refused old insert f.table f.there f.held.order c.requires.formed check rows f.rows_are ℕ c.in-Err.stop c.in_ok-refused-in-Err.refused stops made)
+    subst (λ (s : Statement). IsChange s c.args.keep old c.in_ok-refused-in-Err.refused) (sym c.insert_of-insert.ensures)
+    (whole-change (TheInsert insert) c.args.keep old c.in_ok-refused-in-Err.refused
+    (insert-refused old insert f.table f.there f.held.order c.requires.formed check rows f.rows_are ℕ c.in-Err.stop c.in_ok-refused-in-Err.refused stops made))
 
 pub returns-in_ok-refused-in-Err-clause-after : goal.returns-in_ok-refused-in-Err-clause-after
 returns-in_ok-refused-in-Err-clause-after c =

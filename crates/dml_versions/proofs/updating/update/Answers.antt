@@ -8,9 +8,10 @@ use Rattle.table_store.specs.Histories.{tables_now, table_now, rows_now, history
 use Rattle.table_store.specs.Stops.{with_changed, with_replaced, have_shape, values_of, all_stood, replace_stop, StopsAs}
 use Rattle.table_store.specs.declared.stop.StoreStop.{StoreStop}
 use Rattle.dml_versions.proofs.EntryLaws.{check-of, there-of, versions-fit}
+use Rattle.dml_versions.proofs.KeptLaws.{told-change, refused-over, refused-told, told-needs}
 use Rattle.dml_versions.proofs.TableLaws.{table-now, history-some}
 use Rattle.dml_versions.proofs.UpdateLaws.{update-shape, update-sorted, update-stand, update-change, update-after, update-refused, update-kept}
-use Rattle.dml_versions.specs.Changing.{IsChange, IsStoreAfter, refused_change}
+use Rattle.dml_versions.specs.Changing.{IsChange, IsStoreAfter, matched_change, refused_change}
 use Rattle.dml_versions.specs.Finding.{test_in}
 use Rattle.dml_versions.specs.Needing.{need_found}
 use Rattle.dml_versions.specs.Types.{Need, RowHistory, Statement, TheUpdate, Table, StoreHistory, TableHistory}
@@ -70,9 +71,10 @@ returns-in-Ok-clause-change c =
     let rows = c.in_ok-prepared.prepared.rows in
     let check = check-of (tables_now old) c.args.checked.now c.requires.checked (TheUpdate update) c.update_of-update.ensures in
     let fine = ap (λ (n : List ℕ). option_and_then (replace_stop rows) (table_at n (tables_now old))) (sym c.as_str-name.ensures) ∙ c.in-Ok.ensures.stop in
-    subst (λ (s : Statement). IsChange s old c.in_ok-change.change) (sym c.update_of-update.ensures)
-    (subst (λ (made : Change). IsChange (TheUpdate update) old made) (sym c.in_ok-change.ensures)
-    (update-change old update f.table f.there f.held.order c.requires.formed check c.in_ok-prepared.prepared.found rows f.found_is f.rows_are fine))
+    subst (λ (s : Statement). IsChange s c.args.keep old c.in_ok-change.change) (sym c.update_of-update.ensures)
+    (told-change (TheUpdate update) c.args.keep old (matched_change update.table c.in_ok-prepared.prepared.found) c.in_ok-change.change
+    (update-change old update f.table f.there f.held.order c.requires.formed check c.in_ok-prepared.prepared.found rows f.found_is f.rows_are fine)
+    c.in_ok-change.ensures)
 
 pub returns-in-Ok-clause-after : goal.returns-in-Ok-clause-after
 returns-in-Ok-clause-after c =
@@ -108,11 +110,15 @@ returns-clause-change c =
     let stops = subst (λ (n : List ℕ). StopsAs {X = Unit {0}} (option_and_then (replace_stop rows) (table_at n (tables_now old))) (Err c.in-Err.stop)) c.as_str-name.ensures c.in-Err.ensures.stop in
     let same : c.table_of-table.result.now ≡ f.table =
     same-some c.table_of-table.result.now f.table (sym c.table_of-table.ensures.found ∙ ap (history_at update.table) c.in-Err.ensures.err ∙ f.there) in
-    let needs : c.in_ok-change.change.needs ≡ map (need_found update.table) found = ap (λ (made : Change). made.needs) c.in_ok-change.ensures in
-    let made : refused_change update.table f.table.slots (map (need_found update.table) found) c.in-Err.stop ≡ Some c.in_ok-refused-in-Err.refused =
-    (λ j. refused_change update.table (sym same j).slots (sym needs j) c.in-Err.stop) ∙ c.in_ok-refused-in-Err.ensures in
-    subst (λ (s : Statement). IsChange s old c.in_ok-refused-in-Err.refused) (sym c.update_of-update.ensures)
-    (update-refused old update f.table f.there f.held.order c.requires.formed check found rows f.found_is f.rows_are (Unit {0}) c.in-Err.stop c.in_ok-refused-in-Err.refused stops made)
+    let given = c.in_ok-change.change.needs in
+    let refused = c.in_ok-refused-in-Err.refused in
+    let made : refused_change update.table f.table.slots given c.in-Err.stop ≡ Some refused =
+    (λ j. refused_change update.table (sym same j).slots given c.in-Err.stop) ∙ c.in_ok-refused-in-Err.ensures in
+    let over = refused-over update.table f.table.slots given (map (need_found update.table) found) c.in-Err.stop refused made in
+    subst (λ (s : Statement). IsChange s c.args.keep old refused) (sym c.update_of-update.ensures)
+    (refused-told (TheUpdate update) c.args.keep old update.table f.table.slots given (map (need_found update.table) found) c.in-Err.stop refused over
+    (told-needs c.args.keep (matched_change update.table found) c.in_ok-change.change c.in_ok-change.ensures)
+    (update-refused old update f.table f.there f.held.order c.requires.formed check found rows f.found_is f.rows_are (Unit {0}) c.in-Err.stop over.whole stops over.is))
 
 pub returns-clause-after : goal.returns-clause-after
 returns-clause-after c =
@@ -125,9 +131,11 @@ returns-clause-after c =
     let stops = subst (λ (n : List ℕ). StopsAs {X = Unit {0}} (option_and_then (replace_stop rows) (table_at n (tables_now old))) (Err c.in-Err.stop)) c.as_str-name.ensures c.in-Err.ensures.stop in
     let same : c.table_of-table.result.now ≡ f.table =
     same-some c.table_of-table.result.now f.table (sym c.table_of-table.ensures.found ∙ ap (history_at update.table) c.in-Err.ensures.err ∙ f.there) in
-    let needs : c.in_ok-change.change.needs ≡ map (need_found update.table) found = ap (λ (made : Change). made.needs) c.in_ok-change.ensures in
-    let made : refused_change update.table f.table.slots (map (need_found update.table) found) c.in-Err.stop ≡ Some c.in_ok-refused-in-Err.refused =
-    (λ j. refused_change update.table (sym same j).slots (sym needs j) c.in-Err.stop) ∙ c.in_ok-refused-in-Err.ensures in
+    let given = c.in_ok-change.change.needs in
+    let refused = c.in_ok-refused-in-Err.refused in
+    let made : refused_change update.table f.table.slots given c.in-Err.stop ≡ Some refused =
+    (λ j. refused_change update.table (sym same j).slots given c.in-Err.stop) ∙ c.in_ok-refused-in-Err.ensures in
+    let over = refused-over update.table f.table.slots given (map (need_found update.table) found) c.in-Err.stop refused made in
     subst (λ (s : Statement). IsStoreAfter s c.args.time old c.replace_all.new.self) (sym c.update_of-update.ensures)
-    (update-kept old update f.table f.there f.held.order c.requires.formed check found rows f.found_is f.rows_are (Unit {0}) c.in-Err.stop c.in_ok-refused-in-Err.refused stops made
+    (update-kept old update f.table f.there f.held.order c.requires.formed check found rows f.found_is f.rows_are (Unit {0}) c.in-Err.stop over.whole stops over.is
     c.args.time c.replace_all.new.self c.requires.later c.in-Err.ensures.err)

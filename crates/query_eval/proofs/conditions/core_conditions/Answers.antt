@@ -1,5 +1,5 @@
 use Rattle.std.proofs.Common.{◌≡◌, ◌∙◌, ap, sym, subst, List}
-use Rattle.query_eval.specs.Conditions.{AreConditions}
+use Rattle.core_parts.specs.Conditions.{AreConditions}
 use Rattle.query_eval.specs.Types.{Core}
 use Rattle.sql_model.specs.Refusals.{core_names}
 use Rattle.sql_model.specs.Scope.{InScope, places_in, scope_of}

@@ -1,6 +1,6 @@
 use Rattle.std.proofs.Common.{rules, ◌≡◌, ◌<◌, ◌+◌, ◌∷◌, [], ◌&&◌, Bool, ℕ, List, drop, get_or, length, subst, ap, sym, ◌∙◌, true, false, arith}
 use Rattle.std.proofs.lemmas.List.{drop_all}
-use Rattle.query_eval.specs.Joining.{meets}
+use Rattle.core_parts.specs.Conditions.{meets}
 use Rattle.query_eval.specs.Types.{Value}
 use Rattle.core_parts.specs.Placing.{AllPlaced, IsPlaced}
 use Rattle.core_parts.specs.declared.placed.Placed.{Placed}

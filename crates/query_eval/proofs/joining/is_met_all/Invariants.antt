@@ -1,5 +1,5 @@
 use Rattle.std.proofs.Common.{◌≡◌, List, drop}
-use Rattle.query_eval.specs.Joining.{meets}
+use Rattle.core_parts.specs.Conditions.{meets}
 use Rattle.core_parts.specs.Placing.{AllPlaced}
 use Rattle.sql_model.specs.Scope.{InScope}
 use Rattle.query_eval.proofs.joining.is_met_all.Given as goal

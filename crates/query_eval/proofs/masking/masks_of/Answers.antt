@@ -1,5 +1,5 @@
 use Rattle.std.proofs.Common.{◌≡◌, ◌+◌, ◌∷◌, ◌∙◌, ap, sym, subst, List, drop, true}
-use Rattle.query_eval.specs.Joining.{meets}
+use Rattle.core_parts.specs.Conditions.{meets}
 use Rattle.core_parts.specs.Placing.{AllPlaced}
 use Rattle.core_parts.specs.declared.placed.Placed.{Placed}
 use Rattle.sql_model.specs.Meaning.{is_true, truth}

@@ -1,6 +1,6 @@
 use Rattle.std.proofs.Common.{◌≡◌, List, drop, true}
 use Rattle.std.specs.List.{AllByRecursion}
-use Rattle.query_eval.specs.Joining.{meets}
+use Rattle.core_parts.specs.Conditions.{meets}
 use Rattle.query_eval.specs.Masking.{HaveWidths, passes}
 use Rattle.core_parts.specs.Placing.{AllPlaced}
 use Rattle.sql_model.specs.QueryAnswer.{Combination, joined_values}

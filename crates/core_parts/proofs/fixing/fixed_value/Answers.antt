@@ -1,0 +1,14 @@
+use Rattle.std.proofs.Common.{◌≡◌, ◌+◌, ◌<◌, rules}
+use Rattle.core_parts.proofs.Lists.{IfSome-weaker}
+use Rattle.core_parts.specs.Fixing.{AllFix, FixesColumn}
+use Rattle.core_parts.proofs.FixingLaws.{fixed-column}
+use Rattle.core_parts.proofs.fixing.fixed_value.Goals as goal
+
+pub returns-in-Some : goal.returns-in-Some
+returns-in-Some c =
+    let conds = c.args.conds.now in
+    let within : c.args.column < c.args.width = search rules in
+    let sum : c.in-Some.at ≡ c.args.before + c.args.column = search rules in
+    IfSome-weaker c.constant_at.result (λ value. AllFix conds c.in-Some.at value.now) (λ value. FixesColumn conds c.args.before c.args.width c.args.column value.now)
+    (λ value all. fixed-column conds c.args.before c.args.width c.args.column c.in-Some.at value.now within sum all)
+    c.constant_at.ensures
