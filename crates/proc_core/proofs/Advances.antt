@@ -1,0 +1,103 @@
+-- A run after one step more, with the set of processes that may run.
+use Rattle.std.proofs.Common.{◌≡◌, ℕ, zero, suc, List, [], length, refl, sym, ap, ◌∙◌, subst, Bool, true, false, inl, inr}
+use Rattle.std.specs.Prelude.{Option, Some, None, slice_get, is_some, ◌||◌}
+use Rattle.std.proofs.lemmas.Bool.{cases_Bool}
+use Rattle.ready_set.specs.Flags.{runnable_flags}
+use Rattle.ready_set.specs.Ready.{Ready}
+use Rattle.run_model.specs.Core.{Process, Core, all_ended, is_over}
+use Rattle.run_model.specs.Database.{Base}
+use Rattle.run_model.specs.Run.{chosen, move, run}
+use Rattle.run_model.specs.RunLaw.{MayRun}
+use Rattle.run_model.specs.Schedule.{choose, scheduled}
+use Rattle.run_model.specs.State.{State, Stepped}
+use Rattle.run_model.specs.Step.{step}
+use Rattle.run_model.proofs.Equations.{run-zero, run-over, run-suc}
+use Rattle.run_model.proofs.NeverStuck.{Ordered, chosen_runs, move_ordered}
+use Rattle.proc_core.specs.declared.machine.Machine.{Machine}
+use Rattle.proc_core.specs.Running.{Stands}
+use Rattle.proc_core.specs.SlotReady.{Grows, refreshed, AreKin, IsReady}
+use Rattle.proc_core.specs.SlotStep.{slots_ended}
+use Rattle.proc_core.specs.Stands.{IsCore, IsState}
+use Rattle.proc_core.proofs.Machines.{ended_same}
+use Rattle.proc_core.proofs.Moving.{step_moved, may_run_going}
+use Rattle.proc_core.proofs.Readiness.{kin_ordered, ready_runs, next_ready}
+
+-- whether all have ended
+pub all_ended_same : (m : Machine) (c : Core) → IsCore m c → slots_ended m.processes.items ≡ all_ended c
+all_ended_same m c core = ended_same m.codes m.processes.items c.processes core.processes
+
+pub chosen_may_run : {Db : Type 0} (m : Machine) (db : Db) (s : State Db) → slots_ended m.processes.items ≡ false → Stands m db s
+    → MayRun (choose None s.core) s.core
+chosen_may_run m db s going is = ready_runs m s.core is.ready (sym (all_ended_same m s.core is.state.0) ∙ going)
+
+-- the same but for the set
+same_core : (a b : Machine) (c : Core) → b ≡ record a { ready = b.ready } → IsCore a c → IsCore b c
+same_core a b c is core =
+    subst (λ (m : Machine). IsCore m c) (sym is) (record {
+      files = core.files;
+      processes = core.processes;
+      seed = core.seed;
+      last = core.last;
+      x = core.x;
+      asked = core.asked;
+      going = core.going;
+    })
+
+module _ {Db : Type 0} (base : Base Db) (m ready after last : Machine) (number : ℕ) (db db1 : Db) (s : State Db)
+    (going : slots_ended m.processes.items ≡ false) (is : Stands m db s)
+    (picks : (c : Core) → IsCore m c → m.ready.flags ≡ runnable_flags c.processes → number ≡ choose None c)
+    (core : (c : Core) → IsCore m c → IsCore ready (scheduled number c))
+    (same_ready : ready.ready ≡ m.ready) (same_parents : ready.parents ≡ m.parents) where
+  pub number_is : number ≡ choose None s.core
+  number_is = picks s.core is.state.0 is.ready.flags
+
+  pub scheduled_state : IsState ready db (chosen number s)
+  scheduled_state = (core s.core is.state.0, is.state.1)
+
+  pub moved_step : move base None s ≡ step base number (chosen number s)
+  moved_step = λ i. step base (sym number_is i) (chosen (sym number_is i) s)
+
+  scheduled_ready : IsReady ready (scheduled number s.core)
+  scheduled_ready = record {
+    flags = ap (λ (set : Ready). set.flags) same_ready ∙ is.ready.flags;
+    count = ap length same_parents ∙ is.ready.count;
+    kin = subst (λ (l : List ℕ). AreKin l s.core.processes) (sym same_parents) is.ready.kin;
+  }
+
+  pub advanced : IsState after db1 (step base number (chosen number s)).state → Grows ready number after
+      → last.ready.flags ≡ refreshed after.codes after.processes.items after.parents number after.ready.flags
+      → last ≡ record after { ready = last.ready }
+      → Stands last db1 (move base None s).state
+  advanced stands grows flags others =
+      let may : MayRun number s.core = subst (λ (n : ℕ). MayRun n s.core) (sym number_is) (chosen_may_run m db s going is) in
+      let p : Process = may.0 in
+      let at : slice_get (scheduled number s.core).processes number ≡ Some p = may.1 in
+      subst (λ (t : Stepped Db). Stands last db1 t.state) (sym moved_step) (record {
+        state = (same_core after last (step base number (chosen number s)).state.core others stands.0, stands.1);
+        ready = next_ready ready after last number (scheduled number s.core) (step base number (chosen number s)).state.core p
+            scheduled_state.0 scheduled_ready at (may_run_going number s.core may) stands.0 grows flags others
+            (step_moved base number p (chosen number s) at);
+      })
+
+-- ---- never stuck
+
+first_false : (a b : Bool) → (a || b) ≡ false → b ≡ false
+first_false true b is = cc
+first_false false b is = is
+
+module _ {Db : Type 0} (base : Base Db) where
+  ordered_after : (n : ℕ) (s : State Db) → Ordered s.core → Ordered (run base n [] s).core
+  ordered_after zero s ordered = subst (λ (t : State Db). Ordered t.core) (sym (run-zero base [] s)) ordered
+  ordered_after (suc n) s ordered = elim (cases_Bool (is_over s.core)) [
+    | inl over ↦ subst (λ (t : State Db). Ordered t.core) (sym (run-over base (suc n) [] s over)) ordered
+    | inr going ↦
+        subst (λ (t : State Db). Ordered t.core) (sym (run-suc base n [] s going))
+        (ordered_after n (move base None s).state (move_ordered base (choose None s.core) s ordered))
+  ]
+
+  -- after any steps of a run that stands in a state, while a process hasn't ended, the chosen one may run
+  pub never_stuck_from : (m : Machine) (db : Db) (s : State Db) → Stands m db s → (n : ℕ) → is_over (run base n [] s).core ≡ false
+      → MayRun (choose None (run base n [] s).core) (run base n [] s).core
+  never_stuck_from m db s is n going =
+      let d : Core = (run base n [] s).core in
+      chosen_runs None d (ordered_after n s (kin_ordered m.parents s.core is.ready.kin)) (first_false (is_some d.diverged) (all_ended d) going)

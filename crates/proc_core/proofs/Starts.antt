@@ -1,0 +1,68 @@
+-- The state in which a run begins.
+use Rattle.std.proofs.Common.{◌≡◌, ℕ, zero, suc, ◌+◌, List, [], ◌∷◌, length, map, refl, sym, ap, ◌∙◌, subst, Bool, true}
+use Rattle.std.specs.Prelude.{Option, Some, None, slice_get, option_and_then}
+use Rattle.std.specs.List.{AllByRecursion}
+use Rattle.ldv_value.specs.FileState.{FileState, content_at, untouched}
+use Rattle.script_parse.specs.Script.{script_of}
+use Rattle.ready_set.proofs.FlagLaws.{new_runs}
+use Rattle.proc_core.specs.Types.{File, Instr, Text}
+use Rattle.run_model.specs.Core.{Process, Core, new_process, first_process, start_core}
+use Rattle.run_model.specs.RunLaw.{started}
+use Rattle.proc_core.specs.declared.code.Code.{Code}
+use Rattle.proc_core.specs.declared.machine.Machine.{Machine}
+use Rattle.proc_core.specs.declared.process.SlotProcess.{SlotProcess}
+use Rattle.proc_core.specs.Resolved.{IsCode}
+use Rattle.proc_core.specs.Running.{Stands}
+use Rattle.proc_core.specs.SlotReady.{IsKin, IsReady}
+use Rattle.proc_core.specs.SlotSpawn.{IsRead}
+use Rattle.proc_core.specs.Slots.{Holds}
+use Rattle.proc_core.specs.Stands.{AreProcesses, IsCore, IsStartScript}
+
+module _ (m : Machine) (path : List ℕ) (words : List (List ℕ)) (seed : ℕ) (files : List File) (script : List Instr) where
+  abbrev first : Process
+  first = new_process (0 ∷ []) script (map Text words)
+
+  pub started_core : (code : Code) (r : SlotProcess) → m.codes ≡ code ∷ [] → m.processes.items ≡ r ∷ [] → IsCode code script
+      → Holds code.scope 0 script r (new_process (0 ∷ []) script (map Text words)) → m.tree ≡ untouched files → m.seed ≡ seed → m.last ≡ 0
+      → m.x ≡ seed → m.asked ≡ 0 → IsCore m (start_core (path ∷ words) seed files script)
+  started_core code r codes items coded held tree seeds last x asked =
+      let all : AreProcesses (code ∷ []) (r ∷ []) (first ∷ []) = ((0, script, code, refl, coded, held), tt) in
+      record {
+        files = tree;
+        processes = subst (λ (l : List SlotProcess). AreProcesses m.codes l (first ∷ [])) (sym items)
+            (subst (λ (k : List Code). AreProcesses k (r ∷ []) (first ∷ [])) (sym codes) all);
+        seed = seeds;
+        last = last;
+        x = x;
+        asked = asked;
+        going = refl;
+      }
+
+  kin_first : (k : ℕ) (p : Process) → slice_get (first ∷ []) k ≡ Some p → AllByRecursion (IsKin m.parents k) p.children
+  kin_first zero p at = let same : first ≡ p = cc in subst (λ (q : Process). AllByRecursion (IsKin m.parents 0) q.children) same tt
+  kin_first (suc k) p at = absurd cc
+
+  pub started_ready : m.ready.flags ≡ true ∷ [] → m.parents ≡ 0 ∷ [] → IsReady m (start_core (path ∷ words) seed files script)
+  started_ready flags parents = record {
+    flags = flags ∙ ap (λ (b : Bool). b ∷ []) (sym (new_runs (first ∷ []) (0 ∷ []) script (map Text words)));
+    count = ap length parents;
+    kin = kin_first;
+  }
+
+  pub begun : {Db : Type 0} (db : Db) (tree : FileState)
+      → ((script : List Instr) (files : List File) → tree ≡ untouched files → option_and_then script_of (content_at tree path) ≡ Some script
+      → IsCore m (start_core (path ∷ words) seed files script))
+      → ((script : List Instr) (files : List File) → IsReady m (start_core (path ∷ words) seed files script))
+      → tree ≡ untouched files → IsStartScript (path ∷ words) tree script → Stands m db (started (path ∷ words) seed files script db)
+  begun db tree core ready same is = record { state = (core script files same is, refl); ready = ready script files }
+
+-- ---- the script of a file
+
+one_script : (a b : List Instr) → Some a ≡ Some b → a ≡ b
+one_script a b both = cc
+
+pub code_due : (bytes : List ℕ) (o : Option (List ℕ)) (code : Code) (due : List Instr) → Some bytes ≡ o → IsRead bytes (Some code)
+    → option_and_then script_of o ≡ Some due → IsCode code due
+code_due bytes o code due at read is =
+    let both : Some read.0 ≡ Some due = sym read.1 ∙ ap (option_and_then script_of) at ∙ is in
+    subst (IsCode code) (one_script read.0 due both) read.2

@@ -1,0 +1,74 @@
+-- The step of the process that was chosen, from any state that a run stands in.
+use Rattle.std.proofs.Common.{◌≡◌, ℕ, ◌<◌, List, [], ◌++◌, length, refl, sym, ap, ◌∙◌, subst, Bool, false}
+use Rattle.std.specs.Prelude.{Option, Some, None, slice_get}
+use Rattle.std.proofs.lemmas.Option.{slice_get_within}
+use Rattle.ldv_value.proofs.Lists.{append-nil}
+use Rattle.ready_set.specs.Flags.{runnable_flags}
+use Rattle.proc_core.specs.Types.{Event}
+use Rattle.run_model.specs.Core.{Core}
+use Rattle.run_model.specs.Database.{Base}
+use Rattle.run_model.specs.Events.{events, events_of_step}
+use Rattle.run_model.specs.Run.{chosen, move, run}
+use Rattle.run_model.specs.Schedule.{choose, scheduled}
+use Rattle.run_model.specs.State.{State, Stepped}
+use Rattle.run_model.specs.Step.{step}
+use Rattle.run_model.proofs.Equations.{run-zero, events-zero}
+use Rattle.proc_core.specs.declared.ask.Statement.{Statement}
+use Rattle.proc_core.specs.declared.machine.Machine.{Machine}
+use Rattle.proc_core.specs.declared.process.SlotProcess.{SlotProcess}
+use Rattle.proc_core.specs.declared.stop.Stopped.{Stopped}
+use Rattle.proc_core.specs.Running.{Stands}
+use Rattle.proc_core.specs.SlotAsk.{slot_ask_in, slot_ask_at}
+use Rattle.proc_core.specs.SlotReady.{Grows, refreshed}
+use Rattle.proc_core.specs.SlotStep.{slots_ended}
+use Rattle.proc_core.specs.Stands.{IsCore, IsState, Told}
+use Rattle.proc_core.specs.Stops.{HasStopped}
+use Rattle.proc_core.proofs.Advances.{advanced, moved_step, scheduled_state}
+
+-- ---- who asks is there
+
+within_by : (m : Machine) (number : ℕ) (t : Statement) (o : Option SlotProcess) → slice_get m.processes.items number ≡ o
+    → slot_ask_in m.codes o ≡ Some t → number < length m.processes.items
+within_by m number t None at is = absurd cc
+within_by m number t (Some r) at is = slice_get_within m.processes.items number r at
+
+pub asked_within : (m : Machine) (number : ℕ) (t : Statement) → slot_ask_at m number ≡ Some t → number < length m.processes.items
+asked_within m number t is = within_by m number t (slice_get m.processes.items number) refl is
+
+-- ---- one step of a run
+
+module _ {Db : Type 0} (base : Base Db) (m ready : Machine) (number : ℕ) (db : Db) (s : State Db) (going : slots_ended m.processes.items ≡ false)
+    (is : Stands m db s) (picks : (c : Core) → IsCore m c → m.ready.flags ≡ runnable_flags c.processes → number ≡ choose None c)
+    (core : (c : Core) → IsCore m c → IsCore ready (scheduled number c))
+    (same_ready : ready.ready ≡ m.ready) (same_parents : ready.parents ≡ m.parents) where
+  here : IsState ready db (chosen number s)
+  here = scheduled_state base m ready m m number db db s going is picks core same_ready same_parents
+
+  same : move base None s ≡ step base number (chosen number s)
+  same = moved_step base m ready m m number db db s going is picks core same_ready same_parents
+
+  pub goes_on : (after last : Machine) (more : Db)
+      → ((t : State Db) → IsState ready db t → IsState after more (step base number t).state) → Grows ready number after
+      → last.ready.flags ≡ refreshed after.codes after.processes.items after.parents number after.ready.flags
+      → last ≡ record after { ready = last.ready } → Stands last more (move base None s).state
+  goes_on after last more stands grows flags others =
+      advanced base m ready after last number db more s going is picks core same_ready same_parents (stands (chosen number s) here) grows flags others
+
+  pub tells : (at : ℕ) (keeps : Bool) (old new : List Event)
+      → ((t : State Db) → IsState ready db t → Told keeps old new (events_of_step at (step base number t)))
+      → Told keeps old new (events_of_step at (move base None s))
+  tells at keeps old new told =
+      subst (λ (st : Stepped Db). Told keeps old new (events_of_step at st)) (sym same) (told (chosen number s) here)
+
+  pub stops : (stop : Stopped) → ((t : State Db) → IsState ready db t → HasStopped stop (step base number t).state)
+      → HasStopped stop (move base None s).state
+  stops stop stopped = subst (λ (st : Stepped Db). HasStopped stop st.state) (sym same) (stopped (chosen number s) here)
+
+-- ---- no step
+
+module _ {Db : Type 0} (base : Base Db) (m : Machine) (db : Db) where
+  pub first_state : (s : State Db) → Stands m db s → Stands m db (run base 0 [] s)
+  first_state s from = subst (Stands m db) (sym (run-zero base [] s)) from
+
+  pub first_told : (keeps : Bool) (old : List Event) (s : State Db) → Stands m db s → Told keeps old old (events base 0 1 [] s)
+  first_told keeps old s from = λ _. sym (ap (λ (l : List Event). old ++ l) (events-zero base 1 [] s) ∙ append-nil old)

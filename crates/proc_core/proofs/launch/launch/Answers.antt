@@ -1,0 +1,7 @@
+use Rattle.proc_core.proofs.Growing.{child_again}
+use Rattle.proc_core.proofs.launch.launch.Goals as goal
+
+pub returns-clause-made : goal.returns-clause-made
+returns-clause-made g c = λ r code at there.
+    child_again _ c.args.who.number c.args.slot c.args.index code r c.args.arguments.now c.in_ok-after.after c.in_ok-with_runner.field-0
+    c.in_ok-with_runner.ensures (c.in_ok-after.ensures r code at there)

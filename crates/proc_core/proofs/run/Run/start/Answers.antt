@@ -1,0 +1,9 @@
+use Rattle.std.proofs.Common.{◌∙◌, sym}
+use Rattle.proc_core.proofs.Begun.{begins, parted}
+use Rattle.proc_core.proofs.run.Run.start.Goals as goal
+
+pub returns-clause-state : goal.returns-clause-state
+returns-clause-state g c =
+    begins c.in_ok-machine-in-len1-up.machine (g.D.Database.seen c.args.db) _ _ c.args.seed c.args.tree
+    c.in_ok-machine-in-len1-up.ensures.core c.in_ok-machine-in-len1-up.ensures.ready c.args.start.now
+    (sym c.items.ensures ∙ parted c.items.result.now c.path-item.result c.in-len1-up.len_at_least c.path-item.is)

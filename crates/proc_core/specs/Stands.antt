@@ -1,0 +1,47 @@
+-- What a run is for the state that it is in.
+use Rattle.std.specs.Prelude.{◌≡◌, ℕ, List, [], ◌∷◌, ◌++◌, slice_get, Bool, IsTrue, Option, Some, None}
+use Rattle.std.specs.Prelude.{option_and_then}
+use Rattle.ldv_value.specs.FileState.{FileState, content_at}
+use Rattle.script_parse.specs.Script.{script_of}
+use Rattle.proc_core.specs.Types.{Instr, Event}
+use Rattle.run_model.specs.Core.{Process, Core}
+use Rattle.run_model.specs.State.{State}
+use Rattle.proc_core.specs.declared.code.Code.{Code}
+use Rattle.proc_core.specs.declared.machine.Machine.{Machine}
+use Rattle.proc_core.specs.declared.process.SlotProcess.{SlotProcess}
+use Rattle.proc_core.specs.Resolved.{IsCode}
+use Rattle.proc_core.specs.Slots.{Holds}
+
+-- a process by slots, whose resolved script is one of these
+abbrev pub IsProcess : List Code → SlotProcess → Process → Type 0
+IsProcess codes r p =
+    (index : ℕ) × (script : List Instr) × (code : Code) × (slice_get codes index ≡ Some code)
+    × IsCode code script × Holds code.scope index script r p
+
+abbrev pub AreProcesses : List Code → List SlotProcess → List Process → Type 0
+AreProcesses codes [] [] = Unit {0}
+AreProcesses codes [] (p ∷ ps) = ⊥
+AreProcesses codes (r ∷ rs) [] = ⊥
+AreProcesses codes (r ∷ rs) (p ∷ ps) = IsProcess codes r p × AreProcesses codes rs ps
+
+pub record IsCore (m : Machine) (c : Core) : Type 0 where
+  pub files : m.tree ≡ c.files
+  pub processes : AreProcesses m.codes m.processes.items c.processes
+  pub seed : m.seed ≡ c.seed
+  pub last : m.last ≡ c.last
+  pub x : m.x ≡ c.x
+  pub asked : m.asked ≡ c.asked
+  pub going : c.diverged ≡ None
+
+-- with the database in this state
+abbrev pub IsState : {Db : Type 0} → Machine → Db → State Db → Type 0
+IsState m db s = IsCore m s.core × (db ≡ s.db)
+
+-- the script of the file at the first start word
+abbrev pub IsStartScript : List (List ℕ) → FileState → List Instr → Type 0
+IsStartScript [] files script = ⊥
+IsStartScript (path ∷ words) files script = option_and_then script_of (content_at files path) ≡ Some script
+
+-- a tracer that keeps events noted these
+abbrev pub Told : Bool → List Event → List Event → List Event → Type 0
+Told keeps old new events = IsTrue keeps → new ≡ old ++ events

@@ -1,0 +1,136 @@
+//! Values that are computed, and misuse.
+
+ghost use Rattle.std.specs.Int.{w64};
+ghost use Rattle.std.specs.Option.{SomeIff};
+ghost use Rattle.std.specs.Prelude.{◌≡◌, ◌++◌, ℤ, nat_lt, FitsSigned, IfOk, OnOk};
+ghost use Rattle.ldv_value.specs.Shown.{shown};
+ghost use Rattle.ldv_value.specs.Limits.{text_limit};
+ghost use Rattle.sql_model.specs.Meaning.{is_null};
+ghost use Rattle.run_model.specs.StepBase.{number_within};
+ghost use Rattle.run_model.specs.StepVariables.{calculated, glued, text_within, to_number, result_of};
+ghost use Rattle.run_model.specs.StepVariables.{number_or_misuse};
+ghost use Rattle.proc_core.specs.Slots.{computed};
+
+use itoa::Buffer;
+use ldv_value::{TEXT_LIMIT, Utf8, Value};
+use script_parse::{CalcOp, read_number};
+use std::alloc::{AllocError, Global};
+
+/// A value of the wrong kind, or a name that means nothing.
+pub(crate) const WRONG_KIND: u8 = 240;
+/// A number that doesn't fit in 64 bits.
+pub(crate) const NUMBER_TOO_LARGE: u8 = 241;
+/// Too many bytes.
+pub(crate) const TOO_LONG: u8 = 242;
+/// A value that is no path.
+pub(crate) const BAD_PATH: u8 = 243;
+/// Bytes that aren't UTF-8.
+pub(crate) const NOT_UTF8: u8 = 244;
+
+/// A value, or misuse with its status.
+#[derive(Drop)]
+pub(crate) enum Computed {
+    Yields(Value),
+    Misused(u8),
+}
+
+/// `v + w`, `v - w` or `v * w`.
+pub(crate) fn calculated(op: CalcOp, left: &Value, right: &Value) -> Computed
+    ensures { computed result ≡ calculated op left.now right.now }
+{
+    match (left, right) {
+        (Value::Null, _) => Computed::Misused(WRONG_KIND),
+        (Value::Int(_), Value::Null) => Computed::Misused(WRONG_KIND),
+        (Value::Int(m), Value::Int(n)) => number(op, *m, *n),
+        (Value::Int(_), Value::Text(_)) => Computed::Misused(WRONG_KIND),
+        (Value::Text(_), _) => Computed::Misused(WRONG_KIND),
+    }
+}
+
+fn number(op: CalcOp, m: i64, n: i64) -> Computed
+    ensures { computed result ≡ number_within (result_of op m n) }
+{
+    match op {
+        CalcOp::Add => within(m.checked_add(n)),
+        CalcOp::Subtract => within(m.checked_sub(n)),
+        CalcOp::Multiply => within(m.checked_mul(n)),
+    }
+}
+
+// A number that fits, as which a sum or a product is checked.
+#[tactic(auto, using(crate::proofs::Numbers::within_some, crate::proofs::Numbers::within_none))]
+fn within(number: Option<i64>) -> Computed
+    ensures { (z : ℤ) → SomeIff number (FitsSigned w64 z) z → computed result ≡ number_within z }
+{
+    match number {
+        Some(number) => Computed::Yields(Value::Int(number)),
+        None => Computed::Misused(NUMBER_TOO_LARGE),
+    }
+}
+
+fn is_null(value: &Value) -> bool
+    ensures { result ≡ is_null value.now }
+{
+    match value {
+        Value::Null => true,
+        Value::Int(_) => false,
+        Value::Text(_) => false,
+    }
+}
+
+// Appends a value as text.
+fn push_shown(text: &mut Utf8, value: &Value) -> Result<(), AllocError>
+    ensures { OnOk result (text.new ≡ text.old ++ shown value.now) }
+{
+    match value {
+        Value::Null => text.push_str("NULL"),
+        Value::Int(number) => {
+            let mut buffer = Buffer::new();
+            text.push_str(buffer.format(*number))
+        }
+        Value::Text(more) => text.push_str(more.as_str()),
+    }
+}
+
+/// `v ++ w`.
+pub(crate) fn glued(alloc: Global, left: &Value, right: &Value) -> Result<Computed, AllocError>
+    ensures { IfOk result (λ c. computed c ≡ glued left.now right.now) }
+{
+    if is_null(left) || is_null(right) {
+        return Ok(Computed::Misused(WRONG_KIND));
+    }
+    let mut text = Utf8::new(alloc);
+    push_shown(&mut text, left)?;
+    push_shown(&mut text, right)?;
+    Ok(text_within(text))
+}
+
+fn text_within(text: Utf8) -> Computed
+    ensures { computed result ≡ text_within text }
+{
+    if text.len() > TEXT_LIMIT {
+        Computed::Misused(TOO_LONG)
+    } else {
+        Computed::Yields(Value::Text(text))
+    }
+}
+
+/// `int v`.
+pub(crate) fn to_number(value: &Value) -> Computed
+    ensures { computed result ≡ to_number value.now }
+{
+    match value {
+        Value::Null => Computed::Misused(WRONG_KIND),
+        Value::Int(number) => Computed::Yields(Value::Int(*number)),
+        Value::Text(text) => read(read_number(text.as_str())),
+    }
+}
+
+fn read(number: Option<i64>) -> Computed
+    ensures { computed result ≡ number_or_misuse number }
+{
+    match number {
+        None => Computed::Misused(WRONG_KIND),
+        Some(number) => Computed::Yields(Value::Int(number)),
+    }
+}

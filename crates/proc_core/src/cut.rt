@@ -1,0 +1,147 @@
+//! `cut`: a text before and after a part of it.
+
+ghost use Rattle.std.specs.Prelude.{◌≡◌, ◌+◌, ◌<◌, ◌≤◌, ◌^◌, length, IfOk, IfSome, OnOk};
+ghost use Rattle.std.specs.Str.{IsCharBoundary};
+ghost use Rattle.proc_core.specs.Types.{Text};
+ghost use Rattle.run_model.specs.StepVariables.{begins_with, first_place};
+ghost use Rattle.proc_core.specs.SlotVariables.{parts_at, parts_of, slot_cut, slot_cut_parts};
+
+use crate::code::SlotOperand;
+use crate::computed::WRONG_KIND;
+use crate::process::SlotProcess;
+use crate::variables::value_of;
+use ldv_value::{Utf8, Value};
+use std::alloc::{AllocError, Global};
+
+/// The parts of a text around another.
+#[derive(Drop)]
+pub(crate) struct CutParts {
+    pub before: Utf8,
+    pub after: Utf8,
+}
+
+// Whether a text begins with another.
+fn begins_with(by: &[u8], text: &[u8]) -> bool
+    ensures { result ≡ begins_with by.now text.now }
+{
+    let mut wanted = by;
+    let mut rest = text;
+    while let [first, others @ ..] = wanted {
+        match rest {
+            [] => return false,
+            [next, more @ ..] => {
+                if *first != *next {
+                    return false;
+                }
+                wanted = others;
+                rest = more;
+            }
+        }
+    }
+    true
+}
+
+// The first place where a text has another in it.
+fn first_place(by: &[u8], text: &[u8]) -> Option<usize>
+    ensures place { result ≡ first_place 0 by.now text.now }
+    ensures within { IfSome result (λ n. n ≤ length text.now) }
+{
+    let mut passed: usize = 0;
+    let mut rest = text;
+    while let [_first, others @ ..] = rest {
+        if begins_with(by, rest) {
+            return Some(passed);
+        }
+        passed += 1;
+        rest = others;
+    }
+    None
+}
+
+// The parts around a text at a place, before and after which the whole text may be cut.
+fn parts_at(
+    alloc: Global,
+    place: Option<usize>,
+    by: &str,
+    text: &str,
+) -> Result<CutParts, AllocError>
+    requires before { IfSome place (IsCharBoundary text.now) }
+    requires after { IfSome place (λ n. IsCharBoundary text.now (n + length by.now)) }
+    ensures { IfOk result (λ parts. parts ≡ parts_at place by.now text.now) }
+{
+    match place {
+        None => Ok(CutParts {
+            before: Utf8::of(alloc, text)?,
+            after: Utf8::new(alloc),
+        }),
+        Some(place) => Ok(CutParts {
+            before: Utf8::of(alloc, &text[..place])?,
+            after: Utf8::of(alloc, &text[place + by.len()..])?,
+        }),
+    }
+}
+
+// The parts of a text around another; none where it's misuse.
+fn parts_of(alloc: Global, by: &Value, text: &Value) -> Result<Option<CutParts>, AllocError>
+    ensures { IfOk result (λ parts. parts ≡ parts_of by.now text.now) }
+{
+    match by {
+        Value::Null => Ok(None),
+        Value::Int(_) => Ok(None),
+        Value::Text(by) => parts_by(alloc, by.as_str(), text),
+    }
+}
+
+fn parts_by(alloc: Global, by: &str, text: &Value) -> Result<Option<CutParts>, AllocError>
+    ensures { IfOk result (λ parts. parts ≡ parts_of (Text by.now) text.now) }
+{
+    if by.is_empty() {
+        return Ok(None);
+    }
+    match text {
+        Value::Null => Ok(None),
+        Value::Int(_) => Ok(None),
+        Value::Text(text) => Ok(Some(parts_in(alloc, by, text.as_str())?)),
+    }
+}
+
+// The parts of a text around another, which isn't empty.
+fn parts_in(alloc: Global, by: &str, text: &str) -> Result<CutParts, AllocError>
+    requires { 0 < length by.now }
+    ensures { IfOk result (λ parts. parts ≡ parts_at (first_place 0 by.now text.now) by.now text.now) }
+{
+    let place = first_place(by.as_bytes(), text.as_bytes());
+    parts_at(alloc, place, by, text)
+}
+
+fn cut_parts(before: usize, after: usize, parts: Option<CutParts>, process: &mut SlotProcess)
+    requires { process.old.place + 1 < 2 ^ 64 }
+    ensures { process.new ≡ slot_cut_parts before after parts process.old }
+{
+    match parts {
+        None => process.end(WRONG_KIND),
+        Some(parts) => {
+            process.set_variable(before, Value::Text(parts.before));
+            process.set_variable(after, Value::Text(parts.after));
+            process.go_on();
+        }
+    }
+}
+
+/// `cut x y v`
+pub(crate) fn cut(
+    alloc: Global,
+    before: usize,
+    after: usize,
+    by: &SlotOperand,
+    process: &mut SlotProcess,
+) -> Result<(), AllocError>
+    requires { process.old.place + 1 < 2 ^ 64 }
+    ensures { OnOk result (process.new ≡ slot_cut before after by.now process.old) }
+{
+    let by = value_of(alloc, process, by)?;
+    let text = value_of(alloc, process, &SlotOperand::Slot(after))?;
+    let parts = parts_of(alloc, &by, &text)?;
+    cut_parts(before, after, parts, process);
+    Ok(())
+}

@@ -1,0 +1,59 @@
+//! One step of an instruction that changes its own process only.
+
+ghost use Rattle.std.specs.Prelude.{◌≡◌, ◌+◌, ◌<◌, ◌^◌, OnOk};
+ghost use Rattle.proc_core.specs.SlotOwn.{slot_own};
+
+use crate::code::OwnInstr;
+use crate::cut::cut;
+use crate::process::SlotProcess;
+use crate::replies::{close, count, fetch, status};
+use crate::variables::{calculate, exit, glue, jump_if, let_number, let_value, print};
+use std::alloc::{AllocError, Global};
+
+/// Executes an instruction that changes its own process only.
+pub(crate) fn execute_own(
+    alloc: Global,
+    instr: &OwnInstr,
+    process: &mut SlotProcess,
+) -> Result<(), AllocError>
+    requires { process.old.place + 1 < 2 ^ 64 }
+    ensures { OnOk result (process.new ≡ slot_own instr.now process.old) }
+{
+    match instr {
+        OwnInstr::Let { to, value } => let_value(alloc, *to, value, process),
+        OwnInstr::Calc {
+            to,
+            op,
+            left,
+            right,
+        } => calculate(alloc, *to, *op, left, right, process),
+        OwnInstr::Glue { to, left, right } => glue(alloc, *to, left, right, process),
+        OwnInstr::ToInt { to, value } => let_number(alloc, *to, value, process),
+        OwnInstr::Cut { before, after, by } => cut(alloc, *before, *after, by, process),
+        OwnInstr::Jump { place } => {
+            process.go_to(*place);
+            Ok(())
+        }
+        OwnInstr::JumpIf {
+            op,
+            left,
+            right,
+            place,
+        } => jump_if(alloc, *op, left, right, *place, process),
+        OwnInstr::Print { values } => print(alloc, values, process),
+        OwnInstr::Exit { status } => exit(alloc, status, process),
+        OwnInstr::Close { file } => {
+            close(*file, process);
+            Ok(())
+        }
+        OwnInstr::Fetch { cursor, to, place } => fetch(*cursor, to, *place, process),
+        OwnInstr::Count { to, cursor } => {
+            count(*to, *cursor, process);
+            Ok(())
+        }
+        OwnInstr::Status { to, cursor } => {
+            status(*to, *cursor, process);
+            Ok(())
+        }
+    }
+}

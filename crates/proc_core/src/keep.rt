@@ -1,0 +1,263 @@
+//! Steps that ask nothing.
+
+ghost use Rattle.std.specs.Prelude.{◌≡◌, ◌+◌, ◌<◌, ◌^◌, length, Some, None, map, slice_get, slice_set};
+ghost use Rattle.std.specs.Prelude.{ℕ, IfOk, OnOk, OnSome};
+ghost use Rattle.std.specs.Option.{option_map};
+ghost use Rattle.run_model.specs.Core.{Core};
+ghost use Rattle.run_model.specs.Events.{event_at};
+ghost use Rattle.run_model.specs.Step.{quiet};
+ghost use Rattle.proc_core.specs.SlotOwn.{slot_own};
+ghost use Rattle.proc_core.specs.Counts.{AskedFewer};
+ghost use Rattle.proc_core.specs.SlotReady.{Grows};
+ghost use Rattle.proc_core.specs.SlotStep.{HasRoom, IsKept, next_slotted, slot_effect};
+ghost use Rattle.ldv_value.specs.FileState.{FileState};
+ghost use Rattle.proc_core.specs.Slots.{child_at, slot_ended};
+ghost use Rattle.proc_core.specs.SlotFiles.{slot_on_files};
+ghost use Rattle.proc_core.specs.SlotStep.{slot_child_status, slot_status_in, slot_wait_for, slot_wait_with};
+ghost use Rattle.proc_core.specs.Stands.{IsCore, Told};
+ghost use Rattle.proc_core.specs.declared.process.SlotProcess.{SlotProcess};
+
+use crate::code::{FileInstr, OwnInstr, SlotInstr};
+use crate::computed::WRONG_KIND;
+use crate::execute::execute_own;
+use crate::files::execute_on_files;
+use crate::machine::{Machine, next_of};
+use crate::process::SlotProcess;
+use crate::schedule::child_of;
+use crate::tell::{Who, tell};
+use file_tree::Tree;
+use ldv_value::Value;
+use run_model::{Act, Tracer};
+use std::alloc::{AllocError, Global};
+
+/// Ends a process.
+pub(crate) fn end_at(status: u8, number: usize, processes: &mut Vec<SlotProcess>)
+    requires { number < length processes.old.items }
+    ensures { (r : SlotProcess) → slice_get processes.old.items number ≡ Some r
+        → processes.new.items ≡ slice_set processes.old.items number (slot_ended status r) }
+{
+    let process = &mut processes[number];
+    process.end(status);
+}
+
+fn own_at(
+    alloc: Global,
+    instr: &OwnInstr,
+    number: usize,
+    processes: &mut Vec<SlotProcess>,
+) -> Result<(), AllocError>
+    requires within { number < length processes.old.items }
+    requires room { HasRoom (slice_get processes.old.items number) }
+    ensures { OnOk result ((r : SlotProcess) → slice_get processes.old.items number ≡ Some r
+        → processes.new.items ≡ slice_set processes.old.items number (slot_own instr.now r)) }
+{
+    let process = &mut processes[number];
+    execute_own(alloc, instr, process)
+}
+
+fn files_at<T: Tracer>(
+    alloc: Global,
+    instr: &FileInstr,
+    who: Who,
+    processes: &mut Vec<SlotProcess>,
+    tree: &mut Tree,
+    tracer: &mut T,
+) -> Result<(), AllocError>
+    requires within { who.number < length processes.old.items }
+    requires room { HasRoom (slice_get processes.old.items who.number) }
+    ensures processes { OnOk result ((r : SlotProcess) → slice_get processes.old.items who.number ≡ Some r
+        → processes.new.items ≡ slice_set processes.old.items who.number
+        (slot_on_files instr.now r tree.old).process) }
+    ensures files { OnOk result ((r : SlotProcess) → slice_get processes.old.items who.number ≡ Some r
+        → tree.new ≡ (slot_on_files instr.now r tree.old).files) }
+    ensures told { OnOk result ((r : SlotProcess) → slice_get processes.old.items who.number ≡ Some r
+        → Told T.KEEPS (T.events tracer.old) (T.events tracer.new) (map (event_at who.step who.number)
+        (slot_on_files instr.now r tree.old).acts)) }
+{
+    let process = &mut processes[who.number];
+    execute_on_files(alloc, instr, process, tree, who, tracer)
+}
+
+// The step of a `wait`, by the child that its name means and by the status of that.
+fn wait_with<T: Tracer>(
+    to: usize,
+    child: Option<u32>,
+    status: Option<u8>,
+    process: &mut SlotProcess,
+    who: Who,
+    tracer: &mut T,
+) -> Result<(), AllocError>
+    requires room { process.old.place + 1 < 2 ^ 64 }
+    ensures process { OnOk result ((st : FileState)
+        → process.new ≡ (slot_wait_with child status to process.old st).process) }
+    ensures told { OnOk result ((st : FileState)
+        → Told T.KEEPS (T.events tracer.old) (T.events tracer.new) (map (event_at who.step who.number)
+        (slot_wait_with child status to process.old st).acts)) }
+{
+    match child {
+        None => {
+            process.end(WRONG_KIND);
+            Ok(())
+        }
+        Some(child) => match status {
+            None => Ok(()),
+            Some(status) => {
+                tell(who, Act::Waited { child }, tracer)?;
+                process.set_variable(to, Value::Int(i64::from(status)));
+                process.go_on();
+                Ok(())
+            }
+        },
+    }
+}
+
+fn child_at(processes: &[SlotProcess], number: usize, slot: usize) -> Option<u32>
+    requires { number < length processes.now }
+    ensures { (r : SlotProcess) → slice_get processes.now number ≡ Some r → result ≡ child_at slot r }
+{
+    let process = &processes[number];
+    child_of(process, slot)
+}
+
+fn child_status(processes: &[SlotProcess], child: Option<u32>) -> Option<u8>
+    ensures { result ≡ slot_child_status child processes.now }
+{
+    match child {
+        None => None,
+        Some(child) => status_in(processes, child as usize),
+    }
+}
+
+/// The status of a process, where it has ended.
+pub(crate) fn status_in(processes: &[SlotProcess], number: usize) -> Option<u8>
+    ensures { result ≡ slot_status_in processes.now number }
+{
+    match processes.get(number) {
+        None => None,
+        Some(process) => process.status,
+    }
+}
+
+fn wait_at<T: Tracer>(
+    to: usize,
+    slot: usize,
+    who: Who,
+    processes: &mut Vec<SlotProcess>,
+    tracer: &mut T,
+) -> Result<(), AllocError>
+    requires within { who.number < length processes.old.items }
+    requires room { HasRoom (slice_get processes.old.items who.number) }
+    ensures processes { OnOk result ((r : SlotProcess) (st : FileState)
+        → slice_get processes.old.items who.number ≡ Some r
+        → processes.new.items ≡ slice_set processes.old.items who.number
+        (slot_wait_for (child_at slot r) to processes.old.items r st).process) }
+    ensures told { OnOk result ((r : SlotProcess) (st : FileState)
+        → slice_get processes.old.items who.number ≡ Some r
+        → Told T.KEEPS (T.events tracer.old) (T.events tracer.new) (map (event_at who.step who.number)
+        (slot_wait_for (child_at slot r) to processes.old.items r st).acts)) }
+{
+    let child = child_at(processes, who.number, slot);
+    let status = child_status(processes, child);
+    let process = &mut processes[who.number];
+    wait_with(to, child, status, process, who, tracer)
+}
+
+// The step of an instruction; none is after the last one.
+fn keep_by<T: Tracer>(
+    alloc: Global,
+    instr: Option<&SlotInstr>,
+    who: Who,
+    processes: &mut Vec<SlotProcess>,
+    tree: &mut Tree,
+    tracer: &mut T,
+) -> Result<(), AllocError>
+    requires within { who.number < length processes.old.items }
+    requires room { OnSome instr (HasRoom (slice_get processes.old.items who.number)) }
+    requires kept { IsKept (option_map (λ i. i.now) instr) }
+    ensures processes { OnOk result ((r : SlotProcess) → slice_get processes.old.items who.number ≡ Some r
+        → processes.new.items ≡ slice_set processes.old.items who.number
+        (slot_effect (option_map (λ i. i.now) instr.entry) processes.old.items r tree.old).process) }
+    ensures files { OnOk result ((r : SlotProcess) → slice_get processes.old.items who.number ≡ Some r
+        → tree.new
+        ≡ (slot_effect (option_map (λ i. i.now) instr.entry) processes.old.items r tree.old).files) }
+    ensures told { OnOk result ((r : SlotProcess) → slice_get processes.old.items who.number ≡ Some r
+        → Told T.KEEPS (T.events tracer.old) (T.events tracer.new) (map (event_at who.step who.number)
+        (slot_effect (option_map (λ i. i.now) instr.entry) processes.old.items r tree.old).acts)) }
+{
+    match instr {
+        None => {
+            end_at(0, who.number, processes);
+            Ok(())
+        }
+        Some(SlotInstr::Own(instr)) => own_at(alloc, instr, who.number, processes),
+        Some(SlotInstr::OnFiles(instr)) => files_at(alloc, instr, who, processes, tree, tracer),
+        Some(
+            SlotInstr::Spawn {
+                child: _,
+                path: _,
+                arguments: _,
+                place: _,
+            },
+        ) => unreachable!(),
+        Some(SlotInstr::Wait { to, child }) => wait_at(*to, *child, who, processes, tracer),
+        Some(
+            SlotInstr::Sql {
+                cursor: _,
+                text: _,
+                params: _,
+            },
+        ) => {
+            end_at(WRONG_KIND, who.number, processes);
+            Ok(())
+        }
+    }
+}
+
+/// The next step of a process, which asks nothing and makes no process.
+pub(crate) fn keep<T: Tracer>(
+    machine: Machine,
+    who: Who,
+    tracer: &mut T,
+) -> Result<Machine, AllocError>
+    requires kept { IsKept (next_slotted machine.codes (slice_get machine.processes.items who.number)) }
+    ensures core { IfOk result (λ after. (c : Core) → IsCore machine c
+        → IsCore after (quiet who.number c).core) }
+    ensures told { IfOk result (λ after. (c : Core) → IsCore machine c
+        → Told T.KEEPS (T.events tracer.old) (T.events tracer.new) (map (event_at who.step who.number)
+        (quiet who.number c).acts)) }
+    ensures grows { IfOk result (λ after. Grows machine who.number after) }
+    ensures counted { IfOk result (λ after. (n : ℕ) → AskedFewer n machine → AskedFewer n after) }
+{
+    let past = who.number >= machine.processes.len();
+    if past {
+        return Ok(machine);
+    }
+    let Machine {
+        alloc,
+        codes,
+        mut processes,
+        mut tree,
+        seed,
+        last,
+        x,
+        asked,
+        ready,
+        parents,
+        runners,
+    } = machine;
+    let instr = next_of(&codes, &processes, who.number);
+    keep_by(alloc, instr, who, &mut processes, &mut tree, tracer)?;
+    Ok(Machine {
+        alloc,
+        codes,
+        processes,
+        tree,
+        seed,
+        last,
+        x,
+        asked,
+        ready,
+        parents,
+        runners,
+    })
+}

@@ -1,0 +1,65 @@
+//! The state of a run but for its database.
+
+ghost use Rattle.std.specs.Prelude.{◌≡◌, ◌+◌, ◌<◌, ◌^◌, OnSome, slice_get};
+ghost use Rattle.std.specs.Option.{option_map};
+ghost use Rattle.proc_core.specs.SlotStep.{next_slotted, HasRoom};
+
+use crate::code::{Code, SlotInstr};
+use crate::process::SlotProcess;
+use file_tree::Tree;
+use ldv_value::{List, Numbers};
+use ready_set::ReadySet;
+use std::alloc::Global;
+use std::collections::BTreeMap;
+
+/// Resolved scripts.
+pub(crate) type Codes = List<Code>;
+
+/// The files, the processes in creation order, and the scheduler.
+#[derive(Drop)]
+pub(crate) struct Machine {
+    pub alloc: Global,
+    pub codes: Codes,
+    pub processes: Vec<SlotProcess>,
+    pub tree: Tree,
+    pub seed: u64,
+    /// The process that ran last.
+    pub last: u32,
+    /// The state of the generator.
+    pub x: u64,
+    /// How many statements were asked.
+    pub asked: u32,
+    /// Which processes may run.
+    pub ready: ReadySet,
+    /// Of each process the creation number of its parent; of the first, its own.
+    pub parents: Numbers,
+    /// By path the process that was made last from the script there.
+    pub runners: BTreeMap<String, usize>,
+}
+
+/// The next instruction of a process, by its creation number. After the last one there is none.
+pub(crate) fn next_of<'a>(
+    codes: &'a Codes,
+    processes: &[SlotProcess],
+    number: usize,
+) -> Option<&'a SlotInstr>
+    ensures next { option_map (λ instr. instr.now) result
+        ≡ next_slotted codes.now (slice_get processes.now number) }
+    ensures room { OnSome result (HasRoom (slice_get processes.now number)) }
+{
+    match processes.get(number) {
+        None => None,
+        Some(process) => next_in(codes, process),
+    }
+}
+
+/// The next instruction of a process.
+pub(crate) fn next_in<'a>(codes: &'a Codes, process: &SlotProcess) -> Option<&'a SlotInstr>
+    ensures next { option_map (λ instr. instr.now) result ≡ next_slotted codes.now (Some process.now) }
+    ensures room { OnSome result (process.now.place + 1 < 2 ^ 64) }
+{
+    match codes.get(process.code) {
+        None => None,
+        Some(code) => code.instructions.get(process.place),
+    }
+}

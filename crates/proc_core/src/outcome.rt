@@ -1,0 +1,102 @@
+//! The outcome of a run.
+
+ghost use Rattle.std.specs.Prelude.{◌≡◌, IfOk, map, unwrap_or};
+ghost use Rattle.ldv_value.specs.FileState.{content_at};
+ghost use Rattle.run_model.specs.Outcome.{outcome_of_path, outcomes_of_paths};
+ghost use Rattle.proc_core.specs.SlotOutcome.{slot_outcome, slot_outcomes, slot_outcomes_by_name};
+ghost use Rattle.proc_core.specs.SlotOutcome.{name_cmp, slot_outcome_of};
+
+use crate::machine::Machine;
+use crate::process::SlotProcess;
+use file_tree::Tree;
+use ldv_value::{Bytes, Utf8};
+use run_model::{Outcome, PathOutcome, PathOutcomes, ProcName, ProcOutcome, ProcOutcomes};
+use std::alloc::{AllocError, Global};
+use std::cmp::Ordering;
+
+fn status_or_zero(status: Option<u8>) -> u8
+    ensures { result ≡ unwrap_or status 0 }
+{
+    match status {
+        None => 0,
+        Some(status) => status,
+    }
+}
+
+fn outcome_of_process(process: &SlotProcess) -> Result<ProcOutcome, AllocError>
+    ensures { IfOk result (λ outcome. outcome ≡ slot_outcome process.now) }
+{
+    Ok(ProcOutcome {
+        name: ProcName {
+            parts: process.name.copy()?,
+        },
+        status: status_or_zero(process.status),
+        printed: process.printed.copy()?,
+        replies: process.replies.copy()?,
+    })
+}
+
+// The outcomes of processes, from the last to the first.
+fn outcomes_of(alloc: Global, processes: &[SlotProcess]) -> Result<Vec<ProcOutcome>, AllocError>
+    ensures { IfOk result (λ outcomes. outcomes.items ≡ slot_outcomes processes.now) }
+{
+    let mut outcomes = Vec::with_capacity(alloc, processes.len())?;
+    for process in processes {
+        outcomes.push(outcome_of_process(process)?)?;
+    }
+    outcomes.reverse();
+    Ok(outcomes)
+}
+
+fn compare_names(a: &ProcOutcome, b: &ProcOutcome) -> Ordering
+    ensures { result ≡ name_cmp a.now b.now }
+{
+    a.name.parts.items().cmp(b.name.parts.items())
+}
+
+fn outcomes_by_name(alloc: Global, processes: &[SlotProcess]) -> Result<ProcOutcomes, AllocError>
+    ensures { IfOk result (λ outcomes. outcomes ≡ slot_outcomes_by_name processes.now) }
+{
+    let mut outcomes = outcomes_of(alloc, processes)?;
+    outcomes.sort_by(|a, b| compare_names(a, b))?;
+    Ok(ProcOutcomes::of_vec(outcomes))
+}
+
+fn content_of(alloc: Global, tree: &Tree, path: &Utf8) -> Result<Option<Bytes>, AllocError>
+    ensures { IfOk result (λ content. content ≡ content_at tree.now path.now) }
+{
+    match tree.state(path.as_str()) {
+        None => Ok(None),
+        Some(bytes) => Ok(Some(Bytes::of_slice(alloc, bytes)?)),
+    }
+}
+
+fn outcome_at_path(alloc: Global, tree: &Tree, path: &Utf8) -> Result<PathOutcome, AllocError>
+    ensures { IfOk result (λ outcome. outcome ≡ outcome_of_path tree.now path.now) }
+{
+    Ok(PathOutcome {
+        path: path.copy()?,
+        content: content_of(alloc, tree, path)?,
+    })
+}
+
+fn outcomes_of_paths(alloc: Global, tree: &Tree) -> Result<PathOutcomes, AllocError>
+    ensures { IfOk result (λ outcomes. outcomes ≡ outcomes_of_paths tree.now) }
+{
+    let touched = tree.touched()?;
+    let mut outcomes = PathOutcomes::with_capacity(alloc, touched.len())?;
+    for path in touched.items() {
+        outcomes.push(outcome_at_path(alloc, tree, path)?)?;
+    }
+    Ok(outcomes)
+}
+
+/// The outcome of a run that has ended.
+pub(crate) fn outcome_of(machine: &Machine) -> Result<Outcome, AllocError>
+    ensures { IfOk result (λ outcome. outcome ≡ slot_outcome_of machine.now) }
+{
+    Ok(Outcome {
+        processes: outcomes_by_name(machine.alloc, &machine.processes)?,
+        paths: outcomes_of_paths(machine.alloc, &machine.tree)?,
+    })
+}

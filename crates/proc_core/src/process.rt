@@ -1,0 +1,71 @@
+//! Processes, with slots in place of names.
+
+ghost use Rattle.std.specs.Prelude.{◌≡◌, ◌+◌, ◌<◌, ◌^◌, OnOk, OnErr};
+ghost use Rattle.proc_core.specs.Slots.{slot_ended, slot_went_on, slot_went_to, slot_with_variable};
+
+use crate::file_slots::FileSlots;
+use ldv_value::{Bytes, List, Parts, Value, Values};
+use sql_model::Replies;
+
+/// The index of a reply among those of the process, and how many of its rows were fetched.
+#[derive(Clone, Copy)]
+pub(crate) struct SlotCursor {
+    pub reply: usize,
+    pub fetched: usize,
+}
+
+/// A process. The values of its variables, and what its other names mean, are found by slot.
+#[derive(Drop)]
+pub(crate) struct SlotProcess {
+    /// The parts of its name.
+    pub name: Parts,
+    /// The index of its resolved script.
+    pub code: usize,
+    /// Of its next instruction.
+    pub place: usize,
+    pub variables: Values,
+    pub files: FileSlots,
+    pub cursors: List<Option<SlotCursor>>,
+    /// Creation numbers.
+    pub children: List<Option<u32>>,
+    /// How many children it made.
+    pub spawned: u32,
+    pub printed: Bytes,
+    /// The replies to its statements, in order.
+    pub replies: Replies,
+    /// None while it runs.
+    pub status: Option<u8>,
+}
+
+impl SlotProcess {
+    /// Ends the process.
+    pub(crate) fn end(&mut self, status: u8)
+        ensures { self.new ≡ slot_ended status self.old }
+    {
+        self.status = Some(status);
+    }
+
+    /// Goes on at the next instruction.
+    pub(crate) fn go_on(&mut self)
+        requires { self.old.place + 1 < 2 ^ 64 }
+        ensures { self.new ≡ slot_went_on self.old }
+    {
+        self.place += 1;
+    }
+
+    /// Goes on at the place of a label.
+    pub(crate) fn go_to(&mut self, place: u32)
+        ensures { self.new ≡ slot_went_to place self.old }
+    {
+        self.place = place as usize;
+    }
+
+    /// Gives a variable a value.
+    pub(crate) fn set_variable(&mut self, slot: usize, value: Value)
+        ensures { self.new ≡ slot_with_variable slot value self.old }
+    {
+        if slot < self.variables.len() {
+            self.variables.replace(slot, value);
+        }
+    }
+}

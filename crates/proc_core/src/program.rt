@@ -1,0 +1,103 @@
+//! What there is to run at a path.
+
+ghost use Rattle.std.specs.Prelude.{◌≡◌, IfOk, IfSome};
+ghost use Rattle.proc_core.specs.SlotSpawn.{Runs, IsRead, IsProgramRead, IsProgramOf, IsProgram};
+
+use crate::code::Code;
+use crate::machine::{Codes, Machine};
+use crate::process::SlotProcess;
+use crate::resolve::resolve;
+use ldv_value::{Bytes, MAX_PROCESSES, Utf8};
+use script_parse::{ScriptStop, parse_script};
+use std::alloc::{AllocError, Global};
+
+/// What there is to run at a path.
+#[derive(Drop)]
+pub(crate) enum Program {
+    /// No file.
+    Absent,
+    /// A file that isn't a script, or as many processes as there may be.
+    Refused,
+    /// A script that a process runs, by the index of its resolved form.
+    Known(usize),
+    /// Another script.
+    New(Code),
+}
+
+/// What there is to run at a path.
+pub(crate) fn program_at(machine: &Machine, path: &Utf8) -> Result<Program, AllocError>
+    ensures { IfOk result (IsProgram machine.now path.now) }
+{
+    match machine.tree.state(path.as_str()) {
+        None => Ok(Program::Absent),
+        Some(bytes) => program_of(machine, path, bytes),
+    }
+}
+
+fn program_of(machine: &Machine, path: &Utf8, bytes: &[u8]) -> Result<Program, AllocError>
+    ensures { IfOk result (IsProgramOf machine.now bytes.now) }
+{
+    if machine.processes.len() >= MAX_PROCESSES {
+        return Ok(Program::Refused);
+    }
+    match known_at(machine, path, bytes) {
+        Some(index) => Ok(Program::Known(index)),
+        None => read_program(machine.alloc, bytes),
+    }
+}
+
+fn read_program(alloc: Global, bytes: &[u8]) -> Result<Program, AllocError>
+    ensures { IfOk result (λ program. IsProgramRead bytes.now program) }
+{
+    match read_code(alloc, bytes)? {
+        None => Ok(Program::Refused),
+        Some(code) => Ok(Program::New(code)),
+    }
+}
+
+/// The resolved script of bytes, where they are one.
+pub(crate) fn read_code(alloc: Global, bytes: &[u8]) -> Result<Option<Code>, AllocError>
+    ensures { IfOk result (IsRead bytes.now) }
+{
+    match parse_script(alloc, bytes) {
+        Ok(script) => {
+            let source = Bytes::of_slice(alloc, bytes)?;
+            Ok(Some(resolve(alloc, source, &script.instructions)?))
+        }
+        Err(ScriptStop::Line(_)) => Ok(None),
+        Err(ScriptStop::NoMemory) => Err(AllocError),
+    }
+}
+
+// The index of the resolved script that the last process made from a path runs, where these are its bytes.
+fn known_at(machine: &Machine, path: &Utf8, bytes: &[u8]) -> Option<usize>
+    ensures { IfSome result (Runs machine.now.codes machine.now.processes.items bytes.now) }
+{
+    match machine.runners.get(path.as_str()) {
+        None => None,
+        Some(number) => known_by(&machine.codes, &machine.processes, *number, bytes),
+    }
+}
+
+fn known_by(codes: &Codes, processes: &[SlotProcess], number: usize, bytes: &[u8]) -> Option<usize>
+    ensures { IfSome result (Runs codes.now processes.now bytes.now) }
+{
+    match processes.get(number) {
+        None => None,
+        Some(process) => match codes.get(process.code) {
+            None => None,
+            Some(code) => if_source(process.code, code, bytes),
+        },
+    }
+}
+
+// The index of a resolved script, where these are its bytes.
+fn if_source(index: usize, code: &Code, bytes: &[u8]) -> Option<usize>
+    ensures { IfSome result (λ found. (found ≡ index) × (code.now.source ≡ bytes.now)) }
+{
+    if code.source.as_slice() == bytes {
+        Some(index)
+    } else {
+        None
+    }
+}

@@ -1,0 +1,209 @@
+//! Runs over any database.
+
+ghost use Rattle.std.specs.Prelude.{◌≡◌, ◌+◌, ◌<◌, ◌≤◌, ℕ, List as Items, None, [], false, true, length};
+ghost use Rattle.std.specs.Prelude.{slice_get};
+ghost use Rattle.std.specs.Prelude.{IfOk, IfErr, OnOk};
+ghost use Rattle.ldv_value.specs.FileState.{untouched};
+ghost use Rattle.proc_core.specs.Types.{Instr, File};
+ghost use Rattle.run_model.specs.Core.{all_ended, is_over};
+ghost use Rattle.run_model.specs.Outcome.{outcome_of};
+ghost use Rattle.run_model.specs.Events.{events as events_within, events_of_step, start_events};
+ghost use Rattle.run_model.specs.Run.{move, run as state_after, steps as steps_made};
+ghost use Rattle.run_model.specs.RunLaw.{MayRun, started};
+ghost use Rattle.run_model.specs.Schedule.{choose};
+ghost use Rattle.run_model.specs.State.{State};
+ghost use Rattle.proc_core.specs.Counts.{AskedFewer};
+ghost use Rattle.proc_core.specs.Running.{Stands};
+ghost use Rattle.proc_core.specs.SlotStep.{slots_ended};
+ghost use Rattle.proc_core.specs.Stands.{IsStartScript, Told};
+ghost use Rattle.proc_core.specs.Stops.{HasStopped, HasRunStopped};
+
+use crate::machine::Machine;
+use crate::outcome::outcome_of;
+use crate::ready::refresh;
+use crate::schedule::{choose, have_ended, schedule};
+use crate::start::machine_at;
+use crate::step::move_on;
+use crate::stop::{RunStop, Stopped};
+use crate::tell::{PathAct, Who, tell_path};
+use file_tree::Tree;
+use ldv_value::Words;
+use run_model::{Database, Outcome, Tracer};
+use std::alloc::AllocError;
+
+/// A run: its processes and files, the database that it asks, and the tracer that its events are reported to.
+#[derive(Drop)]
+pub struct Run<D: Database, T: Tracer> {
+    machine: Machine,
+    db: D,
+    tracer: T,
+    steps: u32,
+    ghost asked: { D.latest db ≤ steps },
+    ghost counted: { AskedFewer (steps + 1) machine },
+}
+
+impl<D: Database, T: Tracer> Run<D, T> {
+    /// The run in which one process begins, that of the script at the first start word. The other start words
+    /// are its arguments. No path of the tree is touched.
+    pub fn start(
+        start: &Words,
+        seed: u64,
+        tree: Tree,
+        db: D,
+        tracer: T,
+    ) -> Result<Run<D, T>, AllocError>
+        requires words { 0 < length start.now }
+        requires fresh { D.latest db ≡ 0 }
+        ensures state { IfOk result (λ begun. (script : Items Instr) (files : Items File)
+            → tree ≡ untouched files
+            → IsStartScript start.now tree script
+            → Stands begun.machine (D.seen begun.db) (started start.now seed files script (D.seen db))) }
+        ensures told { IfOk result (λ begun. Told T.KEEPS (T.events tracer) (T.events begun.tracer)
+            (start_events (slice_get start.now 0))) }
+        ensures steps { IfOk result (λ begun. begun.steps ≡ 0) }
+    {
+        let mut tracer = tracer;
+        match start.items() {
+            [] => unreachable!(),
+            [path, words @ ..] => {
+                let machine = machine_at(start.allocator(), path, words, seed, tree)?;
+                tell_path(
+                    Who { step: 0, number: 0 },
+                    PathAct::Started,
+                    path,
+                    &mut tracer,
+                )?;
+                Ok(Run {
+                    machine,
+                    db,
+                    tracer,
+                    steps: 0,
+                })
+            }
+        }
+    }
+
+    /// Whether all processes have ended.
+    pub fn ended(&self) -> bool
+        ensures ended { (s : State D.Db) → Stands self.now.machine (D.seen self.now.db) s
+            → result ≡ all_ended s.core }
+        ensures slots { result ≡ slots_ended self.now.machine.processes.items }
+    {
+        have_ended(&self.machine.processes)
+    }
+
+    /// How many steps were made.
+    pub fn steps(&self) -> u32
+        ensures { result ≡ self.now.steps }
+    {
+        self.steps
+    }
+
+    /// One step of the process that the seed chooses.
+    pub fn advance(self) -> Result<Run<D, T>, Stopped>
+        requires going { slots_ended self.machine.processes.items ≡ false }
+        requires room { self.steps < 10000000 }
+        // The process that makes the step may run.
+        ensures runs { (s : State D.Db) → Stands self.machine (D.seen self.db) s
+            → MayRun (choose None s.core) s.core }
+        ensures state { IfOk result (λ after. (s : State D.Db)
+            → Stands self.machine (D.seen self.db) s
+            → Stands after.machine (D.seen after.db) (move D.base None s).state) }
+        ensures told { IfOk result (λ after. (s : State D.Db)
+            → Stands self.machine (D.seen self.db) s
+            → Told T.KEEPS (T.events self.tracer) (T.events after.tracer)
+            (events_of_step (self.steps + 1) (move D.base None s))) }
+        ensures steps { IfOk result (λ after. after.steps ≡ self.steps + 1) }
+        ensures diverged { IfErr result (λ stop. (s : State D.Db)
+            → Stands self.machine (D.seen self.db) s → HasStopped stop (move D.base None s).state) }
+    {
+        let Run {
+            machine,
+            mut db,
+            mut tracer,
+            steps,
+        } = self;
+        let number = choose(&machine);
+        let scheduled = schedule(machine, number);
+        let who = Who {
+            step: steps + 1,
+            number: number as usize,
+        };
+        match move_on(scheduled, who, &mut db, &mut tracer) {
+            Err(stop) => Err(stop),
+            Ok(after) => Ok(Run {
+                machine: refresh(after, number as usize),
+                db,
+                tracer,
+                steps: steps + 1,
+            }),
+        }
+    }
+
+    /// Steps until all processes have ended, at most so many.
+    pub fn to_end(self, budget: u32) -> Result<Run<D, T>, RunStop>
+        requires fresh { self.steps ≡ 0 }
+        requires few { budget ≤ 10000000 }
+        ensures state { IfOk result (λ after. (s : State D.Db)
+            → Stands self.machine (D.seen self.db) s
+            → Stands after.machine (D.seen after.db) (state_after D.base budget [] s)) }
+        ensures ended { OnOk result ((s : State D.Db) → Stands self.machine (D.seen self.db) s
+            → all_ended (state_after D.base budget [] s).core ≡ true) }
+        ensures told { IfOk result (λ after. (s : State D.Db)
+            → Stands self.machine (D.seen self.db) s
+            → Told T.KEEPS (T.events self.tracer) (T.events after.tracer)
+            (events_within D.base budget 1 [] s)) }
+        ensures steps { IfOk result (λ after. (s : State D.Db)
+            → Stands self.machine (D.seen self.db) s → after.steps ≡ steps_made D.base budget [] s) }
+        ensures stopped { IfErr result (λ stop. (s : State D.Db)
+            → Stands self.machine (D.seen self.db) s
+            → HasRunStopped stop (state_after D.base budget [] s)) }
+        // Never stuck: while a process hasn't ended, the one that is chosen may run.
+        ensures never_stuck { (s : State D.Db) → Stands self.machine (D.seen self.db) s → (n : ℕ)
+            → is_over (state_after D.base n [] s).core ≡ false
+            → MayRun (choose None (state_after D.base n [] s).core) (state_after D.base n [] s).core }
+    {
+        let mut run = self;
+        for _made in 0..budget {
+            if run.ended() {
+                return Ok(run);
+            }
+            run = match run.advance() {
+                Ok(next) => next,
+                Err(Stopped::Diverged { process, index }) => {
+                    return Err(RunStop::Diverged { process, index });
+                }
+                Err(Stopped::NoMemory) => return Err(RunStop::NoMemory),
+            };
+        }
+        if run.ended() {
+            Ok(run)
+        } else {
+            Err(RunStop::NotEnded)
+        }
+    }
+
+    /// The outcome of a run that has ended.
+    #[tactic(auto, using(crate::proofs::Outcomes::outcome_is))]
+    pub fn outcome(&self) -> Result<Outcome, AllocError>
+        requires { slots_ended self.now.machine.processes.items ≡ true }
+        ensures { IfOk result (λ outcome. (s : State D.Db) → Stands self.now.machine (D.seen self.now.db) s
+            → outcome ≡ outcome_of s.core) }
+    {
+        outcome_of(&self.machine)
+    }
+
+    /// The database and the tracer.
+    pub fn into_parts(self) -> (D, T)
+        ensures db { result.0 ≡ self.db }
+        ensures tracer { result.1 ≡ self.tracer }
+    {
+        let Run {
+            machine: _,
+            db,
+            tracer,
+            steps: _,
+        } = self;
+        (db, tracer)
+    }
+}

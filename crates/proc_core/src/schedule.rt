@@ -1,0 +1,154 @@
+//! The scheduler: which process makes the next step.
+
+ghost use Rattle.std.specs.Prelude.{◌≡◌, None, slice_get};
+ghost use Rattle.std.specs.Option.{option_map};
+ghost use Rattle.run_model.specs.Core.{Core};
+ghost use Rattle.ready_set.specs.Flags.{runnable_flags};
+ghost use Rattle.ready_set.specs.Ready.{numbers};
+ghost use Rattle.run_model.specs.Schedule.{choose, scheduled, moved_x, pick_of};
+ghost use Rattle.proc_core.specs.SlotStep.{slot_is_runnable, slot_waits_at, slot_waits_for};
+ghost use Rattle.proc_core.specs.SlotStep.{slot_still_runs, slots_ended};
+ghost use Rattle.proc_core.specs.Slots.{child_at};
+ghost use Rattle.proc_core.specs.Stands.{IsCore};
+
+use crate::code::SlotInstr;
+use crate::machine::{Codes, Machine, next_in};
+use crate::process::SlotProcess;
+use ready_set::ReadySet;
+
+fn still_runs(processes: &[SlotProcess], number: u32) -> bool
+    ensures { result ≡ slot_still_runs (slice_get processes.now number) }
+{
+    match processes.get(number as usize) {
+        None => false,
+        Some(process) => process.status.is_none(),
+    }
+}
+
+/// The child that a slot means, by its creation number.
+pub(crate) fn child_of(process: &SlotProcess, slot: usize) -> Option<u32>
+    ensures { result ≡ child_at slot process.now }
+{
+    match process.children.get(slot) {
+        None => None,
+        Some(child) => *child,
+    }
+}
+
+fn waits_for(processes: &[SlotProcess], child: Option<u32>) -> bool
+    ensures { result ≡ slot_waits_for child processes.now }
+{
+    match child {
+        None => false,
+        Some(child) => still_runs(processes, child),
+    }
+}
+
+fn waits_at(instr: Option<&SlotInstr>, process: &SlotProcess, processes: &[SlotProcess]) -> bool
+    ensures { result ≡ slot_waits_at (option_map (λ i. i.now) instr.entry) process.now processes.now }
+{
+    match instr {
+        Some(SlotInstr::Wait { to: _, child }) => waits_for(processes, child_of(process, *child)),
+        Some(SlotInstr::Own(_)) => false,
+        Some(SlotInstr::OnFiles(_)) => false,
+        Some(
+            SlotInstr::Spawn {
+                child: _,
+                path: _,
+                arguments: _,
+                place: _,
+            },
+        ) => false,
+        Some(
+            SlotInstr::Sql {
+                cursor: _,
+                text: _,
+                params: _,
+            },
+        ) => false,
+        None => false,
+    }
+}
+
+/// Whether a process may run.
+pub(crate) fn is_runnable(codes: &Codes, processes: &[SlotProcess], process: &SlotProcess) -> bool
+    ensures { result ≡ slot_is_runnable codes.now processes.now process.now }
+{
+    process.status.is_none() && !waits_at(next_in(codes, process), process, processes)
+}
+
+// The generator's next state. Under seed 0 it stands still.
+fn moved_x(seed: u64, x: u64) -> u64
+    ensures { result ≡ moved_x seed x }
+{
+    if seed == 0 {
+        x
+    } else {
+        x.wrapping_mul(6364136223846793005)
+            .wrapping_add(1442695040888963407)
+    }
+}
+
+// The number that the scheduler picks, 0 where no process may run.
+fn pick(ready: &ReadySet, seed: u64, last: u32, x: u64) -> u32
+    ensures { result ≡ pick_of seed last x (numbers ready.now.flags) }
+{
+    if ready.len() == 0 {
+        0
+    } else {
+        ready.pick(seed, last, x)
+    }
+}
+
+/// The creation number of the process that the seed chooses.
+pub(crate) fn choose(machine: &Machine) -> u32
+    ensures { (c : Core) → IsCore machine.now c → machine.now.ready.flags ≡ runnable_flags c.processes
+        → result ≡ choose None c }
+{
+    let x = moved_x(machine.seed, machine.x);
+    pick(&machine.ready, machine.seed, machine.last, x)
+}
+
+/// The machine in which a process was chosen.
+pub(crate) fn schedule(machine: Machine, number: u32) -> Machine
+    ensures core { (c : Core) → IsCore machine c → IsCore result (scheduled number c) }
+    ensures ready { result.ready ≡ machine.ready }
+    ensures parents { result.parents ≡ machine.parents }
+    ensures processes { result.processes ≡ machine.processes }
+    ensures asked { result.asked ≡ machine.asked }
+{
+    let Machine {
+        alloc,
+        codes,
+        processes,
+        tree,
+        seed,
+        last: _,
+        x,
+        asked,
+        ready,
+        parents,
+        runners,
+    } = machine;
+    let moved = moved_x(seed, x);
+    Machine {
+        alloc,
+        codes,
+        processes,
+        tree,
+        seed,
+        last: number,
+        x: moved,
+        asked,
+        ready,
+        parents,
+        runners,
+    }
+}
+
+/// Whether all processes have ended.
+pub(crate) fn have_ended(processes: &[SlotProcess]) -> bool
+    ensures { result ≡ slots_ended processes.now }
+{
+    processes.iter().all(|process| process.status.is_some())
+}

@@ -1,0 +1,177 @@
+//! `spawn`: a child runs the script at a path.
+
+ghost use Rattle.std.specs.Prelude.{◌≡◌, ◌+◌, ◌++◌, ◌∷◌, [], ◌<◌, ◌^◌, Some, true, length, slice_get};
+ghost use Rattle.std.specs.Prelude.{slice_set};
+ghost use Rattle.std.specs.Prelude.{IfOk, OnOk, List as Items};
+ghost use Rattle.ldv_value.specs.Limits.{max_processes};
+ghost use Rattle.proc_core.specs.Types.{Instr};
+ghost use Rattle.run_model.specs.Core.{new_process};
+ghost use Rattle.proc_core.specs.SlotSpawn.{HasChild, slot_parent, slot_with_new};
+ghost use Rattle.proc_core.specs.SlotStep.{HasRoom};
+ghost use Rattle.proc_core.specs.Slots.{Holds, slot_with_child};
+ghost use Rattle.proc_core.specs.declared.code.Code.{Code};
+ghost use Rattle.proc_core.specs.declared.process.SlotProcess.{SlotProcess};
+
+use crate::begin::begin;
+use crate::code::Code;
+use crate::machine::{Codes, Machine};
+use crate::process::SlotProcess;
+use ldv_value::Values;
+use ready_set::ReadySet;
+use std::alloc::{AllocError, Global};
+
+// A slot means a child.
+fn set_child(slot: usize, number: u32, process: &mut SlotProcess)
+    ensures { process.new ≡ slot_with_child slot number process.old }
+{
+    if slot < process.children.len() {
+        process.children.replace(slot, Some(number));
+    }
+}
+
+// A process is the parent of a child that has a creation number.
+fn become_parent(number: u32, slot: usize, process: &mut SlotProcess) -> Result<(), AllocError>
+    requires { process.old.place + 1 < 2 ^ 64 }
+    ensures { OnOk result (process.new ≡ slot_parent number slot process.old) }
+{
+    let Some(spawned) = process.spawned.checked_add(1) else {
+        return Err(AllocError);
+    };
+    set_child(slot, number, process);
+    process.spawned = spawned;
+    process.go_on();
+    Ok(())
+}
+
+fn parent_at(
+    child: u32,
+    slot: usize,
+    number: usize,
+    processes: &mut Vec<SlotProcess>,
+) -> Result<(), AllocError>
+    requires within { number < length processes.old.items }
+    requires room { HasRoom (slice_get processes.old.items number) }
+    ensures { OnOk result ((r : SlotProcess) → slice_get processes.old.items number ≡ Some r
+        → processes.new.items ≡ slice_set processes.old.items number (slot_parent child slot r)) }
+{
+    let process = &mut processes[number];
+    become_parent(child, slot, process)
+}
+
+// Adds a child of a process.
+fn add_child(
+    child: SlotProcess,
+    slot: usize,
+    number: usize,
+    processes: &mut Vec<SlotProcess>,
+) -> Result<(), AllocError>
+    requires within { number < length processes.old.items }
+    requires few { length processes.old.items < max_processes }
+    requires room { HasRoom (slice_get processes.old.items number) }
+    ensures { OnOk result ((r : SlotProcess) → slice_get processes.old.items number ≡ Some r
+        → processes.new.items ≡ slot_with_new number slot child r processes.old.items) }
+{
+    let made = processes.len() as u32;
+    parent_at(made, slot, number, processes)?;
+    processes.push(child)?;
+    Ok(())
+}
+
+// A new process may run.
+fn add_ready(ready: &mut ReadySet) -> Result<(), AllocError>
+    ensures { OnOk result (ready.new.flags ≡ ready.old.flags ++ true ∷ []) }
+{
+    if ready.made() >= 1_073_741_824 {
+        return Err(AllocError);
+    }
+    ready.reserve()?;
+    ready.push(true);
+    Ok(())
+}
+
+// The next child of a process, which runs the script of an index.
+fn new_child(
+    alloc: Global,
+    codes: &Codes,
+    parent: &SlotProcess,
+    index: usize,
+    arguments: &Values,
+) -> Result<SlotProcess, AllocError>
+    requires { index < length codes.now }
+    ensures { IfOk result (λ child. (code : Code) (script : Items Instr)
+        → slice_get codes.now index ≡ Some code
+        → Holds code.scope index script child
+        (new_process (parent.now.name ++ parent.now.spawned ∷ []) script arguments.now)) }
+{
+    let code = &codes.items()[index];
+    let mut name = parent.name.copy()?;
+    name.push(parent.spawned)?;
+    Ok(begin(alloc, name, index, code, arguments.items())?)
+}
+
+fn child_at(
+    machine: &Machine,
+    number: usize,
+    index: usize,
+    arguments: &Values,
+) -> Result<SlotProcess, AllocError>
+    requires within { number < length machine.now.processes.items }
+    requires held { index < length machine.now.codes }
+    ensures { IfOk result (λ child. (r : SlotProcess) (code : Code) (script : Items Instr)
+        → slice_get machine.now.processes.items number ≡ Some r
+        → slice_get machine.now.codes index ≡ Some code
+        → Holds code.scope index script child
+        (new_process (r.name ++ r.spawned ∷ []) script arguments.now)) }
+{
+    let parent = &machine.processes[number];
+    Ok(new_child(machine.alloc, &machine.codes, parent, index, arguments)?)
+}
+
+/// Makes a child of a process, which runs the script of an index.
+pub(crate) fn make_child(
+    machine: Machine,
+    number: usize,
+    slot: usize,
+    index: usize,
+    arguments: &Values,
+) -> Result<Machine, AllocError>
+    requires within { number < length machine.processes.items }
+    requires few { length machine.processes.items < max_processes }
+    requires held { index < length machine.codes }
+    requires room { HasRoom (slice_get machine.processes.items number) }
+    ensures { IfOk result (λ after. (r : SlotProcess) (code : Code)
+        → slice_get machine.processes.items number ≡ Some r → slice_get machine.codes index ≡ Some code
+        → HasChild machine number slot index code r arguments.now after) }
+{
+    let child = child_at(&machine, number, index, arguments)?;
+    let parent = number as u32;
+    let Machine {
+        alloc,
+        codes,
+        mut processes,
+        tree,
+        seed,
+        last,
+        x,
+        asked,
+        mut ready,
+        mut parents,
+        runners,
+    } = machine;
+    add_ready(&mut ready)?;
+    parents.push(parent)?;
+    add_child(child, slot, number, &mut processes)?;
+    Ok(Machine {
+        alloc,
+        codes,
+        processes,
+        tree,
+        seed,
+        last,
+        x,
+        asked,
+        ready,
+        parents,
+        runners,
+    })
+}

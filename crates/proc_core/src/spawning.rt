@@ -1,0 +1,86 @@
+//! What a `spawn` says, with the values that it takes.
+
+ghost use Rattle.std.specs.Prelude.{◌≡◌, ◌+◌, ◌<◌, ◌^◌, Some, IfOk, OnSome, length, slice_get};
+ghost use Rattle.std.specs.Option.{option_map};
+ghost use Rattle.proc_core.specs.SlotSpawn.{slot_spawning, slot_spawning_in, slot_spawning_at};
+ghost use Rattle.proc_core.specs.SlotStep.{HasRoom};
+
+use crate::ask::values_of;
+use crate::code::SlotInstr;
+use crate::files::path_of;
+use crate::machine::{Codes, Machine, next_in};
+use crate::process::SlotProcess;
+use ldv_value::{Utf8, Values};
+use std::alloc::{AllocError, Global};
+
+/// What a `spawn` says: a slot for the child, the path, none where the value isn't one, the arguments, and
+/// the place of the label.
+#[derive(Drop)]
+pub(crate) struct Spawning {
+    pub child: usize,
+    pub path: Option<Utf8>,
+    pub arguments: Values,
+    pub place: u32,
+}
+
+fn spawning_by(
+    alloc: Global,
+    instr: Option<&SlotInstr>,
+    process: &SlotProcess,
+) -> Result<Option<Spawning>, AllocError>
+    requires { OnSome instr (process.now.place + 1 < 2 ^ 64) }
+    ensures said { IfOk result (λ said. said
+        ≡ slot_spawning (option_map (λ i. i.now) instr.entry) process.now) }
+    ensures room { IfOk result (λ said. OnSome said (process.now.place + 1 < 2 ^ 64)) }
+{
+    match instr {
+        Some(
+            SlotInstr::Spawn {
+                child,
+                path,
+                arguments,
+                place,
+            },
+        ) => Ok(Some(Spawning {
+            child: *child,
+            path: path_of(alloc, process, path)?,
+            arguments: values_of(alloc, process, arguments)?,
+            place: *place,
+        })),
+        Some(SlotInstr::Own(_)) => Ok(None),
+        Some(SlotInstr::OnFiles(_)) => Ok(None),
+        Some(SlotInstr::Wait { to: _, child: _ }) => Ok(None),
+        Some(
+            SlotInstr::Sql {
+                cursor: _,
+                text: _,
+                params: _,
+            },
+        ) => Ok(None),
+        None => Ok(None),
+    }
+}
+
+fn spawning_in(
+    alloc: Global,
+    codes: &Codes,
+    process: &SlotProcess,
+) -> Result<Option<Spawning>, AllocError>
+    ensures said { IfOk result (λ said. said ≡ slot_spawning_in codes.now (Some process.now)) }
+    ensures room { IfOk result (λ said. OnSome said (process.now.place + 1 < 2 ^ 64)) }
+{
+    spawning_by(alloc, next_in(codes, process), process)
+}
+
+/// What the next step of a process says, where that is a `spawn`.
+pub(crate) fn spawning_at(machine: &Machine, number: usize) -> Result<Option<Spawning>, AllocError>
+    ensures said { IfOk result (λ said. said ≡ slot_spawning_at machine.now number) }
+    ensures within { IfOk result (λ said. OnSome said (number < length machine.now.processes.items)) }
+    ensures room { IfOk result (λ said. OnSome said
+        (HasRoom (slice_get machine.now.processes.items number))) }
+{
+    match machine.processes.get(number) {
+        None => Ok(None),
+        Some(process) => spawning_in(machine.alloc, &machine.codes, process),
+    }
+}

@@ -1,0 +1,117 @@
+//! The state in which a run begins.
+
+ghost use Rattle.std.specs.Prelude.{◌≡◌, ◌∷◌, Some, List as Items, [], map, true, IfOk};
+ghost use Rattle.std.specs.Option.{option_and_then};
+ghost use Rattle.ldv_value.specs.FileState.{content_at, untouched};
+ghost use Rattle.script_parse.specs.Script.{script_of};
+ghost use Rattle.proc_core.specs.Types.{Instr, File, Text};
+ghost use Rattle.run_model.specs.Core.{new_process, start_core};
+ghost use Rattle.proc_core.specs.Counts.{AskedFewer};
+ghost use Rattle.proc_core.specs.Resolved.{IsCode};
+ghost use Rattle.proc_core.specs.SlotReady.{IsReady};
+ghost use Rattle.proc_core.specs.SlotSpawn.{IsRead};
+ghost use Rattle.proc_core.specs.Slots.{Holds};
+ghost use Rattle.proc_core.specs.Stands.{IsCore};
+
+use crate::begin::begin;
+use crate::code::Code;
+use crate::machine::{Codes, Machine};
+use crate::process::SlotProcess;
+use crate::program::read_code;
+use file_tree::Tree;
+use ldv_value::{Numbers, Parts, Utf8, Value, Values};
+use ready_set::ReadySet;
+use std::alloc::{AllocError, Global};
+use std::collections::BTreeMap;
+
+// The resolved script of bytes.
+fn code_of(alloc: Global, bytes: &[u8]) -> Result<Code, AllocError>
+    ensures { IfOk result (λ code. IsRead bytes.now (Some code)) }
+{
+    match read_code(alloc, bytes)? {
+        None => Err(AllocError),
+        Some(code) => Ok(code),
+    }
+}
+
+// The resolved script of a file.
+#[tactic(auto, using(crate::proofs::Starts::code_due))]
+fn code_at(alloc: Global, tree: &Tree, path: &Utf8) -> Result<Code, AllocError>
+    ensures { IfOk result (λ code. (due : Items Instr)
+        → option_and_then script_of (content_at tree.now path.now) ≡ Some due → IsCode code due) }
+{
+    match tree.state(path.as_str()) {
+        None => Err(AllocError),
+        Some(bytes) => code_of(alloc, bytes),
+    }
+}
+
+// The set in which the first process may run.
+fn first_ready(alloc: Global) -> Result<ReadySet, AllocError>
+    ensures { IfOk result (λ ready. ready.flags ≡ true ∷ []) }
+{
+    let mut ready = ReadySet::new(alloc)?;
+    ready.push(true);
+    Ok(ready)
+}
+
+// Start words after the first, as values.
+fn arguments_of(alloc: Global, words: &[Utf8]) -> Result<Values, AllocError>
+    ensures { IfOk result (λ values. values ≡ map Text words.now) }
+{
+    let mut values = Values::with_capacity(alloc, words.len())?;
+    for word in words {
+        values.push(Value::Text(word.copy()?))?;
+    }
+    Ok(values)
+}
+
+// The first process.
+fn first_process(alloc: Global, code: &Code, words: &[Utf8]) -> Result<SlotProcess, AllocError>
+    ensures { IfOk result (λ r. (script : Items Instr)
+        → Holds code.now.scope 0 script r (new_process (0 ∷ []) script (map Text words.now))) }
+{
+    let mut name = Parts::new(alloc);
+    name.push(0)?;
+    let arguments = arguments_of(alloc, words)?;
+    begin(alloc, name, 0, code, arguments.items())
+}
+
+/// The machine of the script at a path, with the other start words as its arguments.
+pub(crate) fn machine_at(
+    alloc: Global,
+    path: &Utf8,
+    words: &[Utf8],
+    seed: u64,
+    tree: Tree,
+) -> Result<Machine, AllocError>
+    ensures core { IfOk result (λ m. (script : Items Instr) (files : Items File) → tree ≡ untouched files
+        → option_and_then script_of (content_at tree path.now) ≡ Some script
+        → IsCore m (start_core (path.now ∷ words.now) seed files script)) }
+    ensures ready { IfOk result (λ m. (script : Items Instr) (files : Items File)
+        → IsReady m (start_core (path.now ∷ words.now) seed files script)) }
+    ensures counted { IfOk result (AskedFewer 1) }
+{
+    let code = code_at(alloc, &tree, path)?;
+    let process = first_process(alloc, &code, words)?;
+    let ready = first_ready(alloc)?;
+    let mut codes = Codes::new(alloc);
+    codes.push(code)?;
+    let mut processes = Vec::new(alloc);
+    processes.push(process)?;
+    let mut parents = Numbers::new(alloc);
+    parents.push(0)?;
+    Ok(Machine {
+        alloc,
+        codes,
+        processes,
+        tree,
+        seed,
+        last: 0,
+        x: seed,
+        asked: 0,
+        ready,
+        parents,
+        runners: BTreeMap::new(alloc),
+    })
+}

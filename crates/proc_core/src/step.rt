@@ -1,0 +1,342 @@
+//! One step of a process.
+
+ghost use Rattle.std.specs.Prelude.{◌≡◌, ℕ, ◌+◌, ◌<◌, ◌≤◌, ◌^◌, ◌++◌, Some, length, map, slice_get};
+ghost use Rattle.std.specs.Prelude.{IfOk, IfErr, OnOk, OnSome};
+ghost use Rattle.run_model.specs.Core.{Core};
+ghost use Rattle.run_model.specs.Events.{event_at, events_of_step};
+ghost use Rattle.run_model.specs.State.{State};
+ghost use Rattle.run_model.specs.Step.{Ask, ask_at, ends_at, quiet, status_acts, step as next_step, took};
+ghost use Rattle.proc_core.specs.Counts.{AskedFewer};
+ghost use Rattle.proc_core.specs.SlotAsk.{slot_ask_at};
+ghost use Rattle.proc_core.specs.SlotReady.{Grows};
+ghost use Rattle.proc_core.specs.SlotSpawn.{slot_spawning_at};
+ghost use Rattle.proc_core.specs.SlotStep.{HasRoom, IsKept, next_slotted, slot_status_in};
+ghost use Rattle.proc_core.specs.Stands.{IsCore, IsState, Told};
+ghost use Rattle.proc_core.specs.Stops.{asker_held, IsStop, HasStopped};
+ghost use Rattle.proc_core.specs.declared.ask.Statement.{Statement};
+ghost use Rattle.proc_core.specs.declared.process.SlotProcess.{SlotProcess};
+
+use crate::ask::{Statement, ask_at, take_at};
+use crate::keep::{keep, status_in};
+use crate::launch::spawn;
+use crate::machine::Machine;
+use crate::process::SlotProcess;
+use crate::spawning::{Spawning, spawning_at};
+use crate::stop::Stopped;
+use crate::tell::{Who, tell_status};
+use run_model::{Asker, Database, ProcName, Stop, Tracer};
+use sql_model::Reply;
+use std::alloc::AllocError;
+
+// The step of a process that asks nothing and makes no process, with the end of the process.
+fn keep_on<T: Tracer>(machine: Machine, who: Who, tracer: &mut T) -> Result<Machine, AllocError>
+    requires kept { IsKept (next_slotted machine.codes (slice_get machine.processes.items who.number)) }
+    ensures core { IfOk result (λ after. (c : Core) → IsCore machine c
+        → IsCore after (quiet who.number c).core) }
+    ensures told { IfOk result (λ after. (c : Core) → IsCore machine c
+        → Told T.KEEPS (T.events tracer.old) (T.events tracer.new) (map (event_at who.step who.number)
+        ((quiet who.number c).acts ++ ends_at who.number (quiet who.number c).core))) }
+    ensures grows { IfOk result (λ after. Grows machine who.number after) }
+    ensures counted { IfOk result (λ after. (n : ℕ) → AskedFewer n machine → AskedFewer n after) }
+{
+    let after = keep(machine, who, tracer)?;
+    tell_status(who, status_in(&after.processes, who.number), tracer)?;
+    Ok(after)
+}
+
+// The step of a process that makes one, with its own end.
+fn spawn_on<T: Tracer>(
+    machine: Machine,
+    who: Who,
+    spawning: Spawning,
+    tracer: &mut T,
+) -> Result<Machine, AllocError>
+    requires says { slot_spawning_at machine who.number ≡ Some spawning }
+    requires within { who.number < length machine.processes.items }
+    requires room { HasRoom (slice_get machine.processes.items who.number) }
+    ensures core { IfOk result (λ after. (c : Core) → IsCore machine c
+        → IsCore after (quiet who.number c).core) }
+    ensures told { IfOk result (λ after. (c : Core) → IsCore machine c
+        → Told T.KEEPS (T.events tracer.old) (T.events tracer.new) (map (event_at who.step who.number)
+        ((quiet who.number c).acts ++ ends_at who.number (quiet who.number c).core))) }
+    ensures grows { IfOk result (λ after. Grows machine who.number after) }
+    ensures counted { IfOk result (λ after. (n : ℕ) → AskedFewer n machine → AskedFewer n after) }
+{
+    let after = spawn(machine, who, spawning, tracer)?;
+    tell_status(who, status_in(&after.processes, who.number), tracer)?;
+    Ok(after)
+}
+
+// The step of a process that asks nothing, with the end of the process.
+fn quiet_on<T: Tracer>(machine: Machine, who: Who, tracer: &mut T) -> Result<Machine, AllocError>
+    ensures core { IfOk result (λ after. (c : Core) → IsCore machine c
+        → IsCore after (quiet who.number c).core) }
+    ensures told { IfOk result (λ after. (c : Core) → IsCore machine c
+        → Told T.KEEPS (T.events tracer.old) (T.events tracer.new) (map (event_at who.step who.number)
+        ((quiet who.number c).acts ++ ends_at who.number (quiet who.number c).core))) }
+    ensures grows { IfOk result (λ after. Grows machine who.number after) }
+    ensures counted { IfOk result (λ after. (n : ℕ) → AskedFewer n machine → AskedFewer n after) }
+{
+    match spawning_at(&machine, who.number)? {
+        None => keep_on(machine, who, tracer),
+        Some(spawning) => spawn_on(machine, who, spawning, tracer),
+    }
+}
+
+// Who asks: the process of a number.
+fn asker_of(machine: &Machine, who: Who) -> Result<Asker, AllocError>
+    requires within { who.number < length machine.now.processes.items }
+    ensures held { IfOk result (λ asker. (r : SlotProcess)
+        → slice_get machine.now.processes.items who.number ≡ Some r
+        → asker ≡ asker_held r who machine.now) }
+    ensures step { IfOk result (λ asker. asker.step ≡ who.step) }
+{
+    match machine.processes.get(who.number) {
+        None => unreachable!(),
+        Some(process) => asker_by(machine, process, who),
+    }
+}
+
+// Who asks: this process.
+fn asker_by(machine: &Machine, process: &SlotProcess, who: Who) -> Result<Asker, AllocError>
+    ensures { IfOk result (λ asker. asker ≡ asker_held process.now who machine.now) }
+{
+    Ok(Asker {
+        name: ProcName {
+            parts: process.name.copy()?,
+        },
+        number: who.number as u32,
+        step: who.step,
+        statement: machine.asked,
+    })
+}
+
+// Where the database has no reply.
+fn stopped(machine: &Machine, number: usize) -> Stopped
+    requires within { number < length machine.now.processes.items }
+    requires few { (r : SlotProcess) → slice_get machine.now.processes.items number ≡ Some r
+        → length r.replies < 2 ^ 32 }
+    ensures { (r : SlotProcess) → slice_get machine.now.processes.items number ≡ Some r
+        → IsStop result r }
+{
+    match stop_of(machine, number) {
+        Ok(stop) => stop,
+        Err(AllocError) => Stopped::NoMemory,
+    }
+}
+
+fn stop_of(machine: &Machine, number: usize) -> Result<Stopped, AllocError>
+    requires within { number < length machine.now.processes.items }
+    requires few { (r : SlotProcess) → slice_get machine.now.processes.items number ≡ Some r
+        → length r.replies < 2 ^ 32 }
+    ensures { IfOk result (λ stop. (r : SlotProcess)
+        → slice_get machine.now.processes.items number ≡ Some r → IsStop stop r) }
+{
+    match machine.processes.get(number) {
+        None => unreachable!(),
+        Some(process) => stop_by(process),
+    }
+}
+
+fn stop_by(process: &SlotProcess) -> Result<Stopped, AllocError>
+    requires { length process.now.replies < 2 ^ 32 }
+    ensures { IfOk result (λ stop. IsStop stop process.now) }
+{
+    Ok(Stopped::Diverged {
+        process: ProcName {
+            parts: process.name.copy()?,
+        },
+        index: process.replies.len() as u32,
+    })
+}
+
+// The machine after the process of a number has its reply.
+fn take(machine: Machine, number: usize, cursor: usize, reply: Reply) -> Result<Machine, AllocError>
+    requires within { number < length machine.processes.items }
+    requires counted { machine.asked + 1 < 2 ^ 32 }
+    requires room { HasRoom (slice_get machine.processes.items number) }
+    ensures core { IfOk result (λ after. (c : Core) (t : Statement) → IsCore machine c
+        → slot_ask_at machine number ≡ Some t → t.cursor ≡ cursor
+        → (a : Ask) → ask_at number c ≡ Some a → IsCore after (took number a reply c)) }
+    ensures grows { IfOk result (λ after. Grows machine number after) }
+    ensures counted { IfOk result (λ after. (n : ℕ) → AskedFewer n machine → AskedFewer (n + 1) after) }
+{
+    let Machine {
+        alloc,
+        codes,
+        mut processes,
+        tree,
+        seed,
+        last,
+        x,
+        asked,
+        ready,
+        parents,
+        runners,
+    } = machine;
+    take_at(cursor, reply, number, &mut processes)?;
+    Ok(Machine {
+        alloc,
+        codes,
+        processes,
+        tree,
+        seed,
+        last,
+        x,
+        asked: asked + 1,
+        ready,
+        parents,
+        runners,
+    })
+}
+
+// The process of a number takes its reply, with its end.
+fn take_on<T: Tracer>(
+    machine: Machine,
+    who: Who,
+    cursor: usize,
+    reply: Reply,
+    tracer: &mut T,
+) -> Result<Machine, AllocError>
+    requires within { who.number < length machine.processes.items }
+    requires counted { AskedFewer who.step machine }
+    requires room { HasRoom (slice_get machine.processes.items who.number) }
+    ensures core { IfOk result (λ after. (c : Core) (t : Statement) → IsCore machine c
+        → slot_ask_at machine who.number ≡ Some t → t.cursor ≡ cursor
+        → (a : Ask) → ask_at who.number c ≡ Some a → IsCore after (took who.number a reply c)) }
+    ensures told { IfOk result (λ after. Told T.KEEPS (T.events tracer.old) (T.events tracer.new)
+        (map (event_at who.step who.number)
+        (status_acts (slot_status_in after.processes.items who.number)))) }
+    ensures grows { IfOk result (λ after. Grows machine who.number after) }
+    ensures counted { IfOk result (AskedFewer (who.step + 1)) }
+{
+    let after = take(machine, who.number, cursor, reply)?;
+    tell_status(who, status_in(&after.processes, who.number), tracer)?;
+    Ok(after)
+}
+
+// The step of a process that asks, by who it is.
+fn ask_as<D: Database, T: Tracer>(
+    machine: Machine,
+    who: Who,
+    asker: Asker,
+    statement: Statement,
+    db: &mut D,
+    tracer: &mut T,
+) -> Result<Machine, Stopped>
+    requires asks { slot_ask_at machine who.number ≡ Some statement }
+    requires asker { (r : SlotProcess) → slice_get machine.processes.items who.number ≡ Some r
+        → asker ≡ asker_held r who machine }
+    requires within { who.number < length machine.processes.items }
+    requires room { HasRoom (slice_get machine.processes.items who.number) }
+    requires step { asker.step ≡ who.step }
+    requires counted { AskedFewer who.step machine }
+    requires later { D.latest db.old < who.step }
+    ensures state { IfOk result (λ after. (s : State D.Db) → IsState machine (D.seen db.old) s
+        → IsState after (D.seen db.new) (next_step D.base who.number s).state) }
+    ensures told { IfOk result (λ after. (s : State D.Db) → IsState machine (D.seen db.old) s
+        → Told T.KEEPS (T.events tracer.old) (T.events tracer.new)
+        (events_of_step who.step (next_step D.base who.number s))) }
+    ensures diverged { IfErr result (λ stop. (s : State D.Db) → IsState machine (D.seen db.old) s
+        → HasStopped stop (next_step D.base who.number s).state) }
+    ensures latest { OnOk result (D.latest db.new ≤ who.step) }
+    ensures grows { IfOk result (λ after. Grows machine who.number after) }
+    ensures counted { IfOk result (AskedFewer (who.step + 1)) }
+{
+    match db.ask(&asker, &statement.text, &statement.params, tracer) {
+        Ok(reply) => match take_on(machine, who, statement.cursor, reply, tracer) {
+            Ok(after) => Ok(after),
+            Err(AllocError) => Err(Stopped::NoMemory),
+        },
+        Err(Stop::Diverged) => Err(stopped(&machine, who.number)),
+        Err(Stop::NoMemory) => Err(Stopped::NoMemory),
+    }
+}
+
+// The step of a process that asks.
+#[tactic(auto, using(crate::proofs::Stepping::asked_within))]
+fn ask_on<D: Database, T: Tracer>(
+    machine: Machine,
+    who: Who,
+    statement: Statement,
+    db: &mut D,
+    tracer: &mut T,
+) -> Result<Machine, Stopped>
+    requires asks { slot_ask_at machine who.number ≡ Some statement }
+    requires room { HasRoom (slice_get machine.processes.items who.number) }
+    requires counted { AskedFewer who.step machine }
+    requires later { D.latest db.old < who.step }
+    ensures state { IfOk result (λ after. (s : State D.Db) → IsState machine (D.seen db.old) s
+        → IsState after (D.seen db.new) (next_step D.base who.number s).state) }
+    ensures told { IfOk result (λ after. (s : State D.Db) → IsState machine (D.seen db.old) s
+        → Told T.KEEPS (T.events tracer.old) (T.events tracer.new)
+        (events_of_step who.step (next_step D.base who.number s))) }
+    ensures diverged { IfErr result (λ stop. (s : State D.Db) → IsState machine (D.seen db.old) s
+        → HasStopped stop (next_step D.base who.number s).state) }
+    ensures latest { OnOk result (D.latest db.new ≤ who.step) }
+    ensures grows { IfOk result (λ after. Grows machine who.number after) }
+    ensures counted { IfOk result (AskedFewer (who.step + 1)) }
+{
+    match asker_of(&machine, who) {
+        Ok(asker) => ask_as(machine, who, asker, statement, db, tracer),
+        Err(AllocError) => Err(Stopped::NoMemory),
+    }
+}
+
+// A step by what the process asks.
+fn move_by<D: Database, T: Tracer>(
+    machine: Machine,
+    who: Who,
+    asked: Option<Statement>,
+    db: &mut D,
+    tracer: &mut T,
+) -> Result<Machine, Stopped>
+    requires asked { asked ≡ slot_ask_at machine who.number }
+    requires room { OnSome asked (HasRoom (slice_get machine.processes.items who.number)) }
+    requires counted { AskedFewer who.step machine }
+    requires later { D.latest db.old < who.step }
+    ensures state { IfOk result (λ after. (s : State D.Db) → IsState machine (D.seen db.old) s
+        → IsState after (D.seen db.new) (next_step D.base who.number s).state) }
+    ensures told { IfOk result (λ after. (s : State D.Db) → IsState machine (D.seen db.old) s
+        → Told T.KEEPS (T.events tracer.old) (T.events tracer.new)
+        (events_of_step who.step (next_step D.base who.number s))) }
+    ensures diverged { IfErr result (λ stop. (s : State D.Db) → IsState machine (D.seen db.old) s
+        → HasStopped stop (next_step D.base who.number s).state) }
+    ensures latest { OnOk result (D.latest db.new ≤ who.step) }
+    ensures grows { IfOk result (λ after. Grows machine who.number after) }
+    ensures counted { IfOk result (AskedFewer (who.step + 1)) }
+{
+    match asked {
+        None => match quiet_on(machine, who, tracer) {
+            Ok(after) => Ok(after),
+            Err(AllocError) => Err(Stopped::NoMemory),
+        },
+        Some(statement) => ask_on(machine, who, statement, db, tracer),
+    }
+}
+
+/// A step of the process of a number.
+pub(crate) fn move_on<D: Database, T: Tracer>(
+    machine: Machine,
+    who: Who,
+    db: &mut D,
+    tracer: &mut T,
+) -> Result<Machine, Stopped>
+    requires counted { AskedFewer who.step machine }
+    requires later { D.latest db.old < who.step }
+    ensures state { IfOk result (λ after. (s : State D.Db) → IsState machine (D.seen db.old) s
+        → IsState after (D.seen db.new) (next_step D.base who.number s).state) }
+    ensures told { IfOk result (λ after. (s : State D.Db) → IsState machine (D.seen db.old) s
+        → Told T.KEEPS (T.events tracer.old) (T.events tracer.new)
+        (events_of_step who.step (next_step D.base who.number s))) }
+    ensures diverged { IfErr result (λ stop. (s : State D.Db) → IsState machine (D.seen db.old) s
+        → HasStopped stop (next_step D.base who.number s).state) }
+    ensures latest { OnOk result (D.latest db.new ≤ who.step) }
+    ensures grows { IfOk result (λ after. Grows machine who.number after) }
+    ensures counted { IfOk result (AskedFewer (who.step + 1)) }
+{
+    match ask_at(&machine, who.number) {
+        Ok(asked) => move_by(machine, who, asked, db, tracer),
+        Err(AllocError) => Err(Stopped::NoMemory),
+    }
+}

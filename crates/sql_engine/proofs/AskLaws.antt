@@ -1,0 +1,293 @@
+-- What a statement is answered, and what is recorded of it, by the definitions of databases.
+use Rattle.std.proofs.Common.{◌≡◌, ◌∙◌, sym, ap, subst, refl, ℕ, List, [], ◌∷◌, ◌++◌, map, Bool, true, false, Option, Some, None, IsTrue, inl, inr}
+use Rattle.std.specs.Prelude.{Ok, Err, filter, find, if◌then◌else◌}
+use Rattle.std.specs.List.{flat_map, list_all, list_any}
+use Rattle.std.proofs.lemmas.Bool.{cases_Bool}
+use Rattle.std.proofs.lemmas.List.{map-append}
+use Rattle.core_parts.specs.Checking.{IsQuery}
+use Rattle.dml_versions.proofs.CheckLaws.{accepted}
+use Rattle.dml_versions.specs.Changing.{AreWellFormed, IsChange, IsCheckedOver, IsStoreAfter}
+use Rattle.dml_versions.specs.Versions.{versions_now, updates_of, updates_in}
+use Rattle.dml_versions.specs.declared.change.Change.{Change}
+use Rattle.query_eval.specs.Stored.{table_names}
+use Rattle.run_model.specs.SqlDatabase.{SqlDatabase, unchanged, lists_of, answer_of, sql_base}
+use Rattle.run_model.specs.Database.{Gives, asked_by}
+use Rattle.run_model.specs.declared.database.Asker.{Asker}
+use Rattle.sql_parse.specs.Texts.{statement_of}
+use Rattle.sql_engine.proofs.NeedLaws.{needs_are}
+use Rattle.sql_engine.proofs.StoreLaws.{answer_named, hidden_named, sorted_names}
+use Rattle.sql_engine.specs.Answering.{IsAnswer, IsAnswered, hidden_lineage}
+use Rattle.sql_engine.specs.Asking.{database, lists_in, IsDone, IsTold, refused, done_of}
+use Rattle.sql_engine.specs.Listing.{names_table, needs_of}
+use Rattle.sql_engine.specs.Types.{Catalog, Checked, H, L, Member, Need, Query, Refused, Rows, SqlRefusal, Statement, StoreHistory, Syntax, Table, TheQuery, TheInsert, TheUpdate, TheDelete, Value}
+use Rattle.sql_engine.specs.declared.answered.Answered.{Answered}
+use Rattle.sql_engine.specs.declared.done.Done.{Done}
+use Rattle.sql_laws.proofs.DatabaseLaws.{database_law}
+use Rattle.sql_laws.specs.DatabaseLaw.{have_distinct_columns}
+use Rattle.sql_model.proofs.Equations.{reply_is, need_is, made_is, updated_is, after_is}
+use Rattle.sql_model.specs.Changes.{or_else, change_refusal}
+use Rattle.sql_model.specs.Needs.{Versions, NeededRow, need_of, needs_by, sorted_needs, needed_by, hidden_rows, sums_up, asked_tables, is_named, table_name, made_unless, updated_unless, versions_after, read_of}
+use Rattle.sql_model.specs.QueryAnswer.{Origin, answer, answer_rows, cut, lineage_of, rejected}
+use Rattle.sql_model.specs.Refusals.{check_refusal}
+use Rattle.sql_model.specs.Places.{checked_of, checked_statement, checked_unless}
+use Rattle.sql_model.specs.Scope.{catalog_of}
+use Rattle.sql_model.specs.Tables.{are_distinct, is_database}
+use Rattle.sql_model.specs.declared.table.Schema.{Schema}
+use Rattle.ldv_value.proofs.Lists.{list_all-map}
+use Rattle.sql_model.specs.Statements.{refusal_of, reply_of, reply_or, target, after, after_unless}
+use Rattle.table_store.specs.Histories.{added, is_history, is_of_number, tables_now}
+use Rattle.table_store.specs.StoreView.{started}
+use Rattle.table_store.specs.TableView.{begun}
+use Rattle.sql_model.specs.declared.table.TableRow.{TableRow}
+
+-- ---- tables
+
+names_of : (s : Statement) (db : List Table) → filter (names_table s) (map table_name db) ≡ map table_name (filter (is_named s) db)
+names_of s [] = refl
+names_of s (t ∷ db) = elim (cases_Bool (is_named s t)) [
+  | inl hit ↦ rw hit (ap (λ (l : List (List ℕ)). t.name ∷ l) (names_of s db))
+  | inr miss ↦ rw miss (names_of s db)
+]
+
+-- the names that a statement names
+pub told : (s : Statement) (keep : Bool) (store : StoreHistory) (tables : List (List ℕ))
+    → (IsTrue keep → tables ≡ filter (names_table s) (catalog_of (tables_now store)).names) → IsTold s keep store tables
+told s keep store tables are kept = are kept ∙ names_of s (tables_now store)
+
+-- ---- where nothing changes
+
+module _ (statement : Option Statement) (store : StoreHistory) (refusal : Option SqlRefusal)
+    (is : refusal_of statement (tables_now store) ≡ refusal) where
+  abbrev db : List Table
+  db = tables_now store
+
+  -- the reply, the tables and the lists, by what refuses it
+  pub done_by : (keep : Bool) (done : Done)
+      → done.reply ≡ reply_or refusal statement db
+      → after_unless refusal statement db ≡ db
+      → updated_unless refusal statement db ≡ []
+      → (IsTrue keep → done.tables ≡ asked_tables statement db)
+      → (IsTrue keep → done.reads ≡ map (read_of (versions_now store)) (need_of statement db))
+      → done.made ≡ made_unless refusal (versions_now store) statement db
+      → IsDone statement keep store store done
+  done_by keep done reply same none tables reads made = record {
+    reply = reply ∙ sym (reply_is statement db ∙ ap (λ (r : Option SqlRefusal). reply_or r statement db) is);
+    after = sym (λ j. record {
+      tables = (after_is statement db ∙ ap (λ (r : Option SqlRefusal). after_unless r statement db) is ∙ same) j;
+      versions = versions_after ((updated_is statement db ∙ ap (λ (r : Option SqlRefusal). updated_unless r statement db) is ∙ none) j) (versions_now store);
+    });
+    lists = λ kept j. record {
+      tables = tables kept j;
+      reads = reads kept j;
+      made = (made ∙ sym (made_is (versions_now store) statement db ∙ ap (λ (r : Option SqlRefusal). made_unless r (versions_now store) statement db) is)) j;
+    };
+  }
+
+-- ---- refusals
+
+module _ (s : Statement) (store : StoreHistory) (keep : Bool) (tables : List (List ℕ)) (refusal : SqlRefusal)
+    (is : check_refusal s (catalog_of (tables_now store)) ≡ Some refusal)
+    (none : needs_by (Some refusal) s (tables_now store) ≡ []) (known : IsTold s keep store tables) where
+  refusal_is : refusal_of (Some s) (tables_now store) ≡ Some refusal
+  refusal_is = ap (λ (r : Option SqlRefusal). or_else r (change_refusal s (catalog_of (tables_now store)) (target s (tables_now store)))) is
+
+  -- what the schemas refuse
+  pub refused_done : IsDone (Some s) keep store store (refused refusal tables)
+  refused_done =
+      done_by (Some s) store (Some refusal) refusal_is keep (refused refusal tables) refl refl refl known
+      (λ kept. sym (ap (map (read_of (versions_now store)))
+      (need_is (Some s) (tables_now store)
+      ∙ ap (λ (r : Option SqlRefusal). sorted_needs (needs_by r s (tables_now store))) refusal_is
+      ∙ ap sorted_needs none)))
+      refl
+
+-- what no statement is
+pub syntax_done : (store : StoreHistory) (keep : Bool) → IsDone None keep store store (refused Syntax [])
+syntax_done store keep =
+    done_by None store (Some Syntax) refl keep (refused Syntax []) refl refl refl (λ kept. refl)
+    (λ kept. sym (ap (map (read_of (versions_now store))) (need_is None (tables_now store)))) refl
+
+-- ---- queries
+
+module _ (query : Query) (store : StoreHistory) (keep : Bool) (tables : List (List ℕ)) (made : Answered)
+    (check : check_refusal (TheQuery query) (catalog_of (tables_now store)) ≡ None)
+    (formed : AreWellFormed (tables_now store)) (known : IsTold (TheQuery query) keep store tables)
+    (is : IsAnswer store keep query made) where
+  abbrev tables_here : List Table
+  tables_here = tables_now store
+
+  query_refusal : refusal_of (Some (TheQuery query)) tables_here ≡ None
+  query_refusal = ap (λ (r : Option SqlRefusal). or_else r (change_refusal (TheQuery query) (catalog_of tables_here) (target (TheQuery query) tables_here))) check
+
+  cut_by : (sums : Bool) → map (needed_by H) (if sums then lineage_of (cut query tables_here) else [])
+      ≡ (if sums then map (needed_by H) (lineage_of (cut query tables_here)) else [])
+  cut_by true = refl
+  cut_by false = refl
+
+  hidden_is : map (needed_by H) (hidden_lineage query tables_here) ≡ hidden_rows query tables_here
+  hidden_is =
+      map-append (needed_by H) (flat_map (rejected tables_here) query.cores) (if sums_up query.cores then lineage_of (cut query tables_here) else [])
+      ∙ ap (λ (l : List NeededRow). map (needed_by H) (flat_map (rejected tables_here) query.cores) ++ l) (cut_by (sums_up query.cores))
+
+  reads_by : (k : Bool) → IsTrue k → IsAnswer store k query made
+      → needs_of (table_names store) made.lineage made.hidden ≡ map (read_of (versions_now store)) (need_of (Some (TheQuery query)) tables_here)
+  reads_by false kept all = cc
+  reads_by true kept all =
+      needs_are (table_names store) (versions_now store) made.lineage made.hidden (lineage_of (answer query tables_here)) (hidden_lineage query tables_here)
+      (sorted_names store formed.database) (answer_named store query) (hidden_named store query) all.lineage all.hidden
+      ∙ ap (map (read_of (versions_now store)))
+      (ap (λ (l : List NeededRow). sorted_needs (map (needed_by L) (lineage_of (answer query tables_here)) ++ l)) hidden_is
+      ∙ sym (need_is (Some (TheQuery query)) tables_here
+      ∙ ap (λ (r : Option SqlRefusal). sorted_needs (needs_by r (TheQuery query) tables_here)) query_refusal))
+
+  pub query_done : IsDone (Some (TheQuery query)) keep store store
+      (record { reply = Rows made.rows; tables = tables; reads = needs_of (table_names store) made.lineage made.hidden; made = [] })
+  query_done =
+      done_by (Some (TheQuery query)) store None query_refusal keep
+      (record { reply = Rows made.rows; tables = tables; reads = needs_of (table_names store) made.lineage made.hidden; made = [] })
+      (ap Rows is.rows) refl refl known (λ kept. reads_by keep kept is) refl
+
+-- ---- changes
+
+pub change_done : (s : Statement) (store new : StoreHistory) (keep : Bool) (time : ℕ) (tables : List (List ℕ)) (change : Change)
+    → IsChange s keep store change → IsStoreAfter s time store new → IsTold s keep store tables
+    → IsDone (Some s) keep store new (done_of change tables)
+change_done s store new keep time tables change is after known = record {
+  reply = is.reply;
+  after = λ j. record { tables = after.tables j; versions = after.versions j };
+  lists = λ kept j. record { tables = known kept j; reads = is.needs kept j; made = is.made kept j };
+}
+
+-- ---- the tables stay well formed
+
+abbrev distinct_in : Catalog → Bool
+distinct_in catalog = list_all (λ (schema : Schema). are_distinct schema.columns) catalog.schemas
+
+distinct_is : (db : List Table) → have_distinct_columns db ≡ distinct_in (catalog_of db)
+distinct_is db = sym (list_all-map (λ (schema : Schema). are_distinct schema.columns) (λ (t : Table). t.schema) db)
+
+pub formed_after : (statement : Option Statement) (keep : Bool) (old new : StoreHistory) (done : Done)
+    → AreWellFormed (tables_now old) → IsDone statement keep old new done → AreWellFormed (tables_now new)
+formed_after statement keep old new done formed is =
+    let tables : tables_now new ≡ after statement (tables_now old) = ap (λ (d : SqlDatabase). d.tables) is.after in
+    let law = database_law statement (tables_now old) formed.database formed.distinct in
+    record {
+      database = ap is_database tables ∙ law.database;
+      distinct =
+          distinct_is (tables_now new) ∙ ap distinct_in (ap catalog_of tables ∙ law.catalog) ∙ sym (distinct_is (tables_now old)) ∙ formed.distinct;
+    }
+
+-- ---- a query that was checked
+
+pub asked_query_done : (checked : Checked) (store : StoreHistory) (keep : Bool) (tables : List (List ℕ)) (made : Answered)
+    → IsQuery checked.statement → IsCheckedOver (tables_now store) checked → AreWellFormed (tables_now store)
+    → IsAnswered checked store keep made → IsTold checked.statement keep store tables
+    → IsDone (Some checked.statement) keep store store
+    (record { reply = Rows made.rows; tables = tables; reads = needs_of (table_names store) made.lineage made.hidden; made = [] })
+asked_query_done checked store keep tables made kind over formed is known = by checked.statement refl kind known
+  where
+    catalog : Catalog
+    catalog = catalog_of (tables_now store)
+
+    by : (s : Statement) → checked.statement ≡ s → IsQuery s → IsTold s keep store tables
+        → IsDone (Some s) keep store store
+        (record { reply = Rows made.rows; tables = tables; reads = needs_of (table_names store) made.lineage made.hidden; made = [] })
+    by (TheQuery query) same kind known =
+        query_done query store keep tables made
+        (ap (λ (s : Statement). check_refusal s catalog) (sym same) ∙ accepted (tables_now store) checked over) formed known
+        (is query (record { checked_is = ap (λ (s : Statement). checked_of s catalog) (sym same) ∙ over; database = formed.database }))
+    by (TheInsert insert) same kind known = absurd kind
+    by (TheUpdate update) same kind known = absurd kind
+    by (TheDelete delete) same kind known = absurd kind
+
+-- what a check refuses
+pub refused_by_check : (s : Statement) (catalog : Catalog) (refusal : SqlRefusal) → checked_of s catalog ≡ Err refusal
+    → check_refusal s catalog ≡ Some refusal
+refused_by_check s catalog refusal is = by (check_refusal s catalog) is
+  where
+    by : (r : Option SqlRefusal) → checked_unless r s catalog ≡ Err refusal → r ≡ Some refusal
+    by None is = cc
+    by (Some r) is = cc
+
+-- what a check accepts was checked against these tables
+pub checked_over : (s : Statement) (db : List Table) (catalog : Catalog) (checked : Checked) → catalog ≡ catalog_of db
+    → checked_of s catalog ≡ Ok checked → IsCheckedOver db checked × (s ≡ checked.statement)
+checked_over s db catalog checked same is =
+    let statement : s ≡ checked.statement = by (check_refusal s catalog) is in
+    ((λ j. checked_of (sym statement j) (sym same j)) ∙ is, statement)
+  where
+    by : (r : Option SqlRefusal) → checked_unless r s catalog ≡ Ok checked → s ≡ checked.statement
+    by None is = let same : checked_statement s catalog ≡ checked = cc in ap (λ (c : Checked). c.statement) same
+    by (Some refusal) is = cc
+
+-- the same of a catalog that is that of the tables
+pub refused_over : (s : Statement) (store : StoreHistory) (keep : Bool) (tables : List (List ℕ)) (refusal : SqlRefusal) (catalog : Catalog)
+    → catalog ≡ catalog_of (tables_now store) → checked_of s catalog ≡ Err refusal → needs_by (Some refusal) s (tables_now store) ≡ []
+    → IsTold s keep store tables → IsDone (Some s) keep store store (refused refusal tables)
+refused_over s store keep tables refusal catalog same is none known =
+    refused_done s store keep tables refusal
+    (refused_by_check s (catalog_of (tables_now store)) refusal (ap (checked_of s) (sym same) ∙ is)) none known
+
+-- the names of the catalog are those of the tables
+pub told_over : (s : Statement) (keep : Bool) (store : StoreHistory) (tables : List (List ℕ)) (catalog : Catalog)
+    → catalog ≡ catalog_of (tables_now store) → (IsTrue keep → tables ≡ filter (names_table s) catalog.names) → IsTold s keep store tables
+told_over s keep store tables catalog same are =
+    told s keep store tables (λ kept. are kept ∙ ap (λ (c : Catalog). filter (names_table s) c.names) same)
+
+-- a part in place of an equal one
+pub same_parts : (statement : Option Statement) (keep : Bool) (old new : StoreHistory) (done : Done) (tables : List (List ℕ)) (reads : List Need) (made : List Member)
+    → tables ≡ done.tables → reads ≡ done.reads → made ≡ done.made → IsDone statement keep old new done
+    → IsDone statement keep old new (record { reply = done.reply; tables = tables; reads = reads; made = made })
+same_parts statement keep old new done tables reads made same_tables same_reads same_made is =
+    subst (λ (d : Done). IsDone statement keep old new d)
+    (λ j. record { reply = done.reply; tables = sym same_tables j; reads = sym same_reads j; made = sym same_made j }) is
+
+-- ---- a store at its start
+
+unchanged_row : (number : ℕ) (rows : List TableRow) → updates_of (find (is_of_number number) (map (added 0) rows)) ≡ 0
+unchanged_row number [] = refl
+unchanged_row number (row ∷ rows) = elim (cases_Bool (is_of_number number (added 0 row))) [
+  | inl hit ↦ rw hit refl
+  | inr miss ↦ rw miss (unchanged_row number rows)
+]
+
+unchanged_in : (name : List ℕ) (number : ℕ) (tables : List Table) → updates_in number (find (is_history name) (map begun tables)) ≡ 0
+unchanged_in name number [] = refl
+unchanged_in name number (t ∷ tables) = elim (cases_Bool (is_history name (begun t))) [
+  | inl hit ↦ rw hit (unchanged_row number t.rows)
+  | inr miss ↦ rw miss (unchanged_in name number tables)
+]
+
+pub started_is : (tables : List Table) (store : StoreHistory) → store ≡ started tables → tables_now store ≡ tables
+    → database store ≡ unchanged tables
+started_is tables store made now = λ j. record {
+  tables = now j;
+  versions = (ap versions_now made ∙ (λ i name number. unchanged_in name number tables i)) j;
+}
+
+-- ---- the relation
+
+pub gives : (statement : Option Statement) (keep : Bool) (old new : StoreHistory) (done : Done) → IsDone statement keep old new done
+    → answer_of statement (database old) ≡ Gives done.reply (database new) (lists_of statement (database old))
+gives statement keep old new done is = λ j. Gives (sym is.reply j) (sym is.after j) (lists_of statement (database old))
+
+-- the same where the store and the text are seen through others
+module _ (old seen new : StoreHistory) (text given : List ℕ) (params : List Value) (keep : Bool) (done : Done)
+    (same_store : old ≡ seen) (same_text : text ≡ given) (is : IsDone (statement_of text params) keep old new done) where
+  seen_done : IsDone (statement_of given params) keep seen new done
+  seen_done =
+      subst (λ (t : List ℕ). IsDone (statement_of t params) keep seen new done) same_text
+      (subst (λ (s : StoreHistory). IsDone (statement_of text params) keep s new done) same_store is)
+
+  pub seen_gives : (who : Asker) → sql_base (database seen) (asked_by who given params)
+      ≡ Gives done.reply (database new) (lists_of (statement_of given params) (database seen))
+  seen_gives who = gives (statement_of given params) keep seen new done seen_done
+
+  pub seen_lists : IsTrue keep → lists_in done ≡ lists_of (statement_of given params) (database seen)
+  seen_lists = seen_done.lists
+
+-- a tracer that keeps no events
+pub never_kept : (b k : Bool) → b ≡ false → b ≡ k → IsTrue k → ⊥
+never_kept true k none same kept = cc
+never_kept false true none same kept = cc
+never_kept false false none same kept = cc

@@ -1,0 +1,6 @@
+pub mod AnswerLaws
+pub mod AskLaws
+pub mod Named
+pub mod NeedLaws
+pub mod RowLists
+pub mod StoreLaws

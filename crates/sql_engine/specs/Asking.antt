@@ -1,0 +1,39 @@
+-- What a statement is answered over a store, what is recorded of it, and what it makes of the store.
+use Rattle.std.specs.Prelude.{◌≡◌, ℕ, Bool, IsTrue, Option, Some, List, []}
+use Rattle.dml_versions.specs.declared.change.Change.{Change}
+use Rattle.dml_versions.specs.Versions.{versions_now}
+use Rattle.run_model.specs.SqlDatabase.{SqlDatabase, db_after, lists_of}
+use Rattle.sql_engine.specs.Types.{Lists, Refused, SqlRefusal, Statement, StoreHistory}
+use Rattle.sql_engine.specs.declared.done.Done.{Done}
+use Rattle.sql_model.specs.Needs.{asked_tables}
+use Rattle.sql_model.specs.Statements.{reply_of}
+use Rattle.table_store.specs.Histories.{tables_now}
+
+-- the tables of a store and the versions of their rows
+abbrev pub database : StoreHistory → SqlDatabase
+database store = record { tables = tables_now store; versions = versions_now store }
+
+abbrev pub lists_in : Done → Lists
+lists_in done = record { tables = done.tables; reads = done.reads; made = done.made }
+
+-- the reply to the statement that a text is, or to a text that is none, the lists where they are kept, and the
+-- database after it
+pub record IsDone (statement : Option Statement) (keep : Bool) (old new : StoreHistory) (done : Done)
+    : Type 0 where
+  pub reply : done.reply ≡ reply_of statement (tables_now old)
+  pub after : database new ≡ db_after statement (database old)
+  pub lists : IsTrue keep → lists_in done ≡ lists_of statement (database old)
+
+-- the tables that a statement names, where events are kept
+abbrev pub IsTold : Statement → Bool → StoreHistory → List (List ℕ) → Type 0
+IsTold statement keep store tables = IsTrue keep → tables ≡ asked_tables (Some statement) (tables_now store)
+
+-- ---- on the way
+
+-- what the text or the schemas refuse
+abbrev pub refused : SqlRefusal → List (List ℕ) → Done
+refused refusal tables = record { reply = Refused refusal; tables = tables; reads = []; made = [] }
+
+abbrev pub done_of : Change → List (List ℕ) → Done
+done_of change tables =
+    record { reply = change.reply; tables = tables; reads = change.needs; made = change.made }

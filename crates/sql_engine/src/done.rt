@@ -1,0 +1,30 @@
+//! What asking a statement gives.
+
+ghost use Rattle.std.specs.Prelude.{◌≡◌, IfOk};
+ghost use Rattle.sql_engine.specs.Asking.{refused};
+
+use ldv_value::{List, Names};
+use sql_model::{Members, Needs, Reply, SqlRefusal};
+use std::alloc::Global;
+
+/// The reply to a statement, and what is recorded of it: the tables that it names, the rows that it needs and
+/// the versions that it makes. Where no events are kept, the lists may be anything.
+#[derive(Drop)]
+pub(crate) struct Done {
+    pub reply: Reply,
+    pub tables: Names,
+    pub reads: Needs,
+    pub made: Members,
+}
+
+/// A refusal that needs no row.
+pub(crate) fn refused(alloc: Global, refusal: SqlRefusal, tables: Names) -> Done
+    ensures { result ≡ refused refusal tables }
+{
+    Done {
+        reply: Reply::Refused(refusal),
+        tables,
+        reads: List::new(alloc),
+        made: List::new(alloc),
+    }
+}
