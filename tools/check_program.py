@@ -5,15 +5,18 @@
 
 It prints a line for each call that differs and ends with status 1 where one does. What the program does over
 streams in memory is the matter of `crates/conformance`; here are the few calls that only a real process shows:
-its words, its streams, a stream that is closed or full, inputs at the limits, and the examples of the folder
+its words, its streams, a stream that is closed or full, inputs and runs at the limits, and the examples of the folder
 EXAMPLES (default: examples/ beside tools/), each against the outcome that lies beside it.
 """
+import json
 import os
 import subprocess
 import sys
 
 HERE = os.path.dirname(os.path.abspath(__file__))
 INPUT_LIMIT = 67_108_864
+FILE_LIMIT = 16_777_216
+PROCESS_LIMIT = 65_535
 
 HELLO = b'{"start":["main"],"files":{"main":"print \\"hi\\"\\n"}}'
 HELLO_OUTCOME = b'outcome 1 0\nprocess 0 0 3 0\nhi\n\n'
@@ -82,6 +85,53 @@ def at_the_limits(check):
     check.expect('a start word of 60 MiB', ['run'], long_text, 6, error=b'ldv: not a world: limit\n')
 
 
+def world(files):
+    return json.dumps({'start': ['main'], 'files': files}).encode()
+
+
+def process(name, status=0, printed=b''):
+    return b'process %s %d %d 0\n' % (name, status, len(printed)) + printed + b'\n'
+
+
+def one_file(status, path, content):
+    return (b'outcome 1 1\n' + process(b'0', status)
+            + b'file %d %d\n' % (len(path), len(content)) + path + b'\n' + content + b'\n')
+
+
+def runs_at_the_limits(check):
+    """Runs whose world, outcome or number of steps is too large for a stored case."""
+    big = 'b' * (FILE_LIMIT - 1)
+    append = 'open f a "big" else x\nwrite f "%s"\nx:\n'
+    check.expect('a file that reaches its limit', ['run'], world({'main': append % '', 'big': big}), 0,
+                 one_file(0, b'big', big.encode() + b'\n'))
+    check.expect('a file that would pass it', ['run'], world({'main': append % 'a', 'big': big}), 0,
+                 one_file(242, b'big', big.encode()))
+    copy = 'open f r "big" else x\nopen g a "big" else x\ncopy f g\nx:\n'
+    check.expect('a copy onto itself that would pass it', ['run'], world({'main': copy, 'big': big}), 0,
+                 one_file(242, b'big', big.encode()))
+    line = 'a' * 65_535
+    show = 'let x = "%s"\nlet n = 0\nl:\nprint x\nlet n = n + 1\nif n < 256 goto l\n' % line
+    printed = (line.encode() + b'\n') * 256
+    check.expect('a process that prints as much as it may', ['run'], world({'main': show}), 0,
+                 b'outcome 1 0\n' + process(b'0', 0, printed))
+    check.expect('a process that would print more', ['run'], world({'main': show + 'print ""\n'}), 0,
+                 b'outcome 1 0\n' + process(b'0', 242, printed))
+    children = 'let n = 0\nl:\nspawn c "w" else x\nlet n = n + 1\nif n < %d goto l\nexit 1\nx:\nexit 2\n'
+    names = b''.join(process(b'0.%d' % n) for n in range(PROCESS_LIMIT - 1))
+    whole = b'outcome %d 0\n' % PROCESS_LIMIT
+    check.expect('as many processes as there may be', ['run'],
+                 world({'main': children % (PROCESS_LIMIT - 1), 'w': ''}), 0, whole + process(b'0', 1) + names)
+    check.expect('one more is refused', ['run'],
+                 world({'main': children % PROCESS_LIMIT, 'w': ''}), 0, whole + process(b'0', 2) + names)
+    comments = ('#' + 'c' * 1_022 + '\n') * (FILE_LIMIT // 1_024 - 1)
+    script = comments + '#' + 'c' * 1_015 + '\nexit 5\n'
+    check.expect('a script of 16 MiB', ['run'], world({'main': script}), 0, b'outcome 1 0\n' + process(b'0', 5))
+    count = world({'main': 'let n = 0\nl:\nlet n = n + 1\nif n < 4999999 goto l\n'})
+    check.expect('10,000,000 steps', ['run', '--steps', '10000000'], count, 0, b'outcome 1 0\n' + process(b'0'))
+    check.expect('a step too many', ['run', '--steps', '9999999'], count, 7,
+                 error=b'ldv: not ended after 9999999 steps\n')
+
+
 def streams(check):
     """A stream that fails is found out only by a real process."""
     read, write = os.pipe()
@@ -121,6 +171,7 @@ def main():
     words_and_worlds(check)
     packages(check)
     at_the_limits(check)
+    runs_at_the_limits(check)
     streams(check)
     examples(check, sys.argv[2] if len(sys.argv) == 3 else os.path.join(HERE, '..', 'examples'))
     print('the real program: %d calls, %d differ' % (check.calls, check.differ))

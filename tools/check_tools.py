@@ -1,6 +1,8 @@
 #!/usr/bin/env python3
 """Tests tools/world.py and tools/outcome.py, and the examples, with the program where it is there.
 
+The examples are those of examples/, the tutorial and docs/SCRIPTS.md.
+
     tools/check_tools.py [PROGRAM]
 
 PROGRAM is the compiled ldv, by default crates/ldv/out/ldv of this checkout. Where it isn't there, the tests
@@ -13,12 +15,15 @@ import io
 import json
 import os
 import re
+import shlex
 import sqlite3
 import subprocess
 import sys
 import tempfile
 import unittest
 
+import against_sqlite
+import check_scripts
 import outcome
 import world
 from world_tables import RESERVED
@@ -440,9 +445,12 @@ def asked(script):
 
 def in_sqlite(tables):
     """The tables of a world in an SQLite database."""
-    base = sqlite3.connect(":memory:")
+    base = sqlite3.connect(":memory:", isolation_level=None)
     for name, table in tables.items():
-        base.execute(f"CREATE TABLE {name} ({', '.join(' '.join(column) for column in table['columns'])})")
+        parts = [" ".join(column) for column in table["columns"]]
+        if table.get("key"):
+            parts.append(f"PRIMARY KEY ({', '.join(table['key'])})")
+        base.execute(f"CREATE TABLE {name} ({', '.join(parts)})")
         for row in table["rows"]:
             base.execute(f"INSERT INTO {name} VALUES ({', '.join('?' * len(row))})", row)
     return base
@@ -459,22 +467,63 @@ def reply_text(rows):
     return f"rows {len(rows)}\n" + "".join(texts)
 
 
+# What the examples ask whose scripts aren't a list of statements: the process, the first word of its statement, and
+# the parameters. Worked out by hand; the two imports of the night as their log says.
+NORTH, SOUTH = "0.0", "0.1"
+ASKED = {
+    "orders": [("0", "INSERT", (13, 3, "cap")), ("0", "INSERT", (10, 2, "pen")), ("0.0", "SELECT", (1,))],
+    "nightly": [
+        (SOUTH, "INSERT", (201, "south", "nib", 5)), (SOUTH, "UPDATE", (5, "nib")),
+        (SOUTH, "INSERT", (102, "south", "ink", 4)), (SOUTH, "UPDATE", (4, "ink")),
+        (NORTH, "INSERT", (101, "north", "pen", 3)), (NORTH, "UPDATE", (3, "pen")),
+        (NORTH, "INSERT", (102, "north", "ink", 1)),
+        (NORTH, "INSERT", (103, "north", "cap", 2)), (NORTH, "UPDATE", (2, "cap")),
+        ("0", "SELECT", (4,))],
+    "hours": [("0", "SELECT", (project, "2024-05")) for project in ("bridge", "tower", "harbour")],
+}
+KEY_TAKEN = 6
+
+
 class Examples(InFolder):
     def names(self):
         names = [path[:-len(".json")] for path in sorted(glob.glob(EXAMPLES + "/*.json"))]
-        self.assertGreaterEqual(len(names), 5)
+        self.assertGreaterEqual(len(names), 8)
         return names
 
     def test_scripts(self):
-        """The script beside each document is the document's."""
+        """The script beside each document is the document's, and so are all files of a folder beside it."""
         for name in self.names():
             made = json.loads(read(name + ".json"))
-            self.assertEqual(read(name + ".script").decode(), made["files"][made["start"][0]], name)
+            if os.path.isdir(name):
+                for path, content in made["files"].items():
+                    self.assertEqual(read(os.path.join(name, path)).decode(), content, name)
+            else:
+                self.assertEqual(read(name + ".script").decode(), made["files"][made["start"][0]], name)
+
+    def test_documents(self):
+        """The commands of the page make the documents of the examples that have a folder."""
+        page = read(os.path.join(EXAMPLES, "README.md")).decode().replace("\\\n", " ")
+        made = set()
+        for line in re.findall(r"(?m)^    (.*)$", page):
+            words = [self.placed(word) for word in shlex.split(line)]
+            if words[0] == "sqlite3":
+                make_database(words[1], read(words[3]).decode())
+            elif words[0].endswith("world.py") and ">" in words:
+                status, out, err = tool(world, *words[1:-2])
+                self.assertEqual(status, 0, err)
+                self.assertEqual(out, read(words[-1]), line)
+                made.add(words[-1][:-len(".json")])
+        self.assertEqual(made, {name for name in self.names() if os.path.isdir(name)})
+
+    def placed(self, word):
+        """A word of a command that is typed at the top of the checkout, with a path that is right here."""
+        word = re.sub(r"^((?:\w+=)?)((?:examples|tools)/)", rf"\g<1>{ROOT}/\g<2>", word)
+        return os.path.join(self.folder, word) if word.endswith(".db") else word
 
     def test_rows(self):
         """The rows in each outcome are those that SQLite gives."""
         for name in self.names():
-            if not os.path.exists(name + ".outcome"):
+            if os.path.isdir(name) or not os.path.exists(name + ".outcome"):
                 continue
             self.assertEqual(tool(outcome, name + ".outcome")[0], 0, name)
             replies = self.replies(name)
@@ -484,6 +533,30 @@ class Examples(InFolder):
             for (text, parameters), reply in zip(statements, replies):
                 if not reply.startswith("refused"):
                     self.assertEqual(reply_text(base.execute(text, parameters).fetchall()), reply, text)
+
+    def test_changes(self):
+        """The replies in the outcomes of the others are those that SQLite gives to the same statements."""
+        for path in filter(os.path.isdir, self.names()):
+            name, made = os.path.basename(path), json.loads(read(path + ".json"))
+            processes, _ = outcome.read_outcome(read(path + ".outcome"))
+            replies = {process.name: list(process.replies) for process in processes}
+            texts = re.findall(r'(?m)^sql \w+ "(.*)"', "\n".join(made["files"].values()))
+            base = in_sqlite(made["tables"])
+            for process, word, parameters in ASKED[name]:
+                text, = (text for text in texts if text.startswith(word))
+                self.assertEqual(self.reply(base, text, parameters), replies[process].pop(0)[:2], (name, text))
+            self.assertFalse(any(replies.values()), name)
+
+    @staticmethod
+    def reply(base, text, parameters):
+        """What SQLite replies, as `read_outcome` gives replies; of a refusal, its code only."""
+        try:
+            done = base.execute(text, parameters)
+        except sqlite3.IntegrityError:
+            return "refused", KEY_TAKEN
+        if done.description is None:
+            return "changed", done.rowcount
+        return "rows", [list(row) for row in done.fetchall()]
 
     def replies(self, name):
         """The replies of an outcome of one process, each as its text."""
@@ -505,6 +578,53 @@ class Examples(InFolder):
             replies = [reply_text(base.execute(text).fetchall()) for text in questions]
             expected = f"outcome 1 0\nprocess 0 0 0 {len(replies)}\n\n{''.join(replies)}"
             self.assertEqual(expected, read(f"{TUTORIAL}/{name}.outcome").decode())
+
+
+INSTRUCTIONS = """let cut goto if print exit open readline write copy close remove exists spawn wait sql fetch count
+    status""".split()
+
+
+class ScriptsPage(unittest.TestCase):
+    def setUp(self):
+        self.examples, self.tables = check_scripts.read_page(read(check_scripts.PAGE).decode())
+
+    def test_examples(self):
+        """Each instruction and each status of misuse is in an example, and nothing is passed over."""
+        lines = [line.split() for example in self.examples for line in example.script.split("\n")]
+        used = {words[0] for words in lines if len(words) > 1}
+        self.assertEqual(set(INSTRUCTIONS) - used, set())
+        for sign in ("+", "-", "*", "++"):
+            self.assertTrue(any(words[:1] == ["let"] and words[4:5] == [sign] for words in lines), sign)
+        self.assertTrue(any(words[:1] == ["let"] and words[3:4] == ["int"] for words in lines))
+        self.assertEqual({words[2] for words in lines if words[:1] == ["open"]}, set("rwan"))
+        ends = {run.status for example in self.examples for run in example.runs}
+        self.assertTrue({240, 241, 242, 243, 244} <= ends)
+        self.assertEqual([len(example.runs) for example in self.examples if len(example.runs) > 1], [2])
+        self.assertEqual([table[:2] for table in self.tables], [("items", "id")])
+
+    def test_wrong_pages(self):
+        """A page that says something else than the run is found."""
+        page = "# a\n\nWith the file `f`:\n\n    x\n\nthis script\n\n    print 1\n\nprints\n\n    1\n\nand leaves no `f`.\n"
+        right = b"outcome 1 1\nprocess 0 0 2 0\n1\n\nremoved 1\nf\n"
+        printed = io.StringIO()
+        with contextlib.redirect_stdout(printed):
+            self.assertEqual(check_scripts.check(page, lambda given: (0, right, b"")), (1, 0))
+            for old, new in ((b"0 0 2", b"0 1 2"), (b"\n1\n", b"\n2\n"), (b"removed 1\nf", b"file 1 0\nf\n")):
+                wrong = right.replace(old, new, 1)
+                self.assertEqual(check_scripts.check(page, lambda given: (0, wrong, b"")), (1, 1))
+            self.assertEqual(check_scripts.check(page, lambda given: (13, b"", b"ldv: not built\n")), (1, 1))
+        self.assertEqual(printed.getvalue().count("\n"), 4)
+
+
+class AgainstSqlite(unittest.TestCase):
+    def test_maker(self):
+        """A seed makes the same database and statements again, and SQLite takes them all."""
+        for seed in range(1, 21):
+            tables, asked_here = against_sqlite.made(seed, 40)
+            self.assertEqual((tables, asked_here), against_sqlite.made(seed, 40))
+            base = against_sqlite.opened(tables)
+            for each in asked_here:
+                against_sqlite.reply_of(base, each)
 
 
 class Program(InFolder):
@@ -540,6 +660,18 @@ class Program(InFolder):
             self.assertLess(len(package), len(document))
         self.assertNotIn(b"Middlemarch", package)
         self.assertEqual(ldv(["replay"], package[:-1]), (8, b"", b"ldv: damaged: digest\n"))
+
+    def test_scripts_page(self):
+        with contextlib.redirect_stdout(io.StringIO()) as printed:
+            status = check_scripts.main(["--program", shlex.join([PROGRAM, "run"])])
+        self.assertEqual(status, 0, printed.getvalue())
+
+    def test_against_sqlite(self):
+        """A few random statements; a run of many is made by hand."""
+        words = ["--program", shlex.join([PROGRAM, "run"]), "--databases", "10", "--folder", self.folder]
+        with contextlib.redirect_stdout(io.StringIO()) as printed:
+            status = against_sqlite.main(words)
+        self.assertEqual(status, 0, printed.getvalue())
 
     def test_rows_by_hand(self):
         path = self.put("t.csv", 'id,name\n2,"Ada, x"\n1,\n-3,Bo\n')

@@ -1,17 +1,15 @@
--- A run ends with its last step: a budget of at least so many steps changes nothing, and within a smaller one
--- it hasn't ended.
-use Rattle.std.proofs.Common.{◌≡◌, ℕ, zero, suc, ◌+◌, ◌-◌, ◌≤◌, ◌<◌, List, [], refl, sym, ap, ◌∙◌, Bool, true, false, arith, inl, inr}
-use Rattle.std.specs.Prelude.{Option, Some, None, ◌||◌, if◌then◌else◌}
+-- A run ends with its last step: a budget of at least so many steps changes nothing.
+use Rattle.std.proofs.Common.{◌≡◌, ℕ, zero, suc, ◌+◌, ◌≤◌, List, [], sym, ap, ◌∙◌, Bool, true, false, arith, inl, inr}
+use Rattle.std.specs.Prelude.{Some, None, if◌then◌else◌}
 use Rattle.std.proofs.lemmas.Bool.{cases_Bool}
 use Rattle.ldv_value.proofs.Cases.{cases-option}
-use Rattle.replay_db.specs.Types.{Mode, Included, Package, World}
+use Rattle.replay_db.specs.Types.{World}
 use Rattle.replay_db.proofs.EndedLaw.{ended_law, ended_over, ended_starts}
 use Rattle.replay_db.proofs.TraceValid.{steps_at_most}
 use Rattle.run_model.specs.declared.outcome.Outcome.{Outcome}
 use Rattle.run_model.specs.Core.{Core, all_ended, is_over}
 use Rattle.run_model.specs.Database.{Base}
 use Rattle.run_model.specs.Outcome.{outcome_of, outcome_at}
-use Rattle.run_model.specs.Package.{package_of}
 use Rattle.run_model.specs.Run.{first_pick, later_picks, move, run, steps}
 use Rattle.run_model.specs.SqlDatabase.{SqlDatabase, sql_base}
 use Rattle.run_model.specs.Start.{start_script, start_state}
@@ -67,7 +65,7 @@ module _ (n : ℕ) (w : World) where
             ∙ ap (λ (b : Bool). if b then Some (outcome_of (core_after n [] w script.0)) else None) all,
       )
 
-  going_outcome : ends_within n w ≡ false → outcome_within n w ≡ None
+  pub going_outcome : ends_within n w ≡ false → outcome_within n w ≡ None
   going_outcome going = elim (cases-option (start_script w)) [
     | inl none ↦ ap (outcome_in n [] w) none
     | inr script ↦
@@ -95,19 +93,3 @@ module _ (n : ℕ) (w : World) (ended : ends_within n w ≡ true) where
   enough_outcome budget enough =
       (ended_law (steps_by n [] w) budget [] w ends_at_count enough).outcome
       ∙ sym (ended_law (steps_by n [] w) n [] w ends_at_count (steps_at_most n [] w)).outcome
-
-  pub enough_package : (mode : Mode) (budget : ℕ) → steps_by n [] w ≤ budget
-      → package_of mode budget w ≡ package_of mode n w
-  enough_package mode budget enough =
-      (ended_law (steps_by n [] w) budget [] w ends_at_count enough).packed mode
-      ∙ sym ((ended_law (steps_by n [] w) n [] w ends_at_count (steps_at_most n [] w)).packed mode)
-
-  pub too_few : (budget : ℕ) → budget < steps_by n [] w → outcome_within budget w ≡ None
-  too_few budget less = elim (cases_Bool (ends_within budget w)) [
-    | inr going ↦ going_outcome budget w going
-    | inl early ↦
-        let within : budget ≤ n = omega (arith, less, steps_at_most n [] w) in
-        let same : steps_by n [] w ≡ steps_by budget [] w =
-        ap (λ (p : Package). p.steps) ((ended_law budget n [] w early within).packed Included) in
-        absurd (omega (arith, less, same, steps_at_most budget [] w))
-  ]

@@ -1,18 +1,16 @@
 -- A package that was recorded is replayed as its world is run.
-use Rattle.std.proofs.Common.{◌≡◌, ℕ, ◌≤◌, List, [], length, refl, sym, ap, ◌∙◌, subst, Bool, true, false, IsTrue, arith, inl, inr, lit≤}
-use Rattle.std.specs.Prelude.{Option, Some, None, Result, Ok, Err, if◌then◌else◌, option_and_then, is_some}
+use Rattle.std.proofs.Common.{◌≡◌, ℕ, ◌≤◌, List, [], length, refl, sym, ap, ◌∙◌, subst, Bool, true, false, IsTrue, arith, inl, inr}
+use Rattle.std.specs.Prelude.{Some, Ok, if◌then◌else◌}
 use Rattle.std.proofs.lemmas.Bool.{cases_Bool}
 use Rattle.std.proofs.lemmas.Bool.Decides.{nat_tests}
 use Rattle.ldv_value.proofs.Cases.{cases-option}
 use Rattle.ldv_value.specs.Limits.{input_limit, max_steps}
-use Rattle.script_parse.specs.declared.script.Instr.{Instr}
 use Rattle.run_model.specs.declared.outcome.Outcome.{Outcome}
 use Rattle.run_model.specs.declared.package.Mode.{Mode}
 use Rattle.run_model.specs.declared.package.Mode.TheVariants.{Included, Excluded}
 use Rattle.run_model.specs.declared.package.Package.{Package}
 use Rattle.run_model.specs.declared.world.World.{World}
 use Rattle.run_model.specs.Package.{package_of, own_world}
-use Rattle.run_model.specs.Start.{start_script}
 use Rattle.run_model.specs.WorldRun.{ends_within, outcome_within, steps_by}
 use Rattle.sql_model.specs.Tables.{tables_test}
 use Rattle.package_layout.specs.Valid.{Valid, reading}
@@ -23,9 +21,8 @@ use Rattle.replay_db.specs.Laws.{SameRun, ReplayLaw}
 use Rattle.replay_db.specs.Worlds.{world_rules, WorldTablesLaw, ValidPackageLaw, TypedPackageLaw}
 use Rattle.world_json.specs.Reading.{world_reading}
 use Rattle.ldv_top.specs.declared.exit.Exit.TheVariants.{Done, NotEnded, PackageTooLong, NotBuilt}
-use Rattle.ldv_top.specs.Due.{Due, refused, due_of_run, due_outcome, outcome_due, due_world, due_reading, due_run, is_supported, is_too_long, due_spelling, package_due, recorded_world, recorded_reading, due_record, replayed_package, replayed_reading, due_replay}
+use Rattle.ldv_top.specs.Due.{Due, refused, due_of_run, due_outcome, outcome_due, due_world, due_reading, due_run, is_supported, is_too_long, due_spelling, package_due, recorded_world, recorded_reading, due_record, replayed_reading, due_replay}
 use Rattle.ldv_top.specs.Headline.{IsPackageOf, Recorded}
-use Rattle.ldv_top.specs.Plain.{plain_script}
 use Rattle.ldv_top.proofs.BudgetLaw.{outcome_ends, ended_outcome, enough_outcome}
 use Rattle.ldv_top.proofs.RecordLaws.{not_too_long}
 
@@ -33,14 +30,14 @@ use Rattle.ldv_top.proofs.RecordLaws.{not_too_long}
 
 -- what is written of a run is that of its outcome
 pub record Written (mode : Mode) (n : ℕ) (w : World) (written : Outcome → Due) : Type 0 where
-  pub supported : is_supported mode w ≡ true
+  pub supported : is_supported mode ≡ true
   pub outcome : Outcome
   pub comes : outcome_within n w ≡ Some outcome
   pub due : due_of_run mode n w written ≡ written outcome
   pub finished : (written outcome).exit ≡ Done
 
 run_written : (mode : Mode) (n : ℕ) (w : World) (written : Outcome → Due) → (due_of_run mode n w written).exit ≡ Done → Written mode n w written
-run_written mode n w written finished = elim (cases_Bool (is_supported mode w)) [
+run_written mode n w written finished = elim (cases_Bool (is_supported mode)) [
   | inr other ↦
       let never : NotBuilt ≡ Done = ap (λ (b : Bool). (if b then due_outcome n written (outcome_within n w) else refused NotBuilt).exit) (sym other) ∙ finished in
       cc
@@ -62,17 +59,11 @@ run_written mode n w written finished = elim (cases_Bool (is_supported mode w)) 
       ]
 ]
 
--- two worlds with one script and one outcome give the same
-same_due : (n m : ℕ) (v w : World) (script : List Instr) → start_script v ≡ Some script → start_script w ≡ Some script
-    → (outcome : Outcome) → outcome_within n v ≡ Some outcome → outcome_within m w ≡ Some outcome
+-- two worlds with one outcome give the same
+same_due : (n m : ℕ) (v w : World) (outcome : Outcome) → outcome_within n v ≡ Some outcome → outcome_within m w ≡ Some outcome
     → due_world n v ≡ due_world m w
-same_due n m v w script in_v in_w outcome of_v of_w =
-    ap (λ (o : Option Outcome). at n v o) of_v
-    ∙ ap (λ (o : Option (List Instr)). if is_some (option_and_then plain_script o) then outcome_due outcome else refused NotBuilt) (in_v ∙ sym in_w)
-    ∙ sym (ap (λ (o : Option Outcome). at m w o) of_w)
-  where
-    at : ℕ → World → Option Outcome → Due
-    at k u o = if is_supported Included u then due_outcome k outcome_due o else refused NotBuilt
+same_due n m v w outcome of_v of_w =
+    ap (due_outcome n outcome_due) of_v ∙ sym (ap (due_outcome m outcome_due) of_w)
 
 -- ---- limits
 
@@ -106,7 +97,7 @@ module _ (again : (p : Package) → IsTyped p → Valid p → length (spelling p
       let same : SameRun n [] v w script.0 = replay n w script.0 script.1 tables in
       let steps : steps_by n [] v ≤ budget = subst (λ (k : ℕ). k ≤ budget) (sym (ap (λ (p : Package). p.steps) (same.packed Included))) enough in
       let in_v : outcome_within budget v ≡ Some outcome = enough_outcome n v (same.ends ∙ ended) budget steps ∙ same.outcome ∙ comes in
-      same_due budget n v w script.0 same.script_same script.1 outcome in_v comes
+      same_due budget n v w outcome in_v comes
 
   spelling_due : (n budget : ℕ) (w : World) → n ≤ max_steps → IsTrue (world_rules w) → tables_test w.tables ≡ true
       → IsTyped (package_of Included n w) → length (spelling (package_of Included n w)) ≤ input_limit
@@ -141,9 +132,7 @@ module _ (again : (p : Package) → IsTyped p → Valid p → length (spelling p
           let spelled : Spelled (due_spelling (spelling p)) (spelling p) = spelling_done (spelling p) ran.finished in
           let bytes : (due_record mode n document).bytes ≡ spelling p = ap (λ (d : Due). d.bytes) (recorded ∙ ran.due) ∙ spelled.1 in
           let ended : ends_within n w ≡ true = outcome_ends n w ran.outcome ran.comes in
-          let done_world : due_world n w ≡ outcome_due ran.outcome =
-          ap (λ (b : Bool). if b then due_outcome n outcome_due (outcome_within n w) else refused NotBuilt) ran.supported
-          ∙ ap (due_outcome n outcome_due) ran.comes in
+          let done_world : due_world n w ≡ outcome_due ran.outcome = ap (due_outcome n outcome_due) ran.comes in
           record {
             world = w;
             is_world = is;

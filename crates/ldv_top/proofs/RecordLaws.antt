@@ -1,6 +1,7 @@
 -- What recording a world comes to.
-use Rattle.std.proofs.Common.{◌≡◌, ℕ, ◌≤◌, ◌<◌, List, length, refl, sym, ap, ◌∙◌, true, false, arith, lit≤}
-use Rattle.std.specs.Prelude.{[], Option, Some, None, is_some, if◌then◌else◌, Result, Ok, Err, OnOk}
+use Rattle.std.proofs.Common.{◌≡◌, ℕ, ◌≤◌, ◌<◌, List, [], length, refl, sym, ap, ◌∙◌, true, false, arith, inl, inr}
+use Rattle.std.specs.Prelude.{Some, None, if◌then◌else◌, Result, Ok, Err, OnOk}
+use Rattle.std.proofs.lemmas.Bool.{cases_Bool}
 use Rattle.std.proofs.lemmas.Bool.Decides.{nat_tests}
 use Rattle.ldv_value.specs.Limits.{input_limit}
 use Rattle.run_model.specs.declared.package.Mode.{Mode}
@@ -9,21 +10,17 @@ use Rattle.run_model.specs.declared.package.Package.{Package}
 use Rattle.run_model.specs.declared.world.World.{World}
 use Rattle.run_model.specs.Package.{package_of}
 use Rattle.run_model.specs.Slice.{files_needed, tables_needed}
-use Rattle.run_model.specs.WorldRun.{steps_by, events_within, outcome_within}
+use Rattle.run_model.specs.WorldRun.{ends_within}
 use Rattle.package_layout.specs.Whole.{spelling, IsTyped}
-use Rattle.ldv_top.specs.declared.exit.Exit.TheVariants.{Done, NotEnded, PackageTooLong, NotBuilt}
-use Rattle.ldv_top.specs.declared.plain.PlainStep.{PlainStep}
-use Rattle.ldv_top.specs.Due.{Due, refused, done, due_outcome, is_too_long, due_spelling, package_due, plain_world, recorded_world, recorded_reading, due_record}
 use Rattle.world_json.specs.Reading.{world_reading}
+use Rattle.ldv_top.specs.declared.exit.Exit.TheVariants.{Done, NotEnded, PackageTooLong}
+use Rattle.ldv_top.specs.declared.run.EndStop.{EndStop}
+use Rattle.ldv_top.specs.declared.run.EndStop.TheVariants as stops
+use Rattle.ldv_top.specs.declared.run.Traced.{Traced}
+use Rattle.ldv_top.specs.Due.{Due, refused, done, due_outcome, is_too_long, due_spelling, package_due, recorded_world, recorded_reading, due_record}
 use Rattle.ldv_top.specs.Headline.{Recorded}
-use Rattle.ldv_top.specs.Packages.{plain_package}
-use Rattle.ldv_top.specs.Traces.{plain_events, plain_count}
-use Rattle.world_json.proofs.WorldFiles.{small_files}
-use Rattle.ldv_top.proofs.ResponseLaws.{StartsPlain, starts_plain, world_short, world_built, ended_whole, count_whole, run_in_time, run_late}
-use Rattle.ldv_top.proofs.BudgetLaw.{enough_package}
-use Rattle.ldv_top.proofs.DocumentWorlds.{document_world}
-use Rattle.ldv_top.proofs.SortedRows.{world_sorted}
-use Rattle.ldv_top.proofs.TraceLaw.{events_law, steps_law}
+use Rattle.ldv_top.specs.Runs.{HasNotEnded, Stops, IsTraced, packed, package_within}
+use Rattle.ldv_top.proofs.BudgetLaw.{ended_outcome, going_outcome}
 
 -- ---- the limit of a spelling
 
@@ -41,52 +38,60 @@ spelled_long bytes long = rw (too_long bytes long) refl
 
 pub ruleset spelling_ends = (spelled_whole, spelled_long)
 
--- ---- the package of a plain script's run
+-- ---- the package of a run
 
-module _ (w : World) (sts : List PlainStep) (budget : ℕ) (is : plain_world w ≡ Some sts) where
-  whole_package : package_of Included 1001 w ≡ plain_package w sts
-  whole_package =
-      let whole : StartsPlain w sts = starts_plain w sts is in
-      let events : events_within 1001 w ≡ plain_events w sts = events_law w whole.script sts 1001 (lit≤ tt) whole.starts whole.plain in
-      let steps : steps_by 1001 [] w ≡ plain_count w.tables sts = steps_law w whole.script sts 1001 (lit≤ tt) whole.starts whole.plain in
-      (λ j. record {
-        mode = Included;
-        start = w.start;
-        seed = w.seed;
-        steps = steps j;
-        files = files_needed (events j) w.files;
-        tables = tables_needed (events j) w.tables;
-        logs = [];
-        events = events j;
-      })
+packed_same : (n : ℕ) (w : World) (t : Traced) → IsTraced n w t → packed w t ≡ package_of Included n w
+packed_same n w t traced = λ j. record {
+  mode = Included;
+  start = w.start;
+  seed = w.seed;
+  steps = traced.steps j;
+  files = files_needed (traced.events j) w.files;
+  tables = tables_needed (traced.events j) w.tables;
+  logs = [];
+  events = traced.events j;
+}
 
-  -- it is the same within each budget in which the run ends
-  pub packed_law : plain_count w.tables sts ≤ budget → plain_package w sts ≡ package_of Included budget w
-  packed_law enough =
-      let steps : steps_by 1001 [] w ≤ budget = omega (arith, count_whole w sts is, enough) in
-      sym whole_package ∙ sym (enough_package 1001 w (ended_whole w sts is) Included budget steps)
+package_is : (n : ℕ) (w : World) → ends_within n w ≡ true → package_within n w ≡ Some (package_of Included n w)
+package_is n w ended = ap (λ b. if b then Some (package_of Included n w) else None) ended
 
-  pub recorded_in_time : plain_count w.tables sts ≤ budget
-      → due_spelling (spelling (plain_package w sts)) ≡ recorded_world Included budget w
-  recorded_in_time enough =
-      ap (λ (p : Package). due_spelling (spelling p)) (packed_law enough)
-      ∙ sym (run_in_time w sts is budget (package_due Included budget w) enough)
+-- of a run that has ended
+pub package_packed : (n : ℕ) (w : World) (t : Traced) (p : Package) → IsTraced n w t → p ≡ packed w t
+    → package_within n w ≡ Some p
+package_packed n w t p traced is =
+    package_is n w traced.ended ∙ ap Some (sym (packed_same n w t traced) ∙ sym is)
 
-  pub recorded_late : budget < plain_count w.tables sts
-      → refused (NotEnded budget) ≡ recorded_world Included budget w
-  recorded_late less = sym (run_late w sts is budget (package_due Included budget w) less)
+-- of one that hasn't
+package_none : (n : ℕ) (w : World) → ends_within n w ≡ false → package_within n w ≡ None
+package_none n w going = ap (λ b. if b then Some (package_of Included n w) else None) going
 
--- a world that isn't plain isn't supported
-pub unsupported : (w : World) (budget : ℕ) → plain_world w ≡ None
-    → refused NotBuilt ≡ recorded_world Included budget w
-unsupported w budget is =
-    sym (ap (λ (o : Option (List PlainStep)). if is_some o then due_outcome budget (package_due Included budget w) (outcome_within budget w) else refused NotBuilt) is)
+pub package_stops : (n : ℕ) (w : World) (stop : EndStop) → HasNotEnded n w stop → Stops stop (package_within n w)
+package_stops n w stops.NotEnded going = package_none n w going
+package_stops n w stops.NoMemory going = tt
 
--- and nothing is said of its package
-pub unsupported_typed : (w : World) (budget : ℕ) → plain_world w ≡ None
-    → (recorded_world Included budget w).exit ≡ Done → IsTyped (package_of Included budget w)
-unsupported_typed w budget is done =
-    let never : NotBuilt ≡ Done = ap (λ (d : Due). d.exit) (unsupported w budget is) ∙ done in cc
+-- a package that is there is that of a run that has ended
+abbrev IsRecorded : ℕ → World → Package → Type 0
+IsRecorded n w p = (p ≡ package_of Included n w) × (due_spelling (spelling p) ≡ recorded_world Included n w)
+
+pub recorded_in_time : (n : ℕ) (w : World) (p : Package) → package_within n w ≡ Some p → IsRecorded n w p
+recorded_in_time n w p is = elim (cases_Bool (ends_within n w)) [
+  | inr going ↦ let never : None ≡ Some p = sym (package_none n w going) ∙ is in absurd cc
+  | inl ended ↦
+      let both : Some p ≡ Some (package_of Included n w) = sym is ∙ package_is n w ended in
+      let same : p ≡ package_of Included n w = cc in
+      let outcome = ended_outcome n w ended in (
+        same,
+        ap (λ (q : Package). due_spelling (spelling q)) same
+            ∙ sym (ap (due_outcome n (package_due Included n w)) outcome.1),
+      )
+]
+
+pub recorded_late : (n : ℕ) (w : World) → package_within n w ≡ None
+    → refused (NotEnded n) ≡ recorded_world Included n w
+recorded_late n w is = elim (cases_Bool (ends_within n w)) [
+  | inl ended ↦ let never : None ≡ Some (package_of Included n w) = sym is ∙ package_is n w ended in absurd cc
+  | inr going ↦ sym (ap (due_outcome n (package_due Included n w)) (going_outcome n w going))
+]
 
 -- ---- the world of a document
 
@@ -101,7 +106,3 @@ pub recorded_on : {A E : Type 0} (r : Result A E) (mode : Mode) (budget : ℕ) (
     → OnOk r ((due_record mode budget document).exit ≡ Done → Recorded mode budget document (due_record mode budget document).bytes)
 recorded_on (Ok x) mode budget document w short is law typed = λ done. law (typed (ap (λ (d : Due). d.exit) (sym (document_due mode budget document w short is)) ∙ done)) done
 recorded_on (Err x) mode budget document w short is law typed = tt
-
-pub ruleset document_worlds = (small_files, document_world)
-
-pub ruleset recorded_worlds = (world_short, world_built, world_sorted)

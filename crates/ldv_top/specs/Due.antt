@@ -1,6 +1,6 @@
 -- What is due for words and an input: an exit, and the bytes that are written where it is Done.
-use Rattle.std.specs.Prelude.{◌≡◌, ℕ, List, [], ◌∷◌, length, Bool, true, false, nat_lt, if◌then◌else◌, Option}
-use Rattle.std.specs.Prelude.{Some, None, option_and_then, is_some, Result, Ok, Err}
+use Rattle.std.specs.Prelude.{ℕ, List, [], length, Bool, true, false, nat_lt, if◌then◌else◌, Option}
+use Rattle.std.specs.Prelude.{Some, None, Result, Ok, Err}
 use Rattle.ldv_value.specs.Limits.{input_limit}
 use Rattle.run_model.specs.declared.outcome.Outcome.{Outcome}
 use Rattle.run_model.specs.declared.package.Mode.{Mode}
@@ -9,7 +9,6 @@ use Rattle.run_model.specs.declared.package.Package.{Package}
 use Rattle.run_model.specs.declared.world.World.{World}
 use Rattle.run_model.specs.OutcomeText.{outcome_text_of}
 use Rattle.run_model.specs.Package.{package_of, own_world}
-use Rattle.run_model.specs.Start.{start_script}
 use Rattle.run_model.specs.WorldRun.{outcome_within}
 use Rattle.package_layout.specs.declared.damage.DamageKind.{DamageKind}
 use Rattle.package_layout.specs.Valid.{reading}
@@ -23,8 +22,6 @@ use Rattle.ldv_top.specs.declared.command.Command.TheVariants.{Run, Record, Repl
 use Rattle.ldv_top.specs.declared.exit.Exit.{Exit}
 use Rattle.ldv_top.specs.declared.exit.Exit.TheVariants.{Done, Usage, TooLong, NotWorld, NotEnded, Damaged}
 use Rattle.ldv_top.specs.declared.exit.Exit.TheVariants.{PackageTooLong, NotBuilt}
-use Rattle.ldv_top.specs.declared.plain.PlainStep.{PlainStep}
-use Rattle.ldv_top.specs.Plain.{plain_script}
 use Rattle.ldv_top.specs.Words.{command_of}
 
 pub record Due : Type 0 where
@@ -39,14 +36,10 @@ done bytes = record { exit = Done; bytes = bytes }
 
 -- ---- what is supported so far
 
--- what the run of a world does, where its script is plain
-abbrev pub plain_world : World → Option (List PlainStep)
-plain_world w = option_and_then plain_script (start_script w)
-
--- worlds with a plain script, run from included packages
-abbrev pub is_supported : Mode → World → Bool
-is_supported Included w = is_some (plain_world w)
-is_supported Excluded w = false
+-- packages that hold the needed rows; those that hold the recorded replies aren't made or replayed yet
+abbrev pub is_supported : Mode → Bool
+is_supported Included = true
+is_supported Excluded = false
 
 -- ---- the run of a world
 
@@ -56,7 +49,7 @@ due_outcome budget written (Some outcome) = written outcome
 
 -- what is written of the run within a budget, which has to end
 abbrev pub due_of_run : Mode → ℕ → World → (Outcome → Due) → Due
-due_of_run mode budget w written = if is_supported mode w
+due_of_run mode budget w written = if is_supported mode
     then due_outcome budget written (outcome_within budget w) else refused NotBuilt
 
 abbrev pub is_too_long : List ℕ → Bool

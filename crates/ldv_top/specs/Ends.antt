@@ -2,14 +2,13 @@
 --
 -- Of a stream these are known: the bytes that are left in a source, or that a sink has taken, where they are
 -- reported, and the count of its faults.
-use Rattle.std.specs.Prelude.{◌≡◌, ◌≢◌, ◌⊎◌, ◌↔◌, ◌≤◌, ℕ, List, [], Bool, true, false, Option, Some, None}
+use Rattle.std.specs.Prelude.{◌≡◌, ◌≢◌, ◌⊎◌, ◌↔◌, ◌≤◌, ℕ, List, [], true, false, Option, Some, None}
 use Rattle.std.specs.Io.KnownBytes.{IsAtEnd}
 use Rattle.ldv_io.specs.Causes.{Rose}
 use Rattle.run_model.specs.declared.package.Mode.{Mode}
 use Rattle.run_model.specs.declared.world.World.{World}
 use Rattle.run_model.specs.WorldRun.{steps_by}
 use Rattle.ldv_top.specs.Comes.{IsInput, Comes, IsQuiet}
-use Rattle.ldv_top.specs.declared.command.Command.{Command}
 use Rattle.ldv_top.specs.declared.command.Command.TheVariants.{Record, Replay}
 use Rattle.ldv_top.specs.declared.exit.Exit.{Exit}
 use Rattle.ldv_top.specs.declared.exit.Exit.TheVariants.{Done, Usage, ReadFault, WriteFault, NoMemory}

@@ -1,5 +1,5 @@
 -- The status and the line of each exit.
-use Rattle.std.specs.Prelude.{ℕ, List, [], ◌++◌, ◌∷◌, codes, Option, Some, None}
+use Rattle.std.specs.Prelude.{ℕ, List, [], ◌++◌, codes, Option, Some, None}
 use Rattle.std.specs.Fmt.{decimal}
 use Rattle.run_model.specs.OutcomeText.{name_text}
 use Rattle.package_layout.specs.declared.damage.DamageKind.{DamageKind}

@@ -15,7 +15,7 @@ use Rattle.ldv_top.specs.declared.exit.Exit.TheVariants.{Done}
 -- The input is the package of a valid world whose run ends within a budget.
 pub record IsPackageOf (mode : Mode) (budget : ℕ) (w : World) (input : List ℕ) : Type 0 where
   pub valid : ValidWorld w
-  pub supported : is_supported mode w ≡ true
+  pub supported : is_supported mode ≡ true
   pub bounded : budget ≤ max_steps
   pub ends : ends_within budget w ≡ true
   pub short : length (spelling (package_of mode budget w)) ≤ input_limit

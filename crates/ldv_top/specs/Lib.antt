@@ -1,12 +1,8 @@
-pub mod Asks
 pub mod Comes
 pub mod Due
 pub mod Ends
 pub mod Exits
 pub mod Headline
-pub mod Packages
-pub mod Plain
-pub mod SortedTables
-pub mod Traces
+pub mod Runs
 pub mod Words
 pub mod Written

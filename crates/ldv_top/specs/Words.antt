@@ -1,5 +1,5 @@
 -- The words of the command line.
-use Rattle.std.specs.Prelude.{◌≡◌, ℕ, ◌+◌, ◌-◌, ◌*◌, ◌≤◌, List, [], ◌∷◌, codes, Bool, true, false, ◌&&◌, ◌==◌}
+use Rattle.std.specs.Prelude.{ℕ, ◌+◌, ◌-◌, ◌*◌, ◌≤◌, List, [], ◌∷◌, codes, Bool, true, false, ◌&&◌, ◌==◌}
 use Rattle.std.specs.Prelude.{nat_le, if◌then◌else◌, Option, Some, None, option_and_then, bytes_eq}
 use Rattle.ldv_value.specs.Limits.{max_steps, default_steps}
 use Rattle.run_model.specs.declared.package.Mode.TheVariants.{Included, Excluded}

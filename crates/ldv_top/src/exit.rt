@@ -37,7 +37,7 @@ pub enum Exit {
     NoMemory,
     /// The package would have more than 67,108,864 bytes.
     PackageTooLong,
-    /// The world is one that this version can't run yet, or the package one that it can't replay yet.
+    /// The package would have the recorded replies, or has them: it isn't made or replayed yet.
     NotBuilt,
 }
 

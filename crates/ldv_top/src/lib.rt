@@ -1,10 +1,9 @@
 //! The program without its streams: `ldv` reads a source, and writes what the words ask for to a sink.
 //!
-//! The commands are `run`, `record` and `replay`, each with a budget of steps. What can be run so far are
-//! scripts of one process that print, exit and ask constant texts with constant parameters
-//! (`specs/Plain.antt`): a text that is no statement is refused, `SELECT * FROM` one table with any WHERE
-//! is answered, and a script with any other statement isn't run. Which texts are statements, and what they
-//! mean, `sql_model` says.
+//! The commands are `run`, `record` and `replay`, each with a budget of steps. They run every script, over
+//! the runtime of `proc_core` with the engine of `sql_engine` as its database: `record` with a tracer that
+//! keeps all events, the others with one that keeps none (`run.rt`). Packages that hold the recorded replies
+//! in place of the needed rows aren't made or replayed yet.
 //!
 //! It promises, in the clauses of `ldv`:
 //! - the exit and the bytes are those that are due for the words and the input (`specs/Due.antt`); only a
@@ -21,19 +20,15 @@
 //! `ldv_main` says the same of the exit of which it tells the line and gives the status.
 #![tactic(auto)]
 
-mod ask;
-mod built;
 mod command;
 mod exit;
-mod finish;
 mod headline;
 mod messages;
-mod plain;
 mod record;
 mod replay;
 mod response;
+mod run;
 mod top;
-mod trace;
 
 pub use command::Command;
 pub use exit::{Exit, status};

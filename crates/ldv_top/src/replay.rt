@@ -1,10 +1,10 @@
 //! From a package to the outcome of its own world.
 
-ghost use Rattle.std.specs.Prelude.{◌≡◌, ◌≤◌, ◌++◌, true, map, length, IfOk};
+ghost use Rattle.std.specs.Prelude.{◌≡◌, ◌≤◌, ◌++◌, map, length, IfOk};
 ghost use Rattle.run_model.specs.Package.{or_empty, own_file, own_row, own_table, own_world};
-ghost use Rattle.run_model.specs.Start.{has_small_files};
-ghost use Rattle.ldv_value.specs.Limits.{input_limit};
+ghost use Rattle.ldv_value.specs.Limits.{input_limit, max_steps};
 ghost use Rattle.ldv_top.specs.Due.{response_due, due_world, replayed_package, due_replay};
+ghost use Rattle.ldv_top.specs.Runs.{CanRun};
 
 use crate::response::{Response, world_response};
 use ldv_value::{Bytes, File, Files};
@@ -116,15 +116,17 @@ fn own_world(alloc: Global, package: Package) -> Result<World, AllocError>
 }
 
 fn replay_included(alloc: Global, budget: u32, package: Package) -> Result<Response, AllocError>
-    requires { has_small_files (own_world «package») ≡ true }
+    requires can_run { CanRun (own_world «package») }
+    requires bounded { budget ≤ max_steps }
     ensures { IfOk result (λ response. response_due response ≡ due_world budget (own_world «package»)) }
 {
     let world = own_world(alloc, package)?;
-    world_response(alloc, budget, &world)
+    world_response(alloc, budget, world)
 }
 
 fn replay_package(alloc: Global, budget: u32, package: Package) -> Result<Response, AllocError>
-    requires { has_small_files (own_world «package») ≡ true }
+    requires can_run { CanRun (own_world «package») }
+    requires bounded { budget ≤ max_steps }
     ensures { IfOk result (λ response. response_due response ≡ replayed_package budget «package») }
 {
     match package.mode {
@@ -134,9 +136,9 @@ fn replay_package(alloc: Global, budget: u32, package: Package) -> Result<Respon
 }
 
 /// The response of `replay` to an input.
-#[tactic(auto, using(crate::proofs::ReplayLaws::own_small))]
 pub fn replay_response(alloc: Global, budget: u32, input: &Bytes) -> Result<Response, AllocError>
-    requires { length input.now ≤ input_limit }
+    requires short { length input.now ≤ input_limit }
+    requires bounded { budget ≤ max_steps }
     ensures { IfOk result (λ response. response_due response ≡ due_replay budget input.now) }
 {
     match read_package(alloc, input.as_slice()) {

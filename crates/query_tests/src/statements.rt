@@ -10,7 +10,12 @@ use sql_parse::{ParseStop, parse};
 use std::alloc::{AllocError, Global};
 use std::process::Abort;
 
-fn column(alloc: Global, name: &str, text: bool, not_null: bool) -> Result<Column, AllocError> {
+pub(crate) fn column(
+    alloc: Global,
+    name: &str,
+    text: bool,
+    not_null: bool,
+) -> Result<Column, AllocError> {
     let name = Utf8::of(alloc, name)?;
     Ok(Column {
         name,

@@ -31,7 +31,8 @@ fn table_rows(alloc: Global) -> Result<TableRows, AllocError> {
     Ok(rows)
 }
 
-fn tables(alloc: Global) -> Result<Tables, AllocError> {
+/// The table t with the rows 0 to 4.
+pub(crate) fn tables(alloc: Global) -> Result<Tables, AllocError> {
     let name = Utf8::of(alloc, "t")?;
     let schema = schema(alloc)?;
     let rows = table_rows(alloc)?;

@@ -1,14 +1,15 @@
 //! Whether tables are a database: a store takes no others.
 
-ghost use Rattle.std.specs.Prelude.{◌≡◌, ◌&&◌, IfOk, IsTrue, nat_le, nat_lt, true};
+ghost use Rattle.std.specs.Prelude.{◌≡◌, ◌&&◌, ◌∷◌, [], IfOk, IsTrue, nat_le, nat_lt, true};
 ghost use Rattle.std.specs.List.{list_all};
 ghost use Rattle.ldv_value.specs.Limits.{max_next};
 ghost use Rattle.ldv_value.specs.Sorted.{is_strictly_sorted, precedes_first};
+ghost use Rattle.sql_laws.specs.DatabaseLaw.{have_distinct_columns};
 ghost use Rattle.sql_model.specs.Tables.{has_kind, allows, fits, each_value, is_row, numbers_test};
-ghost use Rattle.sql_model.specs.Tables.{is_database, is_valid_table};
+ghost use Rattle.sql_model.specs.Tables.{are_distinct, is_database, is_valid_table, table_precedes};
 
 use ldv_value::{Value, Values};
-use sql_model::{Column, Columns, Table, TableRow, TableRows, has_key_twice};
+use sql_model::{Column, Columns, Table, TableRow, TableRows, has_key_twice, meets_column_names};
 use std::alloc::{AllocError, Global};
 
 /// Whether there is one table, and it is valid.
@@ -19,6 +20,63 @@ pub(crate) fn is_one_table(alloc: Global, tables: &[Table]) -> Result<bool, Allo
         [table] => is_valid_table(alloc, table),
         _ => Ok(false),
     }
+}
+
+/// Whether there are one or two tables, and they are a database.
+pub(crate) fn are_tables(alloc: Global, tables: &[Table]) -> Result<bool, AllocError>
+    ensures { IfOk result (λ holds. IsTrue holds → is_database tables.now ≡ true) }
+{
+    match tables {
+        [table] => is_valid_table(alloc, table),
+        [first, second] => are_two_tables(alloc, first, second),
+        _ => Ok(false),
+    }
+}
+
+fn are_two_tables(alloc: Global, first: &Table, second: &Table) -> Result<bool, AllocError>
+    ensures { IfOk result (λ holds.
+        IsTrue holds → is_database (first.now ∷ second.now ∷ []) ≡ true) }
+{
+    if !is_before(first, second) {
+        return Ok(false);
+    }
+    if !is_valid_table(alloc, first)? {
+        return Ok(false);
+    }
+    is_valid_table(alloc, second)
+}
+
+fn is_before(first: &Table, second: &Table) -> bool
+    ensures { result ≡ table_precedes first.now second.now }
+{
+    first.name.as_str().cmp(second.name.as_str()).is_lt()
+}
+
+/// Whether there are one or two tables, none with two columns of one name.
+pub(crate) fn have_distinct_columns(alloc: Global, tables: &[Table]) -> Result<bool, AllocError>
+    ensures { IfOk result (λ holds. IsTrue holds → have_distinct_columns tables.now ≡ true) }
+{
+    match tables {
+        [table] => are_distinct(alloc, &table.schema.columns),
+        [first, second] => are_both_distinct(alloc, first, second),
+        _ => Ok(false),
+    }
+}
+
+fn are_both_distinct(alloc: Global, first: &Table, second: &Table) -> Result<bool, AllocError>
+    ensures { IfOk result (λ holds.
+        IsTrue holds → have_distinct_columns (first.now ∷ second.now ∷ []) ≡ true) }
+{
+    if !are_distinct(alloc, &first.schema.columns)? {
+        return Ok(false);
+    }
+    are_distinct(alloc, &second.schema.columns)
+}
+
+fn are_distinct(alloc: Global, columns: &Columns) -> Result<bool, AllocError>
+    ensures { IfOk result (λ holds. IsTrue holds → are_distinct columns.now ≡ true) }
+{
+    meets_column_names(alloc, columns)
 }
 
 fn is_valid_table(alloc: Global, table: &Table) -> Result<bool, AllocError>

@@ -43,7 +43,7 @@ no_memory = (refl, refl)
 package_too_long : Ends PackageTooLong 12 (codes "ldv: package longer than 67108864 bytes\n")
 package_too_long = (refl, refl)
 
--- of a world or a package that this version can't run
+-- of a package that isn't made or replayed yet
 not_built : Ends NotBuilt 13 (codes "ldv: not built\n")
 not_built = (refl, refl)
 

@@ -1,4 +1,4 @@
-//! Copies that no layer makes yet.
+//! Copies: no clause says that one is made where memory is left.
 
 use ldv_value::{CopyItem, Utf8, Value};
 use script_parse::Operand;

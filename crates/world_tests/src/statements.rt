@@ -1,4 +1,4 @@
-//! What texts parse to, and the places that a check gives, for statements that no command runs yet.
+//! What texts parse to, and the places that a check gives.
 
 use ldv_value::{Cmp, Names, PlaceLists, Utf8, Value, Values};
 use sql_check::{CheckStop, check};

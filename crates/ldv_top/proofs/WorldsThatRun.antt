@@ -1,0 +1,176 @@
+-- The world of a document can be run, and so can the own world of a package.
+use Rattle.std.proofs.Common.{◌≡◌, ℕ, ◌^◌, ◌<◌, List, [], ◌∷◌, refl, ap, ◌∙◌, subst, Bool, true, Ok, arith, inl, inr}
+use Rattle.std.specs.Prelude.{map, length, find, ◌&&◌, nat_le, nat_lt, Option, Some, None, is_some, bytes_eq, slice_get, option_and_then}
+use Rattle.std.specs.List.{list_all, AllByRecursion}
+use Rattle.std.proofs.lemmas.Bool.{cases_Bool, le-leb}
+use Rattle.ldv_value.proofs.Booleans.{and-parts, and-from}
+use Rattle.ldv_value.proofs.Lists.{list_all-map, list_all-weaker, map-map, sorted-under}
+use Rattle.ldv_value.specs.FileState.{file_at, file_test, file_precedes, files_test}
+use Rattle.ldv_value.specs.Limits.{file_limit, max_files, max_tables, max_next}
+use Rattle.ldv_value.specs.Names.{path_test}
+use Rattle.ldv_value.specs.Sorted.{is_strictly_sorted}
+use Rattle.ldv_value.specs.declared.file.File.{File}
+use Rattle.ldv_value.specs.declared.value.Value.{Value}
+use Rattle.script_parse.specs.Script.{script_of}
+use Rattle.script_parse.specs.declared.script.Instr.{Instr}
+use Rattle.sql_model.specs.SqlNames.{sql_name_test}
+use Rattle.sql_model.specs.Tables.{schema_test, is_row, is_short, numbers_test, are_keys_unique, is_valid_table, table_precedes, is_database, is_described, tables_test}
+use Rattle.sql_model.specs.declared.table.TableRow.{TableRow}
+use Rattle.sql_model.proofs.ValidTables.{table-from}
+use Rattle.run_model.specs.Package.{or_empty, own_file, own_row, own_table, own_world}
+use Rattle.run_model.specs.TypedPackage.{TypedTable}
+use Rattle.run_model.specs.ValidPackage.{packed_file_precedes, packed_table_precedes, content_rule, file_rule, files_rule, rows_rule, table_rule, tables_rule, start_rule, logs_rule, is_script, is_script_file, script_rule, parts_rule, whole_rule}
+use Rattle.run_model.specs.declared.package.Package.{Package}
+use Rattle.run_model.specs.declared.package.PackedFile.{PackedFile}
+use Rattle.run_model.specs.declared.package.PackedRow.{PackedRow}
+use Rattle.run_model.specs.declared.package.PackedTable.{PackedTable}
+use Rattle.run_model.specs.declared.world.World.{World}
+use Rattle.package_layout.specs.Valid.{Valid}
+use Rattle.package_layout.specs.Whole.{has_room, IsTyped}
+use Rattle.replay_db.proofs.WorldRules.{Ruled, ruled_by}
+use Rattle.replay_db.specs.Worlds.{all_of_file, all_of_world}
+use Rattle.world_json.specs.Reading.{world_reading}
+use Rattle.ldv_top.specs.Runs.{CanRun}
+use Rattle.ldv_top.proofs.DocumentWorlds.{document_world, document_tables}
+
+-- ---- files, as those of a package
+
+content_small : (content : Option (List ℕ)) → content_rule content ≡ true → nat_le (length (or_empty content)) file_limit ≡ true
+content_small None rule = refl
+content_small (Some bytes) rule = rule
+
+file_met : (file : PackedFile) → file_rule file ≡ true → file_test (own_file file) ≡ true
+file_met file rule =
+    let parts = and-parts (path_test file.path) (content_rule file.content) rule in
+    and-from (path_test file.path) (nat_le (length (or_empty file.content)) file_limit) parts.0 (content_small file.content parts.1)
+
+own_files : (files : List PackedFile) → files_rule files ≡ true → files_test (map own_file files) ≡ true
+own_files files rule =
+    let each : Bool = list_all file_rule files in
+    let sorted : Bool = is_strictly_sorted packed_file_precedes files in
+    let few = and-parts (nat_le (length files) max_files) (each && sorted) rule in
+    let parts = and-parts each sorted few.1 in
+    and-from (list_all file_test (map own_file files)) (is_strictly_sorted file_precedes (map own_file files))
+    (list_all-map file_test own_file files ∙ list_all-weaker file_rule (λ f. file_test (own_file f)) file_met files parts.0)
+    (sorted-under file_precedes own_file files ∙ parts.1)
+
+-- ---- the script, as that of a package
+
+content_script : (content : Option (List ℕ)) → is_script content ≡ true → is_some (script_of (or_empty content)) ≡ true
+content_script None rule = absurd cc
+content_script (Some bytes) rule = (and-parts (nat_le (length bytes) file_limit) (is_some (script_of bytes)) rule).1
+
+abbrev script_at : List ℕ → List File → Option (List Instr)
+script_at word files = option_and_then (λ (file : File). script_of file.content) (file_at word files)
+
+script_found : (word : List ℕ) (files : List PackedFile) → is_script_file (find (λ f. bytes_eq word f.path) files) ≡ true
+    → is_some (script_at word (map own_file files)) ≡ true
+script_found word [] rule = absurd cc
+script_found word (file ∷ files) rule = elim (cases_Bool (bytes_eq word file.path)) [
+  | inl hit ↦ rw hit (content_script file.content (rw hit at rule))
+  | inr miss ↦ rw miss (script_found word files (rw miss at rule))
+]
+
+abbrev first_script : List (List ℕ) → List File → Option (List Instr)
+first_script start files =
+    option_and_then (λ (file : File). script_of file.content) (option_and_then (λ word. file_at word files) (slice_get start 0))
+
+own_script : (start : List (List ℕ)) (files : List PackedFile) → script_rule start files ≡ true
+    → is_some (first_script start (map own_file files)) ≡ true
+own_script [] files rule = absurd cc
+own_script (word ∷ words) files rule = script_found word files rule
+
+-- ---- tables of a package
+
+own_numbers : (next : ℕ) (rows : List PackedRow) → numbers_test (λ (row : TableRow). row.number) next (map own_row rows)
+    ≡ numbers_test (λ (row : PackedRow). row.number) next rows
+own_numbers next rows =
+    λ j. sorted-under (λ (a b : TableRow). nat_lt a.number b.number) own_row rows j && list_all-map (λ (row : TableRow). nat_lt row.number next) own_row rows j
+
+abbrev next_within : PackedTable → Bool
+next_within t = nat_le t.next max_next
+
+-- a name, a schema and rows by the rules
+abbrev IsMet : PackedTable → Type 0
+IsMet t = (is_described (own_table t) ≡ true) × (is_valid_table (own_table t) ≡ true)
+
+table_met : (t : PackedTable) → table_rule t ≡ true → next_within t ≡ true → IsMet t
+table_met t rule next =
+    let fit : PackedRow → Bool = λ row. is_row t.schema.columns row.values in
+    let numbers : Bool = numbers_test (λ (row : PackedRow). row.number) t.next t.rows in
+    let values : List (List Value) = map (λ (row : PackedRow). row.values) t.rows in
+    let described : Bool = sql_name_test t.name && schema_test t.schema in
+    let a = and-parts (described && rows_rule t) (are_keys_unique t.schema.key values) rule in
+    let b = and-parts described (rows_rule t) a.0 in
+    let c = and-parts (numbers && list_all fit t.rows) (list_all (λ (row : PackedRow). list_all is_short row.values) t.rows) b.1 in
+    let d = and-parts numbers (list_all fit t.rows) c.0 in (
+      b.0,
+      table-from (own_table t) (record {
+        next = next;
+        numbers = own_numbers t.next t.rows ∙ d.0;
+        rows = list_all-map (λ (row : TableRow). is_row t.schema.columns row.values) own_row t.rows ∙ d.1;
+        keys = ap (are_keys_unique t.schema.key) (map-map (λ (row : TableRow). row.values) own_row t.rows) ∙ a.1;
+      }),
+    )
+
+tables_met : (ts : List PackedTable) → list_all table_rule ts ≡ true → list_all next_within ts ≡ true
+    → (list_all is_described (map own_table ts) ≡ true) × (list_all is_valid_table (map own_table ts) ≡ true)
+tables_met [] rules nexts = (refl, refl)
+tables_met (t ∷ ts) rules nexts =
+    let r = and-parts (table_rule t) (list_all table_rule ts) rules in
+    let n = and-parts (next_within t) (list_all next_within ts) nexts in
+    let one : IsMet t = table_met t r.0 n.0 in
+    let rest = tables_met ts r.1 n.1 in (
+      and-from (is_described (own_table t)) (list_all is_described (map own_table ts)) one.0 rest.0,
+      and-from (is_valid_table (own_table t)) (list_all is_valid_table (map own_table ts)) one.1 rest.1,
+    )
+
+within_u32 : (n : ℕ) → n < 2 ^ 32 → nat_le n max_next ≡ true
+within_u32 n small = le-leb n max_next (omega (arith, small))
+
+nexts_typed : (ts : List PackedTable) → AllByRecursion TypedTable ts → list_all next_within ts ≡ true
+nexts_typed [] typed = refl
+nexts_typed (t ∷ ts) typed = and-from (next_within t) (list_all next_within ts) (within_u32 t.next typed.0.1.1.0) (nexts_typed ts typed.1)
+
+own_tables : (ts : List PackedTable) → tables_rule ts ≡ true → AllByRecursion TypedTable ts → tables_test (map own_table ts) ≡ true
+own_tables ts rule typed =
+    let each : Bool = list_all table_rule ts in
+    let sorted : Bool = is_strictly_sorted packed_table_precedes ts in
+    let few = and-parts (nat_le (length ts) max_tables) (each && sorted) rule in
+    let parts = and-parts each sorted few.1 in
+    let met = tables_met ts parts.0 (nexts_typed ts typed) in
+    and-from (is_database (map own_table ts)) (list_all is_described (map own_table ts))
+    (and-from (list_all is_valid_table (map own_table ts)) (is_strictly_sorted table_precedes (map own_table ts)) met.1
+    (sorted-under table_precedes own_table ts ∙ parts.1))
+    met.0
+
+-- ---- worlds
+
+pub own_runs : (p : Package) → IsTyped p → Valid p → CanRun (own_world p)
+own_runs p typed valid =
+    let room = and-parts (has_room p) (parts_rule p && whole_rule p && script_rule p.start p.files) valid in
+    let all = and-parts (parts_rule p && whole_rule p) (script_rule p.start p.files) room.1 in
+    let parts = and-parts (parts_rule p) (whole_rule p) all.0 in
+    let logs = and-parts (start_rule p.start && files_rule p.files && tables_rule p.tables) (logs_rule p.logs) parts.0 in
+    let tables = and-parts (start_rule p.start && files_rule p.files) (tables_rule p.tables) logs.0 in
+    let files = and-parts (start_rule p.start) (files_rule p.files) tables.0 in
+    record {
+      script = own_script p.start p.files all.1;
+      files = own_files p.files files.1;
+      tables = own_tables p.tables tables.1 typed.1.1.1.1.0;
+    }
+
+own_all : (files : List File) → map own_file (map all_of_file files) ≡ files
+own_all [] = refl
+own_all (file ∷ files) = ap (λ (l : List File). file ∷ l) (own_all files)
+
+pub document_runs : (bytes : List ℕ) (w : World) → world_reading bytes ≡ Ok w → CanRun w
+document_runs bytes w is =
+    let ruled : Ruled (all_of_world w) = ruled_by (all_of_world w) (document_world bytes w is) in
+    record {
+      script = subst (λ (files : List File). is_some (first_script w.start files) ≡ true) (own_all w.files)
+          (own_script w.start (map all_of_file w.files) ruled.script);
+      files = subst (λ (files : List File). files_test files ≡ true) (own_all w.files)
+          (own_files (map all_of_file w.files) ruled.files);
+      tables = document_tables bytes w is;
+    }

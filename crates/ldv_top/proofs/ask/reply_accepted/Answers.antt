@@ -1,8 +1,0 @@
-use Rattle.std.proofs.Common.{sym}
-use Rattle.ldv_top.proofs.AskLaw.{replies}
-use Rattle.ldv_top.proofs.ask.reply_accepted.Goals as goal
-
-pub returns-in_ok-values_of_core-in-Some : goal.returns-in_ok-values_of_core-in-Some
-returns-in_ok-values_of_core-in-Some c =
-    replies c.args.tables.now c.in-Some.core.now c.args.places.now c.args.statement.now c.requires.built c.requires.accepted (sym c.in-Some.ensures) c.requires.places
-    c.in_ok-values_of_core-in-Some.field-0 c.in_ok-values_of_core-in-Some.ensures

@@ -1,0 +1,5 @@
+use Rattle.ldv_top.proofs.WorldsThatRun.{own_runs}
+use Rattle.ldv_top.proofs.replay.replay_response.Goals as goal
+
+pub replay_package-requires-clause-can_run : goal.replay_package-requires-clause-can_run
+replay_package-requires-clause-can_run c = own_runs c.in-Ok.package c.in-Ok.ensures.found.0 c.in-Ok.ensures.found.1

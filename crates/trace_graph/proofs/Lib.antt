@@ -1,0 +1,11 @@
+pub mod Distinct
+pub mod NodeLaws
+pub mod PlaceLaws
+pub mod KeyLaws
+pub mod SpanLaws
+pub mod LinkLists
+pub mod EdgeLaws
+pub mod GraphLaw
+pub mod TraceLaws
+pub mod GraphFacts
+pub mod VersionFacts

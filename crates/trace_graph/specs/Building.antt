@@ -1,0 +1,101 @@
+-- How a graph grows link by link, which is what the code does.
+use Rattle.std.specs.Prelude.{ℕ, min, max, List, [], ◌∷◌, ◌++◌, map, Bool, true, ◌&&◌, ◌==◌, nat_le}
+use Rattle.std.specs.Prelude.{if◌then◌else◌, Option, Some, None}
+use Rattle.std.specs.List.{list_any}
+use Rattle.ldv_value.specs.Limits.{max_processes}
+use Rattle.run_model.specs.ValidTrace.{made_after}
+use Rattle.trace_graph.specs.Types.{Event, Node, Path, Process, Row, Ask, Reply, Edge}
+use Rattle.trace_graph.specs.declared.key.NodeKey.{NodeKey}
+use Rattle.trace_graph.specs.declared.key.NodeKey.TheVariants as keys
+use Rattle.trace_graph.specs.declared.span.Span.{Span}
+use Rattle.trace_graph.specs.declared.building.Building.{Building}
+use Rattle.trace_graph.specs.Links.{Link, event_links}
+use Rattle.trace_graph.specs.Graph.{Parts, same_node, place_in}
+
+-- ---- what lies in memory
+
+-- the node that a key names
+abbrev pub node_of : NodeKey → Node
+node_of (keys.Path path) = Path path.now
+node_of (keys.Process process) = Process process
+node_of (keys.Row table row version) = Row (record { table = table.now; row = row; version = version })
+node_of (keys.Ask statement) = Ask statement
+node_of (keys.Reply statement) = Reply statement
+
+-- the edge of an entry: two places, and a span of time
+abbrev pub edge_at : (ℕ × ℕ) × Span → Edge
+edge_at entry = record {
+  source = entry.0.0;
+  target = entry.0.1;
+  first = entry.1.first;
+  last = entry.1.last;
+}
+
+abbrev pub parts_of : Building → Parts
+parts_of building = record {
+  nodes = map node_of building.keys.keys;
+  edges = map edge_at building.spans.entries;
+}
+
+-- ---- one link more
+
+-- with a node at the end, if it isn't there yet
+abbrev pub with_node : List Node → Node → List Node
+with_node nodes node = if list_any (same_node node) nodes then nodes else nodes ++ node ∷ []
+
+abbrev pub instant : ℕ → Span
+instant time = record { first = time; last = time }
+
+-- a span, if there is one, with a time more
+abbrev pub span_with : Option Span → ℕ → Span
+span_with None time = instant time
+span_with (Some span) time = record { first = min span.first time; last = max span.last time }
+
+abbrev pub joins : ℕ → ℕ → Edge → Bool
+joins source target edge = source == edge.source && target == edge.target
+
+abbrev pub edge_from : ℕ → ℕ → Span → Edge
+edge_from source target span = record {
+  source = source;
+  target = target;
+  first = span.first;
+  last = span.last;
+}
+
+abbrev pub widened : Edge → ℕ → Edge
+widened edge time = record edge { first = min edge.first time; last = max edge.last time }
+
+-- the edges with a time more of the one between two places, which comes last if it isn't there yet
+abbrev pub with_time : ℕ → ℕ → ℕ → List Edge → List Edge
+with_time source target time [] = edge_from source target (instant time) ∷ []
+with_time source target time (edge ∷ edges) =
+    if joins source target edge then widened edge time ∷ edges
+    else edge ∷ with_time source target time edges
+
+unfoldable pub with_link : Parts → Link → Parts
+with_link parts l = record {
+  nodes = with_node (with_node parts.nodes l.source) l.target;
+  edges = with_time (place_in parts.nodes l.source) (place_in (with_node parts.nodes l.source) l.target)
+      l.time parts.edges;
+}
+
+abbrev pub with_links : Parts → List Link → Parts
+with_links parts [] = parts
+with_links parts (l ∷ ls) = with_links (with_link parts l) ls
+
+abbrev pub no_parts : Parts
+no_parts = record { nodes = []; edges = [] }
+
+-- ---- events
+
+-- with the links of events before which a number of processes was made
+abbrev pub with_events : Parts → ℕ → List Event → Parts
+with_events parts made [] = parts
+with_events parts made (e ∷ es) =
+    with_events (with_links parts (event_links made e)) (made_after made e.act) es
+
+-- the number of processes stays within its limit
+abbrev pub made_fits : ℕ → List Event → Bool
+made_fits made [] = true
+made_fits made (e ∷ es) =
+    nat_le (made_after made e.act) max_processes && made_fits (made_after made e.act) es

@@ -1,0 +1,6 @@
+pub mod Types
+pub mod Links
+pub mod Graph
+pub mod GraphLaws
+pub mod VersionLaws
+pub mod Building

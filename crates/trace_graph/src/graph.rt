@@ -1,0 +1,82 @@
+//! Graphs.
+
+ghost use Rattle.std.specs.Prelude.{◌≡◌, ◌<◌, length, position, IsTrue, IfOk, IfSome};
+ghost use Rattle.run_model.specs.ValidTrace.{IsTrace};
+ghost use Rattle.trace_graph.specs.Building.{parts_of};
+ghost use Rattle.trace_graph.specs.Graph.{same_node, graph_of, are_between};
+
+use crate::building::{Building, build};
+use crate::edge::Edges;
+use crate::key::{is_same, nodes_of};
+use crate::node::{Node, Nodes};
+use crate::span::edges_of;
+use run_model::Events;
+use std::alloc::{AllocError, Global};
+use std::marker::Model;
+
+/// A graph. Contracts see its nodes and its edges (`Parts`). Each edge is between places of nodes.
+#[derive(Drop)]
+pub struct Graph {
+    nodes: Nodes,
+    edges: Edges,
+}
+
+impl Model for Graph {
+    ghost use Rattle.std.specs.Prelude.{length, IsTrue};
+    ghost use Rattle.trace_graph.specs.Graph.{Parts, are_between};
+
+    ghost Value = { Parts };
+
+    ghost view = { λ a. record { nodes = a.nodes; edges = a.edges } };
+
+    ghost invariant = { λ a. IsTrue (are_between (length a.nodes) a.edges) };
+}
+
+impl Graph {
+    /// The graph of a trace. `AllocError` means out of memory only.
+    pub fn of_events(alloc: Global, events: &Events) -> Result<Graph, AllocError>
+        requires { IsTrace events.now }
+        ensures { IfOk result (λ graph. graph ≡ graph_of events.now) }
+    {
+        let building = build(alloc, events.items())?;
+        finish(alloc, building)
+    }
+
+    /// The nodes, in the order in which they were first seen.
+    pub fn nodes(&self) -> &Nodes
+        ensures { result.now ≡ self.now.nodes }
+    {
+        &self.nodes
+    }
+
+    /// The edges, in the order in which their pair of nodes was first seen.
+    pub fn edges(&self) -> &Edges
+        ensures edges { result.now ≡ self.now.edges }
+        ensures between { IsTrue (are_between (length self.now.nodes) self.now.edges) }
+    {
+        &self.edges
+    }
+
+    /// The place of a node in the list of nodes, from 0. It looks at each node.
+    pub fn place(&self, node: &Node) -> Option<usize>
+        ensures place { result ≡ position (same_node node.now) self.now.nodes }
+        ensures within { IfSome result (λ place. place < length self.now.nodes) }
+    {
+        self.nodes
+            .items()
+            .iter()
+            .position(|other| is_same(node, other))
+    }
+}
+
+// The graph of what was built, with texts of its own.
+fn finish(alloc: Global, building: Building<'_>) -> Result<Graph, AllocError>
+    requires { IsTrue (are_between (length (parts_of building).nodes) (parts_of building).edges) }
+    ensures { IfOk result (λ graph. graph ≡ parts_of building.entry) }
+{
+    let Building { keys, spans } = building;
+    Ok(Graph {
+        nodes: nodes_of(alloc, keys.as_slice())?,
+        edges: edges_of(alloc, spans)?,
+    })
+}

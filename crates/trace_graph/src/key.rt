@@ -1,0 +1,100 @@
+//! Nodes as the keys of a set, without a copy of their texts.
+
+ghost use Rattle.std.specs.Prelude.{◌≡◌, ◌++◌, [], map, IfOk, OnOk};
+ghost use Rattle.trace_graph.specs.Building.{node_of, with_node};
+ghost use Rattle.trace_graph.specs.Graph.{same_node, place_in};
+ghost use Rattle.trace_graph.specs.Links.{at_version};
+ghost use Rattle.trace_graph.specs.Types.{Row};
+
+use crate::node::{Node, Nodes};
+use indexmap::IndexSet;
+use ldv_value::Utf8;
+use sql_model::Member;
+use std::alloc::{AllocError, Global};
+
+/// A node whose texts are where they came from.
+#[derive(Clone, Copy, PartialEq, Eq, Hash)]
+pub(crate) enum NodeKey<'a> {
+    Path(&'a str),
+    Process(u32),
+    // a table, a row and its version
+    Row(&'a str, u32, u32),
+    Ask(u32),
+    Reply(u32),
+}
+
+/// Nodes with their places, in the order in which they were first seen.
+pub(crate) type NodeKeys<'a> = IndexSet<NodeKey<'a>>;
+
+/// A row at a version, which needn't be its own.
+pub(crate) fn version_key(member: &Member, version: u32) -> NodeKey<'_>
+    ensures { node_of result ≡ Row (at_version member.now version) }
+{
+    NodeKey::Row(member.table.as_str(), member.row, version)
+}
+
+/// A row at its version.
+pub(crate) fn row_key(member: &Member) -> NodeKey<'_>
+    ensures { node_of result ≡ Row member.now }
+{
+    version_key(member, member.version)
+}
+
+/// The key of a node.
+pub(crate) fn key_of(node: &Node) -> NodeKey<'_>
+    ensures { node_of result ≡ node.now }
+{
+    match node {
+        Node::Path(path) => NodeKey::Path(path.as_str()),
+        Node::Process(process) => NodeKey::Process(*process),
+        Node::Row(member) => row_key(member),
+        Node::Ask(statement) => NodeKey::Ask(*statement),
+        Node::Reply(statement) => NodeKey::Reply(*statement),
+    }
+}
+
+/// Whether two nodes are the same.
+#[tactic(auto, using(crate::proofs::KeyLaws::key_same))]
+pub(crate) fn is_same(node: &Node, other: &Node) -> bool
+    ensures { result ≡ same_node node.now other.now }
+{
+    key_of(node) == key_of(other)
+}
+
+/// Puts a node at the end, if it isn't there yet, and returns its place.
+pub(crate) fn number<'a>(keys: &mut NodeKeys<'a>, key: NodeKey<'a>) -> Result<usize, AllocError>
+    ensures nodes { OnOk result (map node_of keys.new.keys
+        ≡ with_node (map node_of keys.old.keys) (node_of key.entry)) }
+    ensures place { IfOk result (λ place. place ≡ place_in (map node_of keys.old.keys) (node_of key.entry)) }
+{
+    let (place, _) = keys.insert_full(key)?;
+    Ok(place)
+}
+
+// The node of a key, with texts of its own.
+fn node_at(alloc: Global, key: &NodeKey<'_>) -> Result<Node, AllocError>
+    ensures { IfOk result (λ node. node ≡ node_of key.now) }
+{
+    match key {
+        NodeKey::Path(path) => Ok(Node::Path(Utf8::of(alloc, *path)?)),
+        NodeKey::Process(process) => Ok(Node::Process(*process)),
+        NodeKey::Row(table, row, version) => Ok(Node::Row(Member {
+            table: Utf8::of(alloc, *table)?,
+            row: *row,
+            version: *version,
+        })),
+        NodeKey::Ask(statement) => Ok(Node::Ask(*statement)),
+        NodeKey::Reply(statement) => Ok(Node::Reply(*statement)),
+    }
+}
+
+/// The nodes of keys, in their order.
+pub(crate) fn nodes_of(alloc: Global, keys: &[NodeKey<'_>]) -> Result<Nodes, AllocError>
+    ensures { IfOk result (λ nodes. nodes ≡ map node_of keys.now) }
+{
+    let mut nodes = Nodes::with_capacity(alloc, keys.len())?;
+    for key in keys {
+        nodes.push(node_at(alloc, key)?)?;
+    }
+    Ok(nodes)
+}

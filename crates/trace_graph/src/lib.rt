@@ -1,0 +1,31 @@
+//! The provenance graph of a trace: what came from what.
+//!
+//! A node is a path, a process, a row of a table at a version, a statement or the reply to one. An edge goes
+//! from where information comes from to where it goes, with the interval of the steps in which it does.
+//! `specs/Links.antt` says what each act links, and `specs/Graph.antt` what graph these links make.
+//!
+//! It promises to the layers above:
+//! - `Graph::of_events` is the graph of every valid trace: each node once, in the order in which they are
+//!   first seen, and one edge for each pair of nodes, with the first and the last of its times;
+//! - `nodes` and `edges` lend these lists; each edge is between places of nodes;
+//! - `place` is where a node is in the list of nodes;
+//! - `graph_law`: which nodes and edges a graph has, said of the links that it was made of
+//!   (`specs/GraphLaws.antt`), and which row versions, said of the events (`specs/VersionLaws.antt`).
+//!
+//! Nodes and edges are numbered by hash tables over the texts of the events, so that time and memory are
+//! linear in the trace. No clause says so. `place` keeps no table, and looks at each node.
+#![tactic(auto)]
+
+mod building;
+mod edge;
+mod graph;
+mod key;
+mod law;
+mod linking;
+mod node;
+mod span;
+
+pub use edge::{Edge, Edges};
+pub use graph::Graph;
+pub use law::graph_law;
+pub use node::{Node, Nodes};
