@@ -1,0 +1,288 @@
+#!/usr/bin/env python3
+"""Statements by `ldv run` beside the same statements over the same rows by Python's sqlite3.
+
+    engine.py LDV FOLDER [--sizes N,..] [--cases NAME,..] [--runs N]
+
+LDV is the program and FOLDER a place for worlds and outcomes. For each case and each number of rows a world is
+made, with a script that asks the case's statements, and one whose script only ends: what `ldv run` takes for it
+is the load. Beside it a child process loads the same rows into a database of sqlite3 in memory, asks the same
+statements and takes all their rows. A case is refused where the two didn't find as many rows with the same sum.
+
+Seconds are the least and MiB the greatest of some runs. `load` is in `all` for both.
+"""
+import argparse
+import json
+import os
+import sqlite3
+import subprocess
+import sys
+import time
+
+SIZES = [1000, 10000, 100000, 1000000]
+RUNS = 3
+POINTS = 100000
+INSERTS = 300000
+NOT_BUILT = 13
+
+
+# ---- tables: name, columns, and the row of a number from 1
+
+def row_of_t(i):
+    return (i, i % 10, i * 7919 % 100003, i % 100000)
+
+
+def row_of_a(i):
+    return (i, i * 7919 % 1000)
+
+
+def row_of_b(i):
+    return (i, i * 104729 % 1000)
+
+
+def row_of_c(i):
+    return (i, i * 1299709 % 1000)
+
+
+TABLES = {
+    't': (['k', 'g', 'v', 'h'], row_of_t),
+    'a': (['id', 'v'], row_of_a),
+    'b': (['id', 'w'], row_of_b),
+    'c': (['id', 'x'], row_of_c),
+}
+
+
+# ---- cases: the tables, and statements with how often each is asked and its parameter
+
+def once(text):
+    return [(text, 1, None)]
+
+
+CASES = {
+    # a join of two tables on their keys
+    'join2': ('ab', once('SELECT a.id, b.w FROM a JOIN b ON a.id = b.id')),
+    # a join of three with a filter on each
+    'join3': ('abc', once('SELECT a.id, b.w, c.x FROM a JOIN b ON a.id = b.id JOIN c ON b.id = c.id '
+                          'WHERE a.v < 500 AND b.w < 500 AND c.x < 500')),
+    'group10': ('t', once('SELECT g, COUNT(*), SUM(v), MIN(v), MAX(v) FROM t GROUP BY g')),
+    'group100000': ('t', once('SELECT h, COUNT(*), SUM(v), MIN(v), MAX(v) FROM t GROUP BY h')),
+    'distinct': ('t', once('SELECT DISTINCT g, v FROM t')),
+    'union': ('t', once('SELECT v FROM t WHERE g < 5 UNION SELECT h FROM t WHERE g > 3')),
+    'order': ('t', once('SELECT g, v, k FROM t ORDER BY v DESC, g')),
+    # the parameter goes from 1 up to the number of times; keys above the number of rows find nothing
+    'points': ('t', [('SELECT v FROM t WHERE k = ?', POINTS, 0)]),
+    # new keys, after those that are there
+    'inserts': ('t', [('INSERT INTO t VALUES (?, 1, 2, 3)', INSERTS, None)]),
+    'update': ('t', once('UPDATE t SET v = v + 1 WHERE g = 3')),
+    # each key becomes the one before it. Upwards sqlite3 refuses it, as it tests the keys row by row
+    'shift': ('t', once('UPDATE t SET k = k - 1')),
+    'delete': ('t', once('DELETE FROM t WHERE g = 3')),
+}
+
+
+def rows_of(name, size):
+    row = TABLES[name][1]
+    return (row(i) for i in range(1, size + 1))
+
+
+def first_parameter(statement, size):
+    """The parameter before the first one: 0, or the greatest key."""
+    return size if statement[2] is None else statement[2]
+
+
+# ---- worlds
+
+def script_of(statements, size):
+    lines = []
+    for place, statement in enumerate(statements):
+        text, times, _ = statement
+        if times == 1:
+            lines.append(f'sql q "{text}"')
+            continue
+        first = first_parameter(statement, size)
+        lines += [f'let i = {first}', f'l{place}:', 'let i = i + 1', f'sql q "{text}" i',
+                  f'if i < {first + times} goto l{place}']
+    return ''.join(line + '\n' for line in lines)
+
+
+def write_table(out, name, size):
+    columns = TABLES[name][0]
+    kinds = [[column, 'INT NOT NULL' if place == 0 else 'INT'] for place, column in enumerate(columns)]
+    out.write(f'{json.dumps(name)}:{{"columns":{json.dumps(kinds)},"key":["{columns[0]}"],"rows":[')
+    for place, row in enumerate(rows_of(name, size)):
+        out.write((',[' if place else '[') + ','.join(map(str, row)) + ']')
+    out.write(']}')
+
+
+def write_world(path, script, tables, size):
+    with open(path, 'w', encoding='utf-8') as out:
+        out.write(f'{{"start":["main"],"files":{{"main":{json.dumps(script)}}},"tables":{{')
+        for place, name in enumerate(sorted(tables)):
+            out.write(',' if place else '')
+            write_table(out, name, size)
+        out.write('}}\n')
+
+
+# ---- what was found: how many rows or changed rows, and the sum of all numbers in them
+
+def found_in(path):
+    """The same of an outcome."""
+    count = total = 0
+    with open(path, 'rb') as lines:
+        for line in lines:
+            word, _, rest = line.partition(b' ')
+            if word == b'int':
+                total += int(rest)
+            elif word in (b'rows', b'changed'):
+                count += int(rest)
+            elif word == b'refused':
+                sys.exit(f'engine: refused: {line!r}')
+    return count, total
+
+
+# ---- runs
+
+def run(words, source, target):
+    """Status, seconds and MiB of a run."""
+    with open(source, 'rb') as reader, open(target, 'wb') as writer:
+        before = time.monotonic()
+        child = subprocess.Popen(words, stdin=reader, stdout=writer, stderr=subprocess.DEVNULL)
+        _, status, usage = os.wait4(child.pid, 0)
+        seconds = time.monotonic() - before
+        child.returncode = os.waitstatus_to_exitcode(status)
+    return child.returncode, seconds, usage.ru_maxrss / 1024
+
+
+def best(words, source, target, runs):
+    """Status, the least seconds and the greatest MiB of some runs."""
+    took = [run(words, source, target) for _ in range(runs)]
+    return took[0][0], min(one[1] for one in took), max(one[2] for one in took)
+
+
+def measure_ldv(ldv, folder, case, size, runs):
+    """Seconds of all and of the load, MiB of all and of the load, and what was found; None where it isn't run yet."""
+    tables, statements = CASES[case]
+    world, outcome = os.path.join(folder, 'world'), os.path.join(folder, 'outcome')
+    write_world(world, 'exit 0', tables, size)
+    status, load, load_memory = best([ldv, 'run'], world, outcome, runs)
+    if status:
+        sys.exit(f'engine: {ldv} ended with {status}')
+    write_world(world, script_of(statements, size), tables, size)
+    status, total, memory = best([ldv, 'run'], world, outcome, runs)
+    if status == NOT_BUILT:
+        return None
+    if status:
+        sys.exit(f'engine: {case}: {ldv} ended with {status}')
+    return total, load, memory, load_memory, found_in(outcome)
+
+
+def measure_sqlite(folder, case, size, runs):
+    """Seconds of all and of the load, MiB, and what was found."""
+    told = os.path.join(folder, 'told')
+    parts = []
+    memory = 0.0
+    for _ in range(runs):
+        words = [sys.executable, os.path.abspath(__file__), '--beside', case, str(size)]
+        status, _, one = run(words, os.devnull, told)
+        if status:
+            sys.exit(f'engine: {case}: sqlite3 ended with {status}')
+        memory = max(memory, one)
+        with open(told, encoding='utf-8') as text:
+            parts.append(json.load(text))
+    load = min(part[0] for part in parts)
+    total = min(part[0] + part[1] for part in parts)
+    return total, load, memory, tuple(parts[0][2:])
+
+
+# ---- the child: sqlite3
+
+def load(database, tables, size):
+    database.execute('BEGIN')
+    for name in sorted(tables):
+        columns = TABLES[name][0]
+        kinds = [f'{columns[0]} INTEGER NOT NULL PRIMARY KEY'] + [f'{column} INTEGER' for column in columns[1:]]
+        database.execute(f'CREATE TABLE {name} ({", ".join(kinds)})')
+        marks = ', '.join('?' * len(columns))
+        database.executemany(f'INSERT INTO {name} VALUES ({marks})', rows_of(name, size))
+    database.execute('COMMIT')
+
+
+def ask(database, statement, size):
+    """All rows of a statement that is asked so many times, and how many it changed."""
+    text, times, _ = statement
+    first = first_parameter(statement, size)
+    rows = []
+    changed = 0
+    for i in range(first + 1, first + times + 1):
+        cursor = database.execute(text, (i,) if times > 1 else ())
+        if cursor.description:
+            rows += cursor.fetchall()
+        else:
+            changed += cursor.rowcount
+    return rows, changed
+
+
+def beside(case, size):
+    tables, statements = CASES[case]
+    # Each statement commits alone.
+    database = sqlite3.connect(':memory:', isolation_level=None)
+    start = time.monotonic()
+    load(database, tables, size)
+    loaded = time.monotonic()
+    answers = [ask(database, statement, size) for statement in statements]
+    asked = time.monotonic()
+    count = sum(len(rows) + changed for rows, changed in answers)
+    total = sum(sum(value for value in row if value is not None) for rows, _ in answers for row in rows)
+    json.dump([loaded - start, asked - loaded, count, total], sys.stdout)
+
+
+# ---- the table
+
+def ratio(a, b):
+    return a / max(b, 0.001)
+
+
+def show(case, size, ours, theirs):
+    if ours is None:
+        print(f'{case:12s} {size:8d}   not run yet')
+        return
+    total, load_time, memory, load_memory, found = ours
+    their_total, their_load, their_memory, their_found = theirs
+    if found != their_found:
+        sys.exit(f'engine: {case} {size}: ldv found {found}, sqlite3 {their_found}')
+    asked, their_asked = max(total - load_time, 0.0), their_total - their_load
+    print(f'{case:12s} {size:8d} {total:8.3f} {load_time:8.3f} {asked:8.3f} {memory:8.1f} {load_memory:8.1f}'
+          f' {their_total:8.3f} {their_load:8.3f} {their_asked:8.3f} {their_memory:8.1f}'
+          f' {ratio(total, their_total):7.2f} {ratio(asked, their_asked):7.2f}', flush=True)
+
+
+HEAD = (f'{"":12s} {"":8s} {"ldv":>8s} {"":8s} {"":8s} {"":8s} {"":8s} {"sqlite3":>8s} {"":8s} {"":8s} {"":8s}'
+        f' {"ratio":>7s}\n'
+        f'{"case":12s} {"rows":>8s} {"all":>8s} {"load":>8s} {"asked":>8s} {"MiB":>8s} {"of load":>8s}'
+        f' {"all":>8s} {"load":>8s} {"asked":>8s} {"MiB":>8s} {"all":>7s} {"asked":>7s}')
+
+
+def arguments(words):
+    parser = argparse.ArgumentParser(description=__doc__, formatter_class=argparse.RawDescriptionHelpFormatter)
+    parser.add_argument('ldv')
+    parser.add_argument('folder')
+    parser.add_argument('--sizes', default=','.join(map(str, SIZES)))
+    parser.add_argument('--cases', default=','.join(CASES))
+    parser.add_argument('--runs', type=int, default=RUNS)
+    return parser.parse_args(words)
+
+
+def main(words):
+    if words[:1] == ['--beside']:
+        beside(words[1], int(words[2]))
+        return
+    given = arguments(words)
+    print(HEAD)
+    for case in given.cases.split(','):
+        for size in map(int, given.sizes.split(',')):
+            ours = measure_ldv(given.ldv, given.folder, case, size, given.runs)
+            theirs = ours and measure_sqlite(given.folder, case, size, given.runs)
+            show(case, size, ours, theirs)
+
+
+if __name__ == '__main__':
+    main(sys.argv[1:])
