@@ -3,7 +3,7 @@
 ghost use Rattle.std.specs.Prelude.{◌≡◌, ◌≤◌, List as Items, Some, [], true, slice_get, IfOk, IfErr, OnOk};
 ghost use Rattle.ldv_value.specs.Gives.{Gives};
 ghost use Rattle.ldv_value.specs.Limits.{max_steps};
-ghost use Rattle.proc_core.specs.Running.{Stands};
+ghost use Rattle.proc_core.specs.Running.{Stands, has_ended};
 ghost use Rattle.proc_core.specs.Stands.{Told};
 ghost use Rattle.run_model.specs.Events.{start_events};
 ghost use Rattle.run_model.specs.Run.{run as state_after};
@@ -80,6 +80,7 @@ fn run_to_end<T: Tracer>(
     ensures state { IfOk result (λ run. (script : Items Instr) → start_script world ≡ Some script
         → Stands run.machine (database run.db) (state_after sql_base budget [] (start_state world script))) }
     ensures ended { OnOk result (ends_within budget world ≡ true) }
+    ensures over { IfOk result (λ run. has_ended run.machine ≡ true) }
     ensures told { IfOk result (λ run. Told T.KEEPS (T.events tracer) (T.events run.tracer)
         (events_within budget world)) }
     ensures steps { IfOk result (λ run. run.steps ≡ steps_by budget [] world) }

@@ -1,34 +1,77 @@
 -- A run after one step more, with the set of processes that may run.
-use Rattle.std.proofs.Common.{◌≡◌, ℕ, zero, suc, List, [], length, refl, sym, ap, ◌∙◌, subst, Bool, true, false, inl, inr}
-use Rattle.std.specs.Prelude.{Option, Some, None, slice_get, is_some, ◌||◌}
-use Rattle.std.proofs.lemmas.Bool.{cases_Bool}
+use Rattle.std.proofs.Common.{◌≡◌, ℕ, zero, suc, ◌+◌, ◌≤◌, List, [], ◌∷◌, length, refl, sym, ap, ◌∙◌, subst, Bool, true, false, arith, inl, inr}
+use Rattle.std.specs.Prelude.{Option, Some, None, slice_get, is_none, is_some, not, ◌&&◌, ◌||◌, ◌==◌}
+use Rattle.std.specs.List.{list_all}
+use Rattle.std.proofs.lemmas.Bool.{cases_Bool, and_parts, ne_eqb}
 use Rattle.ready_set.specs.Flags.{runnable_flags}
-use Rattle.ready_set.specs.Ready.{Ready}
+use Rattle.ready_set.specs.Ready.{Ready, numbers}
+use Rattle.ready_set.proofs.FlagLaws.{flags_runnable}
 use Rattle.run_model.specs.Core.{Process, Core, all_ended, is_over}
+use Rattle.run_model.specs.Core.{has_ended as process_ended}
 use Rattle.run_model.specs.Database.{Base}
 use Rattle.run_model.specs.Run.{chosen, move, run}
 use Rattle.run_model.specs.RunLaw.{MayRun}
-use Rattle.run_model.specs.Schedule.{choose, scheduled}
+use Rattle.run_model.specs.Schedule.{is_waiting, is_runnable, runnable_from, runnable, choose, scheduled}
 use Rattle.run_model.specs.State.{State, Stepped}
 use Rattle.run_model.specs.Step.{step}
 use Rattle.run_model.proofs.Equations.{run-zero, run-over, run-suc}
 use Rattle.run_model.proofs.NeverStuck.{Ordered, chosen_runs, move_ordered}
 use Rattle.proc_core.specs.declared.machine.Machine.{Machine}
-use Rattle.proc_core.specs.Running.{Stands}
+use Rattle.proc_core.specs.Running.{Stands, has_ended}
 use Rattle.proc_core.specs.SlotReady.{Grows, refreshed, AreKin, IsReady}
-use Rattle.proc_core.specs.SlotStep.{slots_ended}
 use Rattle.proc_core.specs.Stands.{IsCore, IsState}
-use Rattle.proc_core.proofs.Machines.{ended_same}
 use Rattle.proc_core.proofs.Moving.{step_moved, may_run_going}
 use Rattle.proc_core.proofs.Readiness.{kin_ordered, ready_runs, next_ready}
 
--- whether all have ended
-pub all_ended_same : (m : Machine) (c : Core) → IsCore m c → slots_ended m.processes.items ≡ all_ended c
-all_ended_same m c core = ended_same m.codes m.processes.items c.processes core.processes
+-- ---- whether it has ended
 
-pub chosen_may_run : {Db : Type 0} (m : Machine) (db : Db) (s : State Db) → slots_ended m.processes.items ≡ false → Stands m db s
+ended_rests : (status : Option ℕ) (rest : Bool) → is_some status ≡ true → (is_none status && rest) ≡ false
+ended_rests None rest some = absurd cc
+ended_rests (Some status) rest some = refl
+
+-- where all have ended none may run
+none_runs : (all ps : List Process) (n : ℕ) → list_all process_ended ps ≡ true → runnable_from n all ps ≡ []
+none_runs all [] n over = refl
+none_runs all (p ∷ ps) n over =
+    let parts = and_parts (process_ended p) (list_all process_ended ps) over in
+    let rests : is_runnable all p ≡ false = ended_rests p.status (not (is_waiting (slice_get p.script p.place) p all)) parts.0 in
+    rw rests (none_runs all ps (n + 1) parts.1)
+
+-- a process that may run is among those that may
+one_runs : (all ps : List Process) (n k : ℕ) (p : Process) → slice_get ps k ≡ Some p → is_runnable all p ≡ true
+    → 1 ≤ length (runnable_from n all ps)
+one_runs all [] n k p at runs = absurd cc
+one_runs all (q ∷ ps) n zero p at runs =
+    let same : q ≡ p = cc in
+    let first : is_runnable all q ≡ true = ap (is_runnable all) same ∙ runs in
+    rw first (omega arith)
+one_runs all (q ∷ ps) n (suc k) p at runs =
+    let later : 1 ≤ length (runnable_from (n + 1) all ps) = one_runs all ps (n + 1) k p at runs in
+    elim (cases_Bool (is_runnable all q)) [
+      | inl first ↦ rw first (omega (arith, later))
+      | inr rests ↦ rw rests later
+    ]
+
+none_left : (c : Core) → Ordered c → (length (runnable c) == 0) ≡ all_ended c
+none_left c ordered = elim (cases_Bool (all_ended c)) [
+  | inl over ↦ ap (λ (ns : List ℕ). length ns == 0) (none_runs c.processes c.processes 0 over) ∙ sym over
+  | inr going ↦
+      let may : MayRun (choose None c) c = chosen_runs None c ordered going in
+      let some : 1 ≤ length (runnable c) = one_runs c.processes c.processes 0 (choose None c) may.0 may.1 may.2 in
+      ne_eqb (length (runnable c)) 0 (λ none. omega (arith, some, none)) ∙ sym going
+]
+
+-- no process may run exactly where all have ended
+pub all_ended_same : (m : Machine) (c : Core) → IsReady m c → has_ended m ≡ all_ended c
+all_ended_same m c ready =
+    let same : numbers m.ready.flags ≡ runnable c = ap numbers ready.flags ∙ flags_runnable c in
+    ap (λ (ns : List ℕ). length ns == 0) same ∙ none_left c (kin_ordered m.parents c ready.kin)
+
+pub chosen_may_run : {Db : Type 0} (m : Machine) (db : Db) (s : State Db) → has_ended m ≡ false → Stands m db s
     → MayRun (choose None s.core) s.core
-chosen_may_run m db s going is = ready_runs m s.core is.ready (sym (all_ended_same m s.core is.state.0) ∙ going)
+chosen_may_run m db s going is = ready_runs m s.core is.ready (sym (all_ended_same m s.core is.ready) ∙ going)
+
+-- ---- one step more
 
 -- the same but for the set
 same_core : (a b : Machine) (c : Core) → b ≡ record a { ready = b.ready } → IsCore a c → IsCore b c
@@ -44,7 +87,7 @@ same_core a b c is core =
     })
 
 module _ {Db : Type 0} (base : Base Db) (m ready after last : Machine) (number : ℕ) (db db1 : Db) (s : State Db)
-    (going : slots_ended m.processes.items ≡ false) (is : Stands m db s)
+    (going : has_ended m ≡ false) (is : Stands m db s)
     (picks : (c : Core) → IsCore m c → m.ready.flags ≡ runnable_flags c.processes → number ≡ choose None c)
     (core : (c : Core) → IsCore m c → IsCore ready (scheduled number c))
     (same_ready : ready.ready ≡ m.ready) (same_parents : ready.parents ≡ m.parents) where

@@ -17,10 +17,9 @@ use Rattle.proc_core.specs.declared.ask.Statement.{Statement}
 use Rattle.proc_core.specs.declared.machine.Machine.{Machine}
 use Rattle.proc_core.specs.declared.process.SlotProcess.{SlotProcess}
 use Rattle.proc_core.specs.declared.stop.Stopped.{Stopped}
-use Rattle.proc_core.specs.Running.{Stands}
+use Rattle.proc_core.specs.Running.{Stands, has_ended}
 use Rattle.proc_core.specs.SlotAsk.{slot_ask_in, slot_ask_at}
 use Rattle.proc_core.specs.SlotReady.{Grows, refreshed}
-use Rattle.proc_core.specs.SlotStep.{slots_ended}
 use Rattle.proc_core.specs.Stands.{IsCore, IsState, Told}
 use Rattle.proc_core.specs.Stops.{HasStopped}
 use Rattle.proc_core.proofs.Advances.{advanced, moved_step, scheduled_state}
@@ -37,7 +36,7 @@ asked_within m number t is = within_by m number t (slice_get m.processes.items n
 
 -- ---- one step of a run
 
-module _ {Db : Type 0} (base : Base Db) (m ready : Machine) (number : ℕ) (db : Db) (s : State Db) (going : slots_ended m.processes.items ≡ false)
+module _ {Db : Type 0} (base : Base Db) (m ready : Machine) (number : ℕ) (db : Db) (s : State Db) (going : has_ended m ≡ false)
     (is : Stands m db s) (picks : (c : Core) → IsCore m c → m.ready.flags ≡ runnable_flags c.processes → number ≡ choose None c)
     (core : (c : Core) → IsCore m c → IsCore ready (scheduled number c))
     (same_ready : ready.ready ≡ m.ready) (same_parents : ready.parents ≡ m.parents) where

@@ -1,4 +1,6 @@
 -- What a run is for the state that it is in, with the set of processes that may run.
+use Rattle.std.specs.Prelude.{◌==◌, length, Bool}
+use Rattle.ready_set.specs.Ready.{numbers}
 use Rattle.run_model.specs.State.{State}
 use Rattle.proc_core.specs.declared.machine.Machine.{Machine}
 use Rattle.proc_core.specs.SlotReady.{IsReady}
@@ -7,3 +9,7 @@ use Rattle.proc_core.specs.Stands.{IsState}
 pub record Stands {Db : Type 0} (m : Machine) (db : Db) (s : State Db) : Type 0 where
   pub state : IsState m db s
   pub ready : IsReady m s.core
+
+-- no process may run any more
+abbrev pub has_ended : Machine → Bool
+has_ended m = length (numbers m.ready.flags) == 0

@@ -2,6 +2,7 @@
 
 ghost use Rattle.std.specs.Prelude.{◌≡◌, ◌<◌, length, slice_set};
 ghost use Rattle.std.specs.Option.{option_map};
+ghost use Rattle.proc_core.specs.Running.{has_ended};
 ghost use Rattle.proc_core.specs.SlotReady.{marked, marked_parent, refreshed};
 
 use crate::keep::status_in;
@@ -66,6 +67,13 @@ fn refresh_flags(
         None => {}
         Some(_) => mark_parent(codes, processes, parents.get(number), ready),
     }
+}
+
+/// Whether no process may run any more.
+pub(crate) fn has_ended(machine: &Machine) -> bool
+    ensures { result ≡ has_ended machine.now }
+{
+    machine.ready.len() == 0
 }
 
 /// The machine after a step of a process, whose flag is brought up to date, and where it has ended that of

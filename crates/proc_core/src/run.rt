@@ -13,15 +13,14 @@ ghost use Rattle.run_model.specs.RunLaw.{MayRun, started};
 ghost use Rattle.run_model.specs.Schedule.{choose};
 ghost use Rattle.run_model.specs.State.{State};
 ghost use Rattle.proc_core.specs.Counts.{AskedFewer};
-ghost use Rattle.proc_core.specs.Running.{Stands};
-ghost use Rattle.proc_core.specs.SlotStep.{slots_ended};
+ghost use Rattle.proc_core.specs.Running.{Stands, has_ended};
 ghost use Rattle.proc_core.specs.Stands.{IsStartScript, Told};
 ghost use Rattle.proc_core.specs.Stops.{HasStopped, HasRunStopped};
 
 use crate::machine::Machine;
 use crate::outcome::outcome_of;
-use crate::ready::refresh;
-use crate::schedule::{choose, have_ended, schedule};
+use crate::ready::{has_ended, refresh};
+use crate::schedule::{choose, schedule};
 use crate::start::machine_at;
 use crate::step::move_on;
 use crate::stop::{RunStop, Stopped};
@@ -87,9 +86,9 @@ impl<D: Database, T: Tracer> Run<D, T> {
     pub fn ended(&self) -> bool
         ensures ended { (s : State D.Db) → Stands self.now.machine (D.seen self.now.db) s
             → result ≡ all_ended s.core }
-        ensures slots { result ≡ slots_ended self.now.machine.processes.items }
+        ensures slots { result ≡ has_ended self.now.machine }
     {
-        have_ended(&self.machine.processes)
+        has_ended(&self.machine)
     }
 
     /// How many steps were made.
@@ -101,7 +100,7 @@ impl<D: Database, T: Tracer> Run<D, T> {
 
     /// One step of the process that the seed chooses.
     pub fn advance(self) -> Result<Run<D, T>, Stopped>
-        requires going { slots_ended self.machine.processes.items ≡ false }
+        requires going { has_ended self.machine ≡ false }
         requires room { self.steps < 10000000 }
         // The process that makes the step may run.
         ensures runs { (s : State D.Db) → Stands self.machine (D.seen self.db) s
@@ -149,6 +148,7 @@ impl<D: Database, T: Tracer> Run<D, T> {
             → Stands after.machine (D.seen after.db) (state_after D.base budget [] s)) }
         ensures ended { OnOk result ((s : State D.Db) → Stands self.machine (D.seen self.db) s
             → all_ended (state_after D.base budget [] s).core ≡ true) }
+        ensures over { IfOk result (λ after. has_ended after.machine ≡ true) }
         ensures told { IfOk result (λ after. (s : State D.Db)
             → Stands self.machine (D.seen self.db) s
             → Told T.KEEPS (T.events self.tracer) (T.events after.tracer)
@@ -186,7 +186,7 @@ impl<D: Database, T: Tracer> Run<D, T> {
     /// The outcome of a run that has ended.
     #[tactic(auto, using(crate::proofs::Outcomes::outcome_is))]
     pub fn outcome(&self) -> Result<Outcome, AllocError>
-        requires { slots_ended self.now.machine.processes.items ≡ true }
+        requires { has_ended self.now.machine ≡ true }
         ensures { IfOk result (λ outcome. (s : State D.Db) → Stands self.now.machine (D.seen self.now.db) s
             → outcome ≡ outcome_of s.core) }
     {

@@ -7,7 +7,7 @@ ghost use Rattle.ready_set.specs.Flags.{runnable_flags};
 ghost use Rattle.ready_set.specs.Ready.{numbers};
 ghost use Rattle.run_model.specs.Schedule.{choose, scheduled, moved_x, pick_of};
 ghost use Rattle.proc_core.specs.SlotStep.{slot_is_runnable, slot_waits_at, slot_waits_for};
-ghost use Rattle.proc_core.specs.SlotStep.{slot_still_runs, slots_ended};
+ghost use Rattle.proc_core.specs.SlotStep.{slot_still_runs};
 ghost use Rattle.proc_core.specs.Slots.{child_at};
 ghost use Rattle.proc_core.specs.Stands.{IsCore};
 
@@ -144,11 +144,4 @@ pub(crate) fn schedule(machine: Machine, number: u32) -> Machine
         parents,
         runners,
     }
-}
-
-/// Whether all processes have ended.
-pub(crate) fn have_ended(processes: &[SlotProcess]) -> bool
-    ensures { result ≡ slots_ended processes.now }
-{
-    processes.iter().all(|process| process.status.is_some())
 }
