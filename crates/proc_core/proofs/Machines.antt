@@ -1,12 +1,11 @@
 -- Steps of a machine, over slots and as they are defined.
 use Rattle.std.proofs.Common.{◌≡◌, ℕ, zero, suc, ◌+◌, List, [], ◌∷◌, ◌++◌, length, map, refl, sym, ap, ◌∙◌, subst, Bool, true, false, inl, inr, ◌<◌, ◌≤◌, arith, append_assoc}
-use Rattle.std.specs.Prelude.{Option, Some, None, pos, slice_get, slice_set, option_map, option_and_then, not, ◌&&◌, is_none, is_some, if◌then◌else◌}
-use Rattle.std.specs.List.{list_all}
+use Rattle.std.specs.Prelude.{Option, Some, None, pos, slice_get, slice_set, option_map, option_and_then, not, ◌&&◌, is_none, if◌then◌else◌}
 use Rattle.ldv_value.proofs.Lists.{append-nil}
 use Rattle.script_parse.specs.declared.script.Instr.TheVariants as instr
 use Rattle.proc_core.specs.Types.{Value, Int, Instr, Act, Event}
 use Rattle.run_model.specs.Events.{event_at}
-use Rattle.run_model.specs.Core.{Process, Core, has_ended, all_ended, with_process, lookup}
+use Rattle.run_model.specs.Core.{Process, Core, with_process, lookup}
 use Rattle.run_model.specs.Schedule.{still_runs, waits_for, waits_at, is_waiting, is_runnable, runnable_from, runnable, scheduled, choose, pick_of, moved_x}
 use Rattle.run_model.specs.Step.{execute, execute_next, quiet_of, quiet, asked_by, ask_by, ask_in, ask_at, ends_at, end_acts, status_acts}
 use Rattle.run_model.specs.StepBase.{ended, went_on, with_variable, Effect, FileEffect, on_files, wrong_kind}
@@ -25,7 +24,7 @@ use Rattle.proc_core.specs.declared.process.SlotProcess.{SlotProcess}
 use Rattle.proc_core.specs.Resolved.{slot_of, HasName, Resolves, ResolvesAll, slot_instr, HasAll, IsCode, IsScope}
 use Rattle.proc_core.specs.Slots.{Holds, child_at, slot_ended, slot_with_variable}
 use Rattle.proc_core.specs.SlotFiles.{SlotEffect, slot_on_files}
-use Rattle.proc_core.specs.SlotStep.{slotted_at, next_slotted, slot_status_in, slot_wait_until, slot_wait_for, slot_effect, slots_ended, IsKept}
+use Rattle.proc_core.specs.SlotStep.{slotted_at, next_slotted, slot_status_in, slot_wait_until, slot_wait_for, slot_effect, IsKept}
 use Rattle.proc_core.specs.Stands.{IsProcess, AreProcesses, IsCore, Told}
 use Rattle.proc_core.proofs.Holding.{holds_ended, holds_went_on, holds_variable, child_same}
 use Rattle.proc_core.proofs.ReplySame.{close_same, fetch_same, count_same, status_same as reply_status_same}
@@ -61,12 +60,6 @@ module _ (codes : List Code) where
   replaced (q ∷ rs) [] n r p are is = absurd are
   replaced (q ∷ rs) (o ∷ ps) zero r p are is = (is, are.1)
   replaced (q ∷ rs) (o ∷ ps) (suc n) r p are is = (are.0, replaced rs ps n r p are.1 is)
-
-  pub ended_same : (rs : List SlotProcess) (ps : List Process) → AreProcesses codes rs ps → slots_ended rs ≡ list_all has_ended ps
-  ended_same [] [] are = refl
-  ended_same [] (p ∷ ps) are = absurd are
-  ended_same (r ∷ rs) [] are = absurd are
-  ended_same (r ∷ rs) (p ∷ ps) are = λ i. is_some (are.0.5.status i) && ended_same rs ps are.1 i
 
   pub status_same : (rs : List SlotProcess) (ps : List Process) (n : ℕ) → AreProcesses codes rs ps → slot_status_in rs n ≡ status_in ps n
   status_same [] [] n are = refl

@@ -1,8 +1,7 @@
 -- One step over slots.
 use Rattle.std.specs.Prelude.{◌≡◌, ℕ, ◌+◌, ◌<◌, ◌^◌, pos, List, [], ◌∷◌, slice_get, slice_set, Option, Some}
 use Rattle.std.specs.Prelude.{None}
-use Rattle.std.specs.Prelude.{option_and_then, Bool, false, not, ◌&&◌, is_none, is_some, if◌then◌else◌}
-use Rattle.std.specs.List.{list_all}
+use Rattle.std.specs.Prelude.{option_and_then, Bool, false, not, ◌&&◌, is_none, if◌then◌else◌}
 use Rattle.ldv_value.specs.FileState.{FileState}
 use Rattle.proc_core.specs.Types.{Act, Int, Waited}
 use Rattle.run_model.specs.StepBase.{wrong_kind}
@@ -55,12 +54,6 @@ slot_runnable_from codes n all [] = []
 slot_runnable_from codes n all (r ∷ rs) =
     if slot_is_runnable codes all r then n ∷ slot_runnable_from codes (n + 1) all rs
     else slot_runnable_from codes (n + 1) all rs
-
-abbrev pub slot_has_ended : SlotProcess → Bool
-slot_has_ended r = is_some r.status
-
-abbrev pub slots_ended : List SlotProcess → Bool
-slots_ended rs = list_all slot_has_ended rs
 
 -- ---- what a step leaves
 
