@@ -1,6 +1,6 @@
 -- Steps of a machine, over slots and as they are defined.
 use Rattle.std.proofs.Common.{◌≡◌, ℕ, zero, suc, ◌+◌, List, [], ◌∷◌, ◌++◌, length, map, refl, sym, ap, ◌∙◌, subst, Bool, true, false, inl, inr, ◌<◌, ◌≤◌, arith, append_assoc}
-use Rattle.std.specs.Prelude.{Option, Some, None, pos, slice_get, slice_set, option_map, option_and_then, not, ◌&&◌, is_none, if◌then◌else◌}
+use Rattle.std.specs.Prelude.{Option, Some, None, pos, slice_get, slice_set, option_map, option_and_then, not, is_none, if◌then◌else◌}
 use Rattle.ldv_value.proofs.Lists.{append-nil}
 use Rattle.script_parse.specs.declared.script.Instr.TheVariants as instr
 use Rattle.proc_core.specs.Types.{Value, Int, Instr, Act, Event}

@@ -1,6 +1,6 @@
 -- The state in which a run begins.
 use Rattle.std.proofs.Common.{◌≡◌, ℕ, zero, suc, ◌+◌, List, [], ◌∷◌, length, map, refl, sym, ap, ◌∙◌, subst, Bool, true}
-use Rattle.std.specs.Prelude.{Option, Some, None, slice_get, option_and_then}
+use Rattle.std.specs.Prelude.{Option, Some, None, slice_get, is_some, option_and_then, IsSome}
 use Rattle.std.specs.List.{AllByRecursion}
 use Rattle.ldv_value.specs.FileState.{FileState, content_at, untouched}
 use Rattle.script_parse.specs.Script.{script_of}
@@ -16,7 +16,7 @@ use Rattle.proc_core.specs.Running.{Stands}
 use Rattle.proc_core.specs.SlotReady.{IsKin, IsReady}
 use Rattle.proc_core.specs.SlotSpawn.{IsRead}
 use Rattle.proc_core.specs.Slots.{Holds}
-use Rattle.proc_core.specs.Stands.{AreProcesses, IsCore, IsStartScript}
+use Rattle.proc_core.specs.Stands.{AreProcesses, HasStartScript, IsCore, IsStartScript}
 
 module _ (m : Machine) (path : List ℕ) (words : List (List ℕ)) (seed : ℕ) (files : List File) (script : List Instr) where
   abbrev first : Process
@@ -66,3 +66,10 @@ pub code_due : (bytes : List ℕ) (o : Option (List ℕ)) (code : Code) (due : L
 code_due bytes o code due at read is =
     let both : Some read.0 ≡ Some due = sym read.1 ∙ ap (option_and_then script_of) at ∙ is in
     subst (IsCode code) (one_script read.0 due both) read.2
+
+-- there is one at the first start word
+pub first_there : (path : List ℕ) (words start : List (List ℕ)) (tree : FileState) → start ≡ path ∷ words → HasStartScript start tree
+    → IsSome (option_and_then script_of (content_at tree path))
+first_there path words start tree is has =
+    let here : HasStartScript (path ∷ words) tree = subst (λ (l : List (List ℕ)). HasStartScript l tree) is has in
+    ap (λ (o : Option (List Instr)). is_some o) here.1

@@ -42,6 +42,10 @@ abbrev pub IsStartScript : List (List ℕ) → FileState → List Instr → Type
 IsStartScript [] files script = ⊥
 IsStartScript (path ∷ words) files script = option_and_then script_of (content_at files path) ≡ Some script
 
+-- the file at the first start word is a script
+abbrev pub HasStartScript : List (List ℕ) → FileState → Type 0
+HasStartScript start files = (script : List Instr) × IsStartScript start files script
+
 -- a tracer that keeps events noted these
 abbrev pub Told : Bool → List Event → List Event → List Event → Type 0
 Told keeps old new events = IsTrue keeps → new ≡ old ++ events

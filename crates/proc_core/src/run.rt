@@ -14,7 +14,7 @@ ghost use Rattle.run_model.specs.Schedule.{choose};
 ghost use Rattle.run_model.specs.State.{State};
 ghost use Rattle.proc_core.specs.Counts.{AskedFewer};
 ghost use Rattle.proc_core.specs.Running.{Stands, has_ended};
-ghost use Rattle.proc_core.specs.Stands.{IsStartScript, Told};
+ghost use Rattle.proc_core.specs.Stands.{HasStartScript, IsStartScript, Told};
 ghost use Rattle.proc_core.specs.Stops.{HasStopped, HasRunStopped};
 
 use crate::machine::Machine;
@@ -52,6 +52,7 @@ impl<D: Database, T: Tracer> Run<D, T> {
         tracer: T,
     ) -> Result<Run<D, T>, AllocError>
         requires words { 0 < length start.now }
+        requires script { HasStartScript start.now tree }
         requires fresh { D.latest db ≡ 0 }
         ensures state { IfOk result (λ begun. (script : Items Instr) (files : Items File)
             → tree ≡ untouched files

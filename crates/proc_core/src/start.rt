@@ -1,6 +1,6 @@
 //! The state in which a run begins.
 
-ghost use Rattle.std.specs.Prelude.{◌≡◌, ◌∷◌, Some, List as Items, [], map, true, IfOk};
+ghost use Rattle.std.specs.Prelude.{◌≡◌, ◌∷◌, Some, List as Items, [], map, true, IfOk, IsSome};
 ghost use Rattle.std.specs.Option.{option_and_then};
 ghost use Rattle.ldv_value.specs.FileState.{content_at, untouched};
 ghost use Rattle.script_parse.specs.Script.{script_of};
@@ -26,10 +26,11 @@ use std::collections::BTreeMap;
 
 // The resolved script of bytes.
 fn code_of(alloc: Global, bytes: &[u8]) -> Result<Code, AllocError>
+    requires { IsSome (script_of bytes.now) }
     ensures { IfOk result (λ code. IsRead bytes.now (Some code)) }
 {
     match read_code(alloc, bytes)? {
-        None => Err(AllocError),
+        None => unreachable!(),
         Some(code) => Ok(code),
     }
 }
@@ -37,11 +38,12 @@ fn code_of(alloc: Global, bytes: &[u8]) -> Result<Code, AllocError>
 // The resolved script of a file.
 #[tactic(auto, using(crate::proofs::Starts::code_due))]
 fn code_at(alloc: Global, tree: &Tree, path: &Utf8) -> Result<Code, AllocError>
+    requires { IsSome (option_and_then script_of (content_at tree.now path.now)) }
     ensures { IfOk result (λ code. (due : Items Instr)
         → option_and_then script_of (content_at tree.now path.now) ≡ Some due → IsCode code due) }
 {
     match tree.state(path.as_str()) {
-        None => Err(AllocError),
+        None => unreachable!(),
         Some(bytes) => code_of(alloc, bytes),
     }
 }
@@ -85,6 +87,7 @@ pub(crate) fn machine_at(
     seed: u64,
     tree: Tree,
 ) -> Result<Machine, AllocError>
+    requires { IsSome (option_and_then script_of (content_at tree path.now)) }
     ensures core { IfOk result (λ m. (script : Items Instr) (files : Items File) → tree ≡ untouched files
         → option_and_then script_of (content_at tree path.now) ≡ Some script
         → IsCore m (start_core (path.now ∷ words.now) seed files script)) }

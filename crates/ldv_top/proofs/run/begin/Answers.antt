@@ -3,7 +3,7 @@ use Rattle.proc_core.specs.Running.{Stands}
 use Rattle.run_model.specs.RunLaw.{started}
 use Rattle.run_model.specs.SqlDatabase.{SqlDatabase}
 use Rattle.sql_engine.specs.Asking.{database}
-use Rattle.ldv_top.proofs.EndedRuns.{files_are, files_sorted, tables_database, tables_distinct, has_word, start_script_is}
+use Rattle.ldv_top.proofs.EndedRuns.{files_are, files_sorted, tables_database, tables_distinct, has_script, has_word, start_script_is}
 use Rattle.ldv_top.proofs.run.begin.Goals as goal
 
 pub of_files-requires : goal.of_files-requires
@@ -17,6 +17,12 @@ of_tables-requires-clause-distinct g c = tables_distinct c.args.world.tables c.r
 
 pub start-requires-clause-words : goal.start-requires-clause-words
 start-requires-clause-words g c = has_word c.args.world c.requires.script
+
+pub start-requires-clause-script : goal.start-requires-clause-script
+start-requires-clause-script g c =
+    let sorted = c.in_ok-tree.ensures.sorted (files_sorted c.args.world.files c.requires.files) in
+    let script = has_script c.args.world c.requires.script in
+    (script.0, start_script_is c.args.world script.0 c.in_ok-tree.tree sorted script.1)
 
 pub returns-clause-state : goal.returns-clause-state
 returns-clause-state g c = λ script is.
