@@ -1,2 +1,3 @@
 pub mod Later
 mod Parts
+pub mod Timed

@@ -40,20 +40,6 @@ times_sorted [] sorted = IsNonDecreasingBy-short (λ (v : Version). v.time) [] (
 times_sorted (first ∷ rest) sorted =
     IsNonDecreasingBy-from_all_adjacent (λ (v : Version). v.time) (first ∷ rest) (λ k d within. rw add-one (later_by first rest sorted k d (omega arith)))
 
--- what is kept by a time comes before what isn't
-pub kept_in_front : (versions : List Version) (time i : ℕ)
-    → ((k : ℕ) (d : Version) → k < i → leb (get_or versions k d).time time ≡ true)
-    → ((k : ℕ) (d : Version) → i ≤ k → k < length versions → leb (get_or versions k d).time time ≡ false)
-    → filter (λ (c : Change). nat_le c.time time) (changes_of versions) ≡ changes_of (take i versions)
-kept_in_front [] time zero early late = refl
-kept_in_front [] time (suc i) early late = refl
-kept_in_front (first ∷ rest) time zero early late =
-    let miss : leb first.time time ≡ false = late 0 first (omega arith) (omega arith) in
-    rw miss (kept_in_front rest time zero (λ k d below. absurd (omega arith)) (λ k d from within. late (suc k) d (omega arith) (omega arith)))
-kept_in_front (first ∷ rest) time (suc i) early late =
-    let hit : leb first.time time ≡ true = early 0 first (omega arith) in
-    rw hit (ap (λ (l : List Change). change_of first ∷ l) (kept_in_front rest time i (λ k d below. early (suc k) d (omega arith)) (λ k d from within. late (suc k) d (omega arith) (omega arith))))
-
 front_from : (first : Change) (rest back : List Change) → IsSortedFrom first.time (rest ++ back) → IsSortedFrom first.time rest
 front_from first [] back sorted = tt
 front_from first (next ∷ rest) back sorted = (sorted.0, front_from next rest back sorted.1)

@@ -33,20 +33,6 @@ times_sorted [] ordered = IsNonDecreasingBy-short (λ (n : NextSince). n.time) [
 times_sorted (first ∷ rest) ordered =
     IsNonDecreasingBy-from_all_adjacent (λ (n : NextSince). n.time) (first ∷ rest) (λ k d within. rw add-one (later_by first rest ordered.1 k d (omega arith)))
 
--- what is kept by a time comes before what isn't
-pub kept_in_front : (held : List NextSince) (time i : ℕ)
-    → ((k : ℕ) (d : NextSince) → k < i → leb (get_or held k d).time time ≡ true)
-    → ((k : ℕ) (d : NextSince) → i ≤ k → k < length held → leb (get_or held k d).time time ≡ false)
-    → filter (λ (s : Since). nat_le s.time time) (nexts_of held) ≡ nexts_of (take i held)
-kept_in_front [] time zero early late = refl
-kept_in_front [] time (suc i) early late = refl
-kept_in_front (first ∷ rest) time zero early late =
-    let miss : leb first.time time ≡ false = late 0 first (omega arith) (omega arith) in
-    rw miss (kept_in_front rest time zero (λ k d below. absurd (omega arith)) (λ k d from within. late (suc k) d (omega arith) (omega arith)))
-kept_in_front (first ∷ rest) time (suc i) early late =
-    let hit : leb first.time time ≡ true = early 0 first (omega arith) in
-    rw hit (ap (λ (l : List Since). since_of first ∷ l) (kept_in_front rest time i (λ k d below. early (suc k) d (omega arith)) (λ k d from within. late (suc k) d (omega arith) (omega arith))))
-
 noted_from : (last : Option Since) (low time next : ℕ) (nexts : List Since) → low ≤ option_map_or (λ (s : Since). s.time) last 0 → option_map_or (λ (s : Since). s.time) (last_or last nexts) 0 < time → AreInTimeFrom low nexts
     → AreInTimeFrom low (nexts ++ record { time = time; next = next } ∷ [])
 noted_from last low time next [] from later ordered = (omega (arith, from, later), tt)
