@@ -1,19 +1,21 @@
 //! The rules for start words, files, tables and logs.
 
-ghost use Rattle.std.specs.Prelude.{◌≡◌, IfOk, nat_lt};
+ghost use Rattle.std.specs.Prelude.{◌≡◌, IfOk};
 ghost use Rattle.std.specs.List.{list_all};
-ghost use Rattle.sql_model.specs.Tables.{has_kind, allows, fits, each_value, is_row, is_short, numbers_test};
+ghost use Rattle.sql_model.specs.Tables.{is_short};
 ghost use Rattle.package_layout.specs.Valid.{is_short_text, start_rule, content_rule, file_rule, are_files};
 ghost use Rattle.package_layout.specs.Valid.{files_rule, rows_rule, table_rule, are_tables, tables_rule};
 ghost use Rattle.package_layout.specs.Valid.{refusal_rule, reply_rule, entry_rule, is_root_process, log_rule};
 ghost use Rattle.package_layout.specs.Valid.{logs_rule};
 
 use ldv_value::{
-    Bytes, FILE_LIMIT, MAX_FILES, MAX_PARAMS, MAX_TABLES, Parts, RowList, TEXT_LIMIT, Utf8, Value,
-    Values, Words, is_path, is_strictly_sorted,
+    Bytes, FILE_LIMIT, MAX_FILES, MAX_PARAMS, MAX_TABLES, Parts, RowList, TEXT_LIMIT, Utf8, Words,
+    is_path, is_strictly_sorted,
 };
 use run_model::{Entry, Log, Logs, PackedFile, PackedFiles, PackedRows, PackedTable, PackedTables};
-use sql_model::{Column, Columns, Reply, SqlRefusal, has_key_twice, is_sql_name, meets_schema};
+use sql_model::{
+    Reply, SqlRefusal, are_numbered, are_rows, are_short, has_key_twice, is_sql_name, meets_schema,
+};
 use std::alloc::{AllocError, Global};
 
 pub(crate) fn is_valid_start(words: &Words) -> bool
@@ -23,11 +25,11 @@ pub(crate) fn is_valid_start(words: &Words) -> bool
         [] => false,
         [word, rest @ ..] => is_path(word.as_str())
             && rest.len() <= 255
-            && are_short(words.items()),
+            && are_words_short(words.items()),
     }
 }
 
-fn are_short(words: &[Utf8]) -> bool
+fn are_words_short(words: &[Utf8]) -> bool
     ensures { result ≡ list_all is_short_text words.now }
 {
     words.iter().all(|word| is_short_text(word))
@@ -119,74 +121,15 @@ fn is_valid_table(alloc: Global, table: &PackedTable) -> Result<bool, AllocError
 fn is_valid_rows(table: &PackedTable) -> bool
     ensures { result ≡ rows_rule table.now }
 {
-    are_numbered(table.next, &table.rows)
-        && each_row(&table.schema.columns, &table.rows)
+    are_numbered(table.next, table.rows.items())
+        && are_rows(&table.schema.columns, table.rows.items())
         && each_row_short(&table.rows)
-}
-
-fn are_numbered(next: u32, rows: &PackedRows) -> bool
-    ensures { result ≡ numbers_test (λ row. row.number) next rows.now }
-{
-    is_strictly_sorted(rows.items()) && are_below(next, rows)
-}
-
-fn are_below(next: u32, rows: &PackedRows) -> bool
-    ensures { result ≡ list_all (λ row. nat_lt row.number next) rows.now }
-{
-    rows.items().iter().all(|row| row.number < next)
-}
-
-fn each_row(columns: &Columns, rows: &PackedRows) -> bool
-    ensures { result ≡ list_all (λ row. is_row columns.now row.values) rows.now }
-{
-    rows.items().iter().all(|row| is_row(columns, &row.values))
-}
-
-fn is_row(columns: &Columns, values: &Values) -> bool
-    ensures { result ≡ is_row columns.now values.now }
-{
-    values.len() == columns.len() && each_fits(columns, values)
-}
-
-fn each_fits(columns: &Columns, values: &Values) -> bool
-    ensures { result ≡ each_value fits columns.now values.now }
-{
-    columns
-        .items()
-        .iter()
-        .zip(values.items().iter())
-        .all(|(column, value)| fits(column, value))
-}
-
-fn fits(column: &Column, value: &Value) -> bool
-    ensures { result ≡ fits column.now value.now }
-{
-    has_kind(column, value) && allows(column, value)
-}
-
-fn has_kind(column: &Column, value: &Value) -> bool
-    ensures { result ≡ has_kind column.now value.now }
-{
-    match value {
-        Value::Null => true,
-        Value::Int(_) => !column.text,
-        Value::Text(_) => column.text,
-    }
-}
-
-fn allows(column: &Column, value: &Value) -> bool
-    ensures { result ≡ allows column.now value.now }
-{
-    match value {
-        Value::Null => !column.not_null,
-        _ => true,
-    }
 }
 
 fn each_row_short(rows: &PackedRows) -> bool
     ensures { result ≡ list_all (λ row. list_all is_short row.values) rows.now }
 {
-    rows.items().iter().all(|row| are_short_values(&row.values))
+    rows.items().iter().all(|row| are_short(&row.values))
 }
 
 pub(crate) fn is_valid_logs(logs: &Logs) -> bool
@@ -230,24 +173,8 @@ fn is_valid_entry(entry: &Entry) -> bool
 {
     is_short_text(&entry.text)
         && entry.params.len() <= MAX_PARAMS
-        && are_short_values(&entry.params)
+        && are_short(&entry.params)
         && is_valid_reply(&entry.reply)
-}
-
-fn are_short_values(values: &Values) -> bool
-    ensures { result ≡ list_all is_short values.now }
-{
-    values.items().iter().all(|value| is_short(value))
-}
-
-fn is_short(value: &Value) -> bool
-    ensures { result ≡ is_short value.now }
-{
-    match value {
-        Value::Null => true,
-        Value::Int(_) => true,
-        Value::Text(text) => is_short_text(text),
-    }
 }
 
 fn is_valid_reply(reply: &Reply) -> bool
@@ -263,14 +190,14 @@ fn is_valid_reply(reply: &Reply) -> bool
 fn are_short_rows(rows: &RowList) -> bool
     ensures { result ≡ list_all (list_all is_short) rows.now }
 {
-    rows.items().iter().all(|row| are_short_values(row))
+    rows.items().iter().all(|row| are_short(row))
 }
 
 fn is_valid_refusal(refusal: &SqlRefusal) -> bool
     ensures { result ≡ refusal_rule refusal.now }
 {
     match refusal {
-        SqlRefusal::KeyTaken { table: _, key } => are_short_values(key),
+        SqlRefusal::KeyTaken { table: _, key } => are_short(key),
         _ => true,
     }
 }

@@ -1,15 +1,13 @@
 //! Whether tables are a database: a store takes no others.
 
-ghost use Rattle.std.specs.Prelude.{◌≡◌, ◌&&◌, ◌∷◌, [], IfOk, IsTrue, nat_le, nat_lt, true};
+ghost use Rattle.std.specs.Prelude.{◌≡◌, ◌&&◌, ◌∷◌, [], IfOk, IsTrue, nat_le, true};
 ghost use Rattle.std.specs.List.{list_all};
 ghost use Rattle.ldv_value.specs.Limits.{max_next};
-ghost use Rattle.ldv_value.specs.Sorted.{is_strictly_sorted, precedes_first};
 ghost use Rattle.sql_laws.specs.DatabaseLaw.{have_distinct_columns};
-ghost use Rattle.sql_model.specs.Tables.{has_kind, allows, fits, each_value, is_row, numbers_test};
-ghost use Rattle.sql_model.specs.Tables.{are_distinct, is_database, is_valid_table, table_precedes};
+ghost use Rattle.sql_model.specs.Tables.{are_distinct, is_database, is_row, is_valid_table, numbers_test};
+ghost use Rattle.sql_model.specs.Tables.{table_precedes};
 
-use ldv_value::{Value, Values};
-use sql_model::{Column, Columns, Table, TableRow, TableRows, has_key_twice, meets_column_names};
+use sql_model::{Columns, Table, are_numbered, are_rows, has_key_twice, meets_column_names};
 use std::alloc::{AllocError, Global};
 
 /// Whether there is one table, and it is valid.
@@ -94,91 +92,6 @@ fn are_valid_rows(table: &Table) -> bool
         && list_all (λ row. is_row table.now.schema.columns row.values) table.now.rows) }
 {
     table.next <= u32::MAX
-        && are_numbered(table.next, &table.rows)
-        && each_row(&table.schema.columns, &table.rows)
-}
-
-fn are_numbered(next: u32, rows: &TableRows) -> bool
-    ensures { result ≡ numbers_test (λ row. row.number) next rows.now }
-{
-    are_increasing(rows.items()) && are_below(next, rows)
-}
-
-fn are_increasing(rows: &[TableRow]) -> bool
-    ensures { result ≡ is_strictly_sorted (λ a b. nat_lt a.number b.number) rows.now }
-{
-    let mut left = rows;
-    loop {
-        match left {
-            [] => return true,
-            [first, rest @ ..] => {
-                if !is_before_first(first, rest) {
-                    return false;
-                }
-                left = rest;
-            }
-        }
-    }
-}
-
-fn is_before_first(row: &TableRow, rest: &[TableRow]) -> bool
-    ensures { result ≡ precedes_first (λ a b. nat_lt a.number b.number) row.now rest.now }
-{
-    match rest {
-        [] => true,
-        [next, ..] => row.number < next.number,
-    }
-}
-
-fn are_below(next: u32, rows: &TableRows) -> bool
-    ensures { result ≡ list_all (λ row. nat_lt row.number next) rows.now }
-{
-    rows.items().iter().all(|row| row.number < next)
-}
-
-fn each_row(columns: &Columns, rows: &TableRows) -> bool
-    ensures { result ≡ list_all (λ row. is_row columns.now row.values) rows.now }
-{
-    rows.items().iter().all(|row| is_row(columns, &row.values))
-}
-
-fn is_row(columns: &Columns, values: &Values) -> bool
-    ensures { result ≡ is_row columns.now values.now }
-{
-    values.len() == columns.len() && each_fits(columns, values)
-}
-
-fn each_fits(columns: &Columns, values: &Values) -> bool
-    ensures { result ≡ each_value fits columns.now values.now }
-{
-    columns
-        .items()
-        .iter()
-        .zip(values.items().iter())
-        .all(|(column, value)| fits(column, value))
-}
-
-fn fits(column: &Column, value: &Value) -> bool
-    ensures { result ≡ fits column.now value.now }
-{
-    has_kind(column, value) && allows(column, value)
-}
-
-fn has_kind(column: &Column, value: &Value) -> bool
-    ensures { result ≡ has_kind column.now value.now }
-{
-    match value {
-        Value::Null => true,
-        Value::Int(_) => !column.text,
-        Value::Text(_) => column.text,
-    }
-}
-
-fn allows(column: &Column, value: &Value) -> bool
-    ensures { result ≡ allows column.now value.now }
-{
-    match value {
-        Value::Null => !column.not_null,
-        _ => true,
-    }
+        && are_numbered(table.next, table.rows.items())
+        && are_rows(&table.schema.columns, table.rows.items())
 }

@@ -9,7 +9,7 @@ ghost use Rattle.world_json.specs.Faults.{is_typed, is_filled, each_row_value};
 
 use crate::document::{Document, Draft, Drafts};
 use ldv_value::{Value, Values};
-use sql_model::{Column, Columns, TableRow};
+use sql_model::{Column, Columns, TableRow, allows, has_kind};
 
 /// Whether no text is in an INT column and no number in a TEXT column.
 pub(crate) fn meets_kinds(document: &Document) -> bool
@@ -40,11 +40,7 @@ impl ValueTest for KindTest {
     ghost passes = { has_kind };
 
     fn passes(column: &Column, value: &Value) -> bool {
-        match value {
-            Value::Null => true,
-            Value::Int(_) => !column.text,
-            Value::Text(_) => column.text,
-        }
+        has_kind(column, value)
     }
 }
 
@@ -55,10 +51,7 @@ impl ValueTest for NotNullTest {
     ghost passes = { allows };
 
     fn passes(column: &Column, value: &Value) -> bool {
-        match value {
-            Value::Null => !column.not_null,
-            Value::Int(_) | Value::Text(_) => true,
-        }
+        allows(column, value)
     }
 }
 

@@ -11,9 +11,9 @@ use crate::document::{Document, Draft, Drafts};
 use crate::rows::NumberedRows;
 use ldv_value::{
     FILE_LIMIT, Files, MAX_FILES, MAX_NEXT, MAX_ROWS, MAX_START_WORDS, MAX_TABLES, TEXT_LIMIT,
-    Value, Values, Words,
+    Words,
 };
-use sql_model::{TableRow, meets_column_count};
+use sql_model::{TableRow, are_short, meets_column_count};
 
 /// Whether no limit is passed.
 pub(crate) fn meets_limits(document: &Document) -> bool
@@ -83,20 +83,5 @@ fn are_rows_short(rows: &NumberedRows) -> bool
 fn is_each_short(rows: &[TableRow]) -> bool
     ensures { result ≡ list_all (λ row. list_all is_short row.values) rows.now }
 {
-    rows.iter().all(|row| are_values_short(&row.values))
-}
-
-fn are_values_short(row: &Values) -> bool
-    ensures { result ≡ list_all is_short row.now }
-{
-    row.items().iter().all(|value| is_short(value))
-}
-
-fn is_short(value: &Value) -> bool
-    ensures { result ≡ is_short value.now }
-{
-    match value {
-        Value::Null | Value::Int(_) => true,
-        Value::Text(text) => text.len() <= TEXT_LIMIT,
-    }
+    rows.iter().all(|row| are_short(&row.values))
 }
