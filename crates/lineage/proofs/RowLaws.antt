@@ -1,10 +1,9 @@
 -- Rows that stand for answer rows.
 use Rattle.std.proofs.Common.{◌≡◌, sym, subst, refl, ℕ, List, [], ◌∷◌, ◌++◌, map, Bool, true, false}
 use Rattle.lineage.specs.Lineage.{Lineage, IsUnion}
-use Rattle.lineage.specs.Rows.{kept, AnswersStandFor, PicksStandFor}
+use Rattle.lineage.specs.Rows.{kept, AnswersStandFor}
 use Rattle.lineage.specs.StandsFor.{StandsFor}
 use Rattle.lineage.specs.declared.answer.Answer.{Answer}
-use Rattle.lineage.specs.declared.answer.Pick.{Pick}
 use Rattle.lineage.proofs.Origins.{stands-union}
 use Rattle.sql_model.specs.Needs.{Versions}
 use Rattle.sql_model.specs.QueryAnswer.{Origin, AnswerRow, answer_values}
@@ -31,13 +30,6 @@ module _ (names : List (List ℕ)) (versions : Versions) (keep : Bool) where
   answers-values (answer ∷ answers) [] stand = absurd stand
   answers-values (answer ∷ answers) (row ∷ rows) stand = λ j. stand.0.same j ∷ answers-values answers rows stand.1 j
 
-  pub picks-values : (picks : List Pick) (rows : List AnswerRow) → PicksStandFor names versions keep picks rows
-      → map (λ pick. pick.values) picks ≡ map answer_values rows
-  picks-values [] [] stand = refl
-  picks-values [] (row ∷ rows) stand = absurd stand
-  picks-values (pick ∷ picks) [] stand = absurd stand
-  picks-values (pick ∷ picks) (row ∷ rows) stand = λ j. stand.0.same j ∷ picks-values picks rows stand.1 j
-
   -- more rows at the end
   pub answers-append : (one other : List Answer) (rows more : List AnswerRow) → AnswersStandFor names versions keep one rows
       → AnswersStandFor names versions keep other more → AnswersStandFor names versions keep (one ++ other) (rows ++ more)
@@ -45,10 +37,3 @@ module _ (names : List (List ℕ)) (versions : Versions) (keep : Bool) where
   answers-append [] other (row ∷ rows) more first second = absurd first
   answers-append (answer ∷ answers) other [] more first second = absurd first
   answers-append (answer ∷ answers) other (row ∷ rows) more first second = (first.0, answers-append answers other rows more first.1 second)
-
-  pub picks-append : (one other : List Pick) (rows more : List AnswerRow) → PicksStandFor names versions keep one rows
-      → PicksStandFor names versions keep other more → PicksStandFor names versions keep (one ++ other) (rows ++ more)
-  picks-append [] other [] more first second = second
-  picks-append [] other (row ∷ rows) more first second = absurd first
-  picks-append (pick ∷ picks) other [] more first second = absurd first
-  picks-append (pick ∷ picks) other (row ∷ rows) more first second = (first.0, picks-append picks other rows more first.1 second)

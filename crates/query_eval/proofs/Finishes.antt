@@ -11,7 +11,7 @@ use Rattle.lineage.specs.declared.answer.Answer.{Answer}
 use Rattle.query_eval.proofs.Merges.{united-stands}
 use Rattle.query_eval.proofs.Projections.{statement-is}
 use Rattle.core_parts.specs.Checking.{places_at}
-use Rattle.query_eval.specs.Finishing.{as_key, sort_columns, by_columns, first_answers, other_answers, IsLimited, IsFinished, ordered}
+use Rattle.query_eval.specs.Finishing.{as_key, sort_columns, by_columns, IsLimited, IsFinished, ordered}
 use Rattle.query_eval.specs.Merging.{united}
 use Rattle.query_eval.specs.Types.{Checked, Order, Query, TheQuery}
 use Rattle.query_eval.specs.declared.finishing.Finished.{Finished}
@@ -74,12 +74,12 @@ module _ (names : List (List ℕ)) (versions : Versions) (keep : Bool) where
   drop-stands (suc n) (answer ∷ answers) (row ∷ rows) stand = drop-stands n answers rows stand.1
 
   first-stands : (limit : Option ℕ) (answers : List Answer) (rows : List AnswerRow) → AnswersStandFor names versions keep answers rows
-      → AnswersStandFor names versions keep (first_answers limit answers) (first_rows limit rows)
+      → AnswersStandFor names versions keep (first_rows limit answers) (first_rows limit rows)
   first-stands None answers rows stand = stand
   first-stands (Some n) answers rows stand = take-stands n answers rows stand
 
   others-stand : (limit : Option ℕ) (answers : List Answer) (rows : List AnswerRow) → AnswersStandFor names versions keep answers rows
-      → AnswersStandFor names versions keep (other_answers limit answers) (other_rows limit rows)
+      → AnswersStandFor names versions keep (other_rows limit answers) (other_rows limit rows)
   others-stand None answers rows stand = tt
   others-stand (Some n) answers rows stand = drop-stands n answers rows stand
 
@@ -104,13 +104,13 @@ finished-is checked own answers columns finished statement by limited query cata
     subst (λ (ks : List SortKey). AnswersStandFor names versions keep (sorted_by (by_columns columns) answers) (sort_rows ks rows)) keys
     (sort-stands names versions keep columns answers rows stand) in
     let limit : limit_of own.limit ≡ limit_of query.limit = ap (λ (q : Query). limit_of q.limit) same in
-    let first : finished.answers ≡ first_answers (limit_of query.limit) (sorted_by (by_columns columns) answers) =
-    limited.first ∙ ap (λ (l : Option ℕ). first_answers l (sorted_by (by_columns columns) answers)) limit in
-    let cut : finished.cut ≡ united (other_answers (limit_of query.limit) (sorted_by (by_columns columns) answers)) =
-    limited.cut ∙ ap (λ (l : Option ℕ). united (other_answers l (sorted_by (by_columns columns) answers))) limit in (
+    let first : finished.answers ≡ first_rows (limit_of query.limit) (sorted_by (by_columns columns) answers) =
+    limited.first ∙ ap (λ (l : Option ℕ). first_rows l (sorted_by (by_columns columns) answers)) limit in
+    let cut : finished.cut ≡ united (other_rows (limit_of query.limit) (sorted_by (by_columns columns) answers)) =
+    limited.cut ∙ ap (λ (l : Option ℕ). united (other_rows l (sorted_by (by_columns columns) answers))) limit in (
       subst (λ (made : List Answer). AnswersStandFor names versions keep made (first_rows (limit_of query.limit) (ordered query catalog rows))) (sym first)
           (first-stands names versions keep (limit_of query.limit) (sorted_by (by_columns columns) answers) (ordered query catalog rows) sorted),
       subst (λ (set : Lineage). StandsFor names versions set (kept keep (lineage_of (other_rows (limit_of query.limit) (ordered query catalog rows))))) (sym cut)
-          (united-stands names versions keep (other_answers (limit_of query.limit) (sorted_by (by_columns columns) answers)) (other_rows (limit_of query.limit) (ordered query catalog rows))
+          (united-stands names versions keep (other_rows (limit_of query.limit) (sorted_by (by_columns columns) answers)) (other_rows (limit_of query.limit) (ordered query catalog rows))
           (others-stand names versions keep (limit_of query.limit) (sorted_by (by_columns columns) answers) (ordered query catalog rows) sorted)),
     )

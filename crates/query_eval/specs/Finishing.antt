@@ -31,18 +31,10 @@ by_columns columns a b = order_by (map as_key columns) a.values b.values
 
 -- ---- the first answers, and the others
 
-abbrev pub first_answers : Option ℕ → List Answer → List Answer
-first_answers None answers = answers
-first_answers (Some n) answers = take n answers
-
-abbrev pub other_answers : Option ℕ → List Answer → List Answer
-other_answers None answers = []
-other_answers (Some n) answers = drop n answers
-
 -- the first answers, and the union of the lineages of the others
 pub record IsLimited (limit : Option ℕ) (answers : List Answer) (finished : Finished) : Type 0 where
-  pub first : finished.answers ≡ first_answers limit answers
-  pub cut : finished.cut ≡ united (other_answers limit answers)
+  pub first : finished.answers ≡ first_rows limit answers
+  pub cut : finished.cut ≡ united (other_rows limit answers)
 
 -- ---- what is finished
 

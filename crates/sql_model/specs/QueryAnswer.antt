@@ -210,11 +210,11 @@ limit_of (Some (Int (pos n))) = Some n
 limit_of (Some (Int (negsuc n))) = None
 limit_of (Some (Text t)) = None
 
-abbrev pub first_rows : Option ℕ → List AnswerRow → List AnswerRow
+abbrev pub first_rows : {Row : Type 0} → Option ℕ → List Row → List Row
 first_rows None rows = rows
 first_rows (Some n) rows = take n rows
 
-abbrev pub other_rows : Option ℕ → List AnswerRow → List AnswerRow
+abbrev pub other_rows : {Row : Type 0} → Option ℕ → List Row → List Row
 other_rows None rows = []
 other_rows (Some n) rows = drop n rows
 
