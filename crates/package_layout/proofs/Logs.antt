@@ -5,6 +5,7 @@ use Rattle.std.specs.Str.{IsUtf8}
 use Rattle.std.specs.Int.{w8, w16, w32, w64, to_be_bytes}
 use Rattle.ldv_value.specs.declared.value.Value.{Value}
 use Rattle.ldv_value.proofs.Booleans.{and-parts, and-from}
+use Rattle.sql_model.specs.Codes.{code_of as refusal_tag}
 use Rattle.sql_model.specs.declared.reply.SqlRefusal.{SqlRefusal}
 use Rattle.sql_model.specs.declared.reply.SqlRefusal.TheVariants.{Syntax, NoTable, NoColumn, TypeClash, NotNull, KeyTaken, Full}
 use Rattle.sql_model.specs.declared.reply.Reply.{Reply}
@@ -53,15 +54,6 @@ key_law = restate (list_spelling w8 value_spelling) TypedValues TypedValues (λ 
 
 taken_law : IsField taken_spelling TypedTaken taken_room CountedTaken taken_at
 taken_law = then_law text_spelling IsUtf8 always text_at (list_spelling w8 value_spelling) TypedValues (λ a. few) (λ a. list_at w8 value_at) text_law (λ a. key_law)
-
-abbrev refusal_tag : SqlRefusal → ℕ
-refusal_tag Syntax = 1
-refusal_tag NoTable = 2
-refusal_tag NoColumn = 3
-refusal_tag TypeClash = 4
-refusal_tag NotNull = 5
-refusal_tag (KeyTaken table key) = 6
-refusal_tag Full = 7
 
 abbrev refusal_rest : SqlRefusal → List ℕ
 refusal_rest Syntax = []
