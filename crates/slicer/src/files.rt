@@ -1,13 +1,14 @@
 //! Needed files.
 
-ghost use Rattle.std.specs.Prelude.{◌≡◌, ◌||◌, ◌&&◌, ◌++◌, [], not, List, ℕ, OnOk, IfOk, Option, Some, None};
+ghost use Rattle.std.specs.Prelude.{◌≡◌, ◌||◌, ◌&&◌, not, List, ℕ, OnOk, IfOk, Option, Some, None};
 ghost use Rattle.std.specs.Prelude.{if◌then◌else◌};
-ghost use Rattle.std.specs.List.{filter_map, cons_option};
+ghost use Rattle.std.specs.List.{filter_map};
 ghost use Rattle.std.specs.Option.{option_map};
 ghost use Rattle.slicer.specs.Marks.{has_name, path_by, need_as, packed_by};
 ghost use Rattle.run_model.specs.Slice.{is_path, whole_path, present_path, changed_path, names_initial};
 ghost use Rattle.run_model.specs.Slice.{packed_as, files_needed};
 
+use crate::lists::push_made;
 use crate::names::{NameSet, add, has};
 use ldv_value::{File, Utf8};
 use run_model::{Act, Event, PackedFile, PackedFiles};
@@ -143,15 +144,6 @@ fn pack_file(
     Ok(None)
 }
 
-fn push_file(to: &mut PackedFiles, file: Option<PackedFile>) -> Result<(), AllocError>
-    ensures { OnOk result (to.new ≡ to.old ++ cons_option file []) }
-{
-    match file {
-        None => Ok(()),
-        Some(file) => to.push(file),
-    }
-}
-
 fn pack_files(
     alloc: Global,
     files: &[File],
@@ -162,7 +154,7 @@ fn pack_files(
 {
     let mut packed = PackedFiles::new(alloc);
     for file in files {
-        push_file(&mut packed, pack_file(file, whole, present)?)?;
+        push_made(&mut packed, pack_file(file, whole, present)?)?;
     }
     Ok(packed)
 }

@@ -6,6 +6,7 @@
 #![tactic(auto)]
 
 mod files;
+mod lists;
 mod names;
 mod needed;
 mod reasons;

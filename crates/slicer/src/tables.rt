@@ -1,12 +1,13 @@
 //! Needed tables, with their needed rows.
 
 ghost use Rattle.std.specs.Prelude.{◌≡◌, ◌++◌, ◌∷◌, [], OnOk, IfOk, if◌then◌else◌};
-ghost use Rattle.std.specs.List.{cons_option, filter_map};
+ghost use Rattle.std.specs.List.{filter_map};
 ghost use Rattle.std.specs.Option.{option_map};
 ghost use Rattle.slicer.specs.Marks.{has_name, reason_at, reason_from, row_reason, row_because};
 ghost use Rattle.slicer.specs.Marks.{table_because, tables_because};
 ghost use Rattle.run_model.specs.Slice.{packed_because, tables_needed};
 
+use crate::lists::push_made;
 use crate::names::{NameSet, has, tables_named};
 use crate::reasons::{Reasons, RowReasons, Why, reasons_in};
 use ldv_value::CopyItem;
@@ -35,15 +36,6 @@ fn pack_because(row: &TableRow, why: Option<Why>) -> Result<Option<PackedRow>, A
     }
 }
 
-fn push_row(to: &mut PackedRows, row: Option<PackedRow>) -> Result<(), AllocError>
-    ensures { OnOk result (to.new ≡ to.old ++ cons_option row []) }
-{
-    match row {
-        None => Ok(()),
-        Some(row) => to.push(row),
-    }
-}
-
 fn pack_rows(
     alloc: Global,
     reasons: &RowReasons,
@@ -54,7 +46,7 @@ fn pack_rows(
     let mut packed = PackedRows::new(alloc);
     for row in rows {
         let why = find_reason(reasons, row.number);
-        push_row(&mut packed, pack_because(row, why)?)?;
+        push_made(&mut packed, pack_because(row, why)?)?;
     }
     Ok(packed)
 }

@@ -65,5 +65,6 @@ pub use statement::{
 };
 pub use table::{Column, Columns, Schema, Schemas, Table, TableRow, TableRows, Tables};
 pub use token::Token;
+pub use truths::is_null;
 pub use unique::{HasValues, KeyOf, has_key_twice, value_or};
 pub use value::{truth_of, value_of};

@@ -68,13 +68,14 @@ pub(crate) fn null_truth(negative: bool, value: &Value) -> Truth
     ensures { result ≡ null_test negative value.now }
 {
     if negative {
-        known_truth(!is_null_value(value))
+        known_truth(!is_null(value))
     } else {
-        known_truth(is_null_value(value))
+        known_truth(is_null(value))
     }
 }
 
-fn is_null_value(value: &Value) -> bool
+/// Whether a value is NULL.
+pub fn is_null(value: &Value) -> bool
     ensures { result ≡ is_null value.now }
 {
     match value {

@@ -4,10 +4,9 @@ ghost use Rattle.std.specs.Prelude.{◌≡◌, ℕ, ◌+◌, ◌^◌, ◌<◌, B
 ghost use Rattle.std.specs.List.{list_any};
 ghost use Rattle.ldv_value.specs.Limits.{max_next};
 ghost use Rattle.sql_model.specs.Changes.{refuses_null, has_null, numbered};
-ghost use Rattle.sql_model.specs.Meaning.{is_null};
 
 use ldv_value::{List, MAX_NEXT, RowList, Value, Values};
-use sql_model::{Column, TableRow, TableRows};
+use sql_model::{Column, TableRow, TableRows, is_null};
 use std::alloc::{AllocError, Global};
 
 /// Whether a row has NULL in a column that is NOT NULL.
@@ -39,16 +38,6 @@ fn refuses_null(column: &Column, value: &Value) -> bool
     ensures { result ≡ refuses_null (column.now, value.now) }
 {
     column.not_null && is_null(value)
-}
-
-fn is_null(value: &Value) -> bool
-    ensures { result ≡ is_null value.now }
-{
-    match value {
-        Value::Null => true,
-        Value::Int(_) => false,
-        Value::Text(_) => false,
-    }
 }
 
 /// Whether the number after that of the last new row would be above the limit.
