@@ -1,8 +1,8 @@
 //! The rules for start words, files, tables and logs.
 
-ghost use Rattle.std.specs.Prelude.{◌≡◌, IfOk};
+ghost use Rattle.std.specs.Prelude.{◌≡◌, IfOk, nat_lt};
 ghost use Rattle.std.specs.List.{list_all};
-ghost use Rattle.sql_model.specs.Tables.{is_short};
+ghost use Rattle.sql_model.specs.Tables.{is_short, numbers_test};
 ghost use Rattle.package_layout.specs.Valid.{is_short_text, start_rule, content_rule, file_rule, are_files};
 ghost use Rattle.package_layout.specs.Valid.{files_rule, rows_rule, table_rule, are_tables, tables_rule};
 ghost use Rattle.package_layout.specs.Valid.{refusal_rule, reply_rule, entry_rule, is_root_process, log_rule};
@@ -13,9 +13,7 @@ use ldv_value::{
     is_path, is_strictly_sorted,
 };
 use run_model::{Entry, Log, Logs, PackedFile, PackedFiles, PackedRows, PackedTable, PackedTables};
-use sql_model::{
-    Reply, SqlRefusal, are_numbered, are_rows, are_short, has_key_twice, is_sql_name, meets_schema,
-};
+use sql_model::{Reply, SqlRefusal, are_rows, are_short, has_key_twice, is_sql_name, meets_schema};
 use std::alloc::{AllocError, Global};
 
 pub(crate) fn is_valid_start(words: &Words) -> bool
@@ -121,9 +119,21 @@ fn is_valid_table(alloc: Global, table: &PackedTable) -> Result<bool, AllocError
 fn is_valid_rows(table: &PackedTable) -> bool
     ensures { result ≡ rows_rule table.now }
 {
-    are_numbered(table.next, table.rows.items())
+    are_numbered(table.next, &table.rows)
         && are_rows(&table.schema.columns, table.rows.items())
         && each_row_short(&table.rows)
+}
+
+fn are_numbered(next: u32, rows: &PackedRows) -> bool
+    ensures { result ≡ numbers_test (λ row. row.number) next rows.now }
+{
+    is_strictly_sorted(rows.items()) && are_below(next, rows)
+}
+
+fn are_below(next: u32, rows: &PackedRows) -> bool
+    ensures { result ≡ list_all (λ row. nat_lt row.number next) rows.now }
+{
+    rows.items().iter().all(|row| row.number < next)
 }
 
 fn each_row_short(rows: &PackedRows) -> bool

@@ -1,13 +1,14 @@
 //! Whether tables are a database: a store takes no others.
 
-ghost use Rattle.std.specs.Prelude.{◌≡◌, ◌&&◌, ◌∷◌, [], IfOk, IsTrue, nat_le, true};
+ghost use Rattle.std.specs.Prelude.{◌≡◌, ◌&&◌, ◌∷◌, [], IfOk, IsTrue, nat_le, nat_lt, true};
 ghost use Rattle.std.specs.List.{list_all};
 ghost use Rattle.ldv_value.specs.Limits.{max_next};
 ghost use Rattle.sql_laws.specs.DatabaseLaw.{have_distinct_columns};
 ghost use Rattle.sql_model.specs.Tables.{are_distinct, is_database, is_row, is_valid_table, numbers_test};
 ghost use Rattle.sql_model.specs.Tables.{table_precedes};
 
-use sql_model::{Columns, Table, are_numbered, are_rows, has_key_twice, meets_column_names};
+use ldv_value::is_strictly_sorted;
+use sql_model::{Columns, Table, TableRow, are_rows, has_key_twice, meets_column_names};
 use std::alloc::{AllocError, Global};
 
 /// Whether there is one table, and it is valid.
@@ -94,4 +95,10 @@ fn are_valid_rows(table: &Table) -> bool
     table.next <= u32::MAX
         && are_numbered(table.next, table.rows.items())
         && are_rows(&table.schema.columns, table.rows.items())
+}
+
+fn are_numbered(next: u32, rows: &[TableRow]) -> bool
+    ensures { result ≡ numbers_test (λ row. row.number) next rows.now }
+{
+    is_strictly_sorted(rows) && rows.iter().all(|row| row.number < next)
 }

@@ -3,7 +3,7 @@
 use crate::event::Events;
 use crate::name::ProcName;
 use ldv_value::{Bytes, List, Utf8, Values, Words};
-use sql_model::{HasNumber, HasValues, Reply, Rule, Schema};
+use sql_model::{HasValues, Reply, Rule, Schema};
 
 /// Whether a package has the rows that its run needed, or the recorded replies.
 #[derive(Clone, Copy, Debug, PartialEq, Eq)]
@@ -52,14 +52,6 @@ pub struct PackedRow {
     pub statement: u32,
     pub rule: Rule,
     pub values: Values,
-}
-
-impl HasNumber for PackedRow {
-    ghost number_of = { λ row. row.number };
-
-    fn number(&self) -> u32 {
-        self.number
-    }
 }
 
 impl HasValues for PackedRow {

@@ -83,14 +83,11 @@ is_short (Text text) = nat_le (length text) text_limit
 
 -- ---- rows
 
--- numbers are strictly increasing
-abbrev pub numbers_rise : {Row : Type 0} → (Row → ℕ) → List Row → Bool
-numbers_rise number rows = is_strictly_sorted (λ a b. nat_lt (number a) (number b)) rows
-
--- and below the next one
+-- numbers are strictly increasing and below the next one
 abbrev pub numbers_test : {Row : Type 0} → (Row → ℕ) → ℕ → List Row → Bool
 numbers_test number next rows =
-    numbers_rise number rows && list_all (λ row. nat_lt (number row) next) rows
+    is_strictly_sorted (λ a b. nat_lt (number a) (number b)) rows
+    && list_all (λ row. nat_lt (number row) next) rows
 
 -- no two rows have the same key, where the key isn't empty
 abbrev pub are_keys_unique : List ℕ → List (List Value) → Bool

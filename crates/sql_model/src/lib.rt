@@ -9,9 +9,10 @@
 //!   row, where its columns are given by places (`specs/Evaluation.antt`);
 //! - `has_twice` says whether a list has an item twice, and `has_key_twice` whether two rows have one key;
 //!   `KeyOf` is the key of a row without a copy (`specs/Keys.antt`);
-//! - `meets_schema` and its parts are the rules of a schema, and `are_rows`, `are_numbered` and `are_short`
-//!   those of rows (`specs/Tables.antt`);
-//! - members and needs are in the order of `specs/MemberOrder.antt`, by `Precedes`.
+//! - `meets_schema` and its parts are the rules of a schema, and `are_rows` and `are_short` those of
+//!   rows (`specs/Tables.antt`);
+//! - members and needs are in the order of `specs/MemberOrder.antt`, and rows in that of their numbers, by
+//!   `Precedes`.
 //!
 //! `specs/` defines which texts are which statements: as a grammar (`GrammarOfTokens`, `Grammar` of
 //! expressions, `GrammarOfStatements`), and as a function from left to right (`Texts`, over `Tokens`,
@@ -55,7 +56,7 @@ pub use names::is_sql_name;
 pub use need::{Member, Members, Need, Needs, Rule};
 pub use repeats::has_twice;
 pub use reply::{Replies, Reply, SqlRefusal};
-pub use rows::{HasNumber, allows, are_numbered, are_rows, are_short, has_kind};
+pub use rows::{allows, are_rows, are_short, has_kind};
 pub use schema::{
     is_key_not_null, meets_column_count, meets_column_names, meets_key_places, meets_schema,
 };

@@ -1,6 +1,6 @@
 //! Tables.
 
-use ldv_value::{CopyItem, List, Places, Utf8, Values};
+use ldv_value::{CopyItem, List, Places, Precedes, Utf8, Values};
 use std::alloc::{AllocError, Global};
 
 /// A column: its name, whether its kind is TEXT and not INT, and whether NULL is refused in it.
@@ -60,6 +60,16 @@ impl CopyItem for Schema {
             columns: self.columns.copy()?,
             key: self.key.copy()?,
         })
+    }
+}
+
+impl Precedes for TableRow {
+    ghost use Rattle.std.specs.Prelude.{nat_lt};
+
+    ghost is_before = { λ a b. nat_lt a.number b.number };
+
+    fn precedes(&self, other: &TableRow) -> bool {
+        self.number < other.number
     }
 }
 
