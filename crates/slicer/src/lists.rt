@@ -7,7 +7,7 @@ use ldv_value::List;
 use std::alloc::AllocError;
 
 /// Appends an item, where there is one.
-pub(crate) fn push_made<X>(to: &mut List<X>, item: Option<X>) -> Result<(), AllocError>
+pub(crate) fn push_made<X: Drop>(to: &mut List<X>, item: Option<X>) -> Result<(), AllocError>
     ensures { OnOk result (to.new ≡ to.old ++ cons_option item []) }
 {
     match item {
