@@ -1,5 +1,5 @@
 -- ORDER BY and LIMIT.
-use Rattle.std.specs.Prelude.{◌≡◌, ℕ, List, [], ◌∷◌, map, take, drop, Bool, Option, Some, None}
+use Rattle.std.specs.Prelude.{◌≡◌, ℕ, List, [], ◌∷◌, map, Bool, Option}
 use Rattle.std.specs.declared.cmp.Ordering.{Ordering}
 use Rattle.lineage.specs.Rows.{kept, AnswersStandFor}
 use Rattle.lineage.specs.StandsFor.{StandsFor}

@@ -1,6 +1,6 @@
 //! Whether tables are a database: a store takes no others.
 
-ghost use Rattle.std.specs.Prelude.{◌≡◌, ◌&&◌, ◌∷◌, [], IfOk, IsTrue, nat_le, nat_lt, true};
+ghost use Rattle.std.specs.Prelude.{◌≡◌, ◌&&◌, ◌∷◌, [], IfOk, IsTrue, nat_le, true};
 ghost use Rattle.std.specs.List.{list_all};
 ghost use Rattle.ldv_value.specs.Limits.{max_next};
 ghost use Rattle.sql_laws.specs.DatabaseLaw.{have_distinct_columns};

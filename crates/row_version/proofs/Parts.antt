@@ -1,6 +1,6 @@
 -- The values that the parts of a chain hold.
-use Rattle.std.proofs.Common.{◌≡◌, ℕ, zero, suc, ◌+◌, ◌-◌, ◌^◌, ◌<◌, ◌≤◌, List, [], ◌∷◌, ◌++◌, Option, Some, None, true, false, leb, length, take, get_or, refl, ap, sym, ◌∙◌, arith, append-nil, add-one, subst, length-append}
-use Rattle.std.specs.Prelude.{filter, if◌then◌else◌, nat_le, slice_get, is_some, IsSome, vec_len}
+use Rattle.std.proofs.Common.{◌≡◌, ℕ, zero, suc, ◌+◌, ◌-◌, ◌^◌, ◌<◌, ◌≤◌, List, [], ◌∷◌, ◌++◌, Option, Some, None, length, get_or, refl, ap, sym, ◌∙◌, arith, append-nil, add-one, subst, length-append}
+use Rattle.std.specs.Prelude.{if◌then◌else◌, slice_get, is_some, IsSome, vec_len}
 use Rattle.std.specs.Option.{option_map}
 use Rattle.std.proofs.lemmas.List.{map-append}
 use Rattle.std.specs.List.Sorted.{IsNonDecreasingBy}

@@ -1,12 +1,12 @@
 -- The number of the next row after a time.
-use Rattle.std.proofs.Common.{◌≡◌, ℕ, zero, suc, ◌+◌, ◌-◌, ◌<◌, ◌≤◌, Bool, true, false, leb, List, [], ◌∷◌, ◌++◌, map, length, take, get_or, refl, ap, sym, ◌∙◌, arith, Option, Some, None, add-one}
-use Rattle.std.specs.Prelude.{filter, nat_le, slice_get}
+use Rattle.std.proofs.Common.{◌≡◌, ℕ, zero, suc, ◌-◌, ◌<◌, ◌≤◌, List, [], ◌∷◌, ◌++◌, length, get_or, refl, ap, ◌∙◌, arith, Option, Some, None, add-one}
+use Rattle.std.specs.Prelude.{slice_get}
 use Rattle.std.specs.List.{last_or}
 use Rattle.std.specs.List.Sorted.{IsNonDecreasingBy}
 use Rattle.std.specs.Option.{option_map_or}
 use Rattle.std.proofs.lemmas.List.Sorted.{IsNonDecreasingBy-short, IsNonDecreasingBy-from_all_adjacent}
 use Rattle.table_store.specs.Histories.{NextSince as Since, last_next, last_since, noted}
-use Rattle.table_store.specs.Nexts.{since_of, nexts_of, AreInTimeFrom, AreInTime}
+use Rattle.table_store.specs.Nexts.{nexts_of, AreInTimeFrom, AreInTime}
 use Rattle.table_store.specs.declared.nexts.NextSince.{NextSince}
 
 -- ---- the last number
