@@ -1,11 +1,11 @@
 -- Cells of a column of numbers as values.
-use Rattle.std.proofs.Common.{◌≡◌, ℕ, zero, suc, ◌<◌, Bool, true, false, List, [], ◌∷◌, ◌++◌, length, map, get_or, set, refl, ap, ◌∙◌}
+use Rattle.std.proofs.Common.{◌≡◌, ℕ, zero, suc, Bool, true, false, List, [], ◌∷◌, ◌++◌, length, map, get_or, set, refl, ap}
 use Rattle.std.specs.Prelude.{ℤ, Option, Some, None}
 use Rattle.std.specs.Option.{option_map_or}
 use Rattle.lanes.specs.Selection.{passes}
 use Rattle.ldv_value.specs.Order.{meets, known}
 use Rattle.sql_model.specs.Meaning.{is_true}
-use Rattle.table_store.specs.Types.{Cmp, Value, Null, Int}
+use Rattle.table_store.specs.Types.{Cmp, Value, Null}
 use Rattle.table_store.specs.Cells.{int_value, passes_test}
 use Rattle.std.specs.Ordering.{int_cmp}
 

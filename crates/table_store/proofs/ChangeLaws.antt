@@ -6,13 +6,13 @@ use Rattle.std.proofs.lemmas.Bool.{cases_Bool, cases_eq, cases_lt, ne_eqb, eqb-t
 use Rattle.std.proofs.lemmas.List.{length-set}
 use Rattle.row_version.specs.History.{Change, History, written, current, version, last_time, IsSorted, IsSortedFrom}
 use Rattle.row_version.proofs.Later.{current_after}
-use Rattle.table_store.specs.Types.{Value, TableRow}
+use Rattle.table_store.specs.Types.{Value}
 use Rattle.table_store.specs.Grid.{Slot, no_slot}
 use Rattle.table_store.specs.Histories.{RowHistory, no_history, changed_by, with_change}
 use Rattle.table_store.specs.RowChains.{Chains, changes_or, history_of, histories_of, IsKept, AreChained, IsReady, HasRoom}
-use Rattle.table_store.specs.RowChanges.{change_given, changes_given, no_change, RiseFrom, AllReady, AllHaveRoom, Stands, AllStand, AllThere, IsThere, AreBefore}
+use Rattle.table_store.specs.RowChanges.{change_given, changes_given, RiseFrom, AllReady, AllHaveRoom, Stands, AllStand, AllThere, AreBefore}
 use Rattle.table_store.specs.declared.change.RowChange.{RowChange}
-use Rattle.table_store.proofs.RowLaws.{row_is, in_slots, number_is, rows_len}
+use Rattle.table_store.proofs.RowLaws.{row_is, in_slots, number_is}
 
 abbrev pub Rising : List Slot → Type 0
 Rising slots = (i j : ℕ) → i < j → j < length slots → (get_or slots i no_slot).number < (get_or slots j no_slot).number

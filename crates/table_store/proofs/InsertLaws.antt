@@ -9,7 +9,6 @@ use Rattle.std.proofs.lemmas.List.Elements.{filter_map-append}
 use Rattle.ldv_value.proofs.Booleans.{and-parts}
 use Rattle.sql_model.specs.Changes.{KeyClash, key_clash, clash_or, clash_after, clash_by, numbered, shares_key, has_null, refuses_null}
 use Rattle.sql_model.specs.Keys.{values_at, key_at}
-use Rattle.sql_model.specs.Needs.{stood}
 use Rattle.row_version.specs.History.{current}
 use Rattle.table_store.specs.Types.{Value, Column, TableRow}
 use Rattle.table_store.specs.Claims.{claim_stop}

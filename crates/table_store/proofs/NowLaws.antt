@@ -1,14 +1,14 @@
 -- What tables are now, and what they are from their last change on.
-use Rattle.std.proofs.Common.{◌≡◌, ℕ, zero, suc, ◌+◌, ◌<◌, ◌≤◌, inl, inr, Bool, true, false, cond, List, [], ◌∷◌, map, length, get_or, refl, ap, sym, subst, ◌∙◌, arith, Option, Some, None, le-leb}
+use Rattle.std.proofs.Common.{◌≡◌, ℕ, suc, ◌<◌, ◌≤◌, inl, inr, Bool, true, false, cond, List, [], ◌∷◌, map, length, get_or, refl, ap, sym, subst, ◌∙◌, arith, Option, Some, None, le-leb}
 use Rattle.std.specs.Prelude.{find, filter, nat_le, IfSome, IsSome, IfOk, Result, Ok, Err}
-use Rattle.std.specs.List.{filter_map, cons_option, last_or}
+use Rattle.std.specs.List.{cons_option, last_or}
 use Rattle.std.specs.Option.{option_map, option_map_or}
 use Rattle.std.proofs.lemmas.Bool.{cases_Bool}
-use Rattle.row_version.specs.History.{current, as_of, last_time}
+use Rattle.row_version.specs.History.{current, as_of}
 use Rattle.row_version.proofs.Later.{as_of_now}
 use Rattle.sql_model.specs.Scope.{table_at}
 use Rattle.table_store.specs.Types.{Table, TableRow}
-use Rattle.table_store.specs.Histories.{RowHistory, NextSince, TableHistory, StoreHistory, no_history, row_of, row_now, rows_now, rows_as_of, next_as_of, last_next, last_since, table_now, tables_now, is_history, history_at}
+use Rattle.table_store.specs.Histories.{RowHistory, NextSince, TableHistory, StoreHistory, row_of, rows_now, rows_as_of, next_as_of, last_next, last_since, table_now, tables_now, is_history, history_at}
 use Rattle.table_store.specs.StoreView.{no_table}
 use Rattle.table_store.specs.TableView.{AreTimed}
 

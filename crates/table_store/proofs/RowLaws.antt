@@ -1,17 +1,16 @@
 -- Rows with their chains.
-use Rattle.std.proofs.Common.{◌≡◌, ◌==◌, ℕ, zero, suc, ◌+◌, ◌-◌, ◌<◌, ◌≤◌, inl, inr, Bool, true, false, cond, List, [], ◌∷◌, ◌++◌, map, length, get_or, set, refl, ap, sym, subst, ◌∙◌, arith, Option, Some, None, is_some}
-use Rattle.std.specs.Prelude.{ℤ, IsSome, IfSome, nat_le, ◌≢◌, ◌&&◌}
+use Rattle.std.proofs.Common.{◌≡◌, ℕ, zero, suc, ◌+◌, ◌<◌, ◌≤◌, inl, inr, Bool, true, false, cond, List, [], ◌∷◌, ◌++◌, map, length, get_or, refl, ap, sym, subst, ◌∙◌, arith, Option, Some, None, is_some}
+use Rattle.std.specs.Prelude.{ℤ, IsSome, IfSome, ◌≢◌, ◌&&◌}
 use Rattle.std.specs.Option.{option_map, option_map_or}
 use Rattle.std.proofs.lemmas.Bool.{cases_lt}
 use Rattle.std.proofs.lemmas.List.{length-map, get_or-map, get_or_past}
-use Rattle.row_version.specs.History.{Change, History, written, current, as_of, version}
+use Rattle.row_version.specs.History.{History, current}
 use Rattle.table_store.specs.Types.{Cmp, Value, Null, TableRow}
 use Rattle.table_store.specs.Cells.{passes_test}
 use Rattle.table_store.specs.Grid.{Slot, no_slot, new_slot, AreNumberedFrom, next_after, slot_passes}
 use Rattle.table_store.specs.RowOrder.{AreInOrder}
 use Rattle.table_store.specs.Histories.{RowHistory, no_history, added}
 use Rattle.table_store.specs.RowChains.{Chains, changes_or, history_of, histories_of, IsKept, AreChained}
-use Rattle.table_store.proofs.GridLaws.{get_front, get_last, long_more}
 
 pub none_chained : (chains : Chains) → ((q : ℕ) → chains q ≡ None) → AreChained chains [] 0
 none_chained chains none = record {

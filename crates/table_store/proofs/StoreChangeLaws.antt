@@ -1,13 +1,13 @@
 -- A change of one table of a store.
-use Rattle.std.proofs.Common.{◌≡◌, ℕ, zero, suc, ◌+◌, ◌<◌, ◌≤◌, inl, inr, Bool, true, false, cond, ◌&&◌, List, [], ◌∷◌, map, length, get_or, set, refl, ap, sym, subst, ◌∙◌, arith, Option, Some, None, get_or-set_same, get_or-set_other}
+use Rattle.std.proofs.Common.{◌≡◌, ℕ, zero, suc, ◌+◌, ◌<◌, ◌≤◌, inl, inr, true, ◌&&◌, List, [], ◌∷◌, map, length, get_or, set, refl, ap, sym, subst, ◌∙◌, arith, Option, Some, None, get_or-set_same, get_or-set_other}
 use Rattle.std.specs.Prelude.{find, IfSome, IsSome}
 use Rattle.std.specs.Option.{option_map}
 use Rattle.std.proofs.lemmas.Bool.{cases_eq}
 use Rattle.std.proofs.lemmas.List.{length-set, length-map, get_or-map, map-set}
 use Rattle.ldv_value.specs.Sorted.{is_strictly_sorted, precedes_first, text_precedes}
-use Rattle.sql_model.specs.Scope.{catalog_of, is_table, table_at}
-use Rattle.table_store.specs.Types.{Value, Catalog, Schema, Table, TableRow}
-use Rattle.table_store.specs.Histories.{TableHistory, StoreHistory, table_now, tables_now, is_history, history_at, in_table, changed_at, rows_as_of, next_as_of, rows_after, next_number_after, AreKeptBefore, last_since, last_next, inserted, replaced, removed}
+use Rattle.sql_model.specs.Scope.{is_table, table_at}
+use Rattle.table_store.specs.Types.{Value, Catalog, Table, TableRow}
+use Rattle.table_store.specs.Histories.{TableHistory, StoreHistory, table_now, tables_now, is_history, in_table, changed_at, rows_as_of, next_as_of, AreKeptBefore, last_since, last_next, inserted, replaced, removed}
 use Rattle.table_store.specs.Stops.{with_changed}
 use Rattle.table_store.specs.StoreView.{AreStored, are_sorted, no_table}
 use Rattle.table_store.proofs.NowLaws.{found_now, there_from}

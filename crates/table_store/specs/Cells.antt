@@ -4,7 +4,7 @@ use Rattle.std.specs.Prelude.{vec_capacity}
 use Rattle.ldv_value.specs.Order.{test_of}
 use Rattle.sql_model.specs.Meaning.{is_true}
 use Rattle.sql_model.specs.Tables.{has_kind}
-use Rattle.table_store.specs.Types.{Cmp, Value, Null, Int, Text}
+use Rattle.table_store.specs.Types.{Cmp, Value, Null, Int}
 use Rattle.table_store.specs.declared.column.Held.{Held}
 use Rattle.table_store.specs.declared.column.Held.TheVariants.{Ints, Texts}
 

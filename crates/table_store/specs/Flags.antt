@@ -1,5 +1,5 @@
 -- Bits of slots, kept in words.
-use Rattle.std.specs.Prelude.{◌≡◌, ℕ, ◌+◌, ◌-◌, ◌*◌, ◌/◌, ◌≤◌, ◌^◌, Bool, List, map, vec_len, vec_capacity}
+use Rattle.std.specs.Prelude.{◌≡◌, ℕ, ◌+◌, ◌-◌, ◌*◌, ◌/◌, Bool, List, map, vec_len, vec_capacity}
 use Rattle.std.specs.List.{range_with_len}
 use Rattle.lanes.specs.Sets.{member}
 use Rattle.table_store.specs.declared.bits.Bits.TheInside.{Inside}

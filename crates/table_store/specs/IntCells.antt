@@ -1,7 +1,6 @@
 -- A column of numbers, some of which are NULL.
-use Rattle.std.specs.Prelude.{◌≡◌, ℕ, ◌-◌, ℤ, Bool, true, false, Option, Some, None, List, [], ◌∷◌, length}
+use Rattle.std.specs.Prelude.{◌≡◌, ℕ, ◌-◌, ℤ, Bool, Option, Some, None, List, [], ◌∷◌, length}
 use Rattle.std.specs.Prelude.{vec_len, vec_capacity, min, cond}
-use Rattle.table_store.specs.Flags.{Flags}
 use Rattle.table_store.specs.declared.int_column.IntColumn.TheInside.{Inside}
 
 -- a cell for each slot, and for how many more there is room

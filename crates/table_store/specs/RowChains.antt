@@ -5,7 +5,7 @@ use Rattle.std.specs.Prelude.{Option, Some, None, slice_index_or, IsSome}
 use Rattle.std.specs.Ordering.{nat_cmp}
 use Rattle.std.specs.BTreeMap.{get}
 use Rattle.row_version.specs.History.{Change, History, written, current, version, last_time}
-use Rattle.table_store.specs.Grid.{Slot, Rows, no_slot}
+use Rattle.table_store.specs.Grid.{Slot, no_slot}
 use Rattle.table_store.specs.Histories.{RowHistory}
 use Rattle.table_store.specs.declared.rows.Rows.TheInside.{Inside}
 

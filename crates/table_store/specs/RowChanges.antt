@@ -3,7 +3,7 @@ use Rattle.std.specs.Prelude.{◌≡◌, ℕ, ◌+◌, ◌<◌, ◌≤◌, Bool,
 use Rattle.std.specs.Prelude.{None, IsSome, slice_index_or}
 use Rattle.std.specs.Option.{option_map}
 use Rattle.row_version.specs.History.{Change, current, last_time, IsSorted}
-use Rattle.table_store.specs.Types.{Value, TableRow}
+use Rattle.table_store.specs.Types.{TableRow}
 use Rattle.table_store.specs.Grid.{Slot, no_slot, fits_kinds}
 use Rattle.table_store.specs.Histories.{RowHistory, no_history}
 use Rattle.table_store.specs.RowChains.{Chains, IsReady, HasRoom}

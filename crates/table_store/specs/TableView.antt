@@ -1,9 +1,9 @@
 -- A table as it is kept.
-use Rattle.std.specs.Prelude.{◌≡◌, ℕ, ◌<◌, ◌≤◌, Bool, List, [], ◌∷◌, length, map, Option, Some, None}
+use Rattle.std.specs.Prelude.{◌≡◌, ℕ, ◌<◌, ◌≤◌, Bool, List, [], ◌∷◌, length, map}
 use Rattle.std.specs.Prelude.{slice_index_or}
 use Rattle.std.specs.BTreeMap.{get}
 use Rattle.row_version.specs.History.{IsSorted, last_time}
-use Rattle.table_store.specs.Types.{Column, Schema, TableRow, Table}
+use Rattle.table_store.specs.Types.{Column, Schema, Table}
 use Rattle.table_store.specs.Histories.{RowHistory, NextSince, TableHistory, no_history, last_next}
 use Rattle.table_store.specs.Histories.{last_since, added, rows_now}
 use Rattle.sql_model.specs.KeyOrder.{key_order}

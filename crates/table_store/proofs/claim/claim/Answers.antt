@@ -1,4 +1,4 @@
-use Rattle.std.proofs.Common.{rules, ◌≡◌, ◌∙◌, ◌++◌, ◌==◌, ap, sym, subst, ℕ, List, length, false, [], Option}
+use Rattle.std.proofs.Common.{rules, ◌≡◌, ◌∙◌, ◌++◌, ◌==◌, sym, subst, List, length, false, Option}
 use Rattle.std.specs.BTreeMap.{get}
 use Rattle.sql_model.specs.Changes.{KeyClash, clash_by, clash_after, numbered}
 use Rattle.sql_model.specs.KeyOrder.{key_order}

@@ -1,4 +1,4 @@
-use Rattle.std.proofs.Common.{rules, ◌≡◌, ◌∙◌, ◌++◌, ◌+◌, ap, sym, subst, ℕ, List, take, drop, length, get_or, [], Some, None, Option, arith, append-nil}
+use Rattle.std.proofs.Common.{◌≡◌, ◌∙◌, ◌++◌, ◌+◌, ap, sym, subst, ℕ, List, take, drop, get_or, [], None, Option, arith, append-nil}
 use Rattle.std.specs.Prelude.{find, Err}
 use Rattle.std.specs.BTreeMap.{get}
 use Rattle.std.proofs.lemmas.List.{take_all}

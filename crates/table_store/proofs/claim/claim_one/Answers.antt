@@ -1,15 +1,14 @@
-use Rattle.std.proofs.Common.{rules, ◌≡◌, ◌∙◌, ◌++◌, ◌==◌, ap, sym, subst, ℕ, List, take, get_or, [], Some, None, Option}
+use Rattle.std.proofs.Common.{rules, ◌≡◌, ◌∙◌, ◌++◌, ap, sym, subst, take, get_or, [], None}
 use Rattle.std.specs.Prelude.{find}
 use Rattle.std.proofs.lemmas.List.{get_or_default}
-use Rattle.std.specs.Option.{option_map}
 use Rattle.std.specs.BTreeMap.{get}
 use Rattle.sql_model.specs.Changes.{numbered}
 use Rattle.sql_model.specs.KeyOrder.{key_order}
 use Rattle.sql_model.specs.Keys.{key_at, values_at}
-use Rattle.table_store.specs.Types.{RowKey, TableRow}
+use Rattle.table_store.specs.Types.{RowKey}
 use Rattle.table_store.specs.Histories.{rows_now}
 use Rattle.table_store.specs.KeyIndex.{Held, AreHeld, has_key}
-use Rattle.table_store.proofs.ClaimLaws.{none_from, put_kept, put_more, taken_none, taken_some}
+use Rattle.table_store.proofs.ClaimLaws.{none_from, put_kept, put_more}
 use Rattle.table_store.proofs.claim.claim_one.Goals as goal
 
 pub returns-in-Ok-clause-kept : goal.returns-in-Ok-clause-kept

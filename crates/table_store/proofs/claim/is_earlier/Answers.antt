@@ -1,11 +1,11 @@
-use Rattle.std.proofs.Common.{rules, ◌≡◌, ◌∙◌, ◌+◌, ◌-◌, ◌<◌, ◌≤◌, ap, sym, subst, ℕ, length, take, get_or, arith, List, [], Some, None}
+use Rattle.std.proofs.Common.{rules, ◌≡◌, ◌∙◌, ◌+◌, ◌-◌, ◌<◌, ◌≤◌, ap, sym, subst, ℕ, length, take, get_or, arith, [], Some, None}
 use Rattle.std.specs.Prelude.{if◌then◌else◌}
 use Rattle.std.specs.Ordering.{eq_by_cmp}
 use Rattle.std.specs.Option.{option_map}
 use Rattle.std.proofs.lemmas.List.{length-take-le, get_or-take, get_or_default}
 use Rattle.sql_model.specs.KeyOrder.{key_order}
 use Rattle.sql_model.specs.Keys.{same_values, values_at, key_at}
-use Rattle.table_store.specs.Types.{Value, RowKey, TableRow}
+use Rattle.table_store.specs.Types.{RowKey, TableRow}
 use Rattle.table_store.specs.Histories.{rows_now}
 use Rattle.table_store.specs.RowOrder.{AreInOrder}
 use Rattle.table_store.proofs.ClaimLaws.{found_old, found_new, numbered_past, numbered_here}

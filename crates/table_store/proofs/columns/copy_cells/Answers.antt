@@ -1,6 +1,6 @@
-use Rattle.std.proofs.Common.{◌≡◌, ◌∙◌, ap, sym, ℕ, ◌++◌, ◌∷◌, [], get_or, rules, subst, ◌<◌, length, take}
+use Rattle.std.proofs.Common.{◌≡◌, ◌∙◌, ap, sym, ℕ, ◌++◌, ◌∷◌, [], get_or, rules, subst, ◌<◌, length}
 use Rattle.std.proofs.lemmas.List.{get_or-map, length-map, take_more}
-use Rattle.table_store.specs.Types.{Value, Null}
+use Rattle.table_store.specs.Types.{Null}
 use Rattle.table_store.specs.Cells.{Cells}
 use Rattle.table_store.specs.Grid.{values_at, no_cells}
 use Rattle.table_store.proofs.FlagLaws.{default_free}

@@ -1,11 +1,10 @@
-use Rattle.std.proofs.Common.{◌≡◌, ◌∙◌, ◌==◌, ap, sym, ℕ, Some, None, ◌&&◌, rules}
-use Rattle.std.specs.Prelude.{if◌then◌else◌, find}
+use Rattle.std.proofs.Common.{◌∙◌, ap, sym, Some, None, rules}
+use Rattle.std.specs.Prelude.{if◌then◌else◌}
 use Rattle.std.specs.Option.{option_map}
 use Rattle.std.specs.BTreeMap.{get}
 use Rattle.sql_model.specs.KeyOrder.{key_order}
 use Rattle.table_store.specs.Types.{TableRow, RowKey}
 use Rattle.table_store.specs.Histories.{rows_now}
-use Rattle.table_store.specs.KeyIndex.{has_key}
 use Rattle.table_store.proofs.IndexLaws.{absent_key, held_key, get_alike}
 use Rattle.table_store.proofs.index.held_number.Goals as goal
 

@@ -1,6 +1,6 @@
-use Rattle.std.proofs.Common.{◌≡◌, ◌∙◌}
+use Rattle.std.proofs.Common.{◌∙◌}
 use Rattle.table_store.specs.Grid.{slots_of}
-use Rattle.table_store.proofs.GridLaws.{slots_pushed, grid_pushed, fits_width, fits_columns, same_kinds}
+use Rattle.table_store.proofs.GridLaws.{slots_pushed, fits_width, fits_columns, same_kinds}
 use Rattle.table_store.proofs.push.push_row.Goals as goal
 
 pub push_cells-requires-clause-count : goal.push_cells-requires-clause-count

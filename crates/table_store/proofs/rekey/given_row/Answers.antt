@@ -1,8 +1,7 @@
-use Rattle.std.proofs.Common.{rules, ◌≡◌, ◌∙◌, ◌==◌, ap, sym, ℕ, List, Option, Some, None, true, false, cond, arith, eq-eqb}
-use Rattle.std.specs.Prelude.{nat_lt, slice_get, find}
+use Rattle.std.proofs.Common.{rules, ◌≡◌, ◌∙◌, ap, sym, Some, None, true, false, cond, arith, eq-eqb}
+use Rattle.std.specs.Prelude.{nat_lt, slice_get}
 use Rattle.std.proofs.lemmas.Bool.{ne_eqb}
 use Rattle.std.proofs.lemmas.List.Sorted.{IsPartitionPoint-from_clause}
-use Rattle.std.specs.List.Sorted.{IsPartitionedBy}
 use Rattle.table_store.specs.Types.{TableRow}
 use Rattle.table_store.proofs.RekeyLaws.{given_found, given_parted, at_number}
 use Rattle.table_store.proofs.rekey.given_row.Goals as goal

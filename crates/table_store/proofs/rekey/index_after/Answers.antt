@@ -1,11 +1,11 @@
-use Rattle.std.proofs.Common.{rules, ◌≡◌, ◌∙◌, ◌==◌, ap, sym, subst, ℕ, [], List, length, false, map, Option}
+use Rattle.std.proofs.Common.{rules, ◌≡◌, ◌∙◌, ◌==◌, ap, sym, subst, [], List, length, false, map, Option}
 use Rattle.std.specs.BTreeMap.{get}
 use Rattle.sql_model.specs.Changes.{KeyClash, clash_after, clash_by}
 use Rattle.sql_model.specs.KeyOrder.{key_order}
-use Rattle.table_store.specs.Types.{RowKey, TableRow}
+use Rattle.table_store.specs.Types.{TableRow}
 use Rattle.table_store.specs.Claims.{rows_then, IsIndexOf, both_stop}
 use Rattle.table_store.specs.Histories.{rows_now}
-use Rattle.table_store.specs.KeyIndex.{Held, AreHeld, AreIndexed}
+use Rattle.table_store.specs.KeyIndex.{AreHeld, AreIndexed}
 use Rattle.table_store.specs.Stops.{replaced_by, StopsAs}
 use Rattle.table_store.specs.declared.index.Index.{Index}
 use Rattle.table_store.proofs.ClaimLaws.{keyed_clash}

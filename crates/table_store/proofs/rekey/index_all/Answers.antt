@@ -1,11 +1,11 @@
-use Rattle.std.proofs.Common.{rules, ◌≡◌, ◌∙◌, ◌++◌, ◌+◌, ◌≤◌, ◌<◌, ap, sym, subst, ℕ, [], List, take, drop, length, get_or, None, Some, Option, arith}
+use Rattle.std.proofs.Common.{◌≡◌, ◌∙◌, ◌++◌, ◌+◌, ◌<◌, ap, sym, subst, [], List, take, drop, length, get_or, None, Option, arith}
 use Rattle.std.specs.BTreeMap.{get}
 use Rattle.std.specs.Option.{option_or, option_to_list}
 use Rattle.std.specs.Prelude.{Err}
 use Rattle.std.proofs.lemmas.List.{take_all, drop_all}
 use Rattle.sql_model.specs.Changes.{KeyClash, clash_after}
 use Rattle.sql_model.specs.KeyOrder.{key_order}
-use Rattle.table_store.specs.Types.{RowKey, TableRow}
+use Rattle.table_store.specs.Types.{TableRow}
 use Rattle.table_store.specs.Claims.{row_then, rows_then, IsIndexOf, both_stop}
 use Rattle.table_store.specs.Histories.{RowHistory, no_history}
 use Rattle.table_store.specs.KeyIndex.{Held}

@@ -1,4 +1,4 @@
-use Rattle.std.proofs.Common.{◌≡◌, ap, true, map, Option}
+use Rattle.std.proofs.Common.{ap, true, map, Option}
 use Rattle.std.specs.BTreeMap.{get}
 use Rattle.sql_model.specs.Changes.{clash_by}
 use Rattle.sql_model.specs.KeyOrder.{key_order}

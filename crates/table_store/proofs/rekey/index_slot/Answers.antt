@@ -1,15 +1,14 @@
-use Rattle.std.proofs.Common.{rules, ◌≡◌, ◌∙◌, ◌++◌, ◌+◌, ◌<◌, ap, sym, subst, ℕ, [], List, take, get_or, None, Some, Option, is_some, false, append-nil, arith}
+use Rattle.std.proofs.Common.{rules, ◌≡◌, ◌∙◌, ◌++◌, ◌+◌, ◌<◌, ap, sym, subst, ℕ, List, take, get_or, Some, Option, is_some, false, append-nil, arith}
 use Rattle.std.specs.Prelude.{IsSome, ◌^◌}
 use Rattle.row_version.specs.History.{current}
 use Rattle.std.specs.BTreeMap.{get}
 use Rattle.std.specs.Option.{option_map, option_to_list}
-use Rattle.sql_model.specs.Changes.{clash_after}
 use Rattle.sql_model.specs.KeyOrder.{key_order}
 use Rattle.table_store.specs.Types.{RowKey, TableRow}
-use Rattle.table_store.specs.Claims.{row_then, rows_then, IsIndexOf, both_stop}
+use Rattle.table_store.specs.Claims.{row_then, rows_then, IsIndexOf}
 use Rattle.table_store.specs.Histories.{RowHistory, no_history}
 use Rattle.table_store.specs.KeyIndex.{Held, has_key}
-use Rattle.table_store.proofs.RekeyLaws.{rows_more, number_then, gone_then, slot_taken, slot_free, slot_put, found_below}
+use Rattle.table_store.proofs.RekeyLaws.{rows_more, number_then, gone_then, slot_taken, slot_put, found_below}
 use Rattle.table_store.proofs.rekey.index_slot.Goals as goal
 
 pub returns-then-not-stands-clause-ok : goal.returns-then-not-stands-clause-ok

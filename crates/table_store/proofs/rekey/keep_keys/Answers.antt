@@ -1,4 +1,4 @@
-use Rattle.std.proofs.Common.{rules, ◌≡◌, ◌≤◌, sym, subst, ℕ, List, true, length, take, get_or, arith}
+use Rattle.std.proofs.Common.{rules, ◌≡◌, subst, List, true, arith}
 use Rattle.std.specs.List.{AllByRecursion}
 use Rattle.std.proofs.lemmas.List.{take_all}
 use Rattle.table_store.specs.Types.{TableRow}

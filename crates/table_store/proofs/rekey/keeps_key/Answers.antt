@@ -1,4 +1,4 @@
-use Rattle.std.proofs.Common.{◌≡◌, ◌∙◌, ◌==◌, ◌&&◌, ap, sym, ℕ, Some, None, Option}
+use Rattle.std.proofs.Common.{◌∙◌, ◌==◌, ◌&&◌, ap, sym, Some, None}
 use Rattle.std.specs.Prelude.{find, if◌then◌else◌}
 use Rattle.std.specs.Option.{option_map}
 use Rattle.table_store.specs.Types.{RowKey, TableRow}

@@ -1,8 +1,8 @@
-use Rattle.std.proofs.Common.{◌≡◌, ◌∙◌, ◌==◌, ap, sym, ℕ, Option, Some, get_or}
+use Rattle.std.proofs.Common.{◌≡◌, ◌∙◌, ◌==◌, ap, sym, ℕ, Some, get_or}
 use Rattle.std.specs.Prelude.{find}
 use Rattle.std.specs.Option.{option_map}
 use Rattle.sql_model.specs.Keys.{key_at}
-use Rattle.table_store.specs.Types.{RowKey, TableRow}
+use Rattle.table_store.specs.Types.{TableRow}
 use Rattle.table_store.specs.Claims.{row_then}
 use Rattle.table_store.specs.Histories.{RowHistory, no_history}
 use Rattle.table_store.proofs.RekeyLaws.{key_given, if_ok_is}

@@ -1,4 +1,4 @@
-use Rattle.std.proofs.Common.{◌≡◌, ◌∙◌, ◌∷◌, [], ap, sym, ℕ, List, Some, None, get_or}
+use Rattle.std.proofs.Common.{◌∙◌, ◌∷◌, [], sym}
 use Rattle.std.specs.Ordering.{nat_cmp}
 use Rattle.std.specs.BTreeMap.{get}
 use Rattle.row_version.specs.History.{History, written}

@@ -1,4 +1,4 @@
-use Rattle.std.proofs.Common.{◌≡◌, ◌∙◌, ap, subst, sym, ℕ, false, get_or, List, to_z, of_z, w64}
+use Rattle.std.proofs.Common.{◌≡◌, ◌∙◌, ap, subst, sym, false, get_or, List, w64}
 use Rattle.std.specs.Prelude.{ℤ, None}
 use Rattle.std.specs.Option.{option_map_or}
 use Rattle.lanes.specs.Sets.{member}

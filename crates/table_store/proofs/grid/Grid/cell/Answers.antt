@@ -1,4 +1,4 @@
-use Rattle.std.proofs.Common.{◌≡◌, ◌∙◌, ◌<◌, ap, sym, ℕ, length, arith}
+use Rattle.std.proofs.Common.{◌∙◌, ◌<◌, ap, sym, length, arith}
 use Rattle.sql_model.specs.Scope.{value_at}
 use Rattle.table_store.specs.Grid.{Slot, Rows}
 use Rattle.table_store.proofs.GridLaws.{in_parts, seen_within}

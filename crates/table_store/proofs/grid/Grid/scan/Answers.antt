@@ -1,8 +1,8 @@
-use Rattle.std.proofs.Common.{◌≡◌, ◌∙◌, ◌<◌, ◌≤◌, ◌+◌, ◌/◌, ap, sym, subst, refl, ℕ, List, length, arith, get_or, to_z, of_z, w64, false, ◌&&◌}
+use Rattle.std.proofs.Common.{◌≡◌, ◌∙◌, ◌<◌, ◌+◌, ◌/◌, ap, sym, subst, ℕ, List, length, get_or, w64, ◌&&◌}
 use Rattle.std.specs.Prelude.{ℤ}
 use Rattle.lanes.specs.Sets.{member}
 use Rattle.std.proofs.lemmas.Int.{to_z-of_z}
-use Rattle.table_store.specs.Types.{Value, Null}
+use Rattle.table_store.specs.Types.{Null}
 use Rattle.table_store.specs.Cells.{Cells, passes_test}
 use Rattle.table_store.specs.Grid.{Slot, Rows, no_cells, no_slot, slot_passes, slots_of}
 use Rattle.table_store.proofs.FlagLaws.{default_free}

@@ -1,6 +1,5 @@
-use Rattle.std.proofs.Common.{◌≡◌, ◌∙◌, ◌<◌, ap, sym, subst, ℕ, length, List, Bool, true, set, arith}
-use Rattle.table_store.specs.Types.{Value}
-use Rattle.table_store.specs.Grid.{Slot, Rows, slots_of, slot_of, kinds_of, fits_kinds}
+use Rattle.std.proofs.Common.{◌≡◌, ◌∙◌, ◌<◌, ap, length, set, arith}
+use Rattle.table_store.specs.Grid.{Slot, Rows, slots_of, slot_of, fits_kinds}
 use Rattle.table_store.proofs.GridLaws.{in_parts, seen_slot, slots_replaced, set_seen, fits_columns, fits_width, same_kinds}
 use Rattle.table_store.proofs.grid.Grid.set.Goals as goal
 

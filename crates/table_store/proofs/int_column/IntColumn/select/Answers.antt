@@ -1,10 +1,10 @@
-use Rattle.std.proofs.Common.{◌≡◌, ◌∙◌, ap, refl, subst, sym, ℕ, Bool, false, not, ◌&&◌, get_or, length, None, List, to_z, of_z, w64}
+use Rattle.std.proofs.Common.{◌≡◌, ◌∙◌, ap, subst, sym, Bool, false, not, ◌&&◌, get_or, length, None, List, w64}
 use Rattle.std.specs.Prelude.{ℤ, slice_get}
 use Rattle.std.specs.Option.{option_map_or}
 use Rattle.lanes.specs.Sets.{member}
 use Rattle.lanes.specs.Selection.{passes, holds_at}
 use Rattle.std.proofs.lemmas.Int.{to_z-of_z}
-use Rattle.table_store.specs.IntCells.{IntCells, seen_cells}
+use Rattle.table_store.specs.IntCells.{IntCells}
 use Rattle.table_store.proofs.IntCellLaws.{select_cell}
 use Rattle.table_store.proofs.int_column.IntColumn.select.Goals as goal
 

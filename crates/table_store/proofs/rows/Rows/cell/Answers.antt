@@ -1,4 +1,4 @@
-use Rattle.std.proofs.Common.{◌≡◌, ◌∙◌, ap}
+use Rattle.std.proofs.Common.{◌∙◌, ap}
 use Rattle.std.specs.Prelude.{Some}
 use Rattle.sql_model.specs.Scope.{value_at}
 use Rattle.table_store.specs.RowChains.{RowsHistory, chains_of}

@@ -1,4 +1,4 @@
-use Rattle.std.proofs.Common.{◌≡◌, ◌∙◌, ap, sym, ℕ, subst}
+use Rattle.std.proofs.Common.{◌∙◌, ap}
 use Rattle.table_store.specs.RowChains.{RowsHistory, chains_of}
 use Rattle.std.specs.Prelude.{Some}
 use Rattle.std.specs.Cmp.Lexicographic.{slice_cmp}

@@ -1,6 +1,5 @@
-use Rattle.std.proofs.Common.{◌≡◌, ◌∙◌, ap, subst, sym, Some, get_or}
+use Rattle.std.proofs.Common.{◌≡◌, ◌∙◌, ap, Some, get_or}
 use Rattle.std.proofs.lemmas.Result.{IfOk-weaker}
-use Rattle.table_store.specs.Types.{Value}
 use Rattle.row_version.specs.History.{current}
 use Rattle.table_store.specs.Grid.{no_slot}
 use Rattle.table_store.specs.Histories.{no_history}

@@ -1,6 +1,6 @@
-use Rattle.std.proofs.Common.{◌≡◌, ◌∙◌, ap, subst, sym, ℕ, List, ◌++◌, map}
-use Rattle.table_store.specs.Grid.{Rows, Slot, AreNumberedFrom, new_slot, next_after}
-use Rattle.table_store.specs.Histories.{RowHistory, added}
+use Rattle.std.proofs.Common.{◌∙◌, ap, subst, sym, ℕ, ◌++◌, map}
+use Rattle.table_store.specs.Grid.{Rows, AreNumberedFrom, next_after}
+use Rattle.table_store.specs.Histories.{added}
 use Rattle.table_store.specs.RowChains.{RowsHistory, chains_of, histories_of, AreChained}
 use Rattle.table_store.proofs.RowLaws.{rows_added, chained_added}
 use Rattle.table_store.proofs.rows.Rows.push_all.Goals as goal

@@ -1,6 +1,6 @@
-use Rattle.std.proofs.Common.{◌≡◌, ◌∙◌, ap, sym, ℕ, subst}
+use Rattle.std.proofs.Common.{◌≡◌, ◌∙◌, ap, subst}
 use Rattle.table_store.specs.RowChains.{RowsHistory, chains_of}
-use Rattle.std.proofs.Common.{to_z, of_z, w64, get_or}
+use Rattle.std.proofs.Common.{w64, get_or}
 use Rattle.std.specs.Prelude.{ℤ}
 use Rattle.std.proofs.lemmas.Int.{to_z-of_z}
 use Rattle.lanes.specs.Sets.{member}

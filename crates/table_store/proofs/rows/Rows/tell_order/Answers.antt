@@ -1,4 +1,4 @@
-use Rattle.std.proofs.Common.{◌≡◌, ◌∙◌, ap, sym, ℕ, subst}
+use Rattle.std.proofs.Common.{ap, ℕ, subst}
 use Rattle.table_store.specs.RowChains.{RowsHistory, chains_of}
 use Rattle.table_store.specs.RowOrder.{AreInOrder}
 use Rattle.table_store.proofs.RowLaws.{in_order}

@@ -1,4 +1,4 @@
-use Rattle.std.proofs.Common.{◌≡◌, ◌∙◌, ◌<◌, ◌≤◌, ap, sym, subst, ℕ, List, Some, Option, false, length, get_or, arith}
+use Rattle.std.proofs.Common.{◌∙◌, ◌<◌, ap, sym, ℕ, Some, Option, length}
 use Rattle.std.specs.Prelude.{find}
 use Rattle.std.specs.Option.{option_map}
 use Rattle.table_store.specs.KeyIndex.{has_key}

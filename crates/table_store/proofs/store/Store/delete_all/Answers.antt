@@ -1,12 +1,8 @@
-use Rattle.std.proofs.Common.{◌≡◌, ◌∙◌, ◌<◌, ap, sym, subst, ℕ, List, Option, Some, true, refl, length, get_or, arith}
-use Rattle.std.specs.Prelude.{Result, Ok, Err, IfSome}
-use Rattle.std.specs.Option.{option_and_then, option_map}
-use Rattle.sql_model.specs.Scope.{table_at}
-use Rattle.table_store.specs.Types.{Value, Table, TableRow}
-use Rattle.table_store.specs.Histories.{StoreHistory, TableHistory, tables_now, table_now, removed}
-use Rattle.table_store.specs.Stops.{with_removed, StopsAs, all_stand}
+use Rattle.std.proofs.Common.{◌≡◌, true, get_or}
+use Rattle.table_store.specs.Histories.{TableHistory, removed}
+use Rattle.table_store.specs.Stops.{with_removed, all_stand}
 use Rattle.table_store.specs.StoreView.{no_table}
-use Rattle.table_store.proofs.StoreChangeLaws.{remove_is, at_place, later_there, given_there, after_stored, after_is, after_now, after_kept, not_missing}
+use Rattle.table_store.proofs.StoreChangeLaws.{remove_is, later_there, given_there, after_stored, after_is, after_now, after_kept, not_missing}
 use Rattle.table_store.proofs.TableChangeLaws.{removed_now}
 use Rattle.table_store.proofs.store.Store.delete_all.Goals as goal
 

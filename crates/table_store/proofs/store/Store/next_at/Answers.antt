@@ -1,4 +1,4 @@
-use Rattle.std.proofs.Common.{◌≡◌, ◌∙◌, ◌<◌, ◌≤◌, ap, sym, subst, ℕ, List, Some, Option, false, length, get_or, arith}
+use Rattle.std.proofs.Common.{◌∙◌, ap, sym, ℕ, Some, arith}
 use Rattle.std.specs.Option.{option_map}
 use Rattle.table_store.specs.Types.{Table}
 use Rattle.table_store.proofs.NowLaws.{not_absent, now_at}

@@ -1,9 +1,8 @@
-use Rattle.std.proofs.Common.{◌≡◌, ◌∙◌, ◌<◌, ap, sym, subst, ℕ, List, Option, Some, true, refl, length, get_or, arith}
-use Rattle.std.specs.Prelude.{Result, Ok, Err, IfSome}
-use Rattle.std.specs.Option.{option_and_then, option_map}
-use Rattle.sql_model.specs.Scope.{table_at}
-use Rattle.table_store.specs.Types.{Value, Table, TableRow}
-use Rattle.table_store.specs.Histories.{StoreHistory, TableHistory, tables_now, table_now, replaced}
+use Rattle.std.proofs.Common.{◌≡◌, ◌∙◌, ap, sym, subst, Option, true, get_or}
+use Rattle.std.specs.Prelude.{Err}
+use Rattle.std.specs.Option.{option_and_then}
+use Rattle.table_store.specs.Types.{Table}
+use Rattle.table_store.specs.Histories.{TableHistory, replaced}
 use Rattle.table_store.specs.Stops.{with_replaced, StopsAs, have_shape, values_of, all_stood, replace_stop}
 use Rattle.table_store.specs.StoreView.{no_table}
 use Rattle.table_store.proofs.StoreChangeLaws.{replace_is, at_place, later_there, given_there, after_stored, after_is, after_now, after_kept, not_missing}

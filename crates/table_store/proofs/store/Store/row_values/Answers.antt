@@ -1,4 +1,4 @@
-use Rattle.std.proofs.Common.{◌≡◌, ◌∙◌, ◌<◌, ◌≤◌, ap, sym, subst, ℕ, List, Some, Option, false, length, get_or, arith}
+use Rattle.std.proofs.Common.{get_or}
 use Rattle.std.specs.Prelude.{IsSome}
 use Rattle.row_version.specs.History.{current}
 use Rattle.table_store.specs.Histories.{no_history}

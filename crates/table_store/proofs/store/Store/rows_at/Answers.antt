@@ -1,4 +1,4 @@
-use Rattle.std.proofs.Common.{◌≡◌, ◌∙◌, ◌<◌, ◌≤◌, ap, sym, subst, ℕ, List, Some, Option, false, length, get_or, arith}
+use Rattle.std.proofs.Common.{arith}
 use Rattle.table_store.proofs.NowLaws.{not_absent, ok_rows}
 use Rattle.table_store.proofs.store.Store.rows_at.Goals as goal
 

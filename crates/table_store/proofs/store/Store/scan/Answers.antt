@@ -1,4 +1,4 @@
-use Rattle.std.proofs.Common.{◌≡◌, ◌∙◌, ◌<◌, ◌≤◌, ap, sym, subst, ℕ, List, Some, Option, false, length, get_or, arith}
+use Rattle.std.proofs.Common.{◌≡◌, Some, false, length}
 use Rattle.std.specs.Prelude.{slice_get, ◌+◌, ◌/◌}
 use Rattle.std.specs.Option.{option_map}
 use Rattle.table_store.proofs.NowLaws.{not_absent, given_at}

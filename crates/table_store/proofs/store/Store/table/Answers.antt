@@ -1,4 +1,4 @@
-use Rattle.std.proofs.Common.{rules, ◌≡◌, ◌∙◌, ◌≤◌, ap, sym, subst, ℕ, List, Some, Option, get_or, arith}
+use Rattle.std.proofs.Common.{◌≡◌, ◌∙◌, ◌≤◌, ap, sym, subst, Some, get_or, arith}
 use Rattle.std.proofs.lemmas.List.{get_or_read}
 use Rattle.table_store.specs.Histories.{StoreHistory, TableHistory, history_at, last_since}
 use Rattle.table_store.specs.StoreView.{no_table}

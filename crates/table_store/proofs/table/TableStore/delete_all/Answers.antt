@@ -1,13 +1,12 @@
-use Rattle.std.proofs.Common.{◌≡◌, ◌∙◌, ◌<◌, ap, sym, subst, ℕ, List, Bool, map, arith, refl}
+use Rattle.std.proofs.Common.{◌≡◌, ◌∙◌, ◌<◌, ap, sym, subst, ℕ, List, map}
 use Rattle.std.specs.BTreeMap.{get}
 use Rattle.row_version.specs.History.{Change}
 use Rattle.sql_model.specs.KeyOrder.{key_order}
-use Rattle.table_store.specs.Types.{Schema, TableRow}
 use Rattle.table_store.specs.Histories.{RowHistory, NextSince, TableHistory, changed_by, last_since, last_next, noted, rows_now, dropped, removed}
 use Rattle.table_store.specs.KeyIndex.{Held, AreIndexed}
 use Rattle.table_store.specs.Nexts.{nexts_of}
 use Rattle.table_store.specs.RowChains.{RowsHistory}
-use Rattle.table_store.specs.RowChanges.{removal, changes_given, RiseFrom, AllFitKinds, AllStand, AreBefore}
+use Rattle.table_store.specs.RowChanges.{removal, changes_given, RiseFrom, AllFitKinds, AllStand}
 use Rattle.table_store.specs.TableView.{IsStored}
 use Rattle.table_store.specs.declared.change.RowChange.{RowChange}
 use Rattle.table_store.proofs.TableChangeLaws.{before_all, removals_rise, removals_stand, removals_fit, changes_removed, stored_changed, indexed_removed}

@@ -1,5 +1,5 @@
-use Rattle.std.proofs.Common.{◌≡◌, ◌∙◌, ◌++◌, ◌+◌, ◌<◌, ◌≤◌, ap, sym, subst, ℕ, List, Bool, length, map, true, false, Some, None, Option, arith, refl}
-use Rattle.std.specs.Prelude.{zip, nat_lt, Err, ◌^◌}
+use Rattle.std.proofs.Common.{◌≡◌, ◌∙◌, ◌++◌, ◌+◌, ◌<◌, ◌≤◌, ap, sym, subst, ℕ, List, length, map, true, false, Some, None, Option, arith}
+use Rattle.std.specs.Prelude.{zip, nat_lt, Err}
 use Rattle.std.proofs.lemmas.Bool.{ltb-false}
 use Rattle.std.specs.BTreeMap.{get}
 use Rattle.std.specs.List.{list_any, list_all}
@@ -7,16 +7,16 @@ use Rattle.std.specs.Option.{option_or}
 use Rattle.ldv_value.specs.Limits.{max_next}
 use Rattle.sql_model.specs.Changes.{numbered, refuses_null, clash_by}
 use Rattle.sql_model.specs.KeyOrder.{key_order}
-use Rattle.table_store.specs.Types.{Value, Schema, TableRow}
+use Rattle.table_store.specs.Types.{Value, TableRow}
 use Rattle.table_store.specs.Claims.{claim_stop}
 use Rattle.table_store.specs.Grid.{AreNumberedFrom, are_of_kinds, next_after}
-use Rattle.table_store.specs.Histories.{RowHistory, NextSince, TableHistory, added, inserted, last_next, last_since, noted, rows_now, table_now}
+use Rattle.table_store.specs.Histories.{NextSince, TableHistory, added, inserted, last_since, noted, rows_now, table_now}
 use Rattle.table_store.specs.KeyIndex.{Held, AreIndexed}
 use Rattle.table_store.specs.Nexts.{nexts_of}
 use Rattle.table_store.specs.RowChains.{RowsHistory}
 use Rattle.table_store.specs.RowOrder.{AreInOrder}
 use Rattle.table_store.specs.Stops.{has_shape, insert_stop, stop_if, StopsAs}
-use Rattle.table_store.specs.TableView.{IsStored, kinds_in}
+use Rattle.table_store.specs.TableView.{IsStored}
 use Rattle.table_store.specs.declared.stop.StoreStop.{StoreStop}
 use Rattle.table_store.specs.declared.stop.StoreStop.TheVariants.{NotNull, Full}
 use Rattle.table_store.proofs.ClaimLaws.{stop_first}

@@ -1,4 +1,4 @@
-use Rattle.std.proofs.Common.{◌≡◌, ◌∙◌, ap, sym, subst, List}
+use Rattle.std.proofs.Common.{◌∙◌, ap, sym, subst, List}
 use Rattle.table_store.specs.Histories.{TableHistory, next_as_of}
 use Rattle.table_store.specs.Nexts.{nexts_of, AreInTime}
 use Rattle.table_store.specs.declared.nexts.NextSince.{NextSince}

@@ -1,19 +1,19 @@
-use Rattle.std.proofs.Common.{rules, ◌≡◌, ◌∙◌, ◌<◌, ap, sym, subst, ℕ, List, Bool, map, true, false, None, Option, arith, refl}
+use Rattle.std.proofs.Common.{rules, ◌≡◌, ◌∙◌, ◌<◌, ap, sym, subst, ℕ, List, Bool, map, true, false, None, Option, refl}
 use Rattle.std.specs.Prelude.{Err}
 use Rattle.std.specs.BTreeMap.{get}
 use Rattle.std.specs.List.{list_all, list_any}
 use Rattle.row_version.specs.History.{Change}
 use Rattle.sql_model.specs.Changes.{has_null, clash_by}
 use Rattle.sql_model.specs.KeyOrder.{key_order}
-use Rattle.table_store.specs.Types.{Column, Schema, TableRow}
+use Rattle.table_store.specs.Types.{TableRow}
 use Rattle.table_store.specs.Claims.{both_stop}
 use Rattle.table_store.specs.Histories.{RowHistory, NextSince, TableHistory, changed_by, last_since, last_next, noted, replaced, rewritten, rows_now, table_now}
 use Rattle.table_store.specs.KeyIndex.{Held, AreIndexed}
 use Rattle.table_store.specs.Nexts.{nexts_of}
 use Rattle.table_store.specs.RowChains.{RowsHistory}
-use Rattle.table_store.specs.RowChanges.{rewrite, changes_given, RiseFrom, AllFitKinds, AllStand, AreBefore}
-use Rattle.table_store.specs.Stops.{have_shape, values_of, has_shape, all_stood, replaced_by, with_replaced, replace_stop, StopsAs}
-use Rattle.table_store.specs.TableView.{IsStored, kinds_in}
+use Rattle.table_store.specs.RowChanges.{rewrite, changes_given, RiseFrom, AllFitKinds, AllStand}
+use Rattle.table_store.specs.Stops.{values_of, has_shape, all_stood, replaced_by, with_replaced, replace_stop, StopsAs}
+use Rattle.table_store.specs.TableView.{IsStored}
 use Rattle.table_store.specs.declared.change.RowChange.{RowChange}
 use Rattle.table_store.specs.declared.stop.StoreStop.{StoreStop}
 use Rattle.table_store.specs.declared.index.Index.{Index}

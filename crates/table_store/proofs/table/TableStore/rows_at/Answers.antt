@@ -1,7 +1,7 @@
-use Rattle.std.proofs.Common.{◌≡◌, ◌∙◌, ◌++◌, ◌≤◌, [], ap, sym, subst, ℕ, List, length, drop, arith, append-nil}
+use Rattle.std.proofs.Common.{◌≡◌, ◌∙◌, ◌++◌, ◌≤◌, [], ap, sym, subst, List, drop, arith, append-nil}
 use Rattle.std.specs.List.{filter_map}
 use Rattle.std.proofs.lemmas.List.{drop_all}
-use Rattle.table_store.specs.Histories.{RowHistory, TableHistory, row_as_of, rows_as_of, rows_now, last_since}
+use Rattle.table_store.specs.Histories.{RowHistory, TableHistory, row_as_of, rows_now, last_since}
 use Rattle.table_store.specs.Nexts.{nexts_of}
 use Rattle.table_store.proofs.NowLaws.{rows_last}
 use Rattle.table_store.proofs.table.TableStore.rows_at.Goals as goal

@@ -1,4 +1,4 @@
-use Rattle.std.proofs.Common.{◌≡◌, ◌∙◌, ◌<◌, ap, sym, ℕ, length, Some}
+use Rattle.std.proofs.Common.{◌∙◌, ap, sym}
 use Rattle.table_store.specs.Histories.{TableHistory, slot_of_row}
 use Rattle.table_store.proofs.TableLaws.{slot_here_is, slot_none}
 use Rattle.table_store.proofs.table.TableStore.slot_of.Goals as goal

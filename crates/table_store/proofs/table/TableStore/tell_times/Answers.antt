@@ -1,4 +1,4 @@
-use Rattle.std.proofs.Common.{◌≡◌, subst}
+use Rattle.std.proofs.Common.{subst}
 use Rattle.table_store.specs.Histories.{TableHistory, last_since}
 use Rattle.table_store.specs.TableView.{AreTimed}
 use Rattle.table_store.proofs.table.TableStore.tell_times.Goals as goal

@@ -1,5 +1,4 @@
-use Rattle.std.proofs.Common.{◌≡◌, ◌∙◌, ◌<◌, ap, sym, ℕ, length}
-use Rattle.std.specs.Prelude.{Option}
+use Rattle.std.proofs.Common.{◌∙◌, ap, sym}
 use Rattle.table_store.specs.Histories.{TableHistory, version_now, history_of_row}
 use Rattle.table_store.proofs.TableLaws.{version_here, version_none}
 use Rattle.table_store.proofs.table.TableStore.version.Goals as goal
