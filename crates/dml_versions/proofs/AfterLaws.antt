@@ -1,11 +1,11 @@
 -- What a change of a store returns and leaves, by what refuses it.
-use Rattle.std.proofs.Common.{◌≡◌, ℕ, ◌<◌, ◌≤◌, List, [], ◌∷◌, map, refl, ap, sym, ◌∙◌, subst, arith, Option, Some, None, Bool, true, false}
+use Rattle.std.proofs.Common.{◌≡◌, ℕ, ◌<◌, ◌≤◌, List, map, refl, ap, sym, ◌∙◌, subst, arith, Option, Some, None}
 use Rattle.sql_model.proofs.Equations.{reply_is, need_is, made_is, updated_is, after_is}
 use Rattle.sql_model.specs.Changes.{or_else, change_refusal}
-use Rattle.sql_model.specs.Needs.{needs_by, needs_of_reading, sorted_needs, made_unless, updated_unless, updated_rows, need_of, versions_after, read_of}
+use Rattle.sql_model.specs.Needs.{needs_by, sorted_needs, made_unless, updated_unless, versions_after, read_of}
 use Rattle.sql_model.specs.Refusals.{check_refusal}
 use Rattle.sql_model.specs.Scope.{catalog_of}
-use Rattle.sql_model.specs.Statements.{target, refusal_of, reply_or, after_unless, after}
+use Rattle.sql_model.specs.Statements.{target, refusal_of, reply_or, after_unless}
 use Rattle.table_store.specs.Histories.{tables_now, AreKeptBefore}
 use Rattle.dml_versions.specs.Changing.{IsWhole, IsStoreAfter}
 use Rattle.dml_versions.specs.Types.{SqlRefusal, Statement, StoreHistory, Table}

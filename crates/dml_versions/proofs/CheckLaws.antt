@@ -1,23 +1,21 @@
 -- What a check of a statement against tables says.
-use Rattle.std.proofs.Common.{◌≡◌, ℕ, List, [], ◌∷◌, ◌++◌, map, length, refl, ap, sym, ◌∙◌, subst, Bool, true, false, ◌&&◌, ◌||◌, not, Option, Some, None, append-nil, drop, inl, inr}
-use Rattle.std.specs.Prelude.{Result, Ok, Err, IsSome, find, filter, unwrap_or, slice_get, ◌==◌, is_none, if◌then◌else◌}
-use Rattle.std.specs.List.{list_all, list_any, flat_map, AllByRecursion}
+use Rattle.std.proofs.Common.{◌≡◌, ℕ, List, [], ◌∷◌, ◌++◌, refl, ap, sym, ◌∙◌, Bool, true, false, ◌&&◌, ◌||◌, not, Option, Some, None}
+use Rattle.std.specs.Prelude.{Ok, IsSome, unwrap_or, is_none}
+use Rattle.std.specs.List.{list_all, flat_map, AllByRecursion}
 use Rattle.std.specs.Option.{option_map}
 use Rattle.ldv_value.proofs.Booleans.{and-parts, or-parts}
 use Rattle.ldv_value.proofs.Lists.{found-all}
-use Rattle.ldv_value.proofs.Options.{none-some}
 use Rattle.sql_laws.proofs.ChangedTables.{check-parts}
-use Rattle.sql_laws.specs.DatabaseLaw.{have_distinct_columns}
 use Rattle.sql_model.proofs.Equations.{table_schema, schema_found}
 use Rattle.sql_model.specs.Kinds.{names_in}
-use Rattle.sql_model.specs.Places.{places_of, checked_statement, checked_unless, checked_of}
-use Rattle.sql_model.specs.Refusals.{is_missing, insert_names, insert_lacks_column, insert_clashes, update_clashes, row_fits, target_columns, set_fits, pick_fits, lacks_table, lacks_column, clashes, check_refusal, unresolved}
-use Rattle.sql_model.specs.Scope.{InScope, same_text, is_table, table_at, catalog_of, schema_at, columns_of, has_column, own_scope, resolves}
-use Rattle.sql_model.specs.Tables.{is_valid_table, are_distinct, is_database, table_precedes}
+use Rattle.sql_model.specs.Places.{places_of, checked_statement, checked_unless}
+use Rattle.sql_model.specs.Refusals.{is_missing, insert_names, insert_lacks_column, insert_clashes, update_clashes, row_fits, target_columns, set_fits, pick_fits, check_refusal, unresolved}
+use Rattle.sql_model.specs.Scope.{InScope, is_table, table_at, catalog_of, schema_at, columns_of, has_column, own_scope, resolves}
+use Rattle.sql_model.specs.Tables.{is_valid_table, are_distinct, table_precedes}
 use Rattle.ldv_value.specs.Sorted.{is_strictly_sorted}
 use Rattle.dml_versions.specs.Changing.{IsCheckedOver, AreWellFormed}
-use Rattle.dml_versions.specs.Making.{IsPlain, ArePlain}
-use Rattle.dml_versions.specs.Types.{Catalog, Checked, ColumnName, Expr, SqlRefusal, Statement, TheQuery, TheInsert, TheUpdate, TheDelete, Insert, Update, Delete, Schema, Table}
+use Rattle.dml_versions.specs.Making.{ArePlain}
+use Rattle.dml_versions.specs.Types.{Catalog, Checked, ColumnName, Expr, SqlRefusal, Statement, TheQuery, TheInsert, TheUpdate, TheDelete, Insert, Update, Schema, Table}
 
 -- ---- accepted statements
 

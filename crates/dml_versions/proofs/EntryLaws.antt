@@ -1,21 +1,18 @@
 -- What a checked statement has of the store that it was checked against: its table and its places.
-use Rattle.std.proofs.Common.{◌≡◌, ℕ, ◌+◌, ◌<◌, ◌≤◌, ◌^◌, List, [], ◌∷◌, map, length, get_or, refl, ap, sym, ◌∙◌, subst, arith, Option, Some, None, is_some, cond, Bool, true, false, suc, ◌==◌}
+use Rattle.std.proofs.Common.{◌≡◌, ℕ, ◌+◌, ◌<◌, ◌≤◌, ◌^◌, List, [], ◌∷◌, map, length, ap, sym, ◌∙◌, arith, Some, None, is_some, cond, Bool, true, false, suc, ◌==◌}
 use Rattle.std.specs.Prelude.{unwrap_or, slice_get, find, IsSome}
 use Rattle.std.specs.List.{AllByRecursion}
-use Rattle.std.proofs.lemmas.List.{get_or_past}
-use Rattle.std.proofs.lemmas.Bool.{cases_lt}
 use Rattle.row_version.specs.History.{Change, current, version, last_time, IsSorted, IsSortedFrom}
 use Rattle.sql_model.specs.Places.{places_of}
 use Rattle.sql_model.specs.Refusals.{check_refusal, update_names}
-use Rattle.sql_model.specs.Scope.{InScope, catalog_of, own_scope, places_in, table_at}
-use Rattle.table_store.specs.Histories.{RowHistory, no_history, tables_now, history_at, history_of_row, version_now, is_of_number}
+use Rattle.sql_model.specs.Scope.{InScope, catalog_of, places_in, table_at}
+use Rattle.table_store.specs.Histories.{RowHistory, tables_now, history_at, version_now, is_of_number}
 use Rattle.table_store.specs.TableView.{IsTimed, AreTimed}
 use Rattle.dml_versions.proofs.CheckLaws.{accepted, checked-places, target-there, target_name, Changes}
-use Rattle.dml_versions.proofs.TableLaws.{history-some, scope-is}
+use Rattle.dml_versions.proofs.TableLaws.{scope-is}
 use Rattle.dml_versions.specs.Changing.{IsCheckedOver}
-use Rattle.dml_versions.specs.Finding.{pick_names, scope_in, found_row, version_of}
-use Rattle.dml_versions.specs.Types.{Catalog, Checked, Delete, Insert, Update, Statement, TheDelete, TheInsert, TheUpdate, Table, TableRow, StoreHistory, TableHistory}
-use Rattle.dml_versions.specs.declared.found.Found.{Found}
+use Rattle.dml_versions.specs.Finding.{pick_names, scope_in, found_row}
+use Rattle.dml_versions.specs.Types.{Checked, Delete, Update, Statement, TheDelete, TheUpdate, Table, TableRow, StoreHistory, TableHistory}
 
 module _ (db : List Table) (checked : Checked) (is : IsCheckedOver db checked) (s : Statement) (same : checked.statement ≡ s) where
   pub check-of : check_refusal s (catalog_of db) ≡ None

@@ -1,11 +1,11 @@
 -- The key that WHERE fixes.
-use Rattle.std.proofs.Common.{◌≡◌, ◌∙◌, ◌+◌, ◌<◌, ap, sym, ℕ, true, List, [], ◌∷◌, length, arith, Some}
+use Rattle.std.proofs.Common.{◌≡◌, ◌∙◌, ◌+◌, ◌<◌, ap, sym, ℕ, List, [], ◌∷◌, arith, Some}
 use Rattle.core_parts.proofs.FixingLaws.{fixed-key}
 use Rattle.core_parts.specs.Conditions.{AreConditions}
 use Rattle.core_parts.specs.Fixing.{FixesKey as FixesBy}
 use Rattle.core_parts.specs.declared.placed.Placed.{Placed}
 use Rattle.sql_model.specs.Kinds.{names_in}
-use Rattle.sql_model.specs.Scope.{InScope, environment, places_in, value_at}
+use Rattle.sql_model.specs.Scope.{InScope, places_in, value_at}
 use Rattle.dml_versions.specs.Fixing.{FixesKey}
 use Rattle.dml_versions.specs.Types.{Expr, Value}
 

@@ -1,36 +1,35 @@
 -- What an INSERT returns and leaves.
-use Rattle.std.proofs.Common.{◌≡◌, ◌==◌, ℕ, ◌+◌, ◌<◌, ◌≤◌, List, [], ◌∷◌, ◌++◌, map, length, refl, ap, sym, ◌∙◌, subst, arith, Option, Some, None, Bool, true, false}
-use Rattle.std.specs.Prelude.{find, unwrap_or, nat_lt, Result, Err, if◌then◌else◌}
-use Rattle.std.specs.List.{list_any, list_all, AllByRecursion}
-use Rattle.std.specs.Option.{option_map, option_and_then, option_or}
+use Rattle.std.proofs.Common.{◌≡◌, ◌==◌, ℕ, ◌+◌, ◌<◌, ◌≤◌, List, [], ◌∷◌, ◌++◌, map, length, refl, ap, sym, ◌∙◌, subst, arith, Option, Some, None, true, false}
+use Rattle.std.specs.Prelude.{unwrap_or, nat_lt, Err}
+use Rattle.std.specs.List.{list_all}
+use Rattle.std.specs.Option.{option_and_then, option_or}
 use Rattle.std.proofs.lemmas.Bool.Decides.{Decides-eqb}
 use Rattle.ldv_value.proofs.Booleans.{and-parts, and-from}
 use Rattle.ldv_value.proofs.Lists.{length-map}
-use Rattle.ldv_value.proofs.Options.{same-some}
 use Rattle.ldv_value.specs.Limits.{max_next}
 use Rattle.ldv_value.specs.Sorted.{is_strictly_sorted}
 use Rattle.sql_laws.proofs.NewRows.{AllFirst, all_first, new_kinds}
-use Rattle.sql_model.specs.Changes.{KeyClash, new_values, numbered, inserted, with_rows, after_insert, has_null, lacks_value, key_clash, changed, is_full}
-use Rattle.sql_model.specs.Needs.{new_member, members_made, made_unless, sorted_needs, needs_by, updated_unless, updated_in, versions_after, read_of}
+use Rattle.sql_model.specs.Changes.{new_values, numbered, inserted, with_rows, lacks_value, key_clash, changed, is_full}
+use Rattle.sql_model.specs.Needs.{new_member, members_made, made_unless, updated_unless, updated_in, versions_after}
 use Rattle.sql_model.specs.Refusals.{check_refusal, row_fits, target_columns}
-use Rattle.sql_model.specs.Scope.{table_at, is_table, catalog_of, has_column}
-use Rattle.sql_model.specs.Statements.{target, refusal_of, accepted_reply, after_unless}
+use Rattle.sql_model.specs.Scope.{table_at, catalog_of, has_column}
+use Rattle.sql_model.specs.Statements.{refusal_of, after_unless}
 use Rattle.sql_model.specs.Tables.{is_valid_table, table_precedes, has_kind, each_value}
-use Rattle.table_store.specs.Histories.{tables_now, table_now, history_at, last_next, changed_at, added, inserted as history_inserted, AreKeptBefore, history_of_row}
+use Rattle.table_store.specs.Histories.{tables_now, table_now, history_at, last_next, changed_at, inserted as history_inserted, AreKeptBefore}
 use Rattle.table_store.specs.RowOrder.{AreInOrder}
 use Rattle.table_store.specs.Stops.{with_inserted, with_changed, have_shape, has_shape, insert_stop, key_stop, stop_if, StopsAs}
 use Rattle.table_store.specs.declared.stop.StoreStop.{StoreStop}
 use Rattle.table_store.specs.declared.stop.StoreStop.TheVariants as stop
 use Rattle.dml_versions.proofs.AfterLaws.{change-by, after-by}
-use Rattle.dml_versions.proofs.CheckLaws.{found-valid, found-distinct, names-there, rows-fit}
+use Rattle.dml_versions.proofs.CheckLaws.{found-distinct, names-there, rows-fit}
 use Rattle.dml_versions.proofs.MatchLaws.{same-changed}
 use Rattle.dml_versions.proofs.RefuseLaws.{stop_by, not-refused, not-full, refused-change, refused-after}
 use Rattle.dml_versions.proofs.TableLaws.{table-now, history-name, schema-now}
 use Rattle.dml_versions.proofs.VersionLaws.{updates-added, versions-changed}
 use Rattle.dml_versions.specs.Changing.{IsWhole, IsStoreAfter, AreWellFormed, inserted_change, refused_change}
 use Rattle.dml_versions.specs.Needing.{made_new}
-use Rattle.dml_versions.specs.Types.{Statement, TheInsert, Insert, Changed, Column, Expr, Member, Value, Table, TableRow, StoreHistory, TableHistory}
-use Rattle.dml_versions.specs.Versions.{versions_now, updates_of}
+use Rattle.dml_versions.specs.Types.{Statement, TheInsert, Insert, Changed, Column, Expr, Value, Table, StoreHistory, TableHistory}
+use Rattle.dml_versions.specs.Versions.{versions_now}
 use Rattle.dml_versions.specs.declared.change.Change.{Change}
 
 module _ (store : StoreHistory) (insert : Insert) (table : TableHistory) (there : history_at insert.table store ≡ Some table)

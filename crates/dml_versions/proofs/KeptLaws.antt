@@ -1,5 +1,5 @@
 -- What a change returns where its lists are kept, and where they aren't.
-use Rattle.std.proofs.Common.{◌≡◌, ℕ, List, [], refl, ap, sym, ◌∙◌, Option, Some, Bool, true, false, IsTrue}
+use Rattle.std.proofs.Common.{◌≡◌, ℕ, List, [], refl, ap, sym, ◌∙◌, Some, Bool, true, false, IsTrue}
 use Rattle.ldv_value.proofs.Booleans.{true≢false}
 use Rattle.dml_versions.specs.Changing.{IsChange, IsWhole, refused_by, refused_change, told}
 use Rattle.dml_versions.specs.Needing.{with_key_rows}

@@ -1,7 +1,7 @@
 -- Matched rows: their versions, and what is needed and made of them.
-use Rattle.std.proofs.Common.{◌≡◌, ◌==◌, ℕ, ◌+◌, ◌<◌, ◌≤◌, List, [], ◌∷◌, map, length, refl, ap, sym, ◌∙◌, subst, arith, Option, Some, None, Bool, true, false, inl, inr, drop}
+use Rattle.std.proofs.Common.{◌≡◌, ℕ, ◌+◌, List, [], ◌∷◌, map, refl, ap, sym, ◌∙◌, Some, Bool, true, false, inl, inr}
 use Rattle.std.specs.Prelude.{filter, find, nat_lt}
-use Rattle.std.specs.List.{list_all, list_any, AllByRecursion}
+use Rattle.std.specs.List.{list_all, AllByRecursion}
 use Rattle.ldv_value.proofs.Booleans.{and-parts}
 use Rattle.ldv_value.proofs.Cases.{cases-bool}
 use Rattle.ldv_value.proofs.Lists.{all-weaker, map-map}
@@ -14,16 +14,15 @@ use Rattle.sql_model.proofs.ValidTables.{table-parts}
 use Rattle.sql_model.specs.Needs.{matched_row, next_member, read_of}
 use Rattle.sql_model.specs.Scope.{same_text, is_table}
 use Rattle.sql_model.specs.Tables.{is_valid_table, table_precedes}
-use Rattle.table_store.specs.Histories.{tables_now, table_now, history_at, rows_now, last_next}
+use Rattle.table_store.specs.Histories.{history_at, rows_now, last_next}
 use Rattle.table_store.specs.RowOrder.{AreInOrder}
 use Rattle.table_store.specs.Stops.{with_changed}
 use Rattle.dml_versions.proofs.NumberLaws.{AreSorted, precedes}
 use Rattle.dml_versions.proofs.StandingLaws.{Stands, version-is, all-stand, all-filter}
-use Rattle.dml_versions.specs.Finding.{found_row, found_from, version_of}
+use Rattle.dml_versions.specs.Finding.{found_row, version_of}
 use Rattle.dml_versions.specs.Needing.{need_found, made_found}
 use Rattle.dml_versions.specs.Types.{L, Table, TableRow, StoreHistory, TableHistory}
 use Rattle.dml_versions.specs.Versions.{updates_in, versions_now}
-use Rattle.dml_versions.specs.declared.found.Found.{Found}
 
 pub map-agree : {X Y : Type 0} (f g : X → Y) (xs : List X) → AllByRecursion (λ x. f x ≡ g x) xs → map f xs ≡ map g xs
 map-agree f g [] all = refl

@@ -1,11 +1,10 @@
 -- The needed rows of one table: sorted, and with the rows of a refused key.
-use Rattle.std.proofs.Common.{◌≡◌, ◌==◌, ◌≢◌, ℕ, suc, ◌+◌, ◌<◌, ◌⊎◌, inl, inr, Bool, true, false, ◌&&◌, not, cond, List, [], ◌∷◌, ◌++◌, map, refl, ap, sym, ◌∙◌, subst, arith, Option, Some, None, eq-eqb, append-nil}
+use Rattle.std.proofs.Common.{◌≡◌, ◌==◌, ℕ, suc, ◌+◌, ◌<◌, inl, inr, Bool, true, false, not, cond, List, [], ◌∷◌, ◌++◌, map, refl, ap, sym, ◌∙◌, arith, Option, Some, None, eq-eqb, append-nil}
 use Rattle.std.specs.Prelude.{nat_lt, nat_le, filter, slice_get, if◌then◌else◌}
 use Rattle.std.specs.List.{insert, position_or_len}
 use Rattle.std.specs.Option.{option_map, option_map_or}
 use Rattle.std.specs.Ordering.{nat_cmp, is_lt}
 use Rattle.std.specs.Cmp.{nat_cmp_is}
-use Rattle.std.specs.declared.cmp.Ordering.{Ordering}
 use Rattle.std.specs.declared.cmp.Ordering.TheVariants.{Less, Equal, Greater}
 use Rattle.std.proofs.lemmas.Bool.{ne_eqb, lt-ltb, le-ltb, le-leb, lt-leb, ltb-true, cases_lt, cases_eq}
 use Rattle.std.proofs.lemmas.List.{map-append}
@@ -13,8 +12,7 @@ use Rattle.ldv_value.proofs.Booleans.{and-parts}
 use Rattle.ldv_value.proofs.Lists.{map-map}
 use Rattle.ldv_value.proofs.SameBytes.{bytes_eq-itself}
 use Rattle.ldv_value.specs.Sorted.{is_strictly_sorted}
-use Rattle.sql_model.specs.Needs.{NeededRow, needed_row, is_same_row, is_earlier_row, put_row, sorted_needs, Versions, matched_row, key_row, stood, read_of}
-use Rattle.sql_model.specs.Scope.{same_text}
+use Rattle.sql_model.specs.Needs.{NeededRow, needed_row, put_row, sorted_needs, Versions, matched_row, key_row, stood, read_of}
 use Rattle.table_store.specs.Stops.{stood_number}
 use Rattle.dml_versions.specs.Needing.{put_need, put_some}
 use Rattle.dml_versions.proofs.NumberLaws.{AreSorted, precedes}

@@ -1,12 +1,11 @@
 -- Rows in the order of their numbers: what is found and tested by a number.
-use Rattle.std.proofs.Common.{◌≡◌, ◌==◌, ◌≢◌, ℕ, ◌<◌, inl, inr, Bool, true, false, ◌||◌, not, cond, List, [], ◌∷◌, map, refl, ap, sym, ◌∙◌, subst, arith, Option, Some, None, eq-eqb}
+use Rattle.std.proofs.Common.{◌≡◌, ◌==◌, ◌≢◌, ℕ, inl, inr, Bool, true, false, ◌||◌, not, cond, List, [], ◌∷◌, map, refl, ap, sym, ◌∙◌, arith, Option, Some, None, eq-eqb}
 use Rattle.std.specs.Prelude.{filter, find, nat_lt, unwrap_or, if◌then◌else◌}
 use Rattle.std.specs.List.{list_any, list_all}
 use Rattle.std.proofs.lemmas.Bool.{ne_eqb, ltb-true, lt-ltb}
 use Rattle.ldv_value.proofs.Booleans.{and-parts, or-true}
 use Rattle.ldv_value.proofs.Cases.{cases-bool}
 use Rattle.ldv_value.proofs.Lists.{list_all-filter, list_all-map, list_all-weaker, sorted-map}
-use Rattle.ldv_value.specs.Sorted.{is_strictly_sorted}
 use Rattle.sql_laws.proofs.SortedLists.{sorted-all, sorted-tail, sorted-filter}
 use Rattle.table_store.specs.Stops.{replaced_by, is_among, are_sorted_rows, are_sorted_numbers}
 use Rattle.dml_versions.specs.Types.{TableRow}

@@ -1,18 +1,17 @@
 -- What a change returns that the store refuses.
-use Rattle.std.proofs.Common.{◌≡◌, ◌==◌, ℕ, ◌<◌, ◌≤◌, List, [], ◌∷◌, ◌++◌, map, refl, ap, sym, ◌∙◌, subst, arith, Option, Some, None, Bool, true, false, inl, inr}
-use Rattle.std.specs.Prelude.{filter, Result, Err, if◌then◌else◌}
-use Rattle.std.specs.List.{list_any, AllByRecursion}
+use Rattle.std.proofs.Common.{◌≡◌, ◌==◌, ℕ, ◌<◌, List, [], ◌∷◌, ◌++◌, map, refl, ap, sym, ◌∙◌, subst, Option, Some, None, Bool, true, false, inl, inr}
+use Rattle.std.specs.Prelude.{filter, Err, if◌then◌else◌}
+use Rattle.std.specs.List.{list_any}
 use Rattle.std.specs.Option.{option_map, option_or}
 use Rattle.ldv_value.proofs.Cases.{cases-bool}
-use Rattle.ldv_value.proofs.Options.{none-some}
 use Rattle.ldv_value.proofs.SameBytes.{nat_eq-true}
-use Rattle.sql_model.specs.Changes.{KeyClash, lacks_value, key_clash, changed, is_full, key_refusal, refusal_if, or_else, change_refusal, matched}
+use Rattle.sql_model.specs.Changes.{KeyClash, lacks_value, key_clash, changed, is_full, key_refusal, refusal_if, or_else, matched}
 use Rattle.sql_model.specs.Keys.{values_at}
-use Rattle.sql_model.specs.Needs.{NeededRow, matched_row, matched_rows, key_row, key_rows, clash_rows, stood, sorted_needs, needs_by, read_of}
+use Rattle.sql_model.specs.Needs.{NeededRow, matched_row, matched_rows, key_row, key_rows, clash_rows, stood, sorted_needs, read_of}
 use Rattle.sql_model.specs.Refusals.{check_refusal}
 use Rattle.sql_model.specs.Scope.{catalog_of}
-use Rattle.sql_model.specs.Statements.{target, refusal_of, reply_or}
-use Rattle.table_store.specs.Histories.{tables_now, table_now, history_at, rows_now, last_next}
+use Rattle.sql_model.specs.Statements.{target, refusal_of}
+use Rattle.table_store.specs.Histories.{tables_now, table_now, history_at, last_next}
 use Rattle.table_store.specs.RowOrder.{AreInOrder}
 use Rattle.table_store.specs.Stops.{stop_if, key_stop, stood_number, StopsAs}
 use Rattle.table_store.specs.declared.stop.StoreStop.{StoreStop}
@@ -26,7 +25,7 @@ use Rattle.dml_versions.proofs.TableLaws.{history-name}
 use Rattle.dml_versions.specs.Changing.{IsWhole, IsStoreAfter, refused_change, refused_by}
 use Rattle.dml_versions.specs.Finding.{found_row, version_of}
 use Rattle.dml_versions.specs.Needing.{need_found, key_need, put_some, with_key_rows}
-use Rattle.dml_versions.specs.Types.{Need, K, Statement, Reply, Refused, SqlRefusal, NotNull, KeyTaken, Full, Table, TableRow, Value, StoreHistory, TableHistory}
+use Rattle.dml_versions.specs.Types.{Need, K, Statement, Refused, SqlRefusal, NotNull, KeyTaken, Full, Table, TableRow, Value, StoreHistory, TableHistory}
 use Rattle.dml_versions.specs.Versions.{versions_now}
 use Rattle.dml_versions.specs.declared.change.Change.{Change}
 

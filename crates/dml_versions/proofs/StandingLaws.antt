@@ -4,7 +4,7 @@ use Rattle.std.specs.Prelude.{filter, unwrap_or}
 use Rattle.std.specs.List.{AllByRecursion}
 use Rattle.ldv_value.proofs.Cases.{cases-bool}
 use Rattle.ldv_value.proofs.Lists.{all-weaker}
-use Rattle.row_version.specs.History.{current, version}
+use Rattle.row_version.specs.History.{current}
 use Rattle.table_store.specs.Histories.{RowHistory, no_history, row_of, row_now, rows_now, history_of_row, version_now}
 use Rattle.table_store.specs.RowOrder.{AreInOrder}
 use Rattle.table_store.proofs.StandingRows.{InSlot, all-in-slots, number-is}

@@ -1,12 +1,12 @@
 -- The tables of a store by their names.
-use Rattle.std.proofs.Common.{◌≡◌, ℕ, List, [], ◌∷◌, ◌++◌, map, refl, ap, sym, ◌∙◌, subst, inl, inr, Bool, true, false, cond, Option, Some, None, append-nil}
+use Rattle.std.proofs.Common.{◌≡◌, ℕ, List, [], ◌∷◌, ◌++◌, map, refl, ap, sym, ◌∙◌, subst, inl, inr, false, Option, Some, None, append-nil}
 use Rattle.std.specs.Prelude.{find, IsSome, if◌then◌else◌}
 use Rattle.std.specs.Option.{option_map}
 use Rattle.ldv_value.proofs.Cases.{cases-bool}
 use Rattle.ldv_value.proofs.Lists.{found-passes}
 use Rattle.ldv_value.proofs.SameBytes.{bytes_eq-true, bytes_eq-itself}
 use Rattle.sql_model.proofs.Equations.{table_schema, schema_found}
-use Rattle.sql_model.specs.Scope.{InScope, same_text, is_table, table_at, catalog_of, columns_of, schema_at, own_scope}
+use Rattle.sql_model.specs.Scope.{same_text, is_table, table_at, catalog_of, columns_of, schema_at, own_scope}
 use Rattle.table_store.specs.Histories.{TableHistory, StoreHistory, table_now, tables_now, is_history, history_at, in_table, changed_at}
 use Rattle.dml_versions.specs.Finding.{scope_in}
 use Rattle.dml_versions.specs.Types.{Schema, Table}

@@ -1,20 +1,18 @@
 -- The versions of rows after a change of a table.
-use Rattle.std.proofs.Common.{◌≡◌, ◌==◌, ℕ, zero, suc, ◌+◌, ◌-◌, ◌<◌, ◌≤◌, inl, inr, Bool, true, false, ◌&&◌, ◌||◌, cond, List, [], ◌∷◌, ◌++◌, map, length, get_or, refl, ap, sym, ◌∙◌, subst, arith, length-append, Option, Some, None, is_some, eq-eqb}
-use Rattle.std.specs.Prelude.{find, filter, unwrap_or, if◌then◌else◌}
+use Rattle.std.proofs.Common.{◌≡◌, ◌==◌, ℕ, ◌+◌, ◌-◌, ◌<◌, inl, inr, Bool, true, false, cond, List, [], ◌∷◌, ◌++◌, map, length, refl, ap, sym, ◌∙◌, subst, arith, length-append, Option, Some, None, is_some}
+use Rattle.std.specs.Prelude.{find, if◌then◌else◌}
 use Rattle.std.specs.List.{list_any, AllByRecursion}
 use Rattle.std.specs.Option.{option_map, option_or}
-use Rattle.ldv_value.proofs.Booleans.{and-false}
 use Rattle.ldv_value.proofs.Cases.{cases-bool}
-use Rattle.ldv_value.proofs.Lists.{found-passes, find-append, list_any-map, list_any-false}
-use Rattle.ldv_value.proofs.Options.{same-some, none-some}
+use Rattle.ldv_value.proofs.Lists.{found-passes, find-append}
+use Rattle.ldv_value.proofs.Options.{same-some}
 use Rattle.ldv_value.proofs.SameBytes.{bytes_eq-true, bytes_eq-itself, nat_eq-true}
 use Rattle.row_version.proofs.Later.{current_after}
-use Rattle.row_version.specs.History.{Change, written, deleted, current, version, last_change}
-use Rattle.sql_model.specs.Changes.{numbered}
-use Rattle.sql_model.specs.Needs.{Versions, versions_after, is_row_of}
+use Rattle.row_version.specs.History.{Change, written, deleted, current, version}
+use Rattle.sql_model.specs.Needs.{versions_after, is_row_of}
 use Rattle.sql_model.specs.QueryAnswer.{Origin}
 use Rattle.sql_model.specs.Scope.{same_text}
-use Rattle.table_store.specs.Histories.{RowHistory, TableHistory, StoreHistory, is_of_number, is_history, history_of_row, history_at, added, with_change, changed_by, writing, rewritten, dropping, dropped, in_table, changed_at}
+use Rattle.table_store.specs.Histories.{RowHistory, TableHistory, StoreHistory, is_of_number, history_of_row, history_at, added, with_change, changed_by, writing, rewritten, dropping, in_table, changed_at}
 use Rattle.dml_versions.proofs.StandingLaws.{Stands}
 use Rattle.dml_versions.proofs.TableLaws.{history-after, history-name, in-table-named, in-table-other}
 use Rattle.dml_versions.specs.Types.{TableRow, Value}

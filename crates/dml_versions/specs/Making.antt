@@ -1,5 +1,5 @@
 -- The values of new and of updated rows, column by column.
-use Rattle.std.specs.Prelude.{◌≡◌, ℕ, List, [], ◌∷◌, map, zip, Option, Some, None, slice_get}
+use Rattle.std.specs.Prelude.{◌≡◌, ℕ, List, [], map, zip, Option, Some, None, slice_get}
 use Rattle.std.specs.List.{position, AllByRecursion}
 use Rattle.std.specs.Option.{option_map, option_and_then}
 use Rattle.sql_model.specs.Changes.{plain_value, sets_column, value_set}

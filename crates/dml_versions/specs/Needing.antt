@@ -1,5 +1,5 @@
 -- The rows that a change needs and the versions that it makes, from the rows that were found.
-use Rattle.std.specs.Prelude.{ℕ, ◌+◌, ◌==◌, nat_lt, List, [], ◌∷◌, map, Option, Some, None, if◌then◌else◌}
+use Rattle.std.specs.Prelude.{ℕ, ◌+◌, ◌==◌, nat_lt, List, [], ◌∷◌, Option, Some, None, if◌then◌else◌}
 use Rattle.std.specs.Option.{option_map}
 use Rattle.dml_versions.specs.Finding.{version_of}
 use Rattle.dml_versions.specs.Types.{Member, Need, L, K, RowHistory, TableRow}

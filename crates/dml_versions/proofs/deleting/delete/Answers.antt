@@ -8,9 +8,9 @@ use Rattle.dml_versions.proofs.DeleteLaws.{delete-sorted, delete-stand, delete-c
 use Rattle.dml_versions.proofs.EntryLaws.{check-of, there-of, versions-fit}
 use Rattle.dml_versions.proofs.KeptLaws.{told-change}
 use Rattle.dml_versions.proofs.TableLaws.{table-now}
-use Rattle.dml_versions.specs.Changing.{IsChange, IsStoreAfter, AreFound, matched_change}
+use Rattle.dml_versions.specs.Changing.{IsChange, IsStoreAfter, matched_change}
 use Rattle.dml_versions.specs.Finding.{test_in}
-use Rattle.dml_versions.specs.Types.{Statement, TheDelete, Table, StoreHistory}
+use Rattle.dml_versions.specs.Types.{Statement, TheDelete, Table}
 use Rattle.dml_versions.specs.declared.found.Found.{Found}
 use Rattle.dml_versions.proofs.deleting.delete.Goals as goal
 

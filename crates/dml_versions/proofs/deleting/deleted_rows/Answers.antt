@@ -1,4 +1,4 @@
-use Rattle.std.proofs.Common.{◌≡◌, List, [], ◌∙◌}
+use Rattle.std.proofs.Common.{◌∙◌}
 use Rattle.sql_model.proofs.ValidTables.{table-parts}
 use Rattle.table_store.specs.Histories.{tables_now, table_now}
 use Rattle.dml_versions.proofs.CheckLaws.{found-valid}

@@ -1,4 +1,4 @@
-use Rattle.std.proofs.Common.{◌≡◌, sym, ◌∙◌}
+use Rattle.std.proofs.Common.{sym, ◌∙◌}
 use Rattle.std.proofs.lemmas.Result.{on_ok_weaker}
 use Rattle.dml_versions.proofs.FoundLaws.{found-missed, found-met}
 use Rattle.dml_versions.specs.Finding.{scope_in, test_in}

@@ -1,4 +1,4 @@
-use Rattle.std.proofs.Common.{◌≡◌, ◌++◌, ◌∙◌, List, ap, sym}
+use Rattle.std.proofs.Common.{◌++◌, ◌∙◌, List, ap, sym}
 use Rattle.table_store.specs.Histories.{last_next}
 use Rattle.dml_versions.proofs.KeyLaws.{found-none, slot-some, slot-found}
 use Rattle.table_store.proofs.StandingRows.{not-there}

@@ -1,4 +1,4 @@
-use Rattle.std.proofs.Common.{◌≡◌, ◌+◌, ◌++◌, List, ap, sym, ◌∙◌, append_assoc}
+use Rattle.std.proofs.Common.{◌+◌, ◌++◌, List, ap, sym, ◌∙◌, append_assoc}
 use Rattle.dml_versions.proofs.FoundLaws.{found-step}
 use Rattle.dml_versions.specs.Finding.{test_in, found_at, found_from}
 use Rattle.dml_versions.specs.declared.found.Found.{Found}

@@ -1,4 +1,4 @@
-use Rattle.std.proofs.Common.{◌≡◌, ap, sym, ◌∙◌, subst, Option}
+use Rattle.std.proofs.Common.{ap, sym, ◌∙◌, subst, Option}
 use Rattle.ldv_value.proofs.Booleans.{and-true}
 use Rattle.sql_model.specs.Changes.{is_matched}
 use Rattle.sql_model.specs.Meaning.{is_true, truth}

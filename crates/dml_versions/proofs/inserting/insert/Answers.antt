@@ -1,4 +1,4 @@
-use Rattle.std.proofs.Common.{◌≡◌, ◌+◌, ◌<◌, ◌≤◌, ◌^◌, ℕ, List, [], length, map, ap, sym, ◌∙◌, subst, arith, true, Option, Some}
+use Rattle.std.proofs.Common.{◌≡◌, ◌+◌, ◌≤◌, ℕ, List, [], length, ap, sym, ◌∙◌, subst, arith, true, Option, Some}
 use Rattle.std.specs.Prelude.{IsSome, IfSome, Err, nat_lt}
 use Rattle.ldv_value.specs.Limits.{max_next}
 use Rattle.std.specs.Option.{option_and_then, option_map}

@@ -1,4 +1,4 @@
-use Rattle.std.proofs.Common.{◌≡◌, List, map, ap, ◌∙◌}
+use Rattle.std.proofs.Common.{List, map, ap, ◌∙◌}
 use Rattle.sql_model.specs.Scope.{catalog_of}
 use Rattle.table_store.specs.Histories.{tables_now}
 use Rattle.dml_versions.proofs.CheckLaws.{values-plain}

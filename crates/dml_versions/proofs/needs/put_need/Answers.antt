@@ -1,4 +1,4 @@
-use Rattle.std.proofs.Common.{◌≡◌, ◌==◌, ℕ, List, ap, sym, ◌∙◌, true, false}
+use Rattle.std.proofs.Common.{◌==◌, List, ap, sym, ◌∙◌, true, false}
 use Rattle.std.specs.Prelude.{slice_get, nat_le}
 use Rattle.std.specs.List.{insert, position_or_len}
 use Rattle.std.specs.Option.{option_map_or}

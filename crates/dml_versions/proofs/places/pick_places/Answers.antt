@@ -1,8 +1,8 @@
-use Rattle.std.proofs.Common.{◌≡◌, ◌++◌, [], List, ℕ, Option, drop, ap, sym, ◌∙◌, append-nil, subst}
+use Rattle.std.proofs.Common.{◌++◌, [], List, ℕ, Option, drop, ap, sym, ◌∙◌, append-nil, subst}
 use Rattle.core_parts.proofs.Lists.{take-mapped}
 use Rattle.core_parts.specs.Placing.{own_places}
 use Rattle.sql_model.specs.Kinds.{names_in}
-use Rattle.sql_model.specs.Scope.{InScope, place_of, places_in}
+use Rattle.sql_model.specs.Scope.{place_of, places_in}
 use Rattle.dml_versions.specs.Finding.{IsPickPlaced, pick_names}
 use Rattle.dml_versions.specs.Types.{Expr}
 use Rattle.dml_versions.proofs.places.pick_places.Goals as goal

@@ -1,10 +1,10 @@
-use Rattle.std.proofs.Common.{◌≡◌, ◌+◌, ◌++◌, ◌∷◌, [], List, ℕ, drop, map, ap, sym, ◌∙◌}
+use Rattle.std.proofs.Common.{◌≡◌, ◌+◌, ◌++◌, ◌∷◌, List, ℕ, drop, map, ap, sym, ◌∙◌}
 use Rattle.std.specs.List.{flat_map}
 use Rattle.core_parts.proofs.Lists.{drop-step, moved-one, take-mapped}
 use Rattle.core_parts.proofs.Places.{places-append, others-front}
 use Rattle.core_parts.specs.Placing.{own_places}
 use Rattle.sql_model.specs.Kinds.{names_in}
-use Rattle.sql_model.specs.Scope.{InScope, place_of, places_in}
+use Rattle.sql_model.specs.Scope.{place_of, places_in}
 use Rattle.dml_versions.specs.Types.{Set}
 use Rattle.dml_versions.proofs.places.set_places.Goals as goal
 

@@ -1,4 +1,4 @@
-use Rattle.std.proofs.Common.{◌≡◌, ◌++◌, ℕ, List, drop, map, take}
+use Rattle.std.proofs.Common.{◌≡◌, ◌++◌, ℕ, List, drop, map}
 use Rattle.std.specs.List.{flat_map}
 use Rattle.sql_model.specs.Kinds.{names_in}
 use Rattle.sql_model.specs.Scope.{InScope, places_in}

@@ -1,4 +1,4 @@
-use Rattle.std.proofs.Common.{◌≡◌, List, map, ap, ◌∙◌}
+use Rattle.std.proofs.Common.{List, map, ap, ◌∙◌}
 use Rattle.sql_model.specs.Changes.{updated_row}
 use Rattle.sql_model.proofs.ValidTables.{table-parts}
 use Rattle.table_store.specs.Histories.{tables_now, table_now}

@@ -6,7 +6,6 @@ use Rattle.ldv_value.proofs.Options.{same-some}
 use Rattle.sql_model.specs.Scope.{table_at}
 use Rattle.table_store.specs.Histories.{tables_now, table_now, rows_now, history_at, changed_at, replaced}
 use Rattle.table_store.specs.Stops.{with_changed, with_replaced, have_shape, values_of, all_stood, replace_stop, StopsAs}
-use Rattle.table_store.specs.declared.stop.StoreStop.{StoreStop}
 use Rattle.dml_versions.proofs.EntryLaws.{check-of, there-of, versions-fit}
 use Rattle.dml_versions.proofs.KeptLaws.{told-change, refused-over, refused-told, told-needs}
 use Rattle.dml_versions.proofs.TableLaws.{table-now, history-some}
@@ -14,8 +13,7 @@ use Rattle.dml_versions.proofs.UpdateLaws.{update-shape, update-sorted, update-s
 use Rattle.dml_versions.specs.Changing.{IsChange, IsStoreAfter, matched_change, refused_change}
 use Rattle.dml_versions.specs.Finding.{test_in}
 use Rattle.dml_versions.specs.Needing.{need_found}
-use Rattle.dml_versions.specs.Types.{Need, RowHistory, Statement, TheUpdate, Table, StoreHistory, TableHistory}
-use Rattle.dml_versions.specs.declared.change.Change.{Change}
+use Rattle.dml_versions.specs.Types.{Statement, TheUpdate, Table, StoreHistory}
 use Rattle.dml_versions.specs.declared.found.Found.{Found}
 use Rattle.dml_versions.proofs.updating.update.Goals as goal
 
