@@ -1,15 +1,15 @@
 -- What a step asks, and what it leaves where it has a reply, over slots and as it is defined.
-use Rattle.std.proofs.Common.{◌≡◌, ℕ, zero, suc, ◌+◌, ◌<◌, List, [], ◌∷◌, ◌++◌, length, map, refl, sym, ap, ◌∙◌, subst, Bool, true, false}
+use Rattle.std.proofs.Common.{◌≡◌, ℕ, zero, suc, ◌+◌, List, [], ◌∷◌, ◌++◌, length, map, refl, sym, ap, ◌∙◌, subst}
 use Rattle.std.specs.Prelude.{Option, Some, None, slice_get, slice_set, option_map}
 use Rattle.std.proofs.lemmas.List.{map-set}
 use Rattle.script_parse.specs.declared.script.Instr.TheVariants as instr
 use Rattle.sql_model.specs.declared.reply.Reply.{Reply}
-use Rattle.proc_core.specs.Types.{Value, Null, Int, Text, Instr, Operand, Entry}
-use Rattle.run_model.specs.Core.{Binding, lookup, bind, Cursor, Process, Core, with_process}
+use Rattle.proc_core.specs.Types.{Value, Null, Int, Text, Instr, Entry}
+use Rattle.run_model.specs.Core.{bind, Cursor, Process, Core}
 use Rattle.run_model.specs.Database.{Question}
 use Rattle.run_model.specs.Outcome.{entry_reply}
 use Rattle.run_model.specs.Step.{Ask, ask, asked_by, ask_by, ask_in, ask_at, took_of, took, replied, entry_of}
-use Rattle.run_model.specs.StepBase.{operand_value, operand_values, went_on}
+use Rattle.run_model.specs.StepBase.{operand_value, operand_values}
 use Rattle.proc_core.specs.declared.ask.Statement.{Statement}
 use Rattle.proc_core.specs.declared.code.Code.{Code}
 use Rattle.proc_core.specs.declared.code.Scope.{Scope}
@@ -17,8 +17,8 @@ use Rattle.proc_core.specs.declared.code.SlotInstr.{SlotInstr}
 use Rattle.proc_core.specs.declared.machine.Machine.{Machine}
 use Rattle.proc_core.specs.declared.process.SlotCursor.{SlotCursor}
 use Rattle.proc_core.specs.declared.process.SlotProcess.{SlotProcess}
-use Rattle.proc_core.specs.Resolved.{slot_of, HasName, slot_operand, HasOperand, HasOperands, slot_instr, HasAll, IsScope}
-use Rattle.proc_core.specs.Slots.{bound_held, cursor_at, cursor_in, HasReply, HaveReplies, Holds, slot_value, slot_values}
+use Rattle.proc_core.specs.Resolved.{slot_of, HasName, slot_instr, HasAll, IsScope}
+use Rattle.proc_core.specs.Slots.{bound_held, cursor_in, HasReply, HaveReplies, Holds}
 use Rattle.proc_core.specs.SlotAsk.{statement_of, slot_ask, slot_ask_in, slot_ask_at, slot_replied, question_of}
 use Rattle.proc_core.specs.SlotStep.{next_slotted}
 use Rattle.proc_core.specs.Stands.{IsProcess, AreProcesses, IsCore}

@@ -1,13 +1,11 @@
 -- Processes as they begin.
-use Rattle.std.proofs.Common.{◌≡◌, ℕ, zero, suc, ◌+◌, ◌<◌, List, [], ◌∷◌, ◌++◌, length, map, refl, sym, ap, ◌∙◌, subst, Bool, true, false, arith, inl, inr}
-use Rattle.std.specs.Prelude.{Option, Some, None, slice_get, slice_set, bytes_eq, replicate, find, nat_lt, cond}
-use Rattle.std.specs.List.{list_any, position, position_or_len}
-use Rattle.ldv_value.proofs.Cases.{cases-bool}
-use Rattle.ldv_value.proofs.SameBytes.{bytes_eq-true, bytes_eq-itself}
-use Rattle.sql_model.specs.Meaning.{or_null}
+use Rattle.std.proofs.Common.{◌≡◌, ℕ, List, [], ◌∷◌, length, map, refl, sym, ap, ◌∙◌, false}
+use Rattle.std.specs.Prelude.{Option, None, slice_set, bytes_eq, replicate}
+use Rattle.std.specs.List.{list_any}
+use Rattle.ldv_value.proofs.SameBytes.{bytes_eq-itself}
 use Rattle.proc_core.specs.Types.{Value, Null}
-use Rattle.run_model.specs.Core.{Binding, is_bound, lookup}
-use Rattle.proc_core.specs.Resolved.{Distinct, slot_of, HasName, IsSlot}
+use Rattle.run_model.specs.Core.{Binding}
+use Rattle.proc_core.specs.Resolved.{Distinct, slot_of, HasName}
 use Rattle.proc_core.specs.Slots.{value_held, bound_held}
 use Rattle.proc_core.proofs.Lookups.{set_slot, map_absent}
 

@@ -1,7 +1,7 @@
 -- A run that begins, by its start words.
 use Rattle.std.proofs.Common.{◌≡◌, ℕ, ◌≤◌, List, [], ◌∷◌, length, get_or, take, drop, refl, sym, ap, ◌∙◌, ◌-◌, subst, Bool, arith}
 use Rattle.std.proofs.lemmas.List.{take_rest}
-use Rattle.std.specs.Prelude.{Option, Some, slice_get, option_and_then}
+use Rattle.std.specs.Prelude.{Some, slice_get, option_and_then}
 use Rattle.ldv_value.specs.FileState.{FileState, content_at, untouched}
 use Rattle.script_parse.specs.Script.{script_of}
 use Rattle.proc_core.specs.Types.{File, Instr, Event}

@@ -1,5 +1,5 @@
 -- No step but one that asks makes the replies of a process more.
-use Rattle.std.proofs.Common.{◌≡◌, ℕ, zero, suc, ◌+◌, ◌<◌, List, [], ◌∷◌, ◌++◌, length, map, refl, sym, ap, ◌∙◌, subst, Bool, true, false, arith, inl, inr, length-append}
+use Rattle.std.proofs.Common.{◌≡◌, ℕ, zero, suc, ◌+◌, ◌<◌, List, [], ◌∷◌, ◌++◌, length, refl, sym, ap, subst, Bool, true, false, arith, inl, inr, length-append}
 use Rattle.std.specs.Prelude.{Option, Some, None, option_and_then, slice_get, slice_set, nat_lt, ◌==◌}
 use Rattle.std.specs.List.{AllByRecursion}
 use Rattle.sql_model.specs.declared.reply.Reply.{Reply}
@@ -10,7 +10,7 @@ use Rattle.ldv_value.specs.Order.{order, meets}
 use Rattle.ldv_value.specs.declared.file.OpenMode.{OpenMode}
 use Rattle.ldv_value.specs.declared.line.LineRead.{LineRead}
 use Rattle.ldv_value.specs.declared.line.LineRead.TheVariants as lines
-use Rattle.proc_core.specs.Types.{Value, Instr}
+use Rattle.proc_core.specs.Types.{Value}
 use Rattle.run_model.specs.Core.{OpenFile}
 use Rattle.run_model.specs.StepBase.{Computed, Yields, Misused}
 use Rattle.run_model.specs.StepFiles.{path_in, allows_read, allows_write}
@@ -30,11 +30,11 @@ use Rattle.proc_core.specs.declared.process.SlotCursor.{SlotCursor}
 use Rattle.proc_core.specs.declared.process.SlotProcess.{SlotProcess}
 use Rattle.proc_core.specs.SlotAsk.{slot_replied}
 use Rattle.proc_core.specs.Counts.{HaveFewer, AskedFewer}
-use Rattle.proc_core.specs.SlotFiles.{slot_open_unless, slot_open_found, slot_open_path, slot_open_for, slot_take_line, slot_read_next, slot_write_where, slot_write_text, slot_copy_where, slot_copy_between, slot_remove_found, slot_remove, slot_exists, slot_on_files}
+use Rattle.proc_core.specs.SlotFiles.{slot_open_unless, slot_open_path, slot_open_for, slot_take_line, slot_read_next, slot_write_where, slot_write_text, slot_copy_where, slot_copy_between, slot_remove_found, slot_remove, slot_exists, slot_on_files}
 use Rattle.proc_core.specs.SlotOwn.{slot_own}
 use Rattle.proc_core.specs.SlotReplies.{slot_close_file, slot_with_values, slot_one_more, slot_take_row, slot_fetch_row, slot_next_row, slot_fetch_from}
 use Rattle.proc_core.specs.SlotSpawn.{HasChild, IsNoChild, slot_parent}
-use Rattle.proc_core.specs.SlotStep.{slot_wait_until, slot_wait_with, slot_child_status, slot_status_in, slot_effect}
+use Rattle.proc_core.specs.SlotStep.{slot_wait_until, slot_wait_with, slot_child_status, slot_effect}
 use Rattle.proc_core.specs.SlotVariables.{slot_cut_parts, parts_of, slot_jump_where, slot_print_line}
 use Rattle.proc_core.specs.Slots.{open_at, cursor_of, cursor_at, child_at, slot_value, slot_values, slot_assign, slot_with_variable}
 use Rattle.proc_core.proofs.Machines.{get_some}

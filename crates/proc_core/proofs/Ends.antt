@@ -1,6 +1,6 @@
 -- A run to its end, step by step.
-use Rattle.std.proofs.Common.{◌≡◌, ℕ, suc, ◌+◌, ◌<◌, ◌≤◌, List, [], ◌++◌, refl, sym, ap, ◌∙◌, subst, Bool, true, false, arith, append_assoc}
-use Rattle.std.specs.Prelude.{Option, Some, None, is_some, ◌||◌}
+use Rattle.std.proofs.Common.{◌≡◌, ℕ, ◌+◌, ◌<◌, ◌≤◌, List, [], ◌++◌, sym, ap, ◌∙◌, subst, Bool, true, false, arith, append_assoc}
+use Rattle.std.specs.Prelude.{Some, None, is_some, ◌||◌}
 use Rattle.proc_core.specs.Types.{Event}
 use Rattle.run_model.specs.Core.{all_ended, is_over}
 use Rattle.run_model.specs.Database.{Base}
@@ -13,7 +13,7 @@ use Rattle.proc_core.specs.declared.stop.Stopped.TheVariants.{Diverged}
 use Rattle.proc_core.specs.Running.{Stands}
 use Rattle.proc_core.specs.Stands.{Told}
 use Rattle.proc_core.specs.Stops.{HasStopped}
-use Rattle.proc_core.proofs.Runs.{after, run_more, run_all, seen_after, events_more, events_all, made_after, made_all, steps_more, steps_all}
+use Rattle.proc_core.proofs.Runs.{run_more, run_all, events_more, events_all, steps_more, steps_all}
 use Rattle.proc_core.proofs.StepSame.{over_same}
 
 module _ {Db : Type 0} (base : Base Db) (m0 m : Machine) (db0 db : Db) (n budget : ℕ) where

@@ -1,22 +1,21 @@
 -- An instruction that changes its own process and files, over slots and as it is defined.
-use Rattle.std.proofs.Common.{◌≡◌, ℕ, suc, ◌+◌, List, [], ◌∷◌, ◌++◌, length, map, refl, sym, ap, ◌∙◌, subst, Bool, true, false, inl, inr}
+use Rattle.std.proofs.Common.{◌≡◌, ℕ, List, [], length, map, refl, sym, ap, subst, Bool, true, false}
 use Rattle.std.specs.Prelude.{Option, Some, None, pos, option_and_then}
 use Rattle.ldv_value.specs.FileState.{FileState, is_there, FileRefusal, open_refusal, has_room, rest_at, copy_end, read_line}
 use Rattle.ldv_value.specs.declared.file.OpenMode.{OpenMode}
 use Rattle.ldv_value.specs.declared.line.LineRead.{LineRead}
 use Rattle.ldv_value.specs.declared.line.LineRead.TheVariants as lines
 use Rattle.script_parse.specs.declared.script.Instr.TheVariants as instr
-use Rattle.proc_core.specs.Types.{Value, Int, Text, Instr, Operand, Act}
-use Rattle.run_model.specs.Core.{OpenFile, Process, Core, lookup}
-use Rattle.run_model.specs.Step.{execute, asked_by}
-use Rattle.run_model.specs.StepBase.{operand_value, operand_values, ended, wrong_kind, too_long, bad_path, not_utf8, with_variable, FileEffect, on_files}
-use Rattle.run_model.specs.StepFiles.{path_in, path_at, allows_read, allows_write, if_allowed, open_for, at_place, opened_file, with_open, open_unless, open_found, open_path, take_line, read_next, write_where, write_text, write_line, copy_where, copy_between, copy_rest, remove_found, remove_path, number_of_test, exists_where, test_path}
+use Rattle.proc_core.specs.Types.{Value, Int, Text, Instr, Operand}
+use Rattle.run_model.specs.Core.{OpenFile, Process}
+use Rattle.run_model.specs.StepBase.{operand_values, ended, wrong_kind, too_long, bad_path, not_utf8, with_variable, FileEffect}
+use Rattle.run_model.specs.StepFiles.{path_in, path_at, allows_read, allows_write, if_allowed, open_for, at_place, opened_file, with_open, open_unless, open_path, take_line, read_next, write_where, write_text, write_line, copy_where, copy_between, copy_rest, remove_found, remove_path, number_of_test, test_path}
 use Rattle.run_model.specs.StepVariables.{printed_line}
 use Rattle.proc_core.specs.declared.code.Scope.{Scope}
 use Rattle.proc_core.specs.declared.process.SlotProcess.{SlotProcess}
 use Rattle.proc_core.specs.Resolved.{slot_of, HasName, slot_operand, HasOperand, HasOperands, IsScope}
-use Rattle.proc_core.specs.Slots.{Holds, slot_ended, slot_value, slot_values, slot_with_variable, slot_with_file, open_at}
-use Rattle.proc_core.specs.SlotFiles.{SlotEffect, slot_open_unless, slot_open_found, slot_open_path, slot_open_for, slot_at_place, slot_take_line, slot_read_next, slot_write_where, slot_write_text, slot_copy_where, slot_copy_between, slot_remove_found, slot_remove, slot_exists_where, slot_exists}
+use Rattle.proc_core.specs.Slots.{Holds, slot_ended, slot_value, slot_values, slot_with_variable, slot_with_file}
+use Rattle.proc_core.specs.SlotFiles.{SlotEffect, slot_open_unless, slot_open_path, slot_open_for, slot_at_place, slot_take_line, slot_read_next, slot_write_where, slot_write_text, slot_copy_where, slot_copy_between, slot_remove_found, slot_remove, slot_exists}
 use Rattle.proc_core.proofs.Holding.{value_same, values_same, holds_ended, holds_went_to, holds_went_on, holds_variable, holds_file, open_same}
 
 module _ (s : Scope) (index : ℕ) (script : List Instr) where

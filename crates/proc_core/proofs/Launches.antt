@@ -1,10 +1,10 @@
 -- A step of a `spawn` that makes a child: of a script that a process runs already, or of another.
-use Rattle.std.proofs.Common.{◌≡◌, ℕ, ◌+◌, ◌<◌, List, [], ◌∷◌, ◌++◌, length, refl, sym, ap, ◌∙◌, subst, Bool, true}
-use Rattle.std.specs.Prelude.{Option, Some, None, slice_get, nat_lt}
+use Rattle.std.proofs.Common.{◌≡◌, ℕ, ◌<◌, List, [], ◌∷◌, ◌++◌, length, refl, sym, ◌∙◌, subst, true}
+use Rattle.std.specs.Prelude.{Some, slice_get, nat_lt}
 use Rattle.ldv_value.specs.FileState.{content_at}
 use Rattle.ldv_value.specs.Limits.{max_processes}
 use Rattle.script_parse.specs.Script.{script_of}
-use Rattle.proc_core.specs.Types.{Value, Instr, Act, Spawned}
+use Rattle.proc_core.specs.Types.{Instr, Spawned}
 use Rattle.run_model.specs.Core.{Core}
 use Rattle.run_model.specs.Step.{quiet}
 use Rattle.proc_core.specs.declared.code.Code.{Code}

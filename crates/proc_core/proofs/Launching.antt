@@ -1,5 +1,5 @@
 -- A child is made, as code makes it.
-use Rattle.std.proofs.Common.{◌≡◌, ℕ, List, [], ◌∷◌, ◌++◌, length, subst}
+use Rattle.std.proofs.Common.{◌≡◌, ℕ, List, length, subst}
 use Rattle.std.specs.Prelude.{Some, slice_get}
 use Rattle.proc_core.specs.Types.{Value, Instr}
 use Rattle.run_model.specs.Core.{new_process}

@@ -1,6 +1,6 @@
 -- Look-ups of names, and slots in their place.
-use Rattle.std.proofs.Common.{◌≡◌, ℕ, zero, suc, ◌+◌, ◌<◌, List, [], ◌∷◌, ◌++◌, length, map, refl, sym, ap, ◌∙◌, subst, Bool, true, false, arith, inl, inr}
-use Rattle.std.specs.Prelude.{Option, Some, None, find, filter, not, slice_get, slice_set, bytes_eq, if◌then◌else◌, cond, option_map, nat_lt, ◌||◌}
+use Rattle.std.proofs.Common.{◌≡◌, ℕ, suc, ◌+◌, ◌<◌, List, [], ◌∷◌, ◌++◌, length, map, refl, sym, ap, ◌∙◌, subst, true, false, arith, inl, inr}
+use Rattle.std.specs.Prelude.{Option, Some, None, find, slice_get, slice_set, bytes_eq, cond, option_map, nat_lt, ◌||◌}
 use Rattle.std.specs.List.{list_any, position, position_or_len}
 use Rattle.std.proofs.lemmas.Bool.{ltb-true, lt-ltb}
 use Rattle.ldv_value.proofs.Cases.{cases-bool}

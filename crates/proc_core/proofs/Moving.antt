@@ -1,5 +1,5 @@
 -- What a step leaves of the processes: one of them is changed, or one more is made.
-use Rattle.std.proofs.Common.{◌≡◌, ◌⊎◌, ℕ, ◌+◌, List, [], ◌∷◌, ◌++◌, refl, sym, ap, ◌∙◌, subst, Bool, true, false, inl, inr}
+use Rattle.std.proofs.Common.{◌≡◌, ℕ, List, refl, sym, subst, Bool, true, inl, inr}
 use Rattle.std.specs.Prelude.{Option, Some, None, slice_get, slice_set, is_none, ◌&&◌, not}
 use Rattle.ldv_value.specs.FileState.{content_at}
 use Rattle.ldv_value.specs.Order.{order, meets}
@@ -7,11 +7,10 @@ use Rattle.script_parse.specs.declared.script.Instr.TheVariants as instr
 use Rattle.proc_core.specs.Types.{Instr, Reply, Variable}
 use Rattle.run_model.specs.Core.{lookup, Process, Core}
 use Rattle.run_model.specs.Database.{Answer, Gives, Diverges, Base}
-use Rattle.run_model.specs.Run.{chosen, move}
-use Rattle.run_model.specs.Schedule.{is_waiting, is_runnable, choose}
+use Rattle.run_model.specs.Schedule.{is_waiting}
 use Rattle.run_model.specs.RunLaw.{MayRun}
 use Rattle.run_model.specs.State.{State}
-use Rattle.run_model.specs.Step.{Ask, replied, execute, execute_next, quiet_of, took_of, ask_at, told, asking, step}
+use Rattle.run_model.specs.Step.{Ask, execute, execute_next, quiet_of, took_of, ask_at, told, asking, step}
 use Rattle.run_model.specs.StepBase.{operand_value, operand_values}
 use Rattle.run_model.specs.StepFiles.{path_at, open_for, allows_read, allows_write, open_path, read_next, write_line, copy_rest, remove_path, test_path}
 use Rattle.run_model.specs.StepProcesses.{Spawning, spawn_script, script_within, spawn_file, spawn_path, spawning_of, status_in, wait_until, wait_for}

@@ -1,12 +1,12 @@
 -- Numbers within 64 bits.
-use Rattle.std.proofs.Common.{◌≡◌, ℕ, ◌^◌, ◌<◌, refl, sym, ap, ◌∙◌, Bool, true, false, inl, inr, w64}
-use Rattle.std.specs.Prelude.{ℤ, pos, negsuc, nat_lt, Option, Some, None}
+use Rattle.std.proofs.Common.{◌≡◌, ◌^◌, refl, ap, ◌∙◌, true, inl, inr, w64}
+use Rattle.std.specs.Prelude.{ℤ, pos, negsuc, nat_lt, Some, None}
 use Rattle.std.specs.Option.{SomeIff}
 use Rattle.std.proofs.lemmas.Bool.{ltb-true, lt-ltb}
 use mir.Val.{SFits}
 use Rattle.ldv_value.proofs.Cases.{cases-bool}
 use Rattle.proc_core.specs.Types.{Int}
-use Rattle.run_model.specs.StepBase.{Computed, Yields, Misused, number_too_large, number_within}
+use Rattle.run_model.specs.StepBase.{Yields, Misused, number_too_large, number_within}
 
 fits_test : (z : ℤ) → SFits w64 z → Yields (Int z) ≡ number_within z
 fits_test (pos n) fits = let test : nat_lt n (2 ^ 63) ≡ true = lt-ltb n (2 ^ 63) fits.sfits in rw test refl

@@ -1,11 +1,11 @@
 -- Open files by slot, and what reads and writes of them leave.
-use Rattle.std.proofs.Common.{◌≡◌, ℕ, ◌+◌, ◌≤◌, ◌<◌, List, [], ◌∷◌, ◌++◌, length, map, refl, sym, ap, ◌∙◌, subst, Bool, true, false, inl, inr, arith}
+use Rattle.std.proofs.Common.{◌≡◌, ℕ, List, map, refl, sym, ap, ◌∙◌, subst, Bool, true, inl, inr}
 use Rattle.std.specs.Prelude.{Option, Some, None, option_and_then, if◌then◌else◌, ◌&&◌}
 use Rattle.std.specs.Str.{IsUtf8, is_utf8}
 use Rattle.std.proofs.lemmas.Str.{is_utf8-from_IsUtf8}
 use Rattle.ldv_value.specs.Names.{path_test}
 use Rattle.ldv_value.proofs.Cases.{cases-bool}
-use Rattle.ldv_value.specs.FileState.{FileState, has_room, rest_at, copied, copy_end, read_line}
+use Rattle.ldv_value.specs.FileState.{FileState, read_line}
 use Rattle.ldv_value.specs.declared.file.OpenMode.{OpenMode}
 use Rattle.ldv_value.specs.declared.line.LineRead.{LineRead}
 use Rattle.proc_core.specs.Types.{Text, Act, Event}

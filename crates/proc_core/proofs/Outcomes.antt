@@ -1,5 +1,5 @@
 -- The outcome of a run, over slots and as it is defined.
-use Rattle.std.proofs.Common.{◌≡◌, ℕ, List, [], ◌∷◌, ◌++◌, map, reverse, refl, sym, ap, ◌∙◌, subst, Bool, true, false, inl, inr, if◌then◌else◌}
+use Rattle.std.proofs.Common.{◌≡◌, List, [], ◌∷◌, ◌++◌, map, reverse, refl, sym, ap, ◌∙◌, Bool, true, false, inl, inr, if◌then◌else◌}
 use Rattle.std.specs.Prelude.{unwrap_or}
 use Rattle.std.specs.Cmp.{IsTotalOrder}
 use Rattle.std.specs.Cmp.Lexicographic.{slice_cmp}
@@ -12,7 +12,6 @@ use Rattle.ldv_value.proofs.Cases.{cases-bool}
 use Rattle.sql_model.specs.Sorting.{put_sorted, sorted_by}
 use Rattle.run_model.specs.Core.{Process, Core}
 use Rattle.run_model.specs.Outcome.{insert_by_name, by_name, outcome_of_process, outcomes_of_paths, outcome_of}
-use Rattle.run_model.specs.declared.outcome.Outcome.{Outcome}
 use Rattle.run_model.specs.declared.outcome.ProcOutcome.{ProcOutcome}
 use Rattle.proc_core.specs.declared.code.Code.{Code}
 use Rattle.proc_core.specs.declared.machine.Machine.{Machine}

@@ -1,6 +1,6 @@
 -- An instruction that changes its own process only, over slots and as it is defined.
-use Rattle.std.proofs.Common.{◌≡◌, ℕ, suc, ◌+◌, List, [], ◌∷◌, ◌++◌, length, map, refl, sym, ap, ◌∙◌, subst, Bool, true, false, inl, inr}
-use Rattle.std.specs.Prelude.{Option, Some, None, slice_get, nat_lt, if◌then◌else◌}
+use Rattle.std.proofs.Common.{◌≡◌, ℕ, ◌+◌, List, [], ◌∷◌, ◌++◌, length, map, refl, sym, ap, ◌∙◌, subst, Bool, true, false, inl, inr}
+use Rattle.std.specs.Prelude.{Option, None, nat_lt}
 use Rattle.ldv_value.proofs.Cases.{cases-bool}
 use Rattle.ldv_value.specs.Limits.{printed_limit}
 use Rattle.ldv_value.specs.Order.{order, meets}
@@ -9,17 +9,16 @@ use Rattle.script_parse.specs.declared.script.Instr.TheVariants as instr
 use Rattle.proc_core.specs.Types.{Value, Null, Int, Text, Instr, Operand, Variable, CalcOp}
 use Rattle.run_model.specs.Core.{Process, Core}
 use Rattle.run_model.specs.Step.{execute, asked_by}
-use Rattle.run_model.specs.StepBase.{operand_value, operand_values, ended, went_on, went_to, with_variable, wrong_kind, too_long, Computed, Yields, Misused, assign, own}
-use Rattle.run_model.specs.StepVariables.{let_value, calculated, calculate, glued, glue, to_number, let_number, first_place, before_place, after_place, cut_at, cut_values, cut, jump_where, jump_if, printed_line, print_line, print, exit_status, exit}
+use Rattle.run_model.specs.StepBase.{operand_value, operand_values, went_to, with_variable, wrong_kind, too_long, Computed, Yields, assign, own}
+use Rattle.run_model.specs.StepVariables.{let_value, calculated, calculate, glued, glue, to_number, let_number, first_place, before_place, after_place, cut_values, cut, jump_where, jump_if, printed_line, print_line, print, exit_status, exit}
 use Rattle.proc_core.specs.declared.code.Scope.{Scope}
 use Rattle.proc_core.specs.declared.code.OwnInstr.{OwnInstr}
 use Rattle.proc_core.specs.declared.code.OwnInstr.TheVariants as owned
-use Rattle.proc_core.specs.declared.cut.CutParts.{CutParts}
 use Rattle.proc_core.specs.declared.process.SlotProcess.{SlotProcess}
 use Rattle.proc_core.specs.Resolved.{slot_of, HasName, slot_operand, HasOperand, HasOperands, IsScope}
-use Rattle.proc_core.specs.Slots.{Holds, slot_value, slot_values, slot_assign, slot_ended, slot_went_on, slot_with_variable}
+use Rattle.proc_core.specs.Slots.{Holds, slot_value, slot_assign, slot_ended, slot_with_variable}
 use Rattle.proc_core.specs.SlotOwn.{slot_own}
-use Rattle.proc_core.specs.SlotVariables.{slot_let, slot_calculate, slot_glue, slot_let_number, parts_of, slot_cut_parts, slot_cut, slot_jump_where, slot_jump_if, slot_print_line, slot_print, slot_exit}
+use Rattle.proc_core.specs.SlotVariables.{parts_of, slot_cut_parts, slot_jump_where, slot_print_line}
 use Rattle.proc_core.proofs.Holding.{value_same, values_same, holds_ended, holds_went_to, holds_went_on, holds_variable, holds_printed, holds_assign}
 
 module _ (s : Scope) (index : ℕ) (script : List Instr) where

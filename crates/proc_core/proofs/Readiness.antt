@@ -1,26 +1,26 @@
 -- The set of processes that may run, as a step is made.
-use Rattle.std.proofs.Common.{◌≡◌, ◌≢◌, ◌⊎◌, ℕ, zero, suc, ◌+◌, ◌<◌, ◌≤◌, List, [], ◌∷◌, ◌++◌, length, map, refl, sym, ap, ◌∙◌, subst, Bool, true, false, arith, inl, inr}
-use Rattle.std.specs.Prelude.{Option, Some, None, option_and_then, slice_get, slice_set, is_none, is_some, not, ◌&&◌, ◌||◌, slice_index_or}
-use Rattle.std.specs.List.{AllByRecursion, list_all}
+use Rattle.std.proofs.Common.{◌≡◌, ◌≢◌, ◌⊎◌, ℕ, zero, suc, ◌+◌, ◌<◌, ◌≤◌, List, [], ◌∷◌, ◌++◌, length, refl, sym, ap, ◌∙◌, subst, Bool, true, false, arith, inl, inr}
+use Rattle.std.specs.Prelude.{Option, Some, None, option_and_then, slice_get, slice_set, is_none, not, ◌&&◌, slice_index_or}
+use Rattle.std.specs.List.{AllByRecursion}
 use Rattle.std.proofs.lemmas.Bool.{cases_Bool, cases_eq}
 use Rattle.std.proofs.lemmas.List.{length-set, length-map}
 use Rattle.std.proofs.lemmas.Option.{slice_get_past, slice_get_within}
 use Rattle.ready_set.specs.Ready.{Ready}
 use Rattle.ready_set.specs.Flags.{runnable_flags, awaited}
-use Rattle.ready_set.specs.FlagsLaw.{IsAt, OthersPass}
-use Rattle.ready_set.proofs.FlagLaws.{get-set_same, get-set_other, get-append_left, get-append_end, awaited_named, flags_runnable, goes_on, ends, ends_under, spawns, new_runs}
+use Rattle.ready_set.specs.FlagsLaw.{OthersPass}
+use Rattle.ready_set.proofs.FlagLaws.{get-set_same, get-set_other, get-append_left, get-append_end, awaited_named, goes_on, ends, ends_under, spawns, new_runs}
 use Rattle.proc_core.specs.Types.{Value, Instr}
-use Rattle.run_model.specs.Core.{Binding, is_bound, lookup, unbind, Process, Core, all_ended, new_process}
+use Rattle.run_model.specs.Core.{Binding, is_bound, lookup, unbind, Process, Core, all_ended}
 use Rattle.run_model.specs.RunLaw.{MayRun}
-use Rattle.run_model.specs.Schedule.{is_waiting, is_runnable, runnable, choose}
+use Rattle.run_model.specs.Schedule.{is_waiting, is_runnable, choose}
 use Rattle.run_model.specs.StepProcesses.{child_of, parent_of, status_in}
 use Rattle.run_model.proofs.NeverStuck.{IsAbove, ChildrenLater, Ordered, chosen_runs}
 use Rattle.proc_core.specs.declared.code.Code.{Code}
 use Rattle.proc_core.specs.declared.machine.Machine.{Machine}
 use Rattle.proc_core.specs.declared.process.SlotProcess.{SlotProcess}
-use Rattle.proc_core.specs.SlotReady.{Grows, marked_by, marked, marked_parent, marked_above, refreshed, IsKin, AreKin, IsReady}
-use Rattle.proc_core.specs.SlotStep.{slot_is_runnable, slot_status_in}
-use Rattle.proc_core.specs.Stands.{IsProcess, AreProcesses, IsCore}
+use Rattle.proc_core.specs.SlotReady.{Grows, marked_by, marked, marked_above, refreshed, IsKin, AreKin, IsReady}
+use Rattle.proc_core.specs.SlotStep.{slot_status_in}
+use Rattle.proc_core.specs.Stands.{AreProcesses, IsCore}
 use Rattle.proc_core.proofs.Machines.{found, not_found, status_same}
 use Rattle.proc_core.proofs.Runnable.{runnable_one}
 use Rattle.proc_core.proofs.SpawnSame.{as_many}

@@ -1,22 +1,22 @@
 -- `fetch`, `count`, `status`, `close` and what an `sql` leaves, over slots and as they are defined.
-use Rattle.std.proofs.Common.{◌≡◌, ℕ, zero, suc, ◌+◌, ◌<◌, List, [], ◌∷◌, ◌++◌, length, map, refl, sym, ap, ◌∙◌, subst, Bool, true, false, arith, inl, inr}
-use Rattle.std.specs.Prelude.{Option, Some, None, pos, slice_get, slice_set, option_map, option_and_then, ◌==◌, if◌then◌else◌}
+use Rattle.std.proofs.Common.{◌≡◌, ℕ, zero, suc, ◌+◌, List, [], ◌∷◌, length, map, refl, sym, ap, ◌∙◌, subst, true, false, inl, inr}
+use Rattle.std.specs.Prelude.{Option, Some, None, slice_get, slice_set, option_map, option_and_then, ◌==◌}
 use Rattle.std.proofs.lemmas.Option.{slice_get-map}
 use Rattle.std.proofs.lemmas.List.{map-set, length-map}
 use Rattle.ldv_value.proofs.Cases.{cases-bool}
 use Rattle.sql_model.specs.declared.reply.Reply.{Reply}
 use Rattle.script_parse.specs.declared.script.Instr.TheVariants as instr
-use Rattle.proc_core.specs.Types.{Value, Instr, Entry}
-use Rattle.run_model.specs.Core.{Binding, lookup, bind, unbind, OpenFile, Cursor, Process, Core}
-use Rattle.run_model.specs.StepBase.{ended, went_on, went_to, with_variable, wrong_kind, Computed, assign}
+use Rattle.proc_core.specs.Types.{Value, Instr}
+use Rattle.run_model.specs.Core.{lookup, bind, unbind, OpenFile, Cursor, Process}
+use Rattle.run_model.specs.StepBase.{with_variable, wrong_kind}
 use Rattle.run_model.specs.StepFiles.{close_file, close}
 use Rattle.run_model.specs.StepReplies.{next_row, with_values, one_more, fetch_row, fetch_from, fetch, counted, count, status_value, status}
 use Rattle.proc_core.specs.declared.code.Scope.{Scope}
 use Rattle.proc_core.specs.declared.process.SlotCursor.{SlotCursor}
 use Rattle.proc_core.specs.declared.process.SlotProcess.{SlotProcess}
 use Rattle.proc_core.specs.Resolved.{slot_of, HasName, HasNames, IsScope}
-use Rattle.proc_core.specs.Slots.{bound_held, joined, open_at, cursor_of, cursor_at, cursor_in, HasReply, HaveReplies, Holds, slot_ended, slot_went_on, slot_went_to, slot_with_variable, slot_with_file, slot_with_cursor, slot_assign}
-use Rattle.proc_core.specs.SlotReplies.{slot_close_file, slot_close, slot_with_values, slot_one_more, slot_take_row, slot_fetch_row, slot_next_row, slot_fetch_from, slot_fetch, slot_count, slot_status}
+use Rattle.proc_core.specs.Slots.{bound_held, joined, cursor_of, cursor_at, cursor_in, HasReply, HaveReplies, Holds, slot_ended, slot_with_variable, slot_with_file, slot_with_cursor, slot_assign}
+use Rattle.proc_core.specs.SlotReplies.{slot_close_file, slot_close, slot_with_values, slot_one_more, slot_fetch_row, slot_next_row, slot_fetch_from, slot_fetch, slot_count, slot_status}
 use Rattle.proc_core.proofs.Holding.{holds_ended, holds_went_on, holds_went_to, holds_variable, holds_closed, holds_assign, open_same}
 use Rattle.proc_core.proofs.Lookups.{lookup_bound, lookup_other, get_slot, set_slot}
 

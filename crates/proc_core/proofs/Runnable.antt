@@ -1,5 +1,5 @@
 -- Which processes may run, over slots and as it is defined.
-use Rattle.std.proofs.Common.{◌≡◌, ℕ, zero, suc, ◌+◌, List, [], ◌∷◌, refl, sym, ap, ◌∙◌, subst, Bool, true, false}
+use Rattle.std.proofs.Common.{◌≡◌, ℕ, zero, suc, ◌+◌, List, [], ◌∷◌, refl, ap, ◌∙◌}
 use Rattle.std.specs.Prelude.{Option, Some, None, slice_get, not, ◌&&◌, is_none, if◌then◌else◌}
 use Rattle.script_parse.specs.declared.script.Instr.TheVariants as instr
 use Rattle.ready_set.specs.Flags.{runnable_flags}
@@ -7,7 +7,7 @@ use Rattle.ready_set.specs.Ready.{numbers}
 use Rattle.ready_set.proofs.FlagLaws.{flags_runnable}
 use Rattle.proc_core.specs.Types.{Instr}
 use Rattle.run_model.specs.Core.{Process, Core, lookup}
-use Rattle.run_model.specs.Schedule.{still_runs, waits_for, waits_at, is_waiting, is_runnable, runnable_from, runnable, choose, pick_of, moved_x, scheduled}
+use Rattle.run_model.specs.Schedule.{still_runs, waits_for, waits_at, is_waiting, is_runnable, runnable_from, runnable, choose, pick_of, moved_x}
 use Rattle.proc_core.specs.declared.code.Code.{Code}
 use Rattle.proc_core.specs.declared.code.Scope.{Scope}
 use Rattle.proc_core.specs.declared.code.SlotInstr.{SlotInstr}

@@ -1,13 +1,13 @@
 -- Runs by the seed: one step more, and up to a budget.
-use Rattle.std.proofs.Common.{◌≡◌, ℕ, zero, suc, ◌+◌, ◌-◌, ◌<◌, ◌≤◌, List, [], ◌∷◌, ◌++◌, refl, sym, ap, ◌∙◌, subst, Bool, true, false, arith, inl, inr, append_assoc, add-one}
-use Rattle.std.specs.Prelude.{Option, Some, None}
+use Rattle.std.proofs.Common.{◌≡◌, ℕ, zero, suc, ◌+◌, ◌-◌, ◌≤◌, List, [], ◌∷◌, ◌++◌, refl, sym, ap, ◌∙◌, subst, true, false, arith, inl, inr, append_assoc, add-one}
+use Rattle.std.specs.Prelude.{None}
 use Rattle.ldv_value.proofs.Cases.{cases-bool}
 use Rattle.proc_core.specs.Types.{Event}
 use Rattle.run_model.specs.Core.{is_over}
 use Rattle.run_model.specs.Database.{Base}
 use Rattle.run_model.specs.Events.{events, events_of_step}
 use Rattle.run_model.specs.Run.{move, run, steps}
-use Rattle.run_model.specs.State.{State, Stepped}
+use Rattle.run_model.specs.State.{State}
 use Rattle.run_model.proofs.Equations.{run-zero, run-over, run-suc, steps-zero, steps-over, steps-suc, events-zero, events-over, events-suc}
 
 append_none : (l : List Event) → l ++ [] ≡ l

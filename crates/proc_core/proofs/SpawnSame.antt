@@ -1,24 +1,19 @@
 -- `spawn` over slots and as it is defined.
-use Rattle.std.proofs.Common.{◌≡◌, ℕ, zero, suc, ◌+◌, ◌<◌, List, [], ◌∷◌, ◌++◌, length, map, refl, sym, ap, ◌∙◌, subst, Bool, true, false}
-use Rattle.std.specs.Prelude.{Option, Some, None, slice_get, slice_set, nat_lt, if◌then◌else◌}
-use Rattle.ldv_value.specs.FileState.{content_at}
-use Rattle.ldv_value.specs.Limits.{max_processes}
-use Rattle.script_parse.specs.Script.{script_of}
+use Rattle.std.proofs.Common.{◌≡◌, ℕ, suc, ◌+◌, List, [], ◌∷◌, ◌++◌, length, map, refl, sym, ap, ◌∙◌, subst}
+use Rattle.std.specs.Prelude.{Option, Some, slice_set}
 use Rattle.script_parse.specs.declared.script.Instr.TheVariants as instr
-use Rattle.proc_core.specs.Types.{Value, Instr, Operand, Act, Spawned, Unspawned}
-use Rattle.run_model.specs.Core.{lookup, bind, Process, Core, new_process, with_process}
-use Rattle.run_model.specs.StepBase.{Effect, operand_values, ended, went_on, went_to, own, noted, bad_path}
-use Rattle.run_model.specs.StepFiles.{path_at}
-use Rattle.run_model.specs.StepProcesses.{Spawning, child_of, parent_of, with_child, spawn_script, script_within, spawn_file, spawn_path, spawning_of, spawn}
+use Rattle.proc_core.specs.Types.{Value, Instr}
+use Rattle.run_model.specs.Core.{bind, Process, Core}
+use Rattle.run_model.specs.StepProcesses.{child_of, parent_of, spawn_script}
 use Rattle.proc_core.specs.declared.code.Code.{Code}
 use Rattle.proc_core.specs.declared.code.Scope.{Scope}
 use Rattle.proc_core.specs.declared.machine.Machine.{Machine}
 use Rattle.proc_core.specs.declared.process.SlotProcess.{SlotProcess}
-use Rattle.proc_core.specs.Resolved.{slot_of, HasName, IsScope, IsCode}
-use Rattle.proc_core.specs.Slots.{bound_held, Holds, slot_with_child}
+use Rattle.proc_core.specs.Resolved.{slot_of, HasName, IsScope}
+use Rattle.proc_core.specs.Slots.{bound_held, Holds}
 use Rattle.proc_core.specs.SlotSpawn.{slot_parent, slot_with_new}
 use Rattle.proc_core.specs.Stands.{IsProcess, AreProcesses, IsCore}
-use Rattle.proc_core.proofs.AskSame.{get_last, get_before}
+use Rattle.proc_core.proofs.AskSame.{get_before}
 use Rattle.proc_core.proofs.Lookups.{lookup_bound, lookup_other, set_slot}
 use Rattle.proc_core.proofs.Machines.{replaced}
 

@@ -1,5 +1,5 @@
 -- A step of a `spawn`, by what the machine was found to do.
-use Rattle.std.proofs.Common.{◌≡◌, ℕ, ◌+◌, List, [], ◌∷◌, ◌++◌, length, map, refl, sym, ap, ◌∙◌, subst, Bool, true, false}
+use Rattle.std.proofs.Common.{◌≡◌, ℕ, List, [], ◌∷◌, ◌++◌, length, map, refl, sym, ap, ◌∙◌, subst, Bool, true, false}
 use Rattle.std.specs.Prelude.{Option, Some, None, slice_get, slice_set, nat_lt, if◌then◌else◌}
 use Rattle.ldv_value.specs.FileState.{FileState, content_at}
 use Rattle.ldv_value.specs.Limits.{max_processes}
@@ -12,7 +12,7 @@ use Rattle.run_model.specs.Events.{event_at}
 use Rattle.run_model.specs.Step.{execute_next, quiet_of, quiet}
 use Rattle.run_model.specs.StepBase.{Effect, operand_values, ended, went_to, bad_path}
 use Rattle.run_model.specs.StepFiles.{path_in, path_at}
-use Rattle.run_model.specs.StepProcesses.{Spawning as Says, child_of, parent_of, script_within, spawn_script, spawn_file, spawn_path}
+use Rattle.run_model.specs.StepProcesses.{Spawning as Says, child_of, parent_of, spawn_script, spawn_file, spawn_path}
 use Rattle.proc_core.specs.declared.code.Code.{Code}
 use Rattle.proc_core.specs.declared.code.Scope.{Scope}
 use Rattle.proc_core.specs.declared.code.SlotInstr.{SlotInstr}
@@ -20,15 +20,14 @@ use Rattle.proc_core.specs.declared.code.SlotInstr.TheVariants.{Own, OnFiles, Sp
 use Rattle.proc_core.specs.declared.machine.Machine.{Machine}
 use Rattle.proc_core.specs.declared.process.SlotProcess.{SlotProcess}
 use Rattle.proc_core.specs.declared.spawning.Spawning.{Spawning}
-use Rattle.proc_core.specs.Resolved.{slot_of, HasName, slot_instr, HasAll, IsCode, IsScope}
-use Rattle.proc_core.specs.Slots.{Holds, slot_value, slot_values, slot_ended, slot_went_to}
+use Rattle.proc_core.specs.Resolved.{slot_of, HasName, slot_instr, HasAll, IsCode}
+use Rattle.proc_core.specs.Slots.{Holds, slot_ended, slot_went_to}
 use Rattle.proc_core.specs.SlotSpawn.{slot_spawning, slot_spawning_in, slot_spawning_at, Runs, script_in, slot_parent, slot_with_new, IsElse, IsNoChild, HasChild}
 use Rattle.proc_core.specs.SlotStep.{next_slotted, IsKept}
 use Rattle.proc_core.specs.Stands.{IsProcess, AreProcesses, IsCore, Told}
-use Rattle.proc_core.proofs.AskSame.{get_last, get_before}
 use Rattle.proc_core.proofs.Holding.{value_same, values_same, holds_ended, holds_went_to}
-use Rattle.proc_core.proofs.Machines.{AtSame, next_same, found, not_found, replaced}
-use Rattle.proc_core.proofs.SpawnSame.{code_stays, codes_stay, one_process_more, as_many, holds_parent, spawned_core}
+use Rattle.proc_core.proofs.Machines.{AtSame, next_same, found, replaced}
+use Rattle.proc_core.proofs.SpawnSame.{as_many, holds_parent, spawned_core}
 
 -- ---- what isn't a `spawn`
 

@@ -1,16 +1,16 @@
 -- One step of a run, by what the machine and the database were found to do.
-use Rattle.std.proofs.Common.{◌≡◌, ℕ, ◌+◌, List, [], ◌∷◌, ◌++◌, length, map, refl, sym, ap, ◌∙◌, subst, Bool, true, false}
-use Rattle.std.specs.Prelude.{Option, Some, None, ◌||◌, is_some, IsTrue, slice_get, slice_set}
+use Rattle.std.proofs.Common.{◌≡◌, ℕ, ◌+◌, List, [], ◌∷◌, ◌++◌, map, refl, sym, ap, ◌∙◌, subst, Bool}
+use Rattle.std.specs.Prelude.{Some, None, ◌||◌, is_some, slice_get, slice_set}
 use Rattle.std.proofs.Common.{append_assoc}
 use Rattle.sql_model.specs.declared.reply.Reply.{Reply}
 use Rattle.proc_core.specs.Types.{Act, Event}
-use Rattle.run_model.specs.Core.{Process, Core, all_ended, is_over}
+use Rattle.run_model.specs.Core.{Core, all_ended, is_over}
 use Rattle.run_model.specs.Database.{Question, Lists, Answer, Gives, Diverges, Base, asked_by, asked_act, asked_event, Notes}
 use Rattle.run_model.specs.Events.{event_at, events_of_step}
 use Rattle.run_model.specs.Schedule.{choose, scheduled}
 use Rattle.run_model.specs.Run.{chosen, move_of, move}
 use Rattle.run_model.specs.State.{State, Stepped}
-use Rattle.run_model.specs.Step.{Ask, ask_at, quiet, took, stopped, entry_count, ends_at, status_acts, kept, told, asking, step}
+use Rattle.run_model.specs.Step.{Ask, ask_at, quiet, took, entry_count, ends_at, status_acts, kept, told, asking, step}
 use Rattle.run_model.specs.declared.database.Asker.{Asker}
 use Rattle.proc_core.specs.declared.ask.Statement.{Statement}
 use Rattle.proc_core.specs.declared.machine.Machine.{Machine}
@@ -18,7 +18,7 @@ use Rattle.proc_core.specs.declared.process.SlotProcess.{SlotProcess}
 use Rattle.proc_core.specs.declared.stop.Stopped.{Stopped}
 use Rattle.proc_core.specs.declared.stop.Stopped.TheVariants.{Diverged, NoMemory}
 use Rattle.proc_core.specs.declared.tell.Who.{Who}
-use Rattle.proc_core.specs.SlotAsk.{slot_ask_at, question_of, slot_replied}
+use Rattle.proc_core.specs.SlotAsk.{slot_ask_at, slot_replied}
 use Rattle.proc_core.specs.SlotStep.{slot_status_in}
 use Rattle.proc_core.specs.Stands.{IsCore, IsState, Told}
 use Rattle.proc_core.specs.Stops.{asker_held, IsStop, HasStopped}

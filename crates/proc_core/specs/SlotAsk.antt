@@ -1,11 +1,9 @@
 -- What a step asks, and what it leaves where it has a reply, over slots.
-use Rattle.std.specs.Prelude.{◌≡◌, ℕ, ◌+◌, List, [], ◌∷◌, ◌++◌, length, slice_get, slice_set, Option, Some}
+use Rattle.std.specs.Prelude.{ℕ, List, [], ◌∷◌, ◌++◌, length, slice_get, slice_set, Option, Some}
 use Rattle.std.specs.Prelude.{None}
 use Rattle.sql_model.specs.declared.reply.Reply.{Reply}
 use Rattle.proc_core.specs.Types.{Value, Null, Int, Text}
-use Rattle.run_model.specs.Core.{Process, Core}
 use Rattle.run_model.specs.Database.{Question}
-use Rattle.run_model.specs.Step.{Ask, ask_at}
 use Rattle.proc_core.specs.declared.ask.Statement.{Statement}
 use Rattle.proc_core.specs.declared.code.Code.{Code}
 use Rattle.proc_core.specs.declared.code.SlotInstr.{SlotInstr}

@@ -1,5 +1,5 @@
 -- The steps of `open`, `readline`, `write`, `copy`, `remove` and `exists` over slots.
-use Rattle.std.specs.Prelude.{◌≡◌, ℕ, pos, List, [], ◌∷◌, length, Bool, true, false, if◌then◌else◌}
+use Rattle.std.specs.Prelude.{◌≡◌, ℕ, pos, List, [], ◌∷◌, length, Bool, true, false}
 use Rattle.std.specs.Prelude.{Option, Some, None, option_and_then}
 use Rattle.ldv_value.specs.FileState.{FileState, is_there, FileRefusal, open_refusal, opened, removed}
 use Rattle.ldv_value.specs.FileState.{has_room}
@@ -7,7 +7,7 @@ use Rattle.ldv_value.specs.FileState.{rest_at, appended, copied, copy_end, read_
 use Rattle.ldv_value.specs.declared.file.OpenMode.{OpenMode}
 use Rattle.ldv_value.specs.declared.line.LineRead.{LineRead}
 use Rattle.ldv_value.specs.declared.line.LineRead.TheVariants as lines
-use Rattle.proc_core.specs.Types.{Value, Int, Text, Act, Unopened, Read, Wrote, Removed, Tested}
+use Rattle.proc_core.specs.Types.{Int, Text, Act, Unopened, Read, Wrote, Removed, Tested}
 use Rattle.run_model.specs.Core.{OpenFile}
 use Rattle.run_model.specs.StepBase.{wrong_kind, too_long, bad_path, not_utf8}
 use Rattle.run_model.specs.StepFiles.{path_in, allows_read, allows_write, if_allowed, opened_file, open_act}

@@ -1,5 +1,5 @@
 -- The steps of `fetch`, `count`, `status` and `close` over slots.
-use Rattle.std.specs.Prelude.{ℕ, ◌+◌, pos, List, [], ◌∷◌, length, ◌==◌, if◌then◌else◌, Option, Some, None}
+use Rattle.std.specs.Prelude.{ℕ, ◌+◌, List, [], ◌∷◌, length, ◌==◌, if◌then◌else◌, Option, Some, None}
 use Rattle.std.specs.Prelude.{option_and_then}
 use Rattle.proc_core.specs.Types.{Value}
 use Rattle.run_model.specs.Core.{OpenFile}

@@ -1,9 +1,9 @@
 -- One step over slots.
-use Rattle.std.specs.Prelude.{◌≡◌, ℕ, ◌+◌, ◌<◌, ◌^◌, pos, List, [], ◌∷◌, slice_get, slice_set, Option, Some}
+use Rattle.std.specs.Prelude.{ℕ, ◌+◌, ◌<◌, ◌^◌, pos, List, [], ◌∷◌, slice_get, Option, Some}
 use Rattle.std.specs.Prelude.{None}
 use Rattle.std.specs.Prelude.{option_and_then, Bool, false, not, ◌&&◌, is_none, if◌then◌else◌}
 use Rattle.ldv_value.specs.FileState.{FileState}
-use Rattle.proc_core.specs.Types.{Act, Int, Waited}
+use Rattle.proc_core.specs.Types.{Int, Waited}
 use Rattle.run_model.specs.StepBase.{wrong_kind}
 use Rattle.proc_core.specs.declared.code.Code.{Code}
 use Rattle.proc_core.specs.declared.code.SlotInstr.{SlotInstr}

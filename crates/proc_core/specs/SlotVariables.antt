@@ -5,7 +5,7 @@ use Rattle.ldv_value.specs.Limits.{printed_limit}
 use Rattle.ldv_value.specs.Order.{order, meets}
 use Rattle.ldv_value.specs.declared.value.Cmp.{Cmp}
 use Rattle.proc_core.specs.Types.{Value, Null, Int, Text, CalcOp}
-use Rattle.run_model.specs.StepBase.{wrong_kind, too_long, Computed, Yields, Misused}
+use Rattle.run_model.specs.StepBase.{wrong_kind, too_long, Yields}
 use Rattle.run_model.specs.StepVariables.{calculated, glued, to_number, first_place, before_place}
 use Rattle.run_model.specs.StepVariables.{after_place}
 use Rattle.run_model.specs.StepVariables.{printed_line, exit_status}

@@ -1,5 +1,5 @@
 -- What a run is for the state that it is in.
-use Rattle.std.specs.Prelude.{◌≡◌, ℕ, List, [], ◌∷◌, ◌++◌, slice_get, Bool, IsTrue, Option, Some, None}
+use Rattle.std.specs.Prelude.{◌≡◌, ℕ, List, [], ◌∷◌, ◌++◌, slice_get, Bool, IsTrue, Some, None}
 use Rattle.std.specs.Prelude.{option_and_then}
 use Rattle.ldv_value.specs.FileState.{FileState, content_at}
 use Rattle.script_parse.specs.Script.{script_of}

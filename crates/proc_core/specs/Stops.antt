@@ -1,6 +1,6 @@
 -- Who asks, and how a run stops.
-use Rattle.std.specs.Prelude.{◌≡◌, ℕ, length, false, Option, Some}
-use Rattle.run_model.specs.Core.{Diverged as Stopping, Core, is_over}
+use Rattle.std.specs.Prelude.{◌≡◌, length, false, Some}
+use Rattle.run_model.specs.Core.{is_over}
 use Rattle.run_model.specs.State.{State}
 use Rattle.run_model.specs.declared.database.Asker.{Asker}
 use Rattle.proc_core.specs.declared.machine.Machine.{Machine}

@@ -1,8 +1,6 @@
 use Rattle.std.proofs.Common.{refl}
-use Rattle.std.proofs.Common.{◌≡◌, [], map}
-use Rattle.run_model.specs.Events.{event_at}
+use Rattle.std.proofs.Common.{[]}
 use Rattle.run_model.specs.StepBase.{bad_path}
-use Rattle.ldv_value.proofs.Lists.{append-nil}
 use Rattle.proc_core.specs.Slots.{slot_ended}
 use Rattle.proc_core.proofs.Counts.{fewer_idle}
 use Rattle.proc_core.proofs.Growing.{grows_no_child}

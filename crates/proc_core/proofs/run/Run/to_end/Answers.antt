@@ -1,4 +1,4 @@
-use Rattle.std.proofs.Common.{◌≡◌, ◌+◌, ◌≤◌, ap, sym, ◌∙◌, subst, [], arith, true, false}
+use Rattle.std.proofs.Common.{◌+◌, ◌≤◌, ap, ◌∙◌, subst, [], arith, true, false}
 use Rattle.std.specs.Prelude.{None}
 use Rattle.run_model.specs.Run.{move}
 use Rattle.run_model.specs.State.{State}
@@ -8,7 +8,7 @@ use Rattle.proc_core.specs.Running.{Stands}
 use Rattle.proc_core.specs.Stops.{HasStopped}
 use Rattle.proc_core.proofs.Advances.{never_stuck_from}
 use Rattle.proc_core.proofs.Stepping.{first_state, first_told}
-use Rattle.proc_core.proofs.Ends.{end_state, end_all, end_told, end_steps, end_not, end_stopped, more_state, more_told, more_made}
+use Rattle.proc_core.proofs.Ends.{end_state, end_all, end_told, end_steps, end_stopped, more_state, more_told, more_made}
 use Rattle.proc_core.proofs.run.Run.to_end.Goals as goal
 
 pub returns-then-ended-clause-state : goal.returns-then-ended-clause-state
