@@ -30,6 +30,8 @@ use Rattle.run_model.specs.declared.package.PackedTable.{PackedTable}
 use Rattle.run_model.specs.declared.world.World.{World}
 use Rattle.package_layout.specs.Room.{key_room, row_room, table_room}
 use Rattle.replay_db.proofs.WorldRules.{next_within, ruled_tables}
+use Rattle.replay_db.proofs.WorldsThatRun.{ruled_runs}
+use Rattle.replay_db.specs.Runs.{CanRun}
 use Rattle.replay_db.specs.Worlds.{all_of_file, all_of_row, all_of_table, world_rules}
 use Rattle.world_json.proofs.ReadDocuments.{IsWide, IsDocument, world_read}
 use Rattle.world_json.proofs.Readings.{IsWorldOf}
@@ -295,3 +297,7 @@ document_world bytes w is = (world_met bytes w is).0
 -- its tables are a database
 pub document_tables : (bytes : List ℕ) (w : World) → world_reading bytes ≡ Ok w → tables_test w.tables ≡ true
 document_tables bytes w is = let met = world_met bytes w is in ruled_tables w met.0 met.1
+
+-- and it can be run
+pub document_runs : (bytes : List ℕ) (w : World) → world_reading bytes ≡ Ok w → CanRun w
+document_runs bytes w is = ruled_runs w (document_world bytes w is) (document_tables bytes w is)

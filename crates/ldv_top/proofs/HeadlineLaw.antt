@@ -15,6 +15,7 @@ use Rattle.run_model.specs.WorldRun.{ends_within, outcome_within, steps_by}
 use Rattle.sql_model.specs.Tables.{tables_test}
 use Rattle.package_layout.specs.Valid.{Valid, reading}
 use Rattle.package_layout.specs.Whole.{spelling, IsTyped}
+use Rattle.replay_db.proofs.BudgetLaw.{outcome_ends, ended_outcome, enough_outcome}
 use Rattle.replay_db.proofs.EndedLaw.{ended_starts}
 use Rattle.replay_db.proofs.TraceValid.{steps_at_most}
 use Rattle.replay_db.specs.Laws.{SameRun, ReplayLaw}
@@ -23,7 +24,6 @@ use Rattle.world_json.specs.Reading.{world_reading}
 use Rattle.ldv_top.specs.declared.exit.Exit.TheVariants.{Done, NotEnded, PackageTooLong, NotBuilt}
 use Rattle.ldv_top.specs.Due.{Due, refused, due_of_run, due_outcome, outcome_due, due_world, due_reading, due_run, is_supported, is_too_long, due_spelling, package_due, recorded_world, recorded_reading, due_record, replayed_reading, due_replay}
 use Rattle.ldv_top.specs.Headline.{IsPackageOf, Recorded}
-use Rattle.ldv_top.proofs.BudgetLaw.{outcome_ends, ended_outcome, enough_outcome}
 use Rattle.ldv_top.proofs.RecordLaws.{not_too_long}
 
 -- ---- runs that are written

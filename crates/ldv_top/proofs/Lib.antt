@@ -1,10 +1,6 @@
-pub mod BudgetLaw
 pub mod DocumentWorlds
-pub mod EndedRuns
 pub mod HeadlineLaw
 pub mod RecordLaws
 pub mod ResponseLaws
-pub mod SqlAnswers
 pub mod TopLaws
-pub mod WorldsThatRun
 pub mod WriteLemmas

@@ -9,18 +9,15 @@ use Rattle.run_model.specs.declared.package.Mode.TheVariants.{Included}
 use Rattle.run_model.specs.declared.package.Package.{Package}
 use Rattle.run_model.specs.declared.world.World.{World}
 use Rattle.run_model.specs.Package.{package_of}
-use Rattle.run_model.specs.Slice.{files_needed, tables_needed}
 use Rattle.run_model.specs.WorldRun.{ends_within}
 use Rattle.package_layout.specs.Whole.{spelling, IsTyped}
+use Rattle.replay_db.specs.Runs.{package_within}
+use Rattle.replay_db.proofs.BudgetLaw.{ended_outcome, going_outcome}
+use Rattle.replay_db.proofs.RecordedRuns.{package_is, package_none}
 use Rattle.world_json.specs.Reading.{world_reading}
 use Rattle.ldv_top.specs.declared.exit.Exit.TheVariants.{Done, NotEnded, PackageTooLong}
-use Rattle.ldv_top.specs.declared.run.EndStop.{EndStop}
-use Rattle.ldv_top.specs.declared.run.EndStop.TheVariants as stops
-use Rattle.ldv_top.specs.declared.run.Traced.{Traced}
 use Rattle.ldv_top.specs.Due.{Due, refused, done, due_outcome, is_too_long, due_spelling, package_due, recorded_world, recorded_reading, due_record}
 use Rattle.ldv_top.specs.Headline.{Recorded}
-use Rattle.ldv_top.specs.Runs.{HasNotEnded, Stops, IsTraced, packed, package_within}
-use Rattle.ldv_top.proofs.BudgetLaw.{ended_outcome, going_outcome}
 
 -- ---- the limit of a spelling
 
@@ -40,44 +37,15 @@ pub ruleset spelling_ends = (spelled_whole, spelled_long)
 
 -- ---- the package of a run
 
-packed_same : (n : ℕ) (w : World) (t : Traced) → IsTraced n w t → packed w t ≡ package_of Included n w
-packed_same n w t traced = λ j. record {
-  mode = Included;
-  start = w.start;
-  seed = w.seed;
-  steps = traced.steps j;
-  files = files_needed (traced.events j) w.files;
-  tables = tables_needed (traced.events j) w.tables;
-  logs = [];
-  events = traced.events j;
-}
-
-package_is : (n : ℕ) (w : World) → ends_within n w ≡ true → package_within n w ≡ Some (package_of Included n w)
-package_is n w ended = ap (λ b. if b then Some (package_of Included n w) else None) ended
-
--- of a run that has ended
-pub package_packed : (n : ℕ) (w : World) (t : Traced) (p : Package) → IsTraced n w t → p ≡ packed w t
-    → package_within n w ≡ Some p
-package_packed n w t p traced is =
-    package_is n w traced.ended ∙ ap Some (sym (packed_same n w t traced) ∙ sym is)
-
--- of one that hasn't
-package_none : (n : ℕ) (w : World) → ends_within n w ≡ false → package_within n w ≡ None
-package_none n w going = ap (λ b. if b then Some (package_of Included n w) else None) going
-
-pub package_stops : (n : ℕ) (w : World) (stop : EndStop) → HasNotEnded n w stop → Stops stop (package_within n w)
-package_stops n w stops.NotEnded going = package_none n w going
-package_stops n w stops.NoMemory going = tt
-
 -- a package that is there is that of a run that has ended
 abbrev IsRecorded : ℕ → World → Package → Type 0
 IsRecorded n w p = (p ≡ package_of Included n w) × (due_spelling (spelling p) ≡ recorded_world Included n w)
 
-pub recorded_in_time : (n : ℕ) (w : World) (p : Package) → package_within n w ≡ Some p → IsRecorded n w p
+pub recorded_in_time : (n : ℕ) (w : World) (p : Package) → package_within Included n w ≡ Some p → IsRecorded n w p
 recorded_in_time n w p is = elim (cases_Bool (ends_within n w)) [
-  | inr going ↦ let never : None ≡ Some p = sym (package_none n w going) ∙ is in absurd cc
+  | inr going ↦ let never : None ≡ Some p = sym (package_none Included n w going) ∙ is in absurd cc
   | inl ended ↦
-      let both : Some p ≡ Some (package_of Included n w) = sym is ∙ package_is n w ended in
+      let both : Some p ≡ Some (package_of Included n w) = sym is ∙ package_is Included n w ended in
       let same : p ≡ package_of Included n w = cc in
       let outcome = ended_outcome n w ended in (
         same,
@@ -86,10 +54,10 @@ recorded_in_time n w p is = elim (cases_Bool (ends_within n w)) [
       )
 ]
 
-pub recorded_late : (n : ℕ) (w : World) → package_within n w ≡ None
+pub recorded_late : (n : ℕ) (w : World) → package_within Included n w ≡ None
     → refused (NotEnded n) ≡ recorded_world Included n w
 recorded_late n w is = elim (cases_Bool (ends_within n w)) [
-  | inl ended ↦ let never : None ≡ Some (package_of Included n w) = sym is ∙ package_is n w ended in absurd cc
+  | inl ended ↦ let never : None ≡ Some (package_of Included n w) = sym is ∙ package_is Included n w ended in absurd cc
   | inr going ↦ sym (ap (due_outcome n (package_due Included n w)) (going_outcome n w going))
 ]
 

@@ -3,6 +3,5 @@ pub mod Due
 pub mod Ends
 pub mod Exits
 pub mod Headline
-pub mod Runs
 pub mod Words
 pub mod Written

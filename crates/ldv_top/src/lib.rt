@@ -1,9 +1,8 @@
 //! The program without its streams: `ldv` reads a source, and writes what the words ask for to a sink.
 //!
-//! The commands are `run`, `record` and `replay`, each with a budget of steps. They run every script, over
-//! the runtime of `proc_core` with the engine of `sql_engine` as its database: `record` with a tracer that
-//! keeps all events, the others with one that keeps none (`run.rt`). Packages that hold the recorded replies
-//! in place of the needed rows aren't made or replayed yet.
+//! The commands are `run`, `record` and `replay`, each with a budget of steps. They run every script, by the
+//! calls of `replay_db`. Packages that hold the recorded replies in place of the needed rows aren't made or
+//! replayed yet.
 //!
 //! It promises, in the clauses of `ldv`:
 //! - the exit and the bytes are those that are due for the words and the input (`specs/Due.antt`); only a
@@ -27,7 +26,6 @@ mod messages;
 mod record;
 mod replay;
 mod response;
-mod run;
 mod top;
 
 pub use command::Command;

@@ -1,77 +1,23 @@
 //! From a world document to the package of its run.
 
 ghost use Rattle.std.specs.Prelude.{◌≡◌, ◌≤◌, length, IfOk, OnOk};
-ghost use Rattle.ldv_value.specs.Gives.{Gives};
 ghost use Rattle.ldv_value.specs.Limits.{input_limit, max_steps};
 ghost use Rattle.run_model.specs.declared.package.Mode.{Mode};
 ghost use Rattle.run_model.specs.Package.{package_of};
 ghost use Rattle.package_layout.specs.Whole.{spelling, IsTyped};
+ghost use Rattle.replay_db.specs.Runs.{CanRun};
 ghost use Rattle.ldv_top.specs.Due.{response_due, due_spelling, recorded_world, due_record};
 ghost use Rattle.ldv_top.specs.Headline.{Recorded};
-ghost use Rattle.ldv_top.specs.Runs.{CanRun, Stops, package_within, packed};
 ghost use Rattle.ldv_top.specs.declared.exit.Exit.{Exit};
 
 use crate::headline::headline_law;
 use crate::response::Response;
-use crate::run::{EndStop, Traced, trace_world};
 use ldv_value::Bytes;
 use package_layout::{SpellStop, spell};
-use run_model::{Logs, Mode, Package, World};
-use slicer::{Sliced, slice};
+use replay_db::{EndStop, record_world};
+use run_model::{Mode, Package, World};
 use std::alloc::{AllocError, Global};
 use world_json::{WorldStop, world_of};
-
-// ---- the package of a run
-
-fn copy_world(world: &World) -> Result<World, AllocError>
-    ensures { IfOk result (λ copy. copy ≡ world.now) }
-{
-    Ok(World {
-        start: world.start.copy()?,
-        seed: world.seed,
-        files: world.files.copy()?,
-        tables: world.tables.copy()?,
-    })
-}
-
-// What the run needed of the world, with what is recorded of it.
-fn pack(alloc: Global, world: World, traced: Traced) -> Result<Package, AllocError>
-    ensures { IfOk result (λ p. p ≡ packed world traced) }
-{
-    let Traced { events, steps } = traced;
-    let Sliced { files, tables } = slice(alloc, &events, &world)?;
-    let World {
-        start,
-        seed,
-        files: _,
-        tables: _,
-    } = world;
-    Ok(Package {
-        mode: Mode::Included,
-        start,
-        seed,
-        steps,
-        files,
-        tables,
-        logs: Logs::new(alloc),
-        events,
-    })
-}
-
-/// The included package of the run of a world within a budget of steps. The run changes a copy of the world.
-pub(crate) fn record_world(alloc: Global, budget: u32, world: World) -> Result<Package, EndStop>
-    requires can_run { CanRun world }
-    requires bounded { budget ≤ max_steps }
-    ensures { Gives Stops result (package_within budget world) }
-{
-    let copy = copy_world(&world)?;
-    match trace_world(alloc, budget, copy) {
-        Ok(traced) => Ok(pack(alloc, world, traced)?),
-        Err(stop) => Err(stop),
-    }
-}
-
-// ---- what is written
 
 #[tactic(auto, using(crate::proofs::RecordLaws::spelling_ends))]
 fn spelling_response(alloc: Global, package: &Package) -> Result<Response, AllocError>
@@ -94,7 +40,7 @@ fn included_response(alloc: Global, budget: u32, world: World) -> Result<Respons
     ensures typed { OnOk result ((recorded_world Mode.Included budget world).exit ≡ Exit.Done
         → IsTyped (package_of Mode.Included budget world)) }
 {
-    match record_world(alloc, budget, world) {
+    match record_world(alloc, &world, Mode::Included, budget) {
         Ok(package) => spelling_response(alloc, &package),
         Err(EndStop::NotEnded) => Ok(Response::NotEnded(budget)),
         Err(EndStop::NoMemory) => Err(AllocError),

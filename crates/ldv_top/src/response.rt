@@ -1,14 +1,17 @@
 //! From the input to what is written.
 
 ghost use Rattle.std.specs.Prelude.{◌≡◌, ◌≤◌, length, IfOk};
+ghost use Rattle.ldv_value.specs.Gives.{Gives};
 ghost use Rattle.ldv_value.specs.Limits.{input_limit, max_steps};
+ghost use Rattle.run_model.specs.WorldRun.{outcome_within};
+ghost use Rattle.replay_db.specs.Runs.{CanRun, Stops};
+ghost use Rattle.replay_db.specs.Types.{World};
 ghost use Rattle.ldv_top.specs.Due.{response_due, due_world, due_run};
-ghost use Rattle.ldv_top.specs.Runs.{CanRun};
 
-use crate::run::{EndStop, run_world};
 use ldv_value::Bytes;
 use package_layout::DamageKind;
-use run_model::{World, outcome_text};
+use replay_db::{EndStop, run_owned};
+use run_model::{Outcome, World, outcome_text};
 use std::alloc::{AllocError, Global};
 use world_json::{WorldFault, WorldStop, world_of};
 
@@ -29,22 +32,30 @@ pub enum Response {
     PackageTooLong,
 }
 
-/// The response to the run of a world within a budget.
+/// The response to what comes of the run of a world within a budget.
 #[tactic(auto, using(crate::proofs::ResponseLaws::world_ends))]
-pub(crate) fn world_response(
+pub(crate) fn ended_response(
     alloc: Global,
     budget: u32,
-    world: World,
+    ended: Result<Outcome, EndStop>,
 ) -> Result<Response, AllocError>
-    requires can_run { CanRun world }
-    requires bounded { budget ≤ max_steps }
-    ensures { IfOk result (λ response. response_due response ≡ due_world budget world) }
+    ensures { (w : World) → Gives Stops ended (outcome_within budget w)
+        → IfOk result (λ response. response_due response ≡ due_world budget w) }
 {
-    match run_world(alloc, budget, world) {
+    match ended {
         Ok(outcome) => Ok(Response::Written(outcome_text(alloc, &outcome)?)),
         Err(EndStop::NotEnded) => Ok(Response::NotEnded(budget)),
         Err(EndStop::NoMemory) => Err(AllocError),
     }
+}
+
+fn world_response(alloc: Global, budget: u32, world: World) -> Result<Response, AllocError>
+    requires can_run { CanRun world }
+    requires bounded { budget ≤ max_steps }
+    ensures { IfOk result (λ response. response_due response ≡ due_world budget world) }
+{
+    let ended = run_owned(alloc, world, budget);
+    ended_response(alloc, budget, ended)
 }
 
 /// The response of `run` to an input.

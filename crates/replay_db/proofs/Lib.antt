@@ -28,3 +28,9 @@ mod PackageValidLists
 mod PackageValidParts
 mod PackageValidTyped
 pub mod TraceValid
+pub mod BudgetLaw
+mod EndedRuns
+mod SqlAnswers
+pub mod WorldsThatRun
+pub mod RecordedRuns
+mod RunsBetween

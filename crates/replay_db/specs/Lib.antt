@@ -1,3 +1,5 @@
 pub mod Laws
+pub mod Recording
+pub mod Runs
 pub mod Types
 pub mod Worlds

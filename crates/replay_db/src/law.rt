@@ -2,6 +2,7 @@
 
 ghost use Rattle.replay_db.specs.Laws.{BetweenLaw, InterleavingLaw, MembershipLaw, SliceLaw, OwnLaw};
 ghost use Rattle.replay_db.specs.Laws.{ReplayLaw, EndedLaw};
+ghost use Rattle.replay_db.specs.Runs.{WorldRunsLaw, OwnRunsLaw};
 ghost use Rattle.replay_db.specs.Worlds.{WorldTablesLaw, ValidPackageLaw, TypedPackageLaw};
 
 /// A world from which nothing was cut that a run needs runs as the whole world does, whatever statements it
@@ -18,9 +19,12 @@ pub fn between_law()
 {}
 
 /// The package of a valid world's run that has ended is itself valid, so its spelling is read back as it. The
-/// tables of a valid world are valid. The function has no body: its contract is the theorem.
+/// tables of a valid world are valid. A valid world can be run, and so can the own world of a valid package.
+/// The function has no body: its contract is the theorem.
 pub fn package_law()
     ensures tables { WorldTablesLaw }
     ensures valid { ValidPackageLaw }
     ensures typed { TypedPackageLaw }
+    ensures runs { WorldRunsLaw }
+    ensures own_runs { OwnRunsLaw }
 {}

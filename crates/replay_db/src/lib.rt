@@ -1,7 +1,17 @@
-//! What replay of a package rests on.
+//! Worlds run, recorded and replayed, and why a package is enough.
 //!
-//! It promises, in `between_law` (`specs/Laws.antt`, over the definitions of `run_model`), of every world
-//! with valid tables, any script and all statements:
+//! The calls run a world over the runtime of `proc_core` with the engine of `sql_engine` as its database:
+//! `record_world` with a tracer that keeps all events, the others with one that keeps none. They promise, for
+//! every world that can be run (`specs/Runs.antt`, `CanRun`), over the definitions of `run_model`:
+//! - `run_owned` and `run_world` return the outcome of the world's run by its seed, and `record_world` the
+//!   package of that run, which has exactly the files, tables and rows that it needed. `own_world` is the world
+//!   that a package has in it, and `replay_included` returns the outcome of that world's run. `NotEnded` comes
+//!   exactly where the run hasn't ended after the steps of the budget;
+//! - where the world lies between the slice of a larger one and that one, what they return is the outcome and
+//!   the package of the larger one, for each budget within which that one ends (`RunsAs`, `RecordsAs`).
+//!
+//! `between_law` says the same of the definitions alone (`specs/Laws.antt`), of every world with valid tables,
+//! any script and all statements:
 //! - a world that lies between the slice of a run and the run's world has the same outcome, events and
 //!   packages;
 //! - the same holds where both runs go by one list of picks, so for every interleaving of the processes;
@@ -11,12 +21,25 @@
 //!   what the run yielded, and its own package is that very package;
 //! - a run that has ended has the same outcome and packages with more steps.
 //!
-//! It promises, in `package_law` (`specs/Worlds.antt`), that the package of a valid world's run that has
-//! ended is itself valid, so its spelling is read back as it.
+//! `package_law` says that the package of a valid world's run that has ended is itself valid
+//! (`specs/Worlds.antt`), so its spelling is read back as it, and that a valid world and the own world of a
+//! valid package can be run (`specs/Runs.antt`).
 //!
-//! Of SQL it uses only what `sql_laws` promises of a statement, of a cut and of valid tables.
+//! The laws use of SQL only what `sql_laws` promises of a statement, of a cut and of valid tables.
 #![tactic(auto)]
 
+mod copy;
 mod law;
+mod own;
+mod record;
+mod replay;
+mod run;
+mod stop;
+mod trace;
 
 pub use law::{between_law, package_law};
+pub use own::own_world;
+pub use record::record_world;
+pub use replay::replay_included;
+pub use run::{run_owned, run_world};
+pub use stop::EndStop;

@@ -3,9 +3,8 @@ use Rattle.std.specs.Prelude.{Ok}
 use Rattle.replay_db.specs.Worlds.{world_rules}
 use Rattle.world_json.specs.Reading.{world_reading}
 use Rattle.sql_model.specs.Tables.{tables_test}
-use Rattle.ldv_top.proofs.DocumentWorlds.{document_world, document_tables}
+use Rattle.ldv_top.proofs.DocumentWorlds.{document_world, document_tables, document_runs}
 use Rattle.ldv_top.proofs.RecordLaws.{recorded_on}
-use Rattle.ldv_top.proofs.WorldsThatRun.{document_runs}
 use Rattle.ldv_top.proofs.record.record_response.Goals as goal
 
 pub recorded_response-requires-clause-can_run : goal.recorded_response-requires-clause-can_run

@@ -1,4 +1,4 @@
-use Rattle.ldv_top.proofs.WorldsThatRun.{own_runs}
+use Rattle.replay_db.proofs.WorldsThatRun.{own_runs}
 use Rattle.ldv_top.proofs.replay.replay_response.Goals as goal
 
 pub replay_package-requires-clause-can_run : goal.replay_package-requires-clause-can_run

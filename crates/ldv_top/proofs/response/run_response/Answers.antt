@@ -1,4 +1,4 @@
-use Rattle.ldv_top.proofs.WorldsThatRun.{document_runs}
+use Rattle.ldv_top.proofs.DocumentWorlds.{document_runs}
 use Rattle.ldv_top.proofs.response.run_response.Goals as goal
 
 pub world_response-requires-clause-can_run : goal.world_response-requires-clause-can_run

@@ -28,10 +28,11 @@ use Rattle.run_model.specs.WorldRun.{core_after, ends_in, ends_within, outcome_i
 use Rattle.sql_laws.specs.DatabaseLaw.{have_distinct_columns}
 use Rattle.sql_model.specs.Tables.{are_distinct, is_database, is_described, tables_test}
 use Rattle.sql_model.specs.declared.table.Table.{Table}
-use Rattle.ldv_top.proofs.BudgetLaw.{going_outcome}
-use Rattle.ldv_top.specs.Runs.{HasNotEnded, Stops}
-use Rattle.ldv_top.specs.declared.run.EndStop.{EndStop}
-use Rattle.ldv_top.specs.declared.run.EndStop.TheVariants.{NotEnded, NoMemory}
+use Rattle.replay_db.proofs.BudgetLaw.{going_outcome}
+use Rattle.replay_db.specs.Recording.{HasNotEnded}
+use Rattle.replay_db.specs.Runs.{Stops}
+use Rattle.replay_db.specs.declared.stop.EndStop.{EndStop}
+use Rattle.replay_db.specs.declared.stop.EndStop.TheVariants.{NotEnded, NoMemory}
 
 -- ---- the files, the tables and the start words of a world that can be run
 

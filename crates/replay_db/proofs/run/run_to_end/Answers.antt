@@ -5,9 +5,9 @@ use Rattle.run_model.specs.Core.{is_over}
 use Rattle.run_model.specs.Run.{run}
 use Rattle.run_model.specs.SqlDatabase.{sql_base}
 use Rattle.run_model.specs.Start.{start_state}
-use Rattle.ldv_top.proofs.EndedRuns.{has_script, ends_as, counts_as, told_all}
-use Rattle.ldv_top.proofs.SqlAnswers.{never_diverged, not_over}
-use Rattle.ldv_top.proofs.run.run_to_end.Goals as goal
+use Rattle.replay_db.proofs.EndedRuns.{has_script, ends_as, counts_as, told_all}
+use Rattle.replay_db.proofs.SqlAnswers.{never_diverged, not_over}
+use Rattle.replay_db.proofs.run.run_to_end.Goals as goal
 
 pub returns-in-Ok-clause-state : goal.returns-in-Ok-clause-state
 returns-in-Ok-clause-state g c = λ script is.

@@ -1,16 +1,16 @@
 use Rattle.std.proofs.Common.{subst}
-use Rattle.run_model.specs.declared.world.World.{World}
-use Rattle.ldv_top.specs.Runs.{HasNotEnded, IsTraced}
-use Rattle.ldv_top.proofs.RecordLaws.{package_packed, package_stops}
-use Rattle.ldv_top.proofs.record.record_world.Goals as goal
+use Rattle.replay_db.specs.Recording.{HasNotEnded, IsTraced}
+use Rattle.replay_db.specs.Types.{Included, World}
+use Rattle.replay_db.proofs.RecordedRuns.{package_packed, package_stops}
+use Rattle.replay_db.proofs.record.package_of_run.Goals as goal
 
 pub returns-in_ok-pack-in-Ok : goal.returns-in_ok-pack-in-Ok
 returns-in_ok-pack-in-Ok c =
-    package_packed c.args.budget c.args.world c.in-Ok.traced _
+    package_packed c.args.budget c.args.world.now c.in-Ok.traced _
     (subst (λ (w : World). IsTraced c.args.budget w c.in-Ok.traced) c.in_ok-copy.ensures c.in-Ok.ensures.traced)
     c.in_ok-pack-in-Ok.ensures
 
 pub returns-in-Err : goal.returns-in-Err
 returns-in-Err c =
-    package_stops c.args.budget c.args.world c.in-Err.stop
+    package_stops Included c.args.budget c.args.world.now c.in-Err.stop
     (subst (λ (w : World). HasNotEnded c.args.budget w c.in-Err.stop) c.in_ok-copy.ensures c.in-Err.ensures.not_ended)

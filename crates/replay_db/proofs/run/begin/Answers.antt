@@ -3,8 +3,8 @@ use Rattle.proc_core.specs.Running.{Stands}
 use Rattle.run_model.specs.RunLaw.{started}
 use Rattle.run_model.specs.SqlDatabase.{SqlDatabase}
 use Rattle.sql_engine.specs.Asking.{database}
-use Rattle.ldv_top.proofs.EndedRuns.{files_are, files_sorted, tables_database, tables_distinct, has_script, has_word, start_script_is}
-use Rattle.ldv_top.proofs.run.begin.Goals as goal
+use Rattle.replay_db.proofs.EndedRuns.{files_are, files_sorted, tables_database, tables_distinct, has_script, has_word, start_script_is}
+use Rattle.replay_db.proofs.run.begin.Goals as goal
 
 pub of_files-requires : goal.of_files-requires
 of_files-requires g c = files_are c.args.world.files c.requires.files

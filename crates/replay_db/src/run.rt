@@ -9,43 +9,19 @@ ghost use Rattle.run_model.specs.Events.{start_events};
 ghost use Rattle.run_model.specs.Run.{run as state_after};
 ghost use Rattle.run_model.specs.SqlDatabase.{sql_base};
 ghost use Rattle.run_model.specs.Start.{start_script, start_state};
-ghost use Rattle.run_model.specs.Types.{Instr};
 ghost use Rattle.run_model.specs.WorldRun.{ends_within, events_within, outcome_within, steps_by};
 ghost use Rattle.sql_engine.specs.Asking.{database};
-ghost use Rattle.ldv_top.specs.Runs.{CanRun, HasNotEnded, IsTraced, Stops};
+ghost use Rattle.replay_db.specs.Recording.{HasNotEnded};
+ghost use Rattle.replay_db.specs.Runs.{CanRun, RunsAs, Stops};
+ghost use Rattle.replay_db.specs.Types.{Instr};
 
+use crate::copy::copy_world;
+use crate::stop::EndStop;
 use file_tree::Tree;
 use proc_core::{Run, RunStop};
-use run_model::{Events, ListTracer, NullTracer, Outcome, Tracer, World};
+use run_model::{NullTracer, Outcome, Tracer, World};
 use sql_engine::Engine;
 use std::alloc::{AllocError, Global};
-
-/// Why the run of a world has no end.
-#[derive(Clone, Copy, Debug, PartialEq, Eq)]
-pub(crate) enum EndStop {
-    /// Not all processes have ended after the steps of the budget.
-    NotEnded,
-    /// Out of memory.
-    NoMemory,
-}
-
-impl From<AllocError> for EndStop {
-    ghost use Rattle.std.specs.Prelude.{◌≡◌};
-    ghost use Rattle.ldv_top.specs.declared.run.EndStop.TheVariants.{NoMemory};
-
-    ghost from_gives = { λ _ stop. stop ≡ NoMemory };
-
-    fn from(_error: AllocError) -> EndStop {
-        EndStop::NoMemory
-    }
-}
-
-/// What is recorded of a run that has ended: its events, and the number of its steps.
-#[derive(Drop)]
-pub(crate) struct Traced {
-    pub events: Events,
-    pub steps: u32,
-}
 
 // The run of a world before its first step.
 fn begin<T: Tracer>(alloc: Global, world: World, tracer: T) -> Result<Run<Engine, T>, AllocError>
@@ -68,12 +44,12 @@ fn begin<T: Tracer>(alloc: Global, world: World, tracer: T) -> Result<Run<Engine
     Ok(begun)
 }
 
-// The run of a world at its end. No question of SQL diverges.
-fn run_to_end<T: Tracer>(
+/// The run of a world at its end. No question of SQL diverges.
+pub(crate) fn run_to_end<T: Tracer>(
     alloc: Global,
-    budget: u32,
     world: World,
     tracer: T,
+    budget: u32,
 ) -> Result<Run<Engine, T>, EndStop>
     requires can_run { CanRun world }
     requires bounded { budget ≤ max_steps }
@@ -100,29 +76,37 @@ fn run_to_end<T: Tracer>(
     }
 }
 
-/// The outcome of the run of a world within a budget of steps.
 #[tactic(auto, using(crate::proofs::EndedRuns::outcome_stops))]
-pub(crate) fn run_world(alloc: Global, budget: u32, world: World) -> Result<Outcome, EndStop>
+fn outcome_of_run(alloc: Global, world: World, budget: u32) -> Result<Outcome, EndStop>
     requires can_run { CanRun world }
     requires bounded { budget ≤ max_steps }
     ensures { Gives Stops result (outcome_within budget world) }
 {
-    let ended = run_to_end(alloc, budget, world, NullTracer)?;
+    let ended = run_to_end(alloc, world, NullTracer, budget)?;
     Ok(ended.outcome()?)
 }
 
-/// Runs a world within a budget of steps, and tells what is recorded of the run.
-pub(crate) fn trace_world(alloc: Global, budget: u32, world: World) -> Result<Traced, EndStop>
+/// The outcome of the run of a world by its seed, within a budget of at most 10,000,000 steps. The run takes
+/// over the world's files and tables, and copies none of them.
+///
+/// `NotEnded` comes exactly where not all processes have ended after so many steps.
+pub fn run_owned(alloc: Global, world: World, budget: u32) -> Result<Outcome, EndStop>
     requires can_run { CanRun world }
     requires bounded { budget ≤ max_steps }
-    ensures traced { IfOk result (λ traced. IsTraced budget world traced) }
-    ensures not_ended { IfErr result (HasNotEnded budget world) }
+    ensures outcome { Gives Stops result (outcome_within budget world) }
+    // Where the world lies between the slice of a larger one and that one, its outcome is that one's.
+    ensures between { RunsAs budget world result }
 {
-    let ended = run_to_end(alloc, budget, world, ListTracer::new(alloc))?;
-    let steps = ended.steps();
-    let (_engine, tracer) = ended.into_parts();
-    Ok(Traced {
-        events: tracer.events(),
-        steps,
-    })
+    outcome_of_run(alloc, world, budget)
+}
+
+/// The outcome of the run of a world, as of `run_owned`. The run changes a copy of the world.
+pub fn run_world(alloc: Global, world: &World, budget: u32) -> Result<Outcome, EndStop>
+    requires can_run { CanRun world.now }
+    requires bounded { budget ≤ max_steps }
+    ensures outcome { Gives Stops result (outcome_within budget world.now) }
+    ensures between { RunsAs budget world.now result }
+{
+    let copy = copy_world(world)?;
+    run_owned(alloc, copy, budget)
 }

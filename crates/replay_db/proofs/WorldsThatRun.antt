@@ -1,5 +1,5 @@
--- The world of a document can be run, and so can the own world of a package.
-use Rattle.std.proofs.Common.{◌≡◌, ℕ, ◌^◌, ◌<◌, List, [], ◌∷◌, refl, ap, ◌∙◌, subst, Bool, true, Ok, arith, inl, inr}
+-- A valid world can be run, and so can the own world of a valid package.
+use Rattle.std.proofs.Common.{◌≡◌, ℕ, ◌^◌, ◌<◌, List, [], ◌∷◌, refl, ap, ◌∙◌, subst, Bool, true, IsTrue, arith, inl, inr}
 use Rattle.std.specs.Prelude.{map, length, find, ◌&&◌, nat_le, nat_lt, Option, Some, None, is_some, bytes_eq, slice_get, option_and_then}
 use Rattle.std.specs.List.{list_all, AllByRecursion}
 use Rattle.std.proofs.lemmas.Bool.{cases_Bool, le-leb}
@@ -27,11 +27,9 @@ use Rattle.run_model.specs.declared.package.PackedTable.{PackedTable}
 use Rattle.run_model.specs.declared.world.World.{World}
 use Rattle.package_layout.specs.Valid.{Valid}
 use Rattle.package_layout.specs.Whole.{has_room, IsTyped}
-use Rattle.replay_db.proofs.WorldRules.{Ruled, ruled_by}
-use Rattle.replay_db.specs.Worlds.{all_of_file, all_of_world}
-use Rattle.world_json.specs.Reading.{world_reading}
-use Rattle.ldv_top.specs.Runs.{CanRun}
-use Rattle.ldv_top.proofs.DocumentWorlds.{document_world, document_tables}
+use Rattle.replay_db.specs.Worlds.{all_of_file, all_of_world, world_rules}
+use Rattle.replay_db.proofs.WorldRules.{Ruled, ruled_by, world_tables}
+use Rattle.replay_db.specs.Runs.{CanRun, WorldRunsLaw, OwnRunsLaw}
 
 -- ---- files, as those of a package
 
@@ -146,7 +144,7 @@ own_tables ts rule typed =
 
 -- ---- worlds
 
-pub own_runs : (p : Package) → IsTyped p → Valid p → CanRun (own_world p)
+pub own_runs : OwnRunsLaw
 own_runs p typed valid =
     let room = and-parts (has_room p) (parts_rule p && whole_rule p && script_rule p.start p.files) valid in
     let all = and-parts (parts_rule p && whole_rule p) (script_rule p.start p.files) room.1 in
@@ -164,13 +162,17 @@ own_all : (files : List File) → map own_file (map all_of_file files) ≡ files
 own_all [] = refl
 own_all (file ∷ files) = ap (λ (l : List File). file ∷ l) (own_all files)
 
-pub document_runs : (bytes : List ℕ) (w : World) → world_reading bytes ≡ Ok w → CanRun w
-document_runs bytes w is =
-    let ruled : Ruled (all_of_world w) = ruled_by (all_of_world w) (document_world bytes w is) in
+-- a world that meets the rules and has valid tables
+pub ruled_runs : (w : World) → IsTrue (world_rules w) → tables_test w.tables ≡ true → CanRun w
+ruled_runs w met tables =
+    let ruled : Ruled (all_of_world w) = ruled_by (all_of_world w) met in
     record {
       script = subst (λ (files : List File). is_some (first_script w.start files) ≡ true) (own_all w.files)
           (own_script w.start (map all_of_file w.files) ruled.script);
       files = subst (λ (files : List File). files_test files ≡ true) (own_all w.files)
           (own_files (map all_of_file w.files) ruled.files);
-      tables = document_tables bytes w is;
+      tables = tables;
     }
+
+pub world_runs : WorldRunsLaw
+world_runs w valid = ruled_runs w valid.ruled (world_tables w valid)

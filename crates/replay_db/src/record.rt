@@ -1,0 +1,68 @@
+//! Packages of runs.
+
+ghost use Rattle.std.specs.Prelude.{◌≡◌, ◌≤◌, IfOk};
+ghost use Rattle.ldv_value.specs.Gives.{Gives};
+ghost use Rattle.ldv_value.specs.Limits.{max_steps};
+ghost use Rattle.replay_db.specs.Recording.{packed};
+ghost use Rattle.replay_db.specs.Runs.{CanRun, RecordsAs, Stops, package_within};
+ghost use Rattle.replay_db.specs.Types.{Included};
+
+use crate::copy::copy_world;
+use crate::stop::EndStop;
+use crate::trace::{Traced, trace_world};
+use run_model::{Logs, Mode, Package, World};
+use slicer::{Sliced, slice};
+use std::alloc::{AllocError, Global};
+
+// What the run needed of the world, with what is recorded of it.
+fn pack(alloc: Global, world: &World, traced: Traced) -> Result<Package, AllocError>
+    ensures { IfOk result (λ p. p ≡ packed world.now traced) }
+{
+    let Traced { events, steps } = traced;
+    let Sliced { files, tables } = slice(alloc, &events, world)?;
+    Ok(Package {
+        mode: Mode::Included,
+        start: world.start.copy()?,
+        seed: world.seed,
+        steps,
+        files,
+        tables,
+        logs: Logs::new(alloc),
+        events,
+    })
+}
+
+// The included package of the run of a world.
+fn package_of_run(alloc: Global, world: &World, budget: u32) -> Result<Package, EndStop>
+    requires can_run { CanRun world.now }
+    requires bounded { budget ≤ max_steps }
+    ensures { Gives Stops result (package_within Included budget world.now) }
+{
+    let copy = copy_world(world)?;
+    match trace_world(alloc, copy, budget) {
+        Ok(traced) => Ok(pack(alloc, world, traced)?),
+        Err(stop) => Err(stop),
+    }
+}
+
+/// The package of the run of a world by its seed, within a budget of at most 10,000,000 steps: the files,
+/// tables and rows that the run needed, each row with the first statement that needed it and its rule, and
+/// the trace. The run changes a copy of the world.
+///
+/// `NotEnded` comes exactly where not all processes have ended after so many steps.
+pub fn record_world(
+    alloc: Global,
+    world: &World,
+    mode: Mode,
+    budget: u32,
+) -> Result<Package, EndStop>
+    requires can_run { CanRun world.now }
+    requires bounded { budget ≤ max_steps }
+    // Packages that hold the recorded replies aren't supported yet.
+    requires included { mode ≡ Included }
+    ensures recorded { Gives Stops result (package_within mode budget world.now) }
+    // Where the world lies between the slice of a larger one and that one, its package is that one's.
+    ensures between { RecordsAs mode budget world.now result }
+{
+    package_of_run(alloc, world, budget)
+}

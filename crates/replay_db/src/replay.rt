@@ -1,0 +1,28 @@
+//! Replay of packages that hold the needed rows.
+
+ghost use Rattle.std.specs.Prelude.{◌≤◌};
+ghost use Rattle.ldv_value.specs.Gives.{Gives};
+ghost use Rattle.ldv_value.specs.Limits.{max_steps};
+ghost use Rattle.run_model.specs.Package.{own_world};
+ghost use Rattle.run_model.specs.WorldRun.{outcome_within};
+ghost use Rattle.replay_db.specs.Runs.{CanRun, Stops};
+
+use crate::own::own_world;
+use crate::run::run_owned;
+use crate::stop::EndStop;
+use run_model::{Outcome, Package};
+use std::alloc::Global;
+
+/// The outcome of the run of an included package's own world, within a budget of at most 10,000,000 steps.
+/// The recorded trace and the recorded number of steps aren't looked at. The own world of every valid package
+/// can be run, as `package_law` says.
+///
+/// `NotEnded` comes exactly where not all processes have ended after so many steps.
+pub fn replay_included(alloc: Global, package: &Package, budget: u32) -> Result<Outcome, EndStop>
+    requires can_run { CanRun (own_world «package».now) }
+    requires bounded { budget ≤ max_steps }
+    ensures { Gives Stops result (outcome_within budget (own_world «package».now)) }
+{
+    let world = own_world(alloc, package)?;
+    run_owned(alloc, world, budget)
+}

@@ -1,0 +1,34 @@
+//! Runs of which all is recorded.
+
+ghost use Rattle.std.specs.Prelude.{◌≤◌, IfOk, IfErr};
+ghost use Rattle.ldv_value.specs.Limits.{max_steps};
+ghost use Rattle.replay_db.specs.Recording.{HasNotEnded, IsTraced};
+ghost use Rattle.replay_db.specs.Runs.{CanRun};
+
+use crate::run::run_to_end;
+use crate::stop::EndStop;
+use run_model::{Events, ListTracer, World};
+use std::alloc::Global;
+
+/// What is recorded of a run that has ended: its events, and the number of its steps.
+#[derive(Drop)]
+pub(crate) struct Traced {
+    pub events: Events,
+    pub steps: u32,
+}
+
+/// Runs a world within a budget of steps, and tells what is recorded of the run.
+pub(crate) fn trace_world(alloc: Global, world: World, budget: u32) -> Result<Traced, EndStop>
+    requires can_run { CanRun world }
+    requires bounded { budget ≤ max_steps }
+    ensures traced { IfOk result (λ traced. IsTraced budget world traced) }
+    ensures not_ended { IfErr result (HasNotEnded budget world) }
+{
+    let ended = run_to_end(alloc, world, ListTracer::new(alloc), budget)?;
+    let steps = ended.steps();
+    let (_engine, tracer) = ended.into_parts();
+    Ok(Traced {
+        events: tracer.events(),
+        steps,
+    })
+}
