@@ -34,3 +34,4 @@ mod SqlAnswers
 pub mod WorldsThatRun
 pub mod RecordedRuns
 mod RunsBetween
+mod RunTraces

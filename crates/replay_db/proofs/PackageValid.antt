@@ -93,7 +93,7 @@ module _ (n : ℕ) (w : World) (met : IsTrue (world_rules w)) (valid : tables_te
       let list : RuledList p.tables = ruled_list p.tables tables in
       let room : tables_room p ≡ true = and_from (some_thousands p.tables) (list_all table_room p.tables) (tables_few (length p.tables) list.few) (rooms_valid p.events w.tables ruled.room) in
       and_from (some_thousands p.start) (tables_room p && (list_all log_room p.logs && list_all event_room p.events)) (start_room p.start ruled.start)
-      (and_from (tables_room p) (list_all log_room p.logs && list_all event_room p.events) room (room_is n [] w script is met valid))
+      (and_from (tables_room p) (list_all log_room p.logs && list_all event_room p.events) room (room_is n [] w script is valid met))
 
   parts : parts_rule p ≡ true
   parts =
@@ -101,12 +101,12 @@ module _ (n : ℕ) (w : World) (met : IsTrue (world_rules w)) (valid : tables_te
       (and_from (start_rule p.start && files_rule p.files) (tables_rule p.tables) (and_from (start_rule p.start) (files_rule p.files) ruled.start files) tables) refl
 
   trace : trace_rule p.start p.steps p.events ≡ true
-  trace = trace_is n [] w script is met valid
+  trace = trace_is n [] w script is valid met
 
   whole : whole_rule p ≡ true
   whole =
       and_from (steps_rule p.steps && trace_rule p.start p.steps p.events) (reasons_rule (asked_count p.events) p.tables)
-      (and_from (steps_rule p.steps) (trace_rule p.start p.steps p.events) steps_valid trace) (reasons_valid n [] w script is met valid)
+      (and_from (steps_rule p.steps) (trace_rule p.start p.steps p.events) steps_valid trace) (reasons_valid n [] w script is valid met)
 
   all_rules : rules p ≡ true
   all_rules =
@@ -118,7 +118,7 @@ module _ (n : ℕ) (w : World) (met : IsTrue (world_rules w)) (valid : tables_te
 
   script_typed : TypedWorld w → IsTyped p
   script_typed t =
-      let asked : AllByRecursion TypedEvent p.events = typed_is n [] w script is met valid t less in
+      let asked : AllByRecursion TypedEvent p.events = typed_is n [] w script is valid met t less in
       (t.0, (t.1.0, (steps_small p.steps n (steps_at_most n [] w) less, (files_typed p.events w.files t.1.1.1.0, (tables_typed p.events asked w.tables t.1.1.1.1.0, (tt, asked))))))
 
 -- ---- the laws

@@ -7,7 +7,7 @@ use Rattle.std.proofs.lemmas.Bool.{cases_Bool, leb-true, ltb-true, lt-ltb, eq-eq
 use Rattle.std.proofs.lemmas.Bool.Decides.{nat_tests}
 use Rattle.ldv_value.proofs.Booleans.{and-parts, or-right, and-from}
 use Rattle.ldv_value.proofs.SameBytes.{bytes_eq-true}
-use Rattle.ldv_value.proofs.Lists.{found-passes, all-weaker, tested-all, sorted-under}
+use Rattle.ldv_value.proofs.Lists.{found-passes, all-weaker, all-tested, tested-all, sorted-under}
 use Rattle.std.proofs.lemmas.List.{length-map}
 use Rattle.ldv_value.specs.declared.value.Value.{Value}
 use Rattle.sql_model.specs.SqlNames.{sql_name_test}
@@ -21,7 +21,7 @@ use Rattle.sql_model.specs.Needs.{Versions, NeededRow, need_of, is_named, table_
 use Rattle.sql_model.specs.Refusals.{check_refusal}
 use Rattle.sql_model.specs.Scope.{same_text, is_table, table_at, rows_of, catalog_of}
 use Rattle.sql_model.specs.Statements.{target, refusal_of}
-use Rattle.sql_model.specs.Tables.{is_valid_table, tables_test}
+use Rattle.sql_model.specs.Tables.{schema_test, is_valid_table, table_precedes, is_database, is_described, tables_test}
 use Rattle.sql_model.proofs.ValidTables.{TableParts, table-parts}
 use Rattle.sql_laws.proofs.DatabaseLaws.{tables_law}
 use Rattle.sql_laws.proofs.ChangedTables.{else-parts, if-none}
@@ -46,11 +46,21 @@ use Rattle.replay_db.proofs.TraceLists.{all_filter, all_map, all_of_map, filter_
 
 -- ---- a database
 
--- names of tables, sorted, and no more than there may be
+-- names of tables, sorted
 pub record RuledNames (names : List (List ℕ)) : Type 0 where
-  pub few : length names ≤ 256
   pub named : AllByRecursion (λ name. IsTrue (sql_name_test name)) names
   pub sorted : rises is_below names ≡ true
+
+-- so are those of the tables of a world
+pub tables_names : (ts : List Table) → tables_test ts ≡ true → RuledNames (map table_name ts)
+tables_names ts valid =
+    let parts = and-parts (is_database ts) (list_all is_described ts) valid in
+    record {
+      named = all_map (λ name. IsTrue (sql_name_test name)) table_name ts
+          (all-weaker (λ t. IsTrue (is_described t)) (λ t. IsTrue (sql_name_test t.name)) (λ t described. (and-parts (sql_name_test t.name) (schema_test t.schema) described).0)
+          ts (all-tested is_described ts parts.1));
+      sorted = sorted-under is_below table_name ts ∙ (and-parts (list_all is_valid_table ts) (rises table_precedes ts) parts.0).1;
+    }
 
 -- the tables have these names, and no row was updated more often than statements were asked
 pub record GoodDatabase (names : List (List ℕ)) (asked : ℕ) (db : SqlDatabase) : Type 0 where
@@ -290,26 +300,27 @@ module _ (names : List (List ℕ)) (asked : ℕ) (db : SqlDatabase) (good : Good
       made_names : AllByRecursion (λ m. NameOf (member_table m)) made
       made_names = all-weaker IsMade (λ m. NameOf m.table) (λ m there. there.0.0) made (made_there statement)
 
-      few_groups : (n : ℕ) → n ≤ length names → nat_lt n (2 ^ 16) ≡ true
-      few_groups n within = lt-ltb n (2 ^ 16) (omega (arith, within, ruled.few))
+      module _ (few_names : length names ≤ 256) where
+        few_groups : (n : ℕ) → n ≤ length names → nat_lt n (2 ^ 16) ≡ true
+        few_groups n within = lt-ltb n (2 ^ 16) (omega (arith, within, few_names))
 
-      reads_fit : needs_room reads ≡ true
-      reads_fit =
-          let few : length (need_groups reads) ≤ length names = groups_few need_table (λ n. n.member.row) need_part names reads (reads_rise db.versions statement db.tables) read_names in
-          and-from (some_thousands (need_groups reads)) (list_all (λ n. sql_name_test (need_table n)) reads) (few_groups (length (need_groups reads)) few)
-          (tested-all (λ n. sql_name_test (need_table n)) reads (all-weaker (λ n. NameOf (need_table n)) (λ n. IsTrue (sql_name_test (need_table n))) (λ n there. named_there (need_table n) there) reads read_names))
+        reads_fit : needs_room reads ≡ true
+        reads_fit =
+            let few : length (need_groups reads) ≤ length names = groups_few need_table (λ n. n.member.row) need_part names reads (reads_rise db.versions statement db.tables) read_names in
+            and-from (some_thousands (need_groups reads)) (list_all (λ n. sql_name_test (need_table n)) reads) (few_groups (length (need_groups reads)) few)
+            (tested-all (λ n. sql_name_test (need_table n)) reads (all-weaker (λ n. NameOf (need_table n)) (λ n. IsTrue (sql_name_test (need_table n))) (λ n there. named_there (need_table n) there) reads read_names))
 
-      made_fit : members_room made ≡ true
-      made_fit =
-          let few : length (member_groups made) ≤ length names = groups_few member_table (λ m. m.row) member_part names made (made_sorted statement) made_names in
-          and-from (some_thousands (member_groups made)) (list_all (λ m. sql_name_test (member_table m)) made) (few_groups (length (member_groups made)) few)
-          (tested-all (λ m. sql_name_test (member_table m)) made (all-weaker (λ m. NameOf (member_table m)) (λ m. IsTrue (sql_name_test (member_table m))) (λ m there. named_there (member_table m) there) made made_names))
+        made_fit : members_room made ≡ true
+        made_fit =
+            let few : length (member_groups made) ≤ length names = groups_few member_table (λ m. m.row) member_part names made (made_sorted statement) made_names in
+            and-from (some_thousands (member_groups made)) (list_all (λ m. sql_name_test (member_table m)) made) (few_groups (length (member_groups made)) few)
+            (tested-all (λ m. sql_name_test (member_table m)) made (all-weaker (λ m. NameOf (member_table m)) (λ m. IsTrue (sql_name_test (member_table m))) (λ m there. named_there (member_table m) there) made made_names))
 
-      -- the format has room for it
-      pub asked_room : act_room act ≡ true
-      asked_room =
-          and-from (some_thousands tables) (needs_room reads && members_room made) (few_groups (length tables) (asked_few statement))
-          (and-from (needs_room reads) (members_room made) reads_fit made_fit)
+        -- the format has room for it
+        pub asked_room : act_room act ≡ true
+        asked_room =
+            and-from (some_thousands tables) (needs_room reads && members_room made) (few_groups (length tables) (asked_few statement))
+            (and-from (needs_room reads) (members_room made) reads_fit made_fit)
 
     -- its numbers are those of their types, and its texts are UTF-8
     pub asked_typed : AllByRecursion IsUtf8 names → asked ≤ 10000000 → TypedAct act

@@ -21,17 +21,17 @@ use Rattle.run_model.specs.State.{State}
 use Rattle.run_model.specs.WorldRun.{ends_in, ends_by, steps_in, steps_by, events_in, events_by}
 use Rattle.run_model.proofs.Equations.{run-zero, steps-zero, steps-over, steps-suc}
 use Rattle.package_layout.specs.Events.{TypedEvent, event_room}
-use Rattle.package_layout.specs.Trace.{follows, at_start, starts, asked_count}
+use Rattle.package_layout.specs.Trace.{follows, at_start, starts, trace_test, asked_count}
 use Rattle.package_layout.specs.Typed.{IsU32}
 use Rattle.package_layout.specs.Valid.{start_rule, trace_rule, reasons_rule}
 use Rattle.replay_db.specs.Worlds.{all_of_world, TypedWorld, world_rules}
-use Rattle.replay_db.proofs.StatementEvents.{RuledNames, GoodDatabase, asked_room, asked_typed}
+use Rattle.replay_db.proofs.StatementEvents.{RuledNames, tables_names, GoodDatabase, asked_room, asked_typed}
 use Rattle.replay_db.proofs.TraceLists.{all_append}
 use Rattle.replay_db.proofs.TraceReasons.{reasons_asked}
 use Rattle.run_model.proofs.NeverStuck.{Ordered}
 use Rattle.replay_db.proofs.TraceRun.{plain_room, plain_typed, run_follows, run_good}
 use Rattle.replay_db.proofs.TraceState.{GoodList}
-use Rattle.replay_db.proofs.WorldRules.{ruled_by, world_names, texts_of_names}
+use Rattle.replay_db.proofs.WorldRules.{ruled_by, few_names, texts_of_names}
 
 -- ---- the number of steps
 
@@ -66,7 +66,9 @@ module _ (n : ℕ) (picks : List ℕ) (w : World) (script : List Instr) (is : st
 
 -- ---- the trace
 
-module _ (n : ℕ) (picks : List ℕ) (w : World) (script : List Instr) (is : start_script w ≡ Some script) (met : IsTrue (world_rules w)) (valid : tables_test w.tables ≡ true) where
+-- of a world with valid tables that has a script
+module _ (n : ℕ) (picks : List ℕ) (w : World) (script : List Instr) (is : start_script w ≡ Some script)
+    (valid : tables_test w.tables ≡ true) where
   abbrev begun : State SqlDatabase
   begun = start_state w script
 
@@ -83,7 +85,7 @@ module _ (n : ℕ) (picks : List ℕ) (w : World) (script : List Instr) (is : st
   start_good = record { same_names = refl; valid = valid; versions = λ table row. omega arith }
 
   ruled : RuledNames names
-  ruled = world_names w met
+  ruled = tables_names w.tables valid
 
   abbrev later_events : List Event
   later_events = events sql_base n 1 picks begun
@@ -94,58 +96,66 @@ module _ (n : ℕ) (picks : List ℕ) (w : World) (script : List Instr) (is : st
   follows_start : follows (steps sql_base n picks begun) at_start later_events ≡ true
   follows_start = run_follows names ruled (steps sql_base n picks begun) n 1 picks begun start_list start_ordered start_good (omega arith) 1 (omega arith)
 
-  starts_run : (words : List (List ℕ)) → start_rule words ≡ true
-      → trace_rule words (steps sql_base n picks begun) (start_events (slice_get words 0) ++ later_events) ≡ true
-  starts_run [] rule = cc
-  starts_run (word ∷ words) rule =
+  -- the first event starts the first process on the first start word
+  pub starts_run : (word : List ℕ) → slice_get w.start 0 ≡ Some word
+      → trace_test word (steps_by n picks w) (events_by n picks w) ≡ true
+  starts_run word first =
+      let all : events_by n picks w ≡ start_events (Some word) ++ later_events =
+      events_are ∙ ap (λ (o : Option (List ℕ)). start_events o ++ later_events) first in
       let self : bytes_eq word word ≡ true = bytes_eq-itself word in
-      and-from (starts word (event_at 0 0 (Started word))) (follows (steps sql_base n picks begun) at_start later_events) self follows_start
+      (λ j. trace_test word (steps_are n picks w script is j) (all j))
+      ∙ and-from (starts word (event_at 0 0 (Started word))) (follows (steps sql_base n picks begun) at_start later_events) self follows_start
 
-  pub trace_is : trace_rule w.start (steps_by n picks w) (events_by n picks w) ≡ true
-  trace_is =
-      (λ j. trace_rule w.start (steps_are n picks w script is j) (events_are j))
-      ∙ starts_run w.start (ruled_by (all_of_world w) met).start
+  -- and that meets the rules of documents
+  module _ (met : IsTrue (world_rules w)) where
+    starts_on_words : (words : List (List ℕ)) → w.start ≡ words → start_rule words ≡ true
+        → trace_rule words (steps_by n picks w) (events_by n picks w) ≡ true
+    starts_on_words [] same rule = cc
+    starts_on_words (word ∷ words) same rule = starts_run word (ap (λ (l : List (List ℕ)). slice_get l 0) same)
 
-  -- a reason's statement is one that was asked
-  pub reasons_valid : reasons_rule (asked_count (events_by n picks w)) (tables_needed (events_by n picks w) w.tables) ≡ true
-  reasons_valid = reasons_asked w.start (steps_by n picks w) (events_by n picks w) trace_is w.tables
+    pub trace_is : trace_rule w.start (steps_by n picks w) (events_by n picks w) ≡ true
+    trace_is = starts_on_words w.start refl (ruled_by (all_of_world w) met).start
 
-  -- ---- each event
+    -- a reason's statement is one that was asked
+    pub reasons_valid : reasons_rule (asked_count (events_by n picks w)) (tables_needed (events_by n picks w) w.tables) ≡ true
+    reasons_valid = reasons_asked w.start (steps_by n picks w) (events_by n picks w) trace_is w.tables
 
-  start_room : (word : Option (List ℕ)) → AllByRecursion (λ e. IsTrue (event_room e)) (start_events word)
-  start_room None = tt
-  start_room (Some word) = (refl, tt)
+    -- ---- each event
 
-  run_room : AllByRecursion (λ e. IsTrue (event_room e)) later_events
-  run_room =
-      run_good names (λ e. IsTrue (event_room e)) (steps sql_base n picks begun)
-      (λ number process asked statement db within below few good. asked_room names asked db good statement ruled)
-      (λ number process made act within below few plain. plain_room made act plain)
-      n 1 picks begun start_list start_ordered start_good (omega arith) (omega arith)
+    start_room : (word : Option (List ℕ)) → AllByRecursion (λ e. IsTrue (event_room e)) (start_events word)
+    start_room None = tt
+    start_room (Some word) = (refl, tt)
 
-  -- the format has room for each event
-  pub room_is : list_all event_room (events_by n picks w) ≡ true
-  room_is =
-      ap (list_all event_room) events_are
-      ∙ tested-all event_room (start_events (slice_get w.start 0) ++ later_events)
-      (all_append (λ e. IsTrue (event_room e)) (start_events (slice_get w.start 0)) later_events (start_room (slice_get w.start 0)) run_room)
+    run_room : AllByRecursion (λ e. IsTrue (event_room e)) later_events
+    run_room =
+        run_good names (λ e. IsTrue (event_room e)) (steps sql_base n picks begun)
+        (λ number process asked statement db within below few good. asked_room names asked db good statement ruled (few_names w met))
+        (λ number process made act within below few plain. plain_room made act plain)
+        n 1 picks begun start_list start_ordered start_good (omega arith) (omega arith)
 
-  start_typed : (words : List (List ℕ)) → AllByRecursion IsUtf8 words → AllByRecursion TypedEvent (start_events (slice_get words 0))
-  start_typed [] typed = tt
-  start_typed (word ∷ words) typed = ((omega arith, (omega arith, typed.0)), tt)
+    -- the format has room for each event
+    pub room_is : list_all event_room (events_by n picks w) ≡ true
+    room_is =
+        ap (list_all event_room) events_are
+        ∙ tested-all event_room (start_events (slice_get w.start 0) ++ later_events)
+        (all_append (λ e. IsTrue (event_room e)) (start_events (slice_get w.start 0)) later_events (start_room (slice_get w.start 0)) run_room)
 
-  run_typed : TypedWorld w → n ≤ 10000000 → AllByRecursion TypedEvent later_events
-  run_typed typed small =
-      let most : steps sql_base n picks begun ≤ n = few_steps n picks begun in
-      let u32 : (number : ℕ) → number ≤ steps sql_base n picks begun → IsU32 number = λ number within. omega arith in
-      let small_number : (process : ℕ) → process < 65535 → IsU32 process = λ process below. omega (arith, below) in
-      run_good names TypedEvent (steps sql_base n picks begun)
-      (λ number process asked statement db within below few good. (u32 number within, (small_number process below, asked_typed names asked db good statement (texts_of_names w typed) (omega arith))))
-      (λ number process made act within below few plain. (u32 number within, (small_number process below, plain_typed made act few plain)))
-      n 1 picks begun start_list start_ordered start_good (omega arith) (omega arith)
+    start_typed : (words : List (List ℕ)) → AllByRecursion IsUtf8 words → AllByRecursion TypedEvent (start_events (slice_get words 0))
+    start_typed [] typed = tt
+    start_typed (word ∷ words) typed = ((omega arith, (omega arith, typed.0)), tt)
 
-  -- numbers are those of their types, and texts are UTF-8
-  pub typed_is : TypedWorld w → n ≤ 10000000 → AllByRecursion TypedEvent (events_by n picks w)
-  typed_is typed small =
-      subst (AllByRecursion TypedEvent) (sym events_are)
-      (all_append TypedEvent (start_events (slice_get w.start 0)) later_events (start_typed w.start typed.0) (run_typed typed small))
+    run_typed : TypedWorld w → n ≤ 10000000 → AllByRecursion TypedEvent later_events
+    run_typed typed small =
+        let most : steps sql_base n picks begun ≤ n = few_steps n picks begun in
+        let u32 : (number : ℕ) → number ≤ steps sql_base n picks begun → IsU32 number = λ number within. omega arith in
+        let small_number : (process : ℕ) → process < 65535 → IsU32 process = λ process below. omega (arith, below) in
+        run_good names TypedEvent (steps sql_base n picks begun)
+        (λ number process asked statement db within below few good. (u32 number within, (small_number process below, asked_typed names asked db good statement (texts_of_names w typed) (omega arith))))
+        (λ number process made act within below few plain. (u32 number within, (small_number process below, plain_typed made act few plain)))
+        n 1 picks begun start_list start_ordered start_good (omega arith) (omega arith)
+
+    -- numbers are those of their types, and texts are UTF-8
+    pub typed_is : TypedWorld w → n ≤ 10000000 → AllByRecursion TypedEvent (events_by n picks w)
+    typed_is typed small =
+        subst (AllByRecursion TypedEvent) (sym events_are)
+        (all_append TypedEvent (start_events (slice_get w.start 0)) later_events (start_typed w.start typed.0) (run_typed typed small))

@@ -4,11 +4,10 @@ use Rattle.std.specs.Prelude.{◌&&◌, nat_le, nat_lt, IsTrue}
 use Rattle.std.specs.List.{list_all, AllByRecursion}
 use Rattle.std.proofs.lemmas.Bool.{and_parts, and_from, le-leb, leb-true}
 use Rattle.std.specs.Str.{IsUtf8}
-use Rattle.ldv_value.proofs.Lists.{length-map, list_all-map, all-weaker, all-tested, map-map, sorted-under}
+use Rattle.ldv_value.proofs.Lists.{length-map, list_all-map, all-weaker, map-map, sorted-under}
 use Rattle.ldv_value.specs.Limits.{max_next}
 use Rattle.sql_model.specs.Needs.{table_name}
-use Rattle.sql_model.specs.SqlNames.{sql_name_test}
-use Rattle.sql_model.specs.Tables.{schema_test, is_row, is_short, numbers_test, are_keys_unique, is_valid_table, table_precedes, is_database, is_described, tables_test}
+use Rattle.sql_model.specs.Tables.{is_row, is_short, numbers_test, are_keys_unique, is_valid_table, table_precedes, is_database, is_described, tables_test}
 use Rattle.sql_model.proofs.ValidTables.{table-from}
 use Rattle.replay_db.specs.Types.{Value, File, Table, TableRow, Package, PackedFile, PackedRow, PackedTable, World}
 use Rattle.run_model.specs.Between.{IsIn}
@@ -17,7 +16,6 @@ use Rattle.package_layout.specs.Room.{table_room}
 use Rattle.package_layout.specs.Typed.{TypedTable}
 use Rattle.package_layout.specs.Valid.{start_rule, file_rule, files_rule, rows_rule, table_rule, tables_rule, script_rule}
 use Rattle.replay_db.specs.Worlds.{all_of_file, all_of_row, all_of_table, all_of_world, TypedWorld, rules_of_parts, world_rules, ValidWorld}
-use Rattle.replay_db.proofs.StatementEvents.{RuledNames}
 use Rattle.replay_db.proofs.TraceLists.{all_map, all_of_map}
 
 -- ---- the rules, one by one
@@ -118,18 +116,13 @@ sorted_world w met =
 
 -- ---- the names of its tables
 
-pub world_names : (w : World) → IsTrue (world_rules w) → RuledNames (map table_name w.tables)
-world_names w met =
+-- there are no more than there may be
+pub few_names : (w : World) → IsTrue (world_rules w) → length (map table_name w.tables) ≤ 256
+few_names w met =
     let ruled : Ruled (all_of_world w) = ruled_by (all_of_world w) met in
     let list : RuledList (map all_of_table w.tables) = ruled_list (map all_of_table w.tables) ruled.tables in
     let count : length (map all_of_table w.tables) ≤ 256 = leb-true (length (map all_of_table w.tables)) 256 list.few in
-    record {
-      few = omega (arith, length-map w.tables all_of_table, length-map w.tables table_name, count);
-      named = all_map (λ name. IsTrue (sql_name_test name)) table_name w.tables
-          (all-weaker (λ t. IsTrue (table_rule (all_of_table t))) (λ t. IsTrue (sql_name_test t.name)) (λ t rule. (and_parts (sql_name_test t.name) (schema_test t.schema) (ruled_table t rule).described).0)
-          w.tables (all_of_map (λ t. IsTrue (table_rule t)) all_of_table w.tables (all-tested table_rule (map all_of_table w.tables) list.each)));
-      sorted = sorted-under is_below table_name w.tables ∙ sym (sorted-under table_below all_of_table w.tables) ∙ list.sorted;
-    }
+    omega (arith, length-map w.tables all_of_table, length-map w.tables table_name, count)
 
 pub texts_of_names : (w : World) → TypedWorld w → AllByRecursion IsUtf8 (map table_name w.tables)
 texts_of_names w typed =

@@ -20,6 +20,8 @@ mod packages;
 #[cfg(test)]
 mod replies;
 #[cfg(test)]
+mod runs;
+#[cfg(test)]
 mod slices;
 #[cfg(test)]
 mod statements;
