@@ -52,4 +52,4 @@ pub run_traces : (n : ℕ) (picks : List ℕ) (w : World) (script : List Instr) 
 run_traces n picks w script is runs =
     let files = and-parts (list_all file_test w.files) (is_strictly_sorted file_precedes w.files) runs.files in
     let begins : Begins w.start = begins_on w.start w.files script is files.0 in
-    (begins.0, (steps_by n picks w, (begins.1.1, starts_run n picks w script is runs.tables begins.0 begins.1.0)))
+    (begins.0, steps_by n picks w, begins.2, starts_run n picks w script is runs.tables begins.0 begins.1)
