@@ -19,6 +19,7 @@ use package_layout::{SpellStop, spell};
 use run_model::{Logs, Mode, Package, World};
 use slicer::{Sliced, slice};
 use std::alloc::{AllocError, Global};
+use trace_graph::Graph;
 use world_json::{WorldStop, world_of};
 
 // ---- the package of a run
@@ -39,7 +40,8 @@ fn pack(alloc: Global, world: World, traced: Traced) -> Result<Package, AllocErr
     ensures { IfOk result (λ p. p ≡ packed world traced) }
 {
     let Traced { events, steps } = traced;
-    let Sliced { files, tables } = slice(alloc, &events, &world)?;
+    let graph = Graph::of_events(alloc, &events)?;
+    let Sliced { files, tables } = slice(alloc, &events, &graph, &world)?;
     let World {
         start,
         seed,
