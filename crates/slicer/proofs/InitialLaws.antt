@@ -7,7 +7,7 @@ use Rattle.std.proofs.Math.Bool.{and-or_distrib_right}
 use Rattle.std.proofs.lemmas.Bool.{cases_Bool}
 use Rattle.std.proofs.lemmas.Bool.Decides.{Decides-eqb}
 use Rattle.ldv_value.specs.Options.{only_if}
-use Rattle.ldv_value.proofs.Booleans.{and-true, and-false, and-from, or-left, or-right, or-false, false≢true}
+use Rattle.ldv_value.proofs.Booleans.{and-true, and-false, and-from, or-left, or-right}
 use Rattle.ldv_value.proofs.SameBytes.{bytes_eq-itself, bytes_eq-true}
 use Rattle.sql_model.specs.Scope.{same_text}
 use Rattle.sql_model.specs.declared.need.Member.{Member}
@@ -16,7 +16,7 @@ use Rattle.sql_model.specs.declared.table.TableRow.{TableRow}
 use Rattle.run_model.specs.declared.event.Event.{Event}
 use Rattle.run_model.specs.declared.package.PackedRow.{PackedRow}
 use Rattle.run_model.specs.declared.package.PackedTable.{PackedTable}
-use Rattle.run_model.specs.Slice.{Reason, first_reason, packed_because, packed_row, rows_needed, packed_table, is_table_needed, tables_needed}
+use Rattle.run_model.specs.Slice.{Reason, first_reason, packed_because, rows_needed, packed_table, is_table_needed, tables_needed}
 use Rattle.trace_graph.specs.Graph.{Parts, graph_of}
 use Rattle.trace_graph.specs.VersionLaws.{VersionsLaw, MadeLaw}
 use Rattle.slicer.specs.InitialRows.{ReadsInitialRows, is_row_of, at_first, is_seen, is_made, is_initial_node, is_packed}

@@ -1,5 +1,4 @@
 pub mod DueLaws
-pub mod FirstLaws
 pub mod InitialLaws
 pub mod NameLaws
 pub mod ReasonLaws

@@ -1,6 +1,6 @@
 -- Sets of rows, step by step.
-use Rattle.std.proofs.Common.{◌≡◌, ◌==◌, ◌/◌, ◌%◌, ℕ, zero, suc, List, [], ◌∷◌, ◌++◌, get_or, Bool, true, false, ◌&&◌, refl, sym, ap, ◌∙◌, cond, arith, inl, inr, eq-eqb}
-use Rattle.std.specs.Prelude.{Option, Some, None, String, bytes_eq, unwrap_or}
+use Rattle.std.proofs.Common.{◌≡◌, ◌==◌, ◌/◌, ◌%◌, ℕ, zero, suc, List, [], ◌∷◌, ◌++◌, get_or, Bool, true, false, refl, sym, ap, ◌∙◌, cond, arith, inl, inr, eq-eqb}
+use Rattle.std.specs.Prelude.{Option, Some, String, bytes_eq, unwrap_or}
 use Rattle.std.specs.declared.alloc.Global.{Global}
 use Rattle.std.specs.BTreeMap.{BTreeMap, get, get_by_text, is_at, Updates}
 use Rattle.std.specs.Int.{bit_at}

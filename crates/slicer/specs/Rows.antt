@@ -11,7 +11,9 @@ use Rattle.sql_model.specs.declared.table.Table.{Table}
 use Rattle.run_model.specs.declared.event.Event.{Event}
 use Rattle.run_model.specs.declared.package.PackedTable.{PackedTable}
 use Rattle.run_model.specs.Slice.{Reason, first_reason, is_table_needed}
-use Rattle.trace_graph.specs.Types.{Node, Row, Edge}
+use Rattle.trace_graph.specs.declared.node.Node.{Node}
+use Rattle.trace_graph.specs.declared.node.Node.TheVariants.{Row}
+use Rattle.trace_graph.specs.declared.edge.Edge.{Edge}
 use Rattle.trace_graph.specs.Graph.{Parts, same_node}
 use Rattle.trace_graph.specs.GraphLaws.{passes_at}
 use Rattle.trace_graph.specs.VersionLaws.{is_statement}

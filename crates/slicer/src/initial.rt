@@ -2,7 +2,7 @@
 
 ghost use Rattle.std.specs.Prelude.{◌≡◌, ◌||◌, ◌&&◌, List, ℕ, not, OnOk, IfOk};
 ghost use Rattle.std.specs.List.{list_any};
-ghost use Rattle.trace_graph.specs.Types.{Row};
+ghost use Rattle.trace_graph.specs.declared.node.Node.TheVariants.{Row};
 ghost use Rattle.trace_graph.specs.Graph.{same_member, same_node};
 ghost use Rattle.trace_graph.specs.GraphLaws.{leads, passes_at};
 ghost use Rattle.trace_graph.specs.VersionLaws.{is_statement};

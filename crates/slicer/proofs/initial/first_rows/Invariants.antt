@@ -1,6 +1,6 @@
 use Rattle.std.proofs.Common.{◌≡◌, ◌||◌, List, ℕ, drop}
 use Rattle.std.specs.List.{list_any}
-use Rattle.trace_graph.specs.Types.{Row}
+use Rattle.trace_graph.specs.declared.node.Node.TheVariants.{Row}
 use Rattle.trace_graph.specs.Graph.{same_node}
 use Rattle.slicer.specs.InitialRows.{at_first}
 use Rattle.slicer.specs.Rows.{has_row}

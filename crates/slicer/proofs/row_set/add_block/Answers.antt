@@ -1,4 +1,4 @@
-use Rattle.std.proofs.Common.{◌≡◌, ◌∙◌, ◌||◌, ap, sym, refl, List, ℕ, [], ◌%◌, ◌==◌}
+use Rattle.std.proofs.Common.{◌∙◌, ◌||◌, ap, refl, List, ℕ, [], ◌%◌, ◌==◌}
 use Rattle.std.specs.Prelude.{Option, unwrap_or}
 use Rattle.lanes.specs.Sets.{member}
 use Rattle.slicer.proofs.RowSetLaws.{numbers_written}

@@ -1,4 +1,4 @@
-use Rattle.std.proofs.Common.{rules, ◌∙◌, ◌||◌, ap, sym, refl, List, ℕ, []}
+use Rattle.std.proofs.Common.{rules, ◌||◌, ap, sym, refl, List, ℕ, []}
 use Rattle.std.specs.Prelude.{Option, unwrap_or}
 use Rattle.std.proofs.lemmas.Result.{on_ok_weaker}
 use Rattle.slicer.proofs.RowSetLaws.{numbers_written}

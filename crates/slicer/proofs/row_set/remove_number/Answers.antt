@@ -1,4 +1,4 @@
-use Rattle.std.proofs.Common.{rules, ◌∙◌, ◌&&◌, not, ap, sym, refl, List, ℕ, []}
+use Rattle.std.proofs.Common.{rules, ◌&&◌, not, ap, sym, refl, List, ℕ, []}
 use Rattle.std.specs.Prelude.{Option, unwrap_or}
 use Rattle.slicer.proofs.RowSetLaws.{numbers_written}
 use Rattle.slicer.proofs.row_set.remove_number.Goals as goal
