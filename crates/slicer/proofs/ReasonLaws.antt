@@ -25,7 +25,7 @@ reason_step statement need needs table row = elim (cases_Bool (is_read table row
   | inr miss ↦ rw miss refl
 ]
 
-number_equal : (x y : ℕ) → is_eq (nat_cmp x y) ≡ (x == y)
+pub number_equal : (x y : ℕ) → is_eq (nat_cmp x y) ≡ (x == y)
 number_equal x y = elim (cases_Bool (nat_lt x y)) [
   | inl below ↦ let differ : (x == y) ≡ false = grind (arith, nat_tests) in rw (below, differ) refl
   | inr other ↦ elim (cases_Bool (x == y)) [

@@ -1,1 +1,3 @@
+pub mod InitialRows
 pub mod Marks
+pub mod Rows

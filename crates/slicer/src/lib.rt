@@ -1,15 +1,24 @@
-//! What a run needs of its world, from the run's events.
+//! What a run needs of its world, from the run's events and their graph.
 //!
-//! It promises that `slice` gives the needed files, tables and rows as `run_model` defines them
-//! (`files_needed` and `tables_needed` of its `specs/Slice.antt`), each row with the first statement that
-//! needs it and its rule. Its time is that of sorting what the events name.
+//! It promises of `slice`, where the graph is that of the events and the events say of initial rows what those of
+//! a run do (`specs/InitialRows.antt`):
+//! - it gives the needed files, tables and rows as `run_model` defines them (`files_needed` and `tables_needed` of
+//!   its `specs/Slice.antt`), each row with the first statement that needs it and its rule;
+//! - the rows are exactly those whose first version is in the graph, and to which no edge from a statement leads.
+//!
+//! Files come from the events, rows from the graph, and the events only give each row its reason. The rows that
+//! wait for one are bits, so that all reads of a row but the first cost the test of a bit. The time is linear in
+//! the graph, the events and the world, but for the search of a table by its name and of a row that is needed by
+//! its number.
 #![tactic(auto)]
 
 mod files;
+mod initial;
 mod lists;
 mod names;
 mod needed;
 mod reasons;
+mod row_set;
 mod tables;
 
 pub use needed::{Sliced, slice};

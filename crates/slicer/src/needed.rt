@@ -1,12 +1,16 @@
 //! The slice of a world.
 
 ghost use Rattle.std.specs.Prelude.{◌≡◌, IfOk};
+ghost use Rattle.sql_model.specs.declared.need.Member.{Member};
 ghost use Rattle.run_model.specs.Slice.{files_needed, tables_needed};
+ghost use Rattle.trace_graph.specs.Graph.{graph_of};
+ghost use Rattle.slicer.specs.InitialRows.{ReadsInitialRows, is_initial_node, is_packed};
 
 use crate::files::needed_files;
 use crate::tables::needed_tables;
 use run_model::{Events, PackedFiles, PackedTables, World};
 use std::alloc::{AllocError, Global};
+use trace_graph::{Graph, graph_law};
 
 /// What a run needs of its world.
 #[derive(Drop)]
@@ -19,13 +23,24 @@ pub struct Sliced {
     pub tables: PackedTables,
 }
 
-/// What events need of the world that they began in. `AllocError` means out of memory only.
-pub fn slice(alloc: Global, events: &Events, world: &World) -> Result<Sliced, AllocError>
+/// What events need of the world that they began in. The graph is that of the events, and tells which rows are
+/// initial. `AllocError` means out of memory only.
+pub fn slice(
+    alloc: Global,
+    events: &Events,
+    graph: &Graph,
+    world: &World,
+) -> Result<Sliced, AllocError>
+    requires graph { graph.now ≡ graph_of events.now }
+    requires rows { ReadsInitialRows events.now world.now.tables }
     ensures files { IfOk result (λ sliced. sliced.files ≡ files_needed events.now world.now.files) }
     ensures tables { IfOk result (λ sliced. sliced.tables ≡ tables_needed events.now world.now.tables) }
+    // The packed rows are those whose first version is in the graph, and which no statement made.
+    ensures nodes { IfOk result (λ sliced. (version : Member)
+        → is_packed sliced.tables version ≡ is_initial_node graph.now version) }
 {
-    Ok(Sliced {
-        files: needed_files(alloc, events.items(), world.files.items())?,
-        tables: needed_tables(alloc, events.items(), world.tables.items())?,
-    })
+    graph_law();
+    let files = needed_files(alloc, events.items(), world.files.items())?;
+    let tables = needed_tables(alloc, events.items(), graph, world.tables.items())?;
+    Ok(Sliced { files, tables })
 }

@@ -5,8 +5,10 @@ ghost use Rattle.std.specs.List.{filter_map};
 ghost use Rattle.std.specs.Option.{option_map};
 ghost use Rattle.slicer.specs.Marks.{has_name, reason_at, reason_from, row_reason, row_because};
 ghost use Rattle.slicer.specs.Marks.{table_because, tables_because};
-ghost use Rattle.run_model.specs.Slice.{packed_because, tables_needed};
+ghost use Rattle.run_model.specs.Slice.{packed_because};
+ghost use Rattle.slicer.specs.Rows.{tables_from};
 
+use crate::initial::initial_rows;
 use crate::lists::push_made;
 use crate::names::{NameSet, has, tables_named};
 use crate::reasons::{Reasons, RowReasons, Why, reasons_in};
@@ -14,6 +16,7 @@ use ldv_value::CopyItem;
 use run_model::{Event, PackedRow, PackedRows, PackedTable, PackedTables};
 use sql_model::{Table, TableRow};
 use std::alloc::{AllocError, Global};
+use trace_graph::Graph;
 
 fn find_reason(reasons: &RowReasons, row: u32) -> Option<Why>
     ensures { option_map reason_from result ≡ row_reason reasons.now row }
@@ -107,15 +110,18 @@ fn pack_tables(
     Ok(packed)
 }
 
-/// The initial tables that the run needed. `AllocError` means out of memory only.
+/// The tables that statements name, with the initial rows of the graph. Each row has the first statement that
+/// needs it, and a row that none needs is left out. `AllocError` means out of memory only.
 pub(crate) fn needed_tables(
     alloc: Global,
     events: &[Event],
+    graph: &Graph,
     tables: &[Table],
 ) -> Result<PackedTables, AllocError>
-    ensures { IfOk result (λ packed. packed ≡ tables_needed events.now tables.now) }
+    ensures { IfOk result (λ packed. packed ≡ tables_from events.now graph.now tables.now) }
 {
     let names = tables_named(alloc, events)?;
-    let reasons = reasons_in(alloc, events)?;
+    let mut waiting = initial_rows(alloc, graph)?;
+    let reasons = reasons_in(alloc, events, &mut waiting)?;
     pack_tables(alloc, &names, &reasons, tables)
 }

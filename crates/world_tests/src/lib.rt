@@ -14,9 +14,13 @@ mod exits;
 #[cfg(test)]
 mod faults;
 #[cfg(test)]
+mod graphs;
+#[cfg(test)]
 mod limits;
 #[cfg(test)]
 mod packages;
+#[cfg(test)]
+mod recorded;
 #[cfg(test)]
 mod replies;
 #[cfg(test)]

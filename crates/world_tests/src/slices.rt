@@ -1,158 +1,90 @@
-//! Worked cases of what a run needed, with acts that no command makes yet.
+//! What worked runs needed: the files, tables and rows of the packages that are recorded of them.
 
-use ldv_value::{List, Names, Utf8, Value};
-use run_model::{Act, Event, Events, PackedRow, World};
-use slicer::{Sliced, slice};
-use sql_model::{Member, Members, Need, Needs, Rule};
+use crate::recorded::{recorded, world_of};
+use ldv_value::List;
+use run_model::{Package, PackedRow};
+use sql_model::Rule;
 use std::alloc::{AllocError, Global};
 use std::process::Abort;
 use std::test::Fail;
-use world_json::world_of;
 
-// Two tables, of which the first has three rows, and some files.
-const WORLD: &str =
-    r#"{"start":["main"],"files":{"a.txt":"old","b.txt":"one\n","c.txt":"c","main":"exit 0"},
-"tables":{"t":{"columns":[["v","INT"]],"rows":[[1],[2],[2]]},"u":{"columns":[["v","INT"]],"rows":[[7]]}}}"#;
-
-fn world(rt: &impl Abort, alloc: Global) -> World {
-    match world_of(alloc, WORLD.as_bytes()) {
-        Ok(world) => world,
-        Err(stop) => panic!(rt; "{stop:?}"),
-    }
+fn package(
+    rt: &impl Abort,
+    alloc: Global,
+    script: &str,
+    files: &str,
+) -> Result<Package, AllocError> {
+    let world = world_of(alloc, script, files)?;
+    recorded(rt, alloc, world.as_str())
 }
 
-fn path(alloc: Global, path: &str) -> Result<Utf8, AllocError> {
-    Utf8::of(alloc, path)
+// Of a row: its number, the first statement that needed it, and its rule.
+fn are_rows(rows: &[PackedRow], wants: &[(u32, u32, Rule)]) -> bool {
+    rows.len() == wants.len()
+        && rows.iter().zip(wants).all(|(row, want)| (row.number, row.statement, row.rule) == *want)
 }
 
-// A row of the first table that a statement read.
-fn read(alloc: Global, row: u32) -> Result<Need, AllocError> {
-    let table = Utf8::of(alloc, "t")?;
-    Ok(Need {
-        member: Member {
-            table,
-            row,
-            version: 0,
-        },
-        rule: Rule::L,
-    })
-}
-
-fn reads(alloc: Global, rows: &[u32]) -> Result<Needs, AllocError> {
-    let mut needs = Needs::new(alloc);
-    for row in rows {
-        needs.push(read(alloc, *row)?)?;
-    }
-    Ok(needs)
-}
-
-fn asked(alloc: Global, statement: u32, rows: &[u32]) -> Result<Act, AllocError> {
-    let mut tables = Names::new(alloc);
-    tables.push(Utf8::of(alloc, "t")?)?;
-    Ok(Act::Asked {
-        statement,
-        tables,
-        reads: reads(alloc, rows)?,
-        made: Members::new(alloc),
-    })
-}
-
-// Acts of the first process, a step each.
-fn events(alloc: Global, acts: Vec<Act>) -> Result<Events, AllocError> {
-    let mut events = Events::new(alloc);
-    let mut step = 0u32;
-    for act in acts {
-        events.push(Event {
-            step,
-            process: 0,
-            act,
-        })?;
-        step = step.wrapping_add(1);
-    }
-    Ok(events)
-}
-
-// The acts of a run that asks twice; the second question reads a row that the first one read too.
-fn asking(alloc: Global) -> Result<Vec<Act>, AllocError> {
-    let mut acts = Vec::new(alloc);
-    acts.push(Act::Started {
-        path: path(alloc, "main")?,
-    })?;
-    acts.push(asked(alloc, 0, &[1, 2])?)?;
-    acts.push(asked(alloc, 1, &[0, 1])?)?;
-    acts.push(Act::Ended { status: 0 })?;
-    Ok(acts)
-}
-
-// The acts of a run that writes one file, appends to another and tests a third.
-fn writing(alloc: Global) -> Result<Vec<Act>, AllocError> {
-    let mut acts = Vec::new(alloc);
-    acts.push(Act::Started {
-        path: path(alloc, "main")?,
-    })?;
-    acts.push(Act::OpenedWrite {
-        path: path(alloc, "a.txt")?,
-    })?;
-    acts.push(Act::Wrote {
-        path: path(alloc, "a.txt")?,
-    })?;
-    acts.push(Act::OpenedAppend {
-        path: path(alloc, "b.txt")?,
-        found: true,
-    })?;
-    acts.push(Act::Tested {
-        path: path(alloc, "c.txt")?,
-        found: true,
-    })?;
-    Ok(acts)
-}
-
-fn sliced(rt: &impl Abort, alloc: Global, acts: Vec<Act>) -> Result<Sliced, AllocError> {
-    let world = world(rt, alloc);
-    let events = events(alloc, acts)?;
-    slice(alloc, &events, &world)
-}
-
-// Of a row: its number, the first statement that needed it, and its value.
-fn is_row(row: &PackedRow, number: u32, statement: u32, value: i64) -> bool {
-    let is_value = match row.values.items() {
-        [Value::Int(held)] => *held == value,
-        _ => false,
-    };
-    is_value && row.number == number && row.statement == statement && row.rule == Rule::L
-}
-
-fn expect_rows(rt: &impl Abort, rows: &[PackedRow]) {
-    match rows {
-        [first, second, third] => {
-            assert!(rt; is_row(first, 0, 1, 1));
-            assert!(rt; is_row(second, 1, 0, 2));
-            assert!(rt; is_row(third, 2, 0, 2));
+// The package has the table t alone, with these rows.
+fn expect_rows(rt: &impl Abort, package: &Package, rows: &[(u32, u32, Rule)]) {
+    match package.tables.items() {
+        [table] => {
+            assert!(rt; table.name.is_text("t"));
+            assert_eq!(rt; table.next, 5);
+            assert!(rt; are_rows(table.rows.items(), rows));
         }
-        _ => assert!(rt; false, "three rows"),
+        _ => assert!(rt; false, "one table"),
     }
+}
+
+#[test]
+fn needs_a_row_before_its_update(rt: HostRuntime) -> Result<(), Fail> {
+    let alloc = rt.alloc();
+    let script =
+        r#"sql q \"UPDATE t SET v = v + 1 WHERE k = 1\"\nsql q \"SELECT v FROM t WHERE k = 1\"\n"#;
+    expect_rows(&rt, &package(&rt, alloc, script, "")?, &[(0, 0, Rule::L)]);
+    Ok(())
 }
 
 #[test]
 fn needs_rows_by_the_first_statement(rt: HostRuntime) -> Result<(), Fail> {
     let alloc = rt.alloc();
-    let sliced = sliced(&rt, alloc, asking(alloc)?)?;
-    match sliced.tables.items() {
-        [table] => {
-            assert!(rt; table.name.is_text("t"));
-            assert_eq!(rt; table.next, 3);
-            expect_rows(&rt, table.rows.items());
-        }
-        _ => assert!(rt; false, "one table"),
-    }
-    assert!(rt; are_files(&sliced, &[("main", Some("exit 0"))]));
+    let script =
+        r#"sql q \"SELECT v FROM t WHERE k = 1\"\nsql q \"SELECT g FROM t GROUP BY g HAVING COUNT(*) < 2\"\n"#;
+    expect_rows(
+        &rt,
+        &package(&rt, alloc, script, "")?,
+        &[
+            (0, 0, Rule::L),
+            (1, 1, Rule::H),
+            (2, 1, Rule::H),
+            (3, 1, Rule::H),
+            (4, 1, Rule::L),
+        ],
+    );
+    Ok(())
+}
+
+#[test]
+fn needs_the_row_that_refuses(rt: HostRuntime) -> Result<(), Fail> {
+    let alloc = rt.alloc();
+    let script = r#"sql q \"INSERT INTO t VALUES (3, 'z', 1)\"\n"#;
+    expect_rows(&rt, &package(&rt, alloc, script, "")?, &[(2, 0, Rule::K)]);
+    Ok(())
+}
+
+#[test]
+fn needs_no_row_that_it_made(rt: HostRuntime) -> Result<(), Fail> {
+    let alloc = rt.alloc();
+    let script =
+        r#"sql q \"INSERT INTO t VALUES (9, 'n', 1)\"\nsql q \"DELETE FROM t WHERE k = 9\"\nsql q \"INSERT INTO t VALUES (9, 'n', 1)\"\n"#;
+    expect_rows(&rt, &package(&rt, alloc, script, "")?, &[]);
     Ok(())
 }
 
 // Of files: their paths, and the contents of those that are whole.
-fn are_files(sliced: &Sliced, wants: &[(&str, Option<&str>)]) -> bool {
-    sliced.files.len() == wants.len()
-        && sliced.files.items().iter().zip(wants).all(|(file, want)| file.path.is_text(want.0)
+fn are_files(package: &Package, wants: &[(&str, Option<&str>)]) -> bool {
+    package.files.len() == wants.len()
+        && package.files.items().iter().zip(wants).all(|(file, want)| file.path.is_text(want.0)
             && is_content(&file.content, want.1))
 }
 
@@ -167,15 +99,23 @@ fn is_content(content: &Option<List<u8>>, want: Option<&str>) -> bool {
 #[test]
 fn needs_files_whole_or_present(rt: HostRuntime) -> Result<(), Fail> {
     let alloc = rt.alloc();
-    let sliced = sliced(&rt, alloc, writing(alloc)?)?;
-    assert_eq!(rt; sliced.tables.len(), 0);
+    let script =
+        r#"open f w \"a.txt\" else x\nwrite f \"new\"\nopen g a \"b.txt\" else x\nwrite g \"more\"\nexists y \"c.txt\"\nx:\n"#;
+    let files = r#""a.txt":"old","b.txt":"one\n","c.txt":"c","#;
+    let package = package(&rt, alloc, script, files)?;
+    assert_eq!(rt; package.tables.len(), 0);
     assert!(rt;
         are_files(
-            &sliced,
+            &package,
             &[
                 ("b.txt", Some("one\n")),
                 ("c.txt", None),
-                ("main", Some("exit 0"))
+                (
+                    "main",
+                    Some(
+                        "open f w \"a.txt\" else x\nwrite f \"new\"\nopen g a \"b.txt\" else x\nwrite g \"more\"\nexists y \"c.txt\"\nx:\n"
+                    )
+                )
             ]
         )
     );

@@ -1,0 +1,22 @@
+use Rattle.std.proofs.Common.{rules, ◌≡◌, ◌∙◌, ◌&&◌, not, ◌==◌, ap, refl, cond, List, ℕ}
+use Rattle.std.specs.Prelude.{Option, Some, bytes_eq}
+use Rattle.std.specs.BTreeMap.{BTreeMap, get_by_text}
+use Rattle.std.proofs.lemmas.Map.Text.{btree_map_updates_text}
+use Rattle.slicer.specs.Rows.{has_among}
+use Rattle.slicer.proofs.RowSetLaws.{rows_written}
+use Rattle.slicer.proofs.row_set.remove_row.Goals as goal
+
+pub returns-in-Some : goal.returns-in-Some
+returns-in-Some c =
+    let old = c.args.rows.now in
+    let made = c.remove_number.new.numbers in
+    let new = c.get_mut.follows.lender made in
+    let table = c.args.table.now in
+    let text = c.as_str.result.now in
+    let is : text ≡ table = c.as_str.ensures in
+    let was : Some c.in-Some.numbers.now ≡ get_by_text old table = c.in-Some.ensures.value ∙ ap (get_by_text old) is in
+    let updates : (q : List ℕ) → get_by_text new q ≡ cond (bytes_eq table q) (Some made) (get_by_text old q) =
+    λ q. btree_map_updates_text text old new (Some made) ((c.get_mut.follows.holds made).3 (search rules)) q
+    ∙ ap (λ (k : List ℕ). cond (bytes_eq k q) (Some made) (get_by_text old q)) is in
+    rows_written old new table c.args.row made updates (λ a b. not a && b) (λ b. refl)
+    (λ r. c.remove_number.ensures r ∙ ap (λ (o : Option (BTreeMap ℕ (List ℕ))). not (c.args.row == r) && has_among o r) was)

@@ -1,0 +1,163 @@
+//! Sets of rows, as bits.
+
+ghost use Rattle.std.specs.Prelude.{◌≡◌, ◌==◌, ◌||◌, ◌&&◌, ◌<◌, ◌/◌, List as Items, ℕ, not, length, None};
+ghost use Rattle.std.specs.Prelude.{OnOk};
+ghost use Rattle.std.specs.BTreeMap.{get, get_by_text};
+ghost use Rattle.std.specs.Ordering.{nat_cmp};
+ghost use Rattle.lanes.specs.Sets.{member};
+ghost use Rattle.slicer.specs.Rows.{has_number, has_row, is_row};
+
+use ldv_value::{List, Utf8};
+use std::alloc::{AllocError, Global};
+use std::collections::BTreeMap;
+
+/// Numbers in blocks of 65,536: bit i of word j of block b is the number 65,536 * b + 64 * j + i. A block has the
+/// words up to that of its greatest number, and maybe more.
+pub(crate) type Numbers = BTreeMap<u32, List<u64>>;
+
+/// Rows by table and number. A table's name is copied once.
+pub(crate) type RowSet = BTreeMap<String, Numbers>;
+
+// ---- the bits of a block
+
+fn has_bit(words: &List<u64>, number: u32) -> bool
+    ensures { result ≡ member words.now number }
+{
+    let place = (number / 64) as usize;
+    if place >= words.len() {
+        return false;
+    }
+    (words.items()[place] >> (number % 64)) & 1 == 1
+}
+
+// Makes words up to that at a place.
+#[tactic(auto, using(crate::proofs::RowSetLaws::padded))]
+fn grow(words: &mut List<u64>, place: usize) -> Result<(), AllocError>
+    ensures room { OnOk result (place < length words.new) }
+    ensures bits { OnOk result ((n : ℕ) → member words.new n ≡ member words.old n) }
+{
+    while words.len() <= place {
+        words.push(0)?;
+    }
+    Ok(())
+}
+
+fn set_there(words: &mut List<u64>, number: u32)
+    requires { number / 64 < length words.old }
+    ensures { (n : ℕ) → member words.new n ≡ (n == number || member words.old n) }
+{
+    let place = (number / 64) as usize;
+    let word = words.items()[place];
+    words.replace(place, word | (1 << (number % 64)));
+}
+
+fn set_bit(words: &mut List<u64>, number: u32) -> Result<(), AllocError>
+    ensures { OnOk result ((n : ℕ) → member words.new n ≡ (n == number || member words.old n)) }
+{
+    grow(words, (number / 64) as usize)?;
+    set_there(words, number);
+    Ok(())
+}
+
+fn clear_bit(words: &mut List<u64>, number: u32)
+    ensures { (n : ℕ) → member words.new n ≡ (not (n == number) && member words.old n) }
+{
+    let place = (number / 64) as usize;
+    if place >= words.len() {
+        return;
+    }
+    let word = words.items()[place];
+    words.replace(place, word & !(1 << (number % 64)));
+}
+
+// ---- the numbers of a table
+
+fn has_number(numbers: &Numbers, number: u32) -> bool
+    ensures { result ≡ has_number numbers.now number }
+{
+    match numbers.get(&(number / 65_536)) {
+        None => false,
+        Some(words) => has_bit(words, number % 65_536),
+    }
+}
+
+// Adds a number whose block isn't there.
+fn add_block(alloc: Global, numbers: &mut Numbers, number: u32) -> Result<(), AllocError>
+    requires { get nat_cmp numbers.old (number / 65536) ≡ None }
+    ensures { OnOk result ((n : ℕ) → has_number numbers.new n ≡ (number == n || has_number numbers.old n)) }
+{
+    let mut words = List::new(alloc);
+    set_bit(&mut words, number % 65_536)?;
+    numbers.insert(number / 65_536, words)?;
+    Ok(())
+}
+
+fn add_number(alloc: Global, numbers: &mut Numbers, number: u32) -> Result<(), AllocError>
+    ensures { OnOk result ((n : ℕ) → has_number numbers.new n ≡ (number == n || has_number numbers.old n)) }
+{
+    match numbers.get_mut(&(number / 65_536)) {
+        Some(words) => set_bit(words, number % 65_536),
+        None => add_block(alloc, numbers, number),
+    }
+}
+
+fn remove_number(numbers: &mut Numbers, number: u32)
+    ensures { (n : ℕ) → has_number numbers.new n ≡ (not (number == n) && has_number numbers.old n) }
+{
+    match numbers.get_mut(&(number / 65_536)) {
+        Some(words) => clear_bit(words, number % 65_536),
+        None => {}
+    }
+}
+
+// ---- the rows of all tables
+
+/// Whether a row is in the set.
+pub(crate) fn has_row(rows: &RowSet, table: &Utf8, row: u32) -> bool
+    ensures { result ≡ has_row rows.now table.now row }
+{
+    match rows.get(table.as_str()) {
+        None => false,
+        Some(numbers) => has_number(numbers, row),
+    }
+}
+
+// Adds a row of a table of which none is there.
+fn add_table(alloc: Global, rows: &mut RowSet, table: &Utf8, row: u32) -> Result<(), AllocError>
+    requires { get_by_text rows.old table.now ≡ None }
+    ensures { OnOk result ((t : Items ℕ) (n : ℕ)
+        → has_row rows.new t n ≡ (is_row table.now row t n || has_row rows.old t n)) }
+{
+    let key = String::from_str(alloc, table.as_str())?;
+    let mut numbers = Numbers::new(alloc);
+    add_number(alloc, &mut numbers, row)?;
+    rows.insert(key, numbers)?;
+    Ok(())
+}
+
+/// Adds a row.
+pub(crate) fn add_row(
+    alloc: Global,
+    rows: &mut RowSet,
+    table: &Utf8,
+    row: u32,
+) -> Result<(), AllocError>
+    ensures { OnOk result ((t : Items ℕ) (n : ℕ)
+        → has_row rows.new t n ≡ (is_row table.now row t n || has_row rows.old t n)) }
+{
+    match rows.get_mut(table.as_str()) {
+        Some(numbers) => add_number(alloc, numbers, row),
+        None => add_table(alloc, rows, table, row),
+    }
+}
+
+/// Takes a row out, if it is there.
+pub(crate) fn remove_row(rows: &mut RowSet, table: &Utf8, row: u32)
+    ensures { (t : Items ℕ) (n : ℕ)
+        → has_row rows.new t n ≡ (not (is_row table.now row t n) && has_row rows.old t n) }
+{
+    match rows.get_mut(table.as_str()) {
+        Some(numbers) => remove_number(numbers, row),
+        None => {}
+    }
+}
