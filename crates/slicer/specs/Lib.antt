@@ -1,1 +1,2 @@
+pub mod InitialRows
 pub mod Marks
