@@ -28,3 +28,6 @@ mod PackageValidLists
 mod PackageValidParts
 mod PackageValidTyped
 pub mod TraceValid
+mod StatementRows
+mod RunRows
+mod InitialRows
