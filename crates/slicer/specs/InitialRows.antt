@@ -7,7 +7,7 @@ use Rattle.sql_model.specs.declared.table.Table.{Table}
 use Rattle.run_model.specs.declared.event.Event.{Event}
 use Rattle.run_model.specs.declared.package.PackedTable.{PackedTable}
 use Rattle.run_model.specs.Slice.{first_reason, is_table_needed}
-use Rattle.trace_graph.specs.Types.{Row}
+use Rattle.trace_graph.specs.declared.node.Node.TheVariants.{Row}
 use Rattle.trace_graph.specs.Graph.{Parts, same_node}
 use Rattle.trace_graph.specs.GraphLaws.{leads}
 use Rattle.trace_graph.specs.VersionLaws.{has_version, makes_version, is_statement}
