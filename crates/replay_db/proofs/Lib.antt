@@ -35,3 +35,6 @@ pub mod WorldsThatRun
 pub mod RecordedRuns
 mod RunsBetween
 mod RunTraces
+mod StatementRows
+mod RunRows
+mod InitialRows

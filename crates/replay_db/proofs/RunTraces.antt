@@ -1,4 +1,4 @@
--- The events of the run of a world that can be run are a trace.
+-- The events of the run of a world that can be run are a trace, and read each initial row as it was at first.
 use Rattle.std.proofs.Common.{◌≡◌, ℕ, List, [], ◌∷◌, refl, sym, subst, true, inl, inr}
 use Rattle.std.specs.Prelude.{Option, Some, None, nat_le, length, slice_get, bytes_eq, option_and_then, IsTrue}
 use Rattle.std.specs.List.{list_all}
@@ -12,9 +12,12 @@ use Rattle.ldv_value.specs.Sorted.{is_strictly_sorted}
 use Rattle.script_parse.specs.Script.{script_of}
 use Rattle.run_model.specs.Start.{start_script}
 use Rattle.run_model.specs.ValidTrace.{IsTrace}
-use Rattle.run_model.specs.WorldRun.{steps_by, events_by}
+use Rattle.run_model.specs.WorldRun.{steps_by, events_by, events_within}
+use Rattle.slicer.specs.InitialRows.{ReadsInitialRows}
 use Rattle.replay_db.specs.Runs.{CanRun}
-use Rattle.replay_db.specs.Types.{File, Instr, World}
+use Rattle.replay_db.specs.Types.{File, Instr, Event, World}
+use Rattle.replay_db.proofs.EndedRuns.{has_script}
+use Rattle.replay_db.proofs.InitialRows.{initial_rows_law}
 use Rattle.replay_db.proofs.TraceValid.{starts_run}
 
 -- a file that is there has a valid path
@@ -53,3 +56,15 @@ run_traces n picks w script is runs =
     let files = and-parts (list_all file_test w.files) (is_strictly_sorted file_precedes w.files) runs.files in
     let begins : Begins w.start = begins_on w.start w.files script is files.0 in
     (begins.0, steps_by n picks w, begins.2, starts_run n picks w script is runs.tables begins.0 begins.1)
+
+-- so it is of what is recorded of a run
+module _ (n : ℕ) (w : World) (runs : CanRun w) (events : List Event) (is : events ≡ events_within n w) where
+  pub recorded_trace : IsTrace events
+  recorded_trace =
+      let script = has_script w runs.script in
+      subst IsTrace (sym is) (run_traces n [] w script.0 script.1 runs)
+
+  pub recorded_rows : ReadsInitialRows events w.tables
+  recorded_rows =
+      let script = has_script w runs.script in
+      subst (λ (es : List Event). ReadsInitialRows es w.tables) (sym is) (initial_rows_law n [] w script.0 script.1 runs.tables)

@@ -137,10 +137,10 @@ move_step pick s good ordered going =
     chosen_runs pick s.core ordered (going_on (is_some s.core.diverged) (all_ended s.core) going) in
     chosen_step (choose pick s.core) may.0 s may.1 good
 
-abbrev events_by_kind : Kind → ℕ → ℕ → ℕ → SqlDatabase → List Act → List Event
+abbrev pub events_by_kind : Kind → ℕ → ℕ → ℕ → SqlDatabase → List Act → List Event
 events_by_kind kind number process asked db plain = map (event_at number process) (acts_of kind asked db plain)
 
-step_events : (number : ℕ) (s : State SqlDatabase) (m : Stepped SqlDatabase) (of : StepOf s m)
+pub step_events : (number : ℕ) (s : State SqlDatabase) (m : Stepped SqlDatabase) (of : StepOf s m)
     → events_of_step number m ≡ events_by_kind of.kind number m.process s.core.asked s.db of.plain
 step_events number s m of = λ j. map (event_at number m.process) (of.acts j)
 

@@ -10,6 +10,7 @@ use Rattle.run_model.specs.Between.{LiesBetween, CutOf, Between, slice_of}
 use Rattle.run_model.specs.Package.{package_by, package_of, own_world}
 use Rattle.run_model.specs.Start.{start_script}
 use Rattle.run_model.specs.WorldRun.{ends_by, outcome_by, events_by}
+use Rattle.slicer.specs.InitialRows.{ReadsInitialRows}
 use Rattle.replay_db.specs.Worlds.{world_rules}
 
 -- a run of at most so many steps, the first by given picks and the others by the seed, has the same script,
@@ -61,3 +62,9 @@ pub record SettledRun (n budget : ℕ) (picks : List ℕ) (w : World) : Type 0 w
 abbrev pub EndedLaw : Type 0
 EndedLaw = (n budget : ℕ) (picks : List ℕ) (w : World) → ends_by n picks w ≡ true → n ≤ budget
     → SettledRun n budget picks w
+
+-- the events of a run read each initial row first as it was at first, and make none of them
+abbrev pub InitialRowsLaw : Type 0
+InitialRowsLaw = (n : ℕ) (picks : List ℕ) (w : World) (script : List Instr) → start_script w ≡ Some script
+    → tables_test w.tables ≡ true
+    → ReadsInitialRows (events_by n picks w) w.tables

@@ -1,13 +1,13 @@
 //! The laws on which replay rests.
 
 ghost use Rattle.replay_db.specs.Laws.{BetweenLaw, InterleavingLaw, MembershipLaw, SliceLaw, OwnLaw};
-ghost use Rattle.replay_db.specs.Laws.{ReplayLaw, EndedLaw};
+ghost use Rattle.replay_db.specs.Laws.{ReplayLaw, EndedLaw, InitialRowsLaw};
 ghost use Rattle.replay_db.specs.Runs.{WorldRunsLaw, OwnRunsLaw};
 ghost use Rattle.replay_db.specs.Worlds.{WorldTablesLaw, ValidPackageLaw, TypedPackageLaw};
 
 /// A world from which nothing was cut that a run needs runs as the whole world does, whatever statements it
-/// asks; the own world of the run's package is such a world. The function has no body: its contract is the
-/// theorem.
+/// asks; the own world of the run's package is such a world. A run's events read each initial row first as it
+/// was at first, and make none of them. The function has no body: its contract is the theorem.
 pub fn between_law()
     ensures between { BetweenLaw }
     ensures interleaved { InterleavingLaw }
@@ -16,6 +16,7 @@ pub fn between_law()
     ensures own { OwnLaw }
     ensures replay { ReplayLaw }
     ensures settled { EndedLaw }
+    ensures initial { InitialRowsLaw }
 {}
 
 /// The package of a valid world's run that has ended is itself valid, so its spelling is read back as it. The

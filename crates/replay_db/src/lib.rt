@@ -19,7 +19,9 @@
 //!   the cut by which the other laws say it are the same;
 //! - the slice lies between, and is the own world of the run's package, so replay of the package yields
 //!   what the run yielded, and its own package is that very package;
-//! - a run that has ended has the same outcome and packages with more steps.
+//! - a run that has ended has the same outcome and packages with more steps;
+//! - the events of a run read each initial row first as it was at first, and make none of them; every other
+//!   row is made before it is read (`ReadsInitialRows` of `slicer`).
 //!
 //! `package_law` says that the package of a valid world's run that has ended is itself valid
 //! (`specs/Worlds.antt`), so its spelling is read back as it, and that a valid world and the own world of a

@@ -3,6 +3,8 @@
 ghost use Rattle.std.specs.Prelude.{◌≡◌, ◌≤◌, IfOk};
 ghost use Rattle.ldv_value.specs.Gives.{Gives};
 ghost use Rattle.ldv_value.specs.Limits.{max_steps};
+ghost use Rattle.run_model.specs.ValidTrace.{IsTrace};
+ghost use Rattle.slicer.specs.InitialRows.{ReadsInitialRows};
 ghost use Rattle.replay_db.specs.Recording.{packed};
 ghost use Rattle.replay_db.specs.Runs.{CanRun, RecordsAs, Stops, package_within};
 ghost use Rattle.replay_db.specs.Types.{Included};
@@ -13,13 +15,17 @@ use crate::trace::{Traced, trace_world};
 use run_model::{Logs, Mode, Package, World};
 use slicer::{Sliced, slice};
 use std::alloc::{AllocError, Global};
+use trace_graph::Graph;
 
 // What the run needed of the world, with what is recorded of it.
 fn pack(alloc: Global, world: &World, traced: Traced) -> Result<Package, AllocError>
+    requires trace { IsTrace traced.events }
+    requires rows { ReadsInitialRows traced.events world.now.tables }
     ensures { IfOk result (λ p. p ≡ packed world.now traced) }
 {
     let Traced { events, steps } = traced;
-    let Sliced { files, tables } = slice(alloc, &events, world)?;
+    let graph = Graph::of_events(alloc, &events)?;
+    let Sliced { files, tables } = slice(alloc, &events, &graph, world)?;
     Ok(Package {
         mode: Mode::Included,
         start: world.start.copy()?,

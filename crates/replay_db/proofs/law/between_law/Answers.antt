@@ -1,4 +1,5 @@
 use Rattle.replay_db.proofs.EndedLaw.{ended_law}
+use Rattle.replay_db.proofs.InitialRows.{initial_rows_law}
 use Rattle.replay_db.proofs.Membership.{membership_law}
 use Rattle.replay_db.proofs.SliceLaws.{slice_law, own_law}
 use Rattle.replay_db.proofs.WorldLaws.{between_law, interleaving_law, replay_law}
@@ -24,3 +25,6 @@ returns-clause-replay c = replay_law
 
 pub returns-clause-settled : goal.returns-clause-settled
 returns-clause-settled c = ended_law
+
+pub returns-clause-initial : goal.returns-clause-initial
+returns-clause-initial c = initial_rows_law

@@ -1,8 +1,20 @@
-use Rattle.std.proofs.Common.{subst}
+use Rattle.std.proofs.Common.{◌≡◌, ap, ◌∙◌, subst}
+use Rattle.run_model.specs.WorldRun.{events_within}
 use Rattle.replay_db.specs.Recording.{HasNotEnded, IsTraced}
 use Rattle.replay_db.specs.Types.{Included, World}
 use Rattle.replay_db.proofs.RecordedRuns.{package_packed, package_stops}
+use Rattle.replay_db.proofs.RunTraces.{recorded_trace, recorded_rows}
 use Rattle.replay_db.proofs.record.package_of_run.Goals as goal
+
+pub pack-requires-clause-trace : goal.pack-requires-clause-trace
+pack-requires-clause-trace c =
+    recorded_trace c.args.budget c.args.world.now c.requires.can_run c.in-Ok.traced.events
+    (c.in-Ok.ensures.traced.events ∙ ap (events_within c.args.budget) c.in_ok-copy.ensures)
+
+pub pack-requires-clause-rows : goal.pack-requires-clause-rows
+pack-requires-clause-rows c =
+    recorded_rows c.args.budget c.args.world.now c.requires.can_run c.in-Ok.traced.events
+    (c.in-Ok.ensures.traced.events ∙ ap (events_within c.args.budget) c.in_ok-copy.ensures)
 
 pub returns-in_ok-pack-in-Ok : goal.returns-in_ok-pack-in-Ok
 returns-in_ok-pack-in-Ok c =
