@@ -1,5 +1,5 @@
 #!/usr/bin/env python3
-"""Tests tools/world.py and tools/outcome.py, and the examples, with the program where it is there.
+"""Tests tools/world.py, tools/outcome.py and tools/package.py, and the examples, with the program where it is there.
 
 The examples are those of examples/, the tutorial and docs/SCRIPTS.md.
 
@@ -25,6 +25,8 @@ import unittest
 import against_sqlite
 import check_scripts
 import outcome
+import package
+import packages
 import world
 from world_tables import RESERVED
 
@@ -627,6 +629,60 @@ class AgainstSqlite(unittest.TestCase):
                 against_sqlite.reply_of(base, each)
 
 
+class Packages(InFolder):
+    """tools/package.py, over packages that packages.py spells."""
+
+    def setUp(self):
+        super().setUp()
+        columns = [packages.column("k", "INT NOT NULL"), packages.column("g", "TEXT"), packages.column("v")]
+        rows = [packages.row(0, 1, 'a "x", y', None), packages.row(2, 3, "", -5, statement=1, rule="K")]
+        tables = [packages.table("t", columns, key=[0], next=5, rows=rows)]
+        files = [packages.file("main", ""), packages.file("seen")]
+        trace = [packages.started(), packages.asked(0), packages.asked(1), packages.ended()]
+        self.path = self.put("t.package", packages.encode(packages.package(tables=tables, files=files, trace=trace)))
+
+    def test_summary(self):
+        self.assertEqual(tool(package, given=read(self.path)), (0, b"""included, start main, seed 0, 1 step, 4 events
+file main: 0 bytes
+file seen: present
+table t (k INT NOT NULL, g TEXT, v INT, key k): 2 rows, next row 5
+""", ""))
+
+    def test_csv(self):
+        folder = os.path.join(self.folder, "tables")
+        self.assertEqual(tool(package, "--csv", folder, self.path), (0, b"", ""))
+        self.assertEqual(read(f"{folder}/t.csv"), b'k,g,v\r\n1,"a ""x"", y",\r\n3,"",-5\r\n')
+        self.assertEqual(tool(package, "--csv", folder, "--reasons", self.path), (0, b"", ""))
+        self.assertEqual(read(f"{folder}/t.csv"), b'ldv_row,ldv_statement,ldv_rule,k,g,v\r\n0,0,L,1,"a ""x"", y",\r\n'
+                                                  b'2,1,K,3,"",-5\r\n')
+
+    def test_sqlite(self):
+        path = os.path.join(self.folder, "t.db")
+        self.assertEqual(tool(package, "--sqlite", path, self.path), (0, b"", ""))
+        base = sqlite3.connect(path)
+        self.assertEqual(base.execute("SELECT * FROM t ORDER BY k").fetchall(), [(1, 'a "x", y', None), (3, "", -5)])
+        with self.assertRaises(sqlite3.IntegrityError):
+            base.execute("INSERT INTO t VALUES (3, 'b', 1)")
+        base.close()
+        self.assertEqual(tool(package, "--sqlite", path, self.path)[0], f"package: {path} is there already")
+
+    def test_sizes(self):
+        """Of the row 0: number, statement and rule have 9 bytes, the values 9, 5 + 8 and 1; of row 2: 9, 9, 5 and 9.
+
+        An event has 9 bytes and its fields: a path of 8, twice 10 of a statement without lists, a status.
+        """
+        shown = tool(package, "--sizes", self.path)
+        self.assertIn(b"trace                  69\n", shown[1])
+        self.assertIn(b"rows, trace, logs     137\n", shown[1])
+
+    def test_damaged(self):
+        bytes_of = read(self.path)
+        for given, said in ((bytes_of[:-1], "its digest"), (b"x" + bytes_of, "LDVPACK1"), (b"", "LDVPACK1")):
+            status, out, _ = tool(package, given=given)
+            self.assertIn(said, status)
+            self.assertEqual(out, b"")
+
+
 class Program(InFolder):
     """With the real program."""
 
@@ -660,6 +716,13 @@ class Program(InFolder):
             self.assertLess(len(package), len(document))
         self.assertNotIn(b"Middlemarch", package)
         self.assertEqual(ldv(["replay"], package[:-1]), (8, b"", b"ldv: damaged: digest\n"))
+
+    def test_package(self):
+        """What the orders world packs of its customers, with the statement and the rule of each row."""
+        path = self.put("orders.package", ldv(["record"], read(f"{EXAMPLES}/orders.json"))[1])
+        self.assertEqual(tool(package, "--csv", self.folder, "--reasons", path)[0], 0)
+        self.assertEqual(read(f"{self.folder}/customers.csv"), b"ldv_row,ldv_statement,ldv_rule,id,name\r\n"
+                         b"0,2,L,1,Ada\r\n1,2,H,2,Bo\r\n2,2,H,3,Cy\r\n")
 
     def test_scripts_page(self):
         with contextlib.redirect_stdout(io.StringIO()) as printed:

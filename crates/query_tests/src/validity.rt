@@ -1,6 +1,6 @@
 //! Whether tables are a database: a store takes no others.
 
-ghost use Rattle.std.specs.Prelude.{◌≡◌, ◌&&◌, ◌∷◌, [], IfOk, IsTrue, nat_le, true};
+ghost use Rattle.std.specs.Prelude.{◌≡◌, ◌&&◌, ◌∷◌, [], IfOk, IsTrue, nat_le, nat_lt, true};
 ghost use Rattle.std.specs.List.{list_all};
 ghost use Rattle.ldv_value.specs.Limits.{max_next};
 ghost use Rattle.sql_laws.specs.DatabaseLaw.{have_distinct_columns};
@@ -100,5 +100,11 @@ fn are_valid_rows(table: &Table) -> bool
 fn are_numbered(next: u32, rows: &[TableRow]) -> bool
     ensures { result ≡ numbers_test (λ row. row.number) next rows.now }
 {
-    is_strictly_sorted(rows) && rows.iter().all(|row| row.number < next)
+    is_strictly_sorted(rows) && are_below(next, rows)
+}
+
+fn are_below(next: u32, rows: &[TableRow]) -> bool
+    ensures { result ≡ list_all (λ row. nat_lt row.number next) rows.now }
+{
+    rows.iter().all(|row| row.number < next)
 }
