@@ -28,3 +28,10 @@ mod PackageValidLists
 mod PackageValidParts
 mod PackageValidTyped
 pub mod TraceValid
+mod LogEntries
+mod LogLaws
+mod LogRuns
+mod ProcessNames
+mod ProcessPlaces
+mod QuietSteps
+mod StepTrails

@@ -1,3 +1,4 @@
 pub mod Laws
+pub mod LogLaws
 pub mod Types
 pub mod Worlds

@@ -2,6 +2,7 @@
 
 ghost use Rattle.replay_db.specs.Laws.{BetweenLaw, InterleavingLaw, MembershipLaw, SliceLaw, OwnLaw};
 ghost use Rattle.replay_db.specs.Laws.{ReplayLaw, EndedLaw};
+ghost use Rattle.replay_db.specs.LogLaws.{LogLaw, PickedLogLaw};
 ghost use Rattle.replay_db.specs.Worlds.{WorldTablesLaw, ValidPackageLaw, TypedPackageLaw};
 
 /// A world from which nothing was cut that a run needs runs as the whole world does, whatever statements it
@@ -23,4 +24,11 @@ pub fn package_law()
     ensures tables { WorldTablesLaw }
     ensures valid { ValidPackageLaw }
     ensures typed { TypedPackageLaw }
+{}
+
+/// The package of a run's recorded replies runs without the database as the world ran with it: it diverges
+/// nowhere and has the run's outcome. The function has no body: its contract is the theorem.
+pub fn log_law()
+    ensures seeded { LogLaw }
+    ensures picked { PickedLogLaw }
 {}

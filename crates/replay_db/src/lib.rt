@@ -14,9 +14,13 @@
 //! It promises, in `package_law` (`specs/Worlds.antt`), that the package of a valid world's run that has
 //! ended is itself valid, so its spelling is read back as it.
 //!
+//! It promises, in `log_law` (`specs/LogLaws.antt`), of every world with valid tables whose run ends, that the
+//! package of the recorded replies diverges nowhere and has the run's outcome, though it has no table; the same
+//! where both runs go by one list of picks.
+//!
 //! Of SQL it uses only what `sql_laws` promises of a statement, of a cut and of valid tables.
 #![tactic(auto)]
 
 mod law;
 
-pub use law::{between_law, package_law};
+pub use law::{between_law, log_law, package_law};
