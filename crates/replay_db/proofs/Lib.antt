@@ -34,4 +34,5 @@ mod LogRuns
 mod ProcessNames
 mod ProcessPlaces
 mod QuietSteps
+mod RunSteps
 mod StepTrails

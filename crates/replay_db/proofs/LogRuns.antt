@@ -1,8 +1,9 @@
 -- The run over recorded replies is the run over the database that gave them: at each step the logs have what each
 -- process is still to ask, with the replies.
-use Rattle.std.proofs.Common.{◌≡◌, ◌≢◌, ℕ, zero, suc, List, [], ◌∷◌, ◌++◌, refl, sym, ap, ◌∙◌, subst, Bool, true, arith, inl, inr}
+use Rattle.std.proofs.Common.{◌≡◌, ◌≢◌, ℕ, zero, suc, ◌+◌, List, [], ◌∷◌, ◌++◌, refl, sym, ap, ◌∙◌, subst, Bool, true, arith, inl, inr}
 use Rattle.std.specs.Prelude.{Option, Some, None, drop, slice_get, slice_set, ◌==◌, if◌then◌else◌}
 use Rattle.std.specs.Cmp.{eq_by_cmp_equiv}
+use Rattle.std.proofs.Math.Nat.{suc-add}
 use Rattle.std.proofs.lemmas.Bool.{cases_Bool}
 use Rattle.std.proofs.lemmas.Bool.Decides.{Decides-eqb}
 use Rattle.std.proofs.lemmas.List.{append_assoc, append_cancel_left}
@@ -269,13 +270,40 @@ module _ {Db : Type 0} (reply : Db → Question → Reply) (next : Db → Questi
 
   -- ---- runs
 
+  grows_from : (a b c d : State Db) → a ≡ b → c ≡ d → Grows b.core.processes d.core.processes
+      → Grows a.core.processes c.core.processes
+  grows_from a b c d first second grows =
+      subst (λ (t : State Db). Grows t.core.processes c.core.processes) (sym first)
+      (subst (λ (t : State Db). Grows b.core.processes t.core.processes) (sym second) grows)
+
+  -- with more steps
+  pub grows_more : (n more : ℕ) (picks : List ℕ) (s : State Db)
+      → Grows (run base n picks s).core.processes (run base (n + more) picks s).core.processes
+  grows_more zero more picks s =
+      grows_from (run base 0 picks s) s (run base (0 + more) picks s) (run base (0 + more) picks s)
+      (run-zero base picks s) refl (run_follows (0 + more) picks s).grows
+  grows_more (suc n) more picks s = elim (cases_Bool (is_over s.core)) [
+    | inl over ↦
+        grows_from (run base (suc n) picks s) s (run base (suc n + more) picks s) s
+        (run-over base (suc n) picks s over) (run-over base (suc n + more) picks s over) (grows_itself s.core.processes)
+    | inr going ↦
+        let one : Stepped Db = move base (first_pick picks) s in
+        let rest : List ℕ = later_picks picks in
+        grows_from (run base (suc n) picks s) (run base n rest one.state)
+        (run base (suc n + more) picks s) (run base (n + more) rest one.state)
+        (run-suc base n picks s going)
+        (ap (λ (k : ℕ). run base k picks s) (suc-add n more) ∙ run-suc base (n + more) picks s going)
+        (grows_more n more rest one.state)
+  ]
+
+  -- the processes at the end are those of this run after some more steps
   pub log_run : (n : ℕ) (picks : List ℕ) (s : State Db) (logs : LogDatabase) (end : List Process)
-      → (run base n picks s).core.processes ≡ end → Distinct (names end) → Left end s.core.processes logs
+      → Grows (run base n picks s).core.processes end → Distinct (names end) → Left end s.core.processes logs
       → (run log_base n picks (with_logs logs s)).core ≡ (run base n picks s).core
-  log_run zero picks s logs end is distinct left =
+  log_run zero picks s logs end grows distinct left =
       ap (λ (t : State LogDatabase). t.core) (run-zero log_base picks (with_logs logs s))
       ∙ sym (ap (λ (t : State Db). t.core) (run-zero base picks s))
-  log_run (suc n) picks s logs end is distinct left = elim (cases_Bool (is_over s.core)) [
+  log_run (suc n) picks s logs end grows distinct left = elim (cases_Bool (is_over s.core)) [
     | inl over ↦
         ap (λ (t : State LogDatabase). t.core) (run-over log_base (suc n) picks (with_logs logs s) over)
         ∙ sym (ap (λ (t : State Db). t.core) (run-over base (suc n) picks s over))
@@ -285,13 +313,15 @@ module _ {Db : Type 0} (reply : Db → Question → Reply) (next : Db → Questi
         let one : Stepped Db = move base pick s in
         let equation : (run base (suc n) picks s).core ≡ (run base n rest one.state).core =
         ap (λ (t : State Db). t.core) (run-suc base n picks s going) in
-        let end_is : (run base n rest one.state).core.processes ≡ end =
-        sym (ap (λ (c : Core). c.processes) equation) ∙ is in
-        let grows : Grows one.state.core.processes end =
-        subst (Grows one.state.core.processes) end_is (run_follows n rest one.state).grows in
-        let step : LogStep end (move log_base pick (with_logs logs s)) one = move_logs end pick logs s distinct grows left in
+        let later : Grows (run base n rest one.state).core.processes end =
+        subst (λ (c : Core). Grows c.processes end) equation grows in
+        let from_one : Grows one.state.core.processes end =
+        grows_trans one.state.core.processes (run base n rest one.state).core.processes end
+        (run_follows n rest one.state).grows later in
+        let step : LogStep end (move log_base pick (with_logs logs s)) one =
+        move_logs end pick logs s distinct from_one left in
         ap (λ (t : State LogDatabase). t.core) (run-suc log_base n picks (with_logs logs s) going)
         ∙ ap (λ (t : State LogDatabase). (run log_base n rest t).core) step.same
-        ∙ log_run n rest one.state step.logs end end_is distinct step.left
+        ∙ log_run n rest one.state step.logs end later distinct step.left
         ∙ sym equation
   ]
