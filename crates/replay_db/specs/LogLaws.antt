@@ -9,7 +9,8 @@ use Rattle.run_model.specs.Package.{package_by, package_of}
 use Rattle.run_model.specs.Start.{start_script}
 use Rattle.run_model.specs.WorldRun.{ends_by, outcome_by, ends_within, outcome_within}
 
--- a run that ends within so many steps, and the run of its package, by the seed and of any budget from there on
+-- of a run that ends within so many steps: that of its package, by the seed and within any budget from there on,
+-- diverges nowhere and has its outcome
 abbrev pub LogLaw : Type 0
 LogLaw = (n budget : ℕ) (w : World) (script : List Instr) → start_script w ≡ Some script
     → tables_test w.tables ≡ true
@@ -18,11 +19,11 @@ LogLaw = (n budget : ℕ) (w : World) (script : List Instr) → start_script w �
     → (log_divergence budget [] (package_of Excluded n w) ≡ None)
     × (log_outcome budget [] (package_of Excluded n w) ≡ outcome_within n w)
 
--- the same where both runs go by one list of picks, whatever they are; the package is that of that run
+-- the same within every budget, also one below the end, so the two runs end after the same number of steps; and
+-- where both go by one list of picks, whatever they are (the package is that of the run by these picks)
 abbrev pub PickedLogLaw : Type 0
 PickedLogLaw = (n budget : ℕ) (picks : List ℕ) (w : World) (script : List Instr) → start_script w ≡ Some script
     → tables_test w.tables ≡ true
     → ends_by n picks w ≡ true
-    → n ≤ budget
     → (log_divergence budget picks (package_by Excluded n picks w) ≡ None)
-    × (log_outcome budget picks (package_by Excluded n picks w) ≡ outcome_by n picks w)
+    × (log_outcome budget picks (package_by Excluded n picks w) ≡ outcome_by budget picks w)

@@ -27,7 +27,8 @@ pub fn package_law()
 {}
 
 /// The package of a run's recorded replies runs without the database as the world ran with it: it diverges
-/// nowhere and has the run's outcome. The function has no body: its contract is the theorem.
+/// nowhere and has the run's outcome, within every budget and by any picks. The function has no body: its
+/// contract is the theorem.
 pub fn log_law()
     ensures seeded { LogLaw }
     ensures picked { PickedLogLaw }

@@ -15,8 +15,9 @@
 //! ended is itself valid, so its spelling is read back as it.
 //!
 //! It promises, in `log_law` (`specs/LogLaws.antt`), of every world with valid tables whose run ends, that the
-//! package of the recorded replies diverges nowhere and has the run's outcome, though it has no table; the same
-//! where both runs go by one list of picks.
+//! package of the recorded replies runs without the tables as the world ran with them: it diverges nowhere,
+//! and within every budget it has the run's outcome, or none yet where the run has none. The same holds where
+//! both runs go by one list of picks.
 //!
 //! Of SQL it uses only what `sql_laws` promises of a statement, of a cut and of valid tables.
 #![tactic(auto)]
