@@ -38,3 +38,11 @@ mod RunTraces
 mod StatementRows
 mod RunRows
 mod InitialRows
+mod LogEntries
+mod LogLaws
+mod LogRuns
+mod ProcessNames
+mod ProcessPlaces
+mod QuietSteps
+mod RunSteps
+mod StepTrails

@@ -37,7 +37,7 @@ module _ (all : List Event) where
   own_file_same f (Some Present) rest files same = ap (λ (l : List File). (record { path = f.path; content = [] }) ∷ l) same
   own_file_same f None rest files same = same
 
-  own_files : (files : List File) → map own_file (files_needed all files) ≡ cut_files (slice_cut all) files
+  pub own_files : (files : List File) → map own_file (files_needed all files) ≡ cut_files (slice_cut all) files
   own_files [] = refl
   own_files (f ∷ fs) = own_file_same f (file_need f.path all) (files_needed all fs) (cut_files (slice_cut all) fs) (own_files fs)
 

@@ -1,4 +1,5 @@
 pub mod Laws
+pub mod LogLaws
 pub mod Recording
 pub mod Runs
 pub mod Types

@@ -3,6 +3,7 @@
 ghost use Rattle.replay_db.specs.Laws.{BetweenLaw, InterleavingLaw, MembershipLaw, SliceLaw, OwnLaw};
 ghost use Rattle.replay_db.specs.Laws.{ReplayLaw, EndedLaw, InitialRowsLaw};
 ghost use Rattle.replay_db.specs.Runs.{WorldRunsLaw, OwnRunsLaw};
+ghost use Rattle.replay_db.specs.LogLaws.{LogLaw, PickedLogLaw};
 ghost use Rattle.replay_db.specs.Worlds.{WorldTablesLaw, ValidPackageLaw, TypedPackageLaw};
 
 /// A world from which nothing was cut that a run needs runs as the whole world does, whatever statements it
@@ -28,4 +29,12 @@ pub fn package_law()
     ensures typed { TypedPackageLaw }
     ensures runs { WorldRunsLaw }
     ensures own_runs { OwnRunsLaw }
+{}
+
+/// The package of a run's recorded replies runs without the database as the world ran with it: it diverges
+/// nowhere and has the run's outcome, within every budget and by any picks. The function has no body: its
+/// contract is the theorem.
+pub fn log_law()
+    ensures seeded { LogLaw }
+    ensures picked { PickedLogLaw }
 {}

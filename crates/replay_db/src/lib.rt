@@ -27,6 +27,11 @@
 //! (`specs/Worlds.antt`), so its spelling is read back as it, and that a valid world and the own world of a
 //! valid package can be run (`specs/Runs.antt`).
 //!
+//! It promises, in `log_law` (`specs/LogLaws.antt`), of every world with valid tables whose run ends, that the
+//! package of the recorded replies runs without the tables as the world ran with them: it diverges nowhere,
+//! and within every budget it has the run's outcome, or none yet where the run has none. The same holds where
+//! both runs go by one list of picks.
+//!
 //! The laws use of SQL only what `sql_laws` promises of a statement, of a cut and of valid tables.
 #![tactic(auto)]
 
@@ -39,7 +44,7 @@ mod run;
 mod stop;
 mod trace;
 
-pub use law::{between_law, package_law};
+pub use law::{between_law, log_law, package_law};
 pub use own::own_world;
 pub use record::record_world;
 pub use replay::replay_included;
