@@ -30,13 +30,6 @@ claim_stop key next (Some clash) =
 
 -- ---- keys after rows took the place of others
 
--- what is left in a slot, once given rows took the place of those of their numbers
-abbrev pub row_then : List TableRow → RowHistory → Option TableRow
-row_then given row = option_map (replaced_by given) (row_now row)
-
-abbrev pub rows_then : List TableRow → List RowHistory → List TableRow
-rows_then given slots = filter_map (row_then given) slots
-
 -- what is held is each row under its key, and nothing else
 pub record IsIndexOf (places : List ℕ) (held : Held) (rows : List TableRow) : Type 0 where
   pub each : AreHeld places held rows
