@@ -111,9 +111,9 @@ rows_kept : (places : List ℕ) (old new : Held) → ((q : RowKey) (n : ℕ) →
 rows_kept places old new keeps [] are = tt
 rows_kept places old new keeps (row ∷ rows) are = (keeps (key_at places row.values) row.number are.0, rows_kept places old new keeps rows are.1)
 
-pub indexed_kept : (places : List ℕ) (old new : Held) → ((q : RowKey) (n : ℕ) → old q ≡ Some n → new q ≡ Some n) → (rows : List TableRow) → AreIndexed places old rows → AreIndexed places new rows
-indexed_kept [] old new keeps rows are = tt
-indexed_kept (place ∷ places) old new keeps rows are = rows_kept (place ∷ places) old new keeps rows are
+pub indexed_wider : (places : List ℕ) (old new : Held) → ((q : RowKey) (n : ℕ) → old q ≡ Some n → new q ≡ Some n) → (rows : List TableRow) → AreIndexed places old rows → AreIndexed places new rows
+indexed_wider [] old new keeps rows are = tt
+indexed_wider (place ∷ places) old new keeps rows are = rows_kept (place ∷ places) old new keeps rows are
 
 -- no claims, or no entries
 pub no_claims : (places : List ℕ) (claims held : Held) → ((q : RowKey) → claims q ≡ None) → (rows : List TableRow) → AreIndexed places held rows → AreIndexed places (with_claims claims held) rows

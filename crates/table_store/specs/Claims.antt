@@ -1,14 +1,11 @@
 -- Keys of new rows, and of rows that take the place of others.
 use Rattle.std.specs.Prelude.{◌≡◌, ◌==◌, ◌&&◌, ℕ, List, Option, Some, None, find, if◌then◌else◌}
 use Rattle.std.specs.Prelude.{nat_lt}
-use Rattle.std.specs.List.{filter_map}
 use Rattle.std.specs.Option.{option_map}
 use Rattle.sql_model.specs.Changes.{KeyClash}
 use Rattle.sql_model.specs.Keys.{values_at}
 use Rattle.table_store.specs.Types.{Value, RowKey, TableRow}
-use Rattle.table_store.specs.Histories.{RowHistory, row_now}
 use Rattle.table_store.specs.KeyIndex.{Held, AreHeld, has_key, row_of_key}
-use Rattle.table_store.specs.Stops.{replaced_by}
 use Rattle.table_store.specs.declared.stop.StoreStop.{StoreStop}
 use Rattle.table_store.specs.declared.stop.StoreStop.TheVariants.{KeyTaken}
 

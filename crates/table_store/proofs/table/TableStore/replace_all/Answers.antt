@@ -18,9 +18,9 @@ use Rattle.table_store.specs.TableView.{IsStored}
 use Rattle.table_store.specs.declared.change.RowChange.{RowChange}
 use Rattle.table_store.specs.declared.stop.StoreStop.{StoreStop}
 use Rattle.table_store.specs.declared.index.Index.{Index}
-use Rattle.table_store.proofs.IndexChangeLaws.{claims_kept, indexed_kept, indexed_same}
+use Rattle.table_store.proofs.IndexChangeLaws.{claims_kept, indexed_same}
 use Rattle.table_store.proofs.RekeyLaws.{replace_stop_is, stop_as}
-use Rattle.table_store.proofs.TableChangeLaws.{before_all, rewrites_rise, rewrites_stand, rewrites_fit, changes_written, stored_changed, indexed_replaced, GivenStand, given_stand, replaced_now}
+use Rattle.table_store.proofs.TableChangeLaws.{before_all, rewrites_rise, rewrites_stand, rewrites_fit, changes_written, stored_changed, stored_wider, indexed_replaced, GivenStand, given_stand, replaced_now}
 use Rattle.table_store.proofs.table.TableStore.replace_all.Goals as goal
 
 pub claims_of-requires-clause-stand : goal.claims_of-requires-clause-stand
@@ -70,6 +70,25 @@ returns-clause-stop c =
     let given = c.items-3.ensures in
     let none = subst (λ (l : List TableRow). both_stop a.schema.key (clash_by a.schema.key (map (replaced_by l) (rows_now a.rows.slots))) ≡ None) given c.in-Ok.ensures.stop in
     subst (λ (t : TableHistory). replace_stop c.args.rows (table_now t) ≡ None) c.self.view_is (replace_stop_is c.args.rows made lacks ∙ none)
+
+pub invariant_of-self : goal.invariant_of-self
+invariant_of-self c =
+    let a = c.self.inside in
+    stored_wider a.schema a.rows (λ key. get key_order a.index.held key) (λ key. get key_order c.open_all.new.self.held key) (nexts_of a.nexts.items) c.open_all.ensures.kept c.self.invariant
+
+pub invariant_of-self-in_err-given : goal.invariant_of-self-in_err-given
+invariant_of-self-in_err-given c =
+    let a = c.self.inside in
+    stored_wider a.schema a.rows (λ key. get key_order a.index.held key) (λ key. get key_order c.open_all.new.self.held key) (nexts_of a.nexts.items) c.open_all.ensures.kept c.self.invariant
+
+pub invariant_of-self-in_err-change_rows : goal.invariant_of-self-in_err-change_rows
+invariant_of-self-in_err-change_rows c =
+    let a = c.self.inside in
+    let opened : Held = λ key. get key_order c.open_all.new.self.held key in
+    let nexts : nexts_of a.nexts.items ≡ nexts_of c.change_rows.new.nexts.items = ap nexts_of (sym c.in_err-change_rows.ensures.nexts_err) in
+    subst (λ (r : RowsHistory). IsStored a.schema r opened (nexts_of c.change_rows.new.nexts.items)) (sym c.in_err-change_rows.ensures.err)
+    (subst (λ (n : List NextSince). IsStored a.schema a.rows opened n) nexts
+    (stored_wider a.schema a.rows (λ key. get key_order a.index.held key) opened (nexts_of a.nexts.items) c.open_all.ensures.kept c.self.invariant))
 
 pub invariant_of-self-2 : goal.invariant_of-self-2
 invariant_of-self-2 c =
