@@ -4,7 +4,11 @@ use Rattle.std.specs.Prelude.{find, IsSome, is_some, if◌then◌else◌}
 use Rattle.std.specs.List.{cons_option, list_any}
 use Rattle.std.specs.Option.{option_map, option_to_list}
 use Rattle.std.specs.Ordering.{is_eq}
+use Rattle.std.specs.Ordering.{ordering_then}
 use Rattle.std.specs.declared.cmp.Ordering.{Ordering}
+use Rattle.std.specs.declared.cmp.Ordering.TheVariants.{Less, Equal, Greater}
+use Rattle.std.proofs.lemmas.Map.Lookups.{exact_signed, exact_bytes}
+use Rattle.ldv_value.specs.declared.value.Value.TheVariants.{Null, Int, Text}
 use Rattle.std.specs.Cmp.{eq_by_cmp_equiv}
 use Rattle.std.specs.Cmp.Lexicographic.{slice_cmp}
 use Rattle.std.specs.BTreeMap.{BTreeMap, get, get_by, is_at}
@@ -46,6 +50,36 @@ alike_held held alike = alike
 
 number_some : (a b : ℕ) → Some a ≡ Some b → a ≡ b
 number_some a b is = cc
+
+-- ---- keys that are the same are equal
+
+order_exact : (x y : Value) → order x y ≡ Equal → x ≡ y
+order_exact Null Null is = refl
+order_exact Null (Int n) is = cc
+order_exact Null (Text t) is = cc
+order_exact (Int m) Null is = cc
+order_exact (Int m) (Int n) is = ap Int (exact_signed m n is)
+order_exact (Int m) (Text t) is = cc
+order_exact (Text s) Null is = cc
+order_exact (Text s) (Int n) is = cc
+order_exact (Text s) (Text t) is = ap Text (exact_bytes s t is)
+
+values_exact : (xs ys : List Value) → slice_cmp order xs ys ≡ Equal → xs ≡ ys
+values_exact [] [] is = refl
+values_exact [] (y ∷ ys) is = cc
+values_exact (x ∷ xs) [] is = cc
+values_exact (x ∷ xs) (y ∷ ys) is = by (order x y) refl (values_exact xs ys) is where
+  by : (o : Ordering) → order x y ≡ o → (slice_cmp order xs ys ≡ Equal → xs ≡ ys) → ordering_then o (slice_cmp order xs ys) ≡ Equal → x ∷ xs ≡ y ∷ ys
+  by Equal one rest both = λ j. order_exact x y one j ∷ rest both j
+  by Less one rest both = cc
+  by Greater one rest both = cc
+
+pub same_exact : (a b : List Value) → same_values a b ≡ true → a ≡ b
+same_exact a b same = values_exact a b (is_eq-true (slice_cmp order a b) same)
+
+pub any_alike : (held : Held) → Alike held
+unfolding Alike
+any_alike held a b same = ap (λ (values : List Value). held (record { values = values })) (same_exact a.values b.values same)
 
 -- ---- rows that are looked up
 
@@ -125,7 +159,7 @@ unique_by places rows unique keyed = by (length places == 0) (repeats same_value
   by true b none is = cc
   by false b none is = is
 
-split_at : (rows : List TableRow) (i : ℕ) (d : TableRow) → i < length rows → rows ≡ take i rows ++ get_or rows i d ∷ drop (i + 1) rows
+pub split_at : (rows : List TableRow) (i : ℕ) (d : TableRow) → i < length rows → rows ≡ take i rows ++ get_or rows i d ∷ drop (i + 1) rows
 split_at [] i d within = absurd (omega (arith, within))
 split_at (row ∷ rows) zero d within = refl
 split_at (row ∷ rows) (suc i) d within =

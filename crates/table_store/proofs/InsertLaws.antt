@@ -57,15 +57,15 @@ abbrev pub AllRows : (TableRow → Type 0) → List TableRow → Type 0
 AllRows P [] = Unit {0}
 AllRows P (row ∷ rows) = P row × AllRows P rows
 
-all_append : (P : TableRow → Type 0) (xs ys : List TableRow) → AllRows P xs → AllRows P ys → AllRows P (xs ++ ys)
+pub all_append : (P : TableRow → Type 0) (xs ys : List TableRow) → AllRows P xs → AllRows P ys → AllRows P (xs ++ ys)
 all_append P [] ys front back = back
 all_append P (x ∷ xs) ys front back = (front.0, all_append P xs ys front.1 back)
 
-all_weaker : (P Q : TableRow → Type 0) → ((row : TableRow) → P row → Q row) → (rows : List TableRow) → AllRows P rows → AllRows Q rows
+pub all_weaker : (P Q : TableRow → Type 0) → ((row : TableRow) → P row → Q row) → (rows : List TableRow) → AllRows P rows → AllRows Q rows
 all_weaker P Q from [] all = tt
 all_weaker P Q from (row ∷ rows) all = (from row all.0, all_weaker P Q from rows all.1)
 
-found_all : (P : TableRow → Type 0) (p : TableRow → Bool) (rows : List TableRow) → AllRows P rows → (row : TableRow) → find p rows ≡ Some row → P row
+pub found_all : (P : TableRow → Type 0) (p : TableRow → Bool) (rows : List TableRow) → AllRows P rows → (row : TableRow) → find p rows ≡ Some row → P row
 found_all P p [] all row is = cc
 found_all P p (first ∷ rows) all row is = elim (cases_Bool (p first)) [
   | inl hit ↦ let same : Some first ≡ Some row = sym (ap (λ b. cond b (Some first) (find p rows)) hit) ∙ is in subst P (some_is same) all.0
@@ -121,7 +121,7 @@ numbered_from_next next (values ∷ rows) = (omega arith, all_weaker (λ row. ne
 
 -- ---- rows that stand don't clash
 
-apart_key : (places : List ℕ) (held : Held) → Alike held → (row : TableRow) (before : List TableRow) → AreHeld places held before → held (key_at places row.values) ≡ Some row.number → AllRows (λ one. one.number < row.number) before
+pub apart_key : (places : List ℕ) (held : Held) → Alike held → (row : TableRow) (before : List TableRow) → AreHeld places held before → held (key_at places row.values) ≡ Some row.number → AllRows (λ one. one.number < row.number) before
     → find (shares_key places row) before ≡ None
 apart_key places held alike row [] are here below = refl
 apart_key places held alike row (first ∷ before) are here below = elim (cases_Bool (shares_key places row first)) [

@@ -82,7 +82,7 @@ module _ (places : List ℕ) (given : List TableRow) where
     held_replaced [] keep are = tt
     held_replaced (row ∷ rows) keep are = (one_held row keep.0 are.0, held_replaced rows keep.1 are.1)
 
-  rises_replaced : (low : ℕ) (rows : List TableRow) → RisesFrom low rows → RisesFrom low (map (replaced_by given) rows)
+  pub rises_replaced : (low : ℕ) (rows : List TableRow) → RisesFrom low rows → RisesFrom low (map (replaced_by given) rows)
   rises_replaced low [] rises = tt
   rises_replaced low (row ∷ rows) rises =
       let same : (replaced_by given row).number ≡ row.number = number_kept given row in
@@ -115,8 +115,3 @@ all_more P rows i d within front one = rw add-one (by rows i within front one) w
   by [] k inside before here = absurd (omega (arith, inside))
   by (row ∷ some) zero inside before here = (here, tt)
   by (row ∷ some) (suc k) inside before here = (before.0, by some k (omega (arith, inside)) before.1 here)
-
--- what holds of the one that is made, or of the one before, holds of the one that is used
-pub used_holds : {X : Type 0} (P : X → Type 0) (o : Option X) (old : X) → MatchOption o (P old) P → P (unwrap_or o old)
-used_holds P None old holds = holds
-used_holds P (Some made) old holds = holds

@@ -2,7 +2,9 @@ pub mod CellLaws
 pub mod ChangeLaws
 pub mod ClaimLaws
 pub mod FlagLaws
+pub mod GivenKeyLaws
 pub mod GridLaws
+pub mod IndexChangeLaws
 pub mod IndexLaws
 pub mod InsertLaws
 pub mod IntCellLaws

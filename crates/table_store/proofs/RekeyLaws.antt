@@ -18,7 +18,7 @@ use Rattle.sql_model.specs.KeyOrder.{key_order, key_order_total}
 use Rattle.sql_model.specs.Keys.{same_values, values_at, key_at}
 use Rattle.ldv_value.specs.Sorted.{precedes_first}
 use Rattle.table_store.specs.Types.{Value, RowKey, Table, TableRow}
-use Rattle.table_store.specs.Claims.{row_then, rows_then, IsIndexOf, both_stop}
+use Rattle.table_store.specs.Claims.{IsIndexOf, both_stop}
 use Rattle.table_store.specs.Histories.{RowHistory, TableHistory, no_history, row_of, rows_now, table_now}
 use Rattle.table_store.specs.KeyIndex.{has_key, row_of_key, Held}
 use Rattle.table_store.specs.Stops.{replaced_by, with_replaced, are_sorted_rows, key_stop, stop_if, replace_stop, StopsAs}
@@ -67,168 +67,17 @@ index_more places old new row rows index none put = record {
   ];
 }
 
--- ---- clashes of some rows and of more
-
-clash_or_split : (o : Option TableRow) (row : TableRow) (a b : Option KeyClash) → clash_or o row (option_or a b) ≡ option_or (clash_or o row a) b
-clash_or_split None row a b = refl
-clash_or_split (Some other) row a b = refl
-
-pub clash_split : (places : List ℕ) (before xs ys : List TableRow) → clash_after places before (xs ++ ys) ≡ option_or (clash_after places before xs) (clash_after places (before ++ xs) ys)
-clash_split places before [] ys = ap (λ (l : List TableRow). clash_after places l ys) (sym (append-nil before))
-clash_split places before (x ∷ xs) ys =
-    ap (clash_or (find (shares_key places x) before) x) (clash_split places (before ++ x ∷ []) xs ys)
-    ∙ clash_or_split (find (shares_key places x) before) x (clash_after places (before ++ x ∷ []) xs) (clash_after places ((before ++ x ∷ []) ++ xs) ys)
-    ∙ ap (λ (l : List TableRow). option_or (clash_after places before (x ∷ xs)) (clash_after places l ys)) (append_assoc before (x ∷ []) xs)
-
-pub none_both : (places : List ℕ) (o : Option KeyClash) → both_stop places o ≡ None → o ≡ None
-none_both places None is = refl
-none_both places (Some clash) is = cc
-
-pub both_first : (X Y : Type 0) (places : List ℕ) (a b : Option KeyClash) (stop : StoreStop) → StopsAs {X = X} (both_stop places a) (Err stop) → StopsAs {X = Y} (both_stop places (option_or a b)) (Err stop)
-both_first X Y places a b stop = stop_kept X Y (both_stop places a) (both_stop places (option_or a b)) stop (by a)
-  where
-    by : (o : Option KeyClash) (is : StoreStop) → both_stop places o ≡ Some is → both_stop places (option_or o b) ≡ Some is
-    by None is due = cc
-    by (Some clash) is due = due
-
--- a refusal is one, whatever else would have come
 pub stop_as : (X Y : Type 0) (due : Option StoreStop) (stop : StoreStop) → StopsAs {X = X} due (Err stop) → StopsAs {X = Y} due (Err stop)
 stop_as X Y due stop = stop_kept X Y due due stop (λ is same. same)
 
--- ---- the row of a slot
-
--- of a row that has a key and a number
-module _ (places : List ℕ) (before : List TableRow) (k : RowKey) (number : ℕ) where
-  one_taken : (row : TableRow) (n : ℕ) → key_at places row.values ≡ k → row.number ≡ number → option_map (λ (one : TableRow). one.number) (row_of_key places k.values before) ≡ Some n
-      → both_stop places (clash_after places before (row ∷ [])) ≡ Some (KeyTaken (Some n) (Some number) k.values)
-  one_taken row n same is found =
-      let at : find (shares_key places row) before ≡ row_of_key places k.values before = ap (λ (q : RowKey). row_of_key places q.values before) same in
-      ap (λ (o : Option TableRow). both_stop places (clash_or o row None)) at ∙ by (row_of_key places k.values before) found where
-        by : (o : Option TableRow) → option_map (λ (one : TableRow). one.number) o ≡ Some n → both_stop places (clash_or o row None) ≡ Some (KeyTaken (Some n) (Some number) k.values)
-        by None none = cc
-        by (Some other) one =
-            let first : other.number ≡ n = some_is one in
-            λ j. Some (KeyTaken (Some (first j)) (Some (is j)) (same j).values) where
-              some_is : {a b : ℕ} → Some a ≡ Some b → a ≡ b
-              some_is e = cc
-
-  pub slot_taken : (o : Option TableRow) (n : ℕ) → option_map (λ (row : TableRow). key_at places row.values) o ≡ Some k → option_map (λ (row : TableRow). row.number) o ≡ Some number
-      → option_map (λ (one : TableRow). one.number) (row_of_key places k.values before) ≡ Some n → both_stop places (clash_after places before (option_to_list o)) ≡ Some (KeyTaken (Some n) (Some number) k.values)
-  slot_taken None n same is found = cc
-  slot_taken (Some row) n same is found = one_taken row n (key_is same) (number_is is) found where
-    key_is : {a b : RowKey} → Some a ≡ Some b → a ≡ b
-    key_is e = cc
-
-    number_is : {a b : ℕ} → Some a ≡ Some b → a ≡ b
-    number_is e = cc
-
-  none_from : (o : Option TableRow) → option_map (λ (one : TableRow). one.number) o ≡ None → o ≡ None
-  none_from None is = refl
-  none_from (Some row) is = cc
-
-  pub slot_free : (o : Option TableRow) → option_map (λ (row : TableRow). key_at places row.values) o ≡ Some k → option_map (λ (one : TableRow). one.number) (row_of_key places k.values before) ≡ None
-      → both_stop places (clash_after places before (option_to_list o)) ≡ None
-  slot_free None same found = refl
-  slot_free (Some row) same found =
-      let at : find (shares_key places row) before ≡ None = ap (λ (q : RowKey). row_of_key places q.values before) (key_is same) ∙ none_from (row_of_key places k.values before) found in
-      ap (λ (o : Option TableRow). both_stop places (clash_or o row None)) at where
-        key_is : {a b : RowKey} → Some a ≡ Some b → a ≡ b
-        key_is e = cc
-
-  pub slot_put : (old new : Held) (o : Option TableRow) → IsIndexOf places old before → option_map (λ (row : TableRow). key_at places row.values) o ≡ Some k → option_map (λ (row : TableRow). row.number) o ≡ Some number
-      → option_map (λ (one : TableRow). one.number) (row_of_key places k.values before) ≡ None → ((q : RowKey) → new q ≡ cond (is_at (key_order k) q) (Some number) (old q)) → IsIndexOf places new (before ++ option_to_list o)
-  slot_put old new None index same is found put = cc
-  slot_put old new (Some row) index same is found put =
-      let here : key_at places row.values ≡ k = key_is same in
-      let one : row.number ≡ number = number_is is in
-      index_more places old new row before index (ap (λ (q : RowKey). row_of_key places q.values before) here ∙ none_from (row_of_key places k.values before) found)
-      (λ q. put q ∙ (λ j. cond (is_at (key_order (sym here j)) q) (Some (sym one j)) (old q))) where
-        key_is : {a b : RowKey} → Some a ≡ Some b → a ≡ b
-        key_is e = cc
-
-        number_is : {a b : ℕ} → Some a ≡ Some b → a ≡ b
-        number_is e = cc
-
--- ---- rows slot by slot
-
-one_of : {X : Type 0} (o : Option X) → cons_option o [] ≡ option_to_list o
-one_of None = refl
-one_of (Some x) = refl
+-- ---- rows that others take the place of
 
 module _ (given : List TableRow) where
-  pub rows_more : (slots : List RowHistory) (slot : ℕ) → slot < length slots → rows_then given (take (slot + 1) slots) ≡ rows_then given (take slot slots) ++ option_to_list (row_then given (get_or slots slot no_history))
-  rows_more slots slot within =
-      ap (rows_then given) (take_more slots slot no_history within) ∙ filter_map-append (row_then given) (take slot slots) (get_or slots slot no_history ∷ [])
-      ∙ ap (λ (l : List TableRow). rows_then given (take slot slots) ++ l) (one_of (row_then given (get_or slots slot no_history)))
-
-  pub rows_left : (slots : List RowHistory) (slot : ℕ) → slot < length slots → rows_then given (drop slot slots) ≡ option_to_list (row_then given (get_or slots slot no_history)) ++ rows_then given (drop (slot + 1) slots)
-  rows_left slots slot within = left_more (row_then given) slots slot within
-
-  pub rows_then_are : (slots : List RowHistory) → rows_then given slots ≡ map (replaced_by given) (rows_now slots)
-  rows_then_are [] = refl
-  rows_then_are (row ∷ slots) = by (current row.changes) (rows_then_are slots) where
-    by : (now : Option (List Value)) → rows_then given slots ≡ map (replaced_by given) (rows_now slots)
-        → cons_option (option_map (replaced_by given) (row_of row.number now)) (rows_then given slots) ≡ map (replaced_by given) (cons_option (row_of row.number now) (rows_now slots))
-    by None rest = rest
-    by (Some values) rest = ap (λ (l : List TableRow). replaced_by given (record { number = row.number; values = values }) ∷ l) rest
-
   pub number_kept : (row : TableRow) → (replaced_by given row).number ≡ row.number
   number_kept row = by (find (λ new. new.number == row.number) given) refl where
     by : (o : Option TableRow) → find (λ new. new.number == row.number) given ≡ o → (unwrap_or o row).number ≡ row.number
     by None is = refl
     by (Some new) is = number_found row.number given new is
-
-  -- what is left in a slot whose row stands has its number
-  pub number_then : (row : RowHistory) → IsSome (current row.changes) → option_map (λ (one : TableRow). one.number) (row_then given row) ≡ Some row.number
-  number_then row stands = by (current row.changes) stands where
-    by : (now : Option (List Value)) → IsSome now → option_map (λ (one : TableRow). one.number) (option_map (replaced_by given) (row_of row.number now)) ≡ Some row.number
-    by None some = cc
-    by (Some values) some = ap (λ (n : ℕ). Some n) (number_kept (record { number = row.number; values = values }))
-
-  pub gone_then : (row : RowHistory) → is_some (current row.changes) ≡ false → row_then given row ≡ None
-  gone_then row gone = by (current row.changes) gone where
-    by : (now : Option (List Value)) → is_some now ≡ false → option_map (replaced_by given) (row_of row.number now) ≡ None
-    by None is = refl
-    by (Some values) is = cc
-
-  -- the key that the row of a slot has then
-  pub key_given : (places : List ℕ) (row : RowHistory) (new : TableRow) → IsSome (current row.changes) → find (λ one. one.number == row.number) given ≡ Some new
-      → option_map (λ (one : TableRow). key_at places one.values) (row_then given row) ≡ Some (key_at places new.values)
-  key_given places row new stands is = by (current row.changes) stands where
-    by : (now : Option (List Value)) → IsSome now → option_map (λ (one : TableRow). key_at places one.values) (option_map (replaced_by given) (row_of row.number now)) ≡ Some (key_at places new.values)
-    by None some = cc
-    by (Some values) some = ap (λ (o : Option TableRow). Some (key_at places (unwrap_or o (record { number = row.number; values = values })).values)) is
-
-  pub key_kept : (places : List ℕ) (row : RowHistory) (values : List Value) → Some values ≡ current row.changes → find (λ one. one.number == row.number) given ≡ None
-      → option_map (λ (one : TableRow). key_at places one.values) (row_then given row) ≡ Some (key_at places values)
-  key_kept places row values now is =
-      ap (λ (o : Option (List Value)). option_map (λ (one : TableRow). key_at places one.values) (option_map (replaced_by given) (row_of row.number o))) (sym now)
-      ∙ ap (λ (o : Option TableRow). Some (key_at places (unwrap_or o (record { number = row.number; values = values })).values)) is
-
-  -- all rows have small numbers
-  pub found_below : (next : ℕ) (p : TableRow → Bool) (n : ℕ) (slots : List RowHistory) → ((i : ℕ) → i < length slots → (get_or slots i no_history).number < next)
-      → (number : ℕ) → option_map (λ (one : TableRow). one.number) (find p (rows_then given (take n slots))) ≡ Some number → number < next
-  found_below next p zero slots below number is = cc
-  found_below next p (suc n) [] below number is = cc
-  found_below next p (suc n) (row ∷ slots) below number is =
-      by (row_then given row) refl (λ found. found_below next p n slots (λ i within. below (suc i) (omega (arith, within))) number found) is where
-        one_number : (now : Option (List Value)) (one : TableRow) → option_map (replaced_by given) (row_of row.number now) ≡ Some one → one.number ≡ row.number
-        one_number None one same = cc
-        one_number (Some values) one same = ap (λ (r : TableRow). r.number) (sym (some_is same)) ∙ number_kept (record { number = row.number; values = values }) where
-          some_is : {a b : TableRow} → Some a ≡ Some b → a ≡ b
-          some_is e = cc
-
-        by : (o : Option TableRow) → row_then given row ≡ o → (option_map (λ (one : TableRow). one.number) (find p (rows_then given (take n slots))) ≡ Some number → number < next)
-            → option_map (λ (one : TableRow). one.number) (find p (cons_option o (rows_then given (take n slots)))) ≡ Some number → number < next
-        by None was rest found = rest found
-        by (Some one) was rest found = elim (cases_Bool (p one)) [
-          | inl hit ↦
-              let same : one.number ≡ number = some_is (sym (ap (λ b. option_map (λ (r : TableRow). r.number) (cond b (Some one) (find p (rows_then given (take n slots))))) hit) ∙ found) in
-              omega (arith, same, one_number (current row.changes) one was, below 0 (omega arith))
-          | inr miss ↦ rest (sym (ap (λ b. option_map (λ (r : TableRow). r.number) (cond b (Some one) (find p (rows_then given (take n slots))))) miss) ∙ found)
-        ] where
-          some_is : {a b : ℕ} → Some a ≡ Some b → a ≡ b
-          some_is e = cc
 
 -- ---- the given row of a number
 
@@ -269,10 +118,6 @@ given_found number (row ∷ rows) (suc place) sorted before after =
     ∙ given_found number rows place both.1 (λ k d below. before (suc k) d (omega (arith, below))) (λ k d from below. after (suc k) d (omega (arith, from)) (omega (arith, below)))
 
 -- ---- results
-
-pub if_ok_is : {E : Type 0} (r : Result RowKey E) (o : Option RowKey) (k : RowKey) → o ≡ Some k → IfOk r (λ one. one ≡ k) → IfOk r (λ one. o ≡ Some one)
-if_ok_is (Ok one) o k is same = is ∙ ap (λ (q : RowKey). Some q) (sym same)
-if_ok_is (Err e) o k is same = tt
 
 pub if_ok : {X E : Type 0} (P Q : X → Type 0) (r : Result X E) → ((x : X) → P x → Q x) → IfOk r P → IfOk r Q
 if_ok P Q (Ok x) to holds = to x holds

@@ -11,7 +11,7 @@ use Rattle.row_version.specs.History.{Change, written, deleted, current, as_of, 
 use Rattle.row_version.proofs.Later.{current_after, last_time_after, as_of_earlier, sorted_after}
 use Rattle.sql_model.specs.Changes.{numbered}
 use Rattle.sql_model.specs.Needs.{stood}
-use Rattle.table_store.specs.Types.{Value, Column, Schema, Table, TableRow}
+use Rattle.table_store.specs.Types.{Value, RowKey, Column, Schema, Table, TableRow}
 use Rattle.table_store.specs.Grid.{next_after}
 use Rattle.table_store.specs.Histories.{RowHistory, NextSince, TableHistory, no_history, row_of, row_now, rows_now, row_as_of, rows_as_of, added, with_change, changed_by, writing, dropping, rewritten, dropped, last_next, last_since, next_as_of, noted, table_now, inserted, replaced, removed}
 use Rattle.table_store.specs.KeyIndex.{Held, AreHeld, AreIndexed}
@@ -21,6 +21,7 @@ use Rattle.table_store.specs.Stops.{has_shape, values_of, are_sorted_rows, are_s
 use Rattle.table_store.specs.RowChains.{RowsHistory}
 use Rattle.table_store.specs.TableView.{kinds_in, IsTimed, AreTimed, IsStored}
 use Rattle.table_store.specs.declared.change.RowChange.{RowChange}
+use Rattle.table_store.proofs.IndexChangeLaws.{indexed_wider}
 use Rattle.table_store.proofs.InsertLaws.{timed_more, now_more, numbered_after}
 use Rattle.table_store.proofs.NextLaws.{noted_in_time}
 use Rattle.table_store.proofs.TableLaws.{added_now, number_found, shape_fits}
@@ -322,6 +323,16 @@ pub indexed_removed : (key : List ℕ) (held : Held) (time : ℕ) (numbers : Lis
 indexed_removed key held time numbers slots indexed =
     subst (λ (l : List TableRow). AreIndexed key held l) (sym (ap (λ (changes : List (ℕ × Change)). rows_now (map (changed_by changes) slots)) (changes_removed time numbers) ∙ now_dropped time numbers slots))
     (indexed_kept key held (λ row. not (is_among numbers row)) (rows_now slots) indexed)
+
+-- an index with more keys
+pub stored_wider : (schema : Schema) (rows : RowsHistory) (old new : Held) (nexts : List NextSince) → ((q : RowKey) (n : ℕ) → old q ≡ Some n → new q ≡ Some n) → IsStored schema rows old nexts → IsStored schema rows new nexts
+stored_wider schema rows old new nexts keeps stored = record {
+  kinds = stored.kinds;
+  next = stored.next;
+  in_time = stored.in_time;
+  timed = stored.timed;
+  indexed = indexed_wider schema.key old new keeps (rows_now rows.slots) stored.indexed;
+}
 
 pub indexed_replaced : (key : List ℕ) (held : Held) (time : ℕ) (rows : List TableRow) (slots : List RowHistory) → GivenStand rows slots → AreIndexed key held (map (replaced_by rows) (rows_now slots))
     → AreIndexed key held (rows_now (map (changed_by (changes_given time (map rewrite rows))) slots))

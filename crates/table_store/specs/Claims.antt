@@ -1,14 +1,11 @@
 -- Keys of new rows, and of rows that take the place of others.
 use Rattle.std.specs.Prelude.{◌≡◌, ◌==◌, ◌&&◌, ℕ, List, Option, Some, None, find, if◌then◌else◌}
 use Rattle.std.specs.Prelude.{nat_lt}
-use Rattle.std.specs.List.{filter_map}
 use Rattle.std.specs.Option.{option_map}
 use Rattle.sql_model.specs.Changes.{KeyClash}
 use Rattle.sql_model.specs.Keys.{values_at}
 use Rattle.table_store.specs.Types.{Value, RowKey, TableRow}
-use Rattle.table_store.specs.Histories.{RowHistory, row_now}
 use Rattle.table_store.specs.KeyIndex.{Held, AreHeld, has_key, row_of_key}
-use Rattle.table_store.specs.Stops.{replaced_by}
 use Rattle.table_store.specs.declared.stop.StoreStop.{StoreStop}
 use Rattle.table_store.specs.declared.stop.StoreStop.TheVariants.{KeyTaken}
 
@@ -29,13 +26,6 @@ claim_stop key next (Some clash) =
     Some (KeyTaken (old_number next clash.earlier.number) None (values_at key clash.later.values))
 
 -- ---- keys after rows took the place of others
-
--- what is left in a slot, once given rows took the place of those of their numbers
-abbrev pub row_then : List TableRow → RowHistory → Option TableRow
-row_then given row = option_map (replaced_by given) (row_now row)
-
-abbrev pub rows_then : List TableRow → List RowHistory → List TableRow
-rows_then given slots = filter_map (row_then given) slots
 
 -- what is held is each row under its key, and nothing else
 pub record IsIndexOf (places : List ℕ) (held : Held) (rows : List TableRow) : Type 0 where

@@ -1,6 +1,7 @@
 pub mod Cells
 pub mod Claims
 pub mod Flags
+pub mod GivenKeys
 pub mod Grid
 pub mod Histories
 pub mod IntCells

@@ -5,7 +5,7 @@ ghost use Rattle.std.specs.Prelude.{◌++◌, cond, if◌then◌else◌, Option,
 ghost use Rattle.std.specs.Prelude.{IsSome, length, map, slice_index_or, unwrap_or};
 ghost use Rattle.table_store.specs.Types.{RowKey};
 ghost use Rattle.std.specs.BTreeMap.{get, is_at};
-ghost use Rattle.std.specs.Option.{option_map, option_to_list};
+ghost use Rattle.std.specs.Option.{option_map, option_to_list, option_or};
 ghost use Rattle.sql_model.specs.KeyOrder.{key_order};
 ghost use Rattle.sql_model.specs.Keys.{key_at};
 ghost use Rattle.sql_model.specs.Tables.{are_keys_unique};
@@ -52,15 +52,61 @@ impl Index {
         self.held.insert(key, number)?;
         Ok(())
     }
-}
 
-/// Puts an index in the place of another, where there is one.
-pub(crate) fn use_index(held: &mut Index, made: Option<Index>)
-    ensures { held.new ≡ unwrap_or made held.old }
-{
-    match made {
-        None => {}
-        Some(index) => *held = index,
+    /// Changes the number under a key, which has one. It takes no memory.
+    pub(crate) fn set(&mut self, key: &RowKey, number: u64)
+        requires { IsSome (get key_order self.old.held key.now) }
+        ensures { (q : RowKey) → get key_order self.new.held q
+            ≡ cond (is_at (key_order key.now) q) (Some number) (get key_order self.old.held q) }
+    {
+        match self.held.get_mut(key) {
+            Some(held) => *held = number,
+            None => unreachable!(),
+        }
+    }
+
+    /// Puts a number under a key that has none, and leaves that of a key that has one.
+    pub(crate) fn open(&mut self, key: &RowKey, number: u64) -> Result<(), AllocError>
+        ensures kept { (q : RowKey) (n : ℕ) → get key_order self.old.held q ≡ Some n
+            → get key_order self.new.held q ≡ Some n }
+        ensures ok { OnOk result (IsSome (get key_order self.new.held key.now)) }
+    {
+        if self.number(key).is_some() {
+            return Ok(());
+        }
+        let values = key.values.copy()?;
+        self.put(RowKey { values }, number)?;
+        Ok(())
+    }
+
+    /// Gives each key of other numbers one of them, unless it has one.
+    pub(crate) fn open_all(&mut self, other: &Index) -> Result<(), AllocError>
+        ensures kept { (q : RowKey) (n : ℕ) → get key_order self.old.held q ≡ Some n
+            → get key_order self.new.held q ≡ Some n }
+        ensures ok { OnOk result ((q : RowKey) → IsSome (get key_order other.now.held q)
+            → IsSome (get key_order self.new.held q)) }
+    {
+        for (key, number) in other.held.iter() {
+            match self.open(key, *number) {
+                Ok(()) => {}
+                Err(refused) => return Err(refused),
+            }
+        }
+        Ok(())
+    }
+
+    /// Takes other numbers over, whose keys all have one. It takes no memory.
+    pub(crate) fn set_all(&mut self, other: Index)
+        requires { (q : RowKey) → IsSome (get key_order other.held q)
+            → IsSome (get key_order self.old.held q) }
+        ensures { (q : RowKey) → get key_order self.new.held q
+            ≡ option_or (get key_order other.held q) (get key_order self.old.held q) }
+    {
+        let Index { held } = other;
+        let mut left = held;
+        while let Some((key, number)) = left.pop_first() {
+            self.set(&key, number);
+        }
     }
 }
 

@@ -23,8 +23,9 @@
 //!
 //! How rows change: all room that a change takes is made first (`room`), and then the change can't fail
 //! (`apply`). Keys of new rows go into the index one after the other (`claim`). Where rows get other
-//! values and keep their keys, the index stays. Where a key changes, the keys of the whole result are judged,
-//! and the index is made anew (`rekey`).
+//! values and keep their keys, the index stays. Where a key changes, the given rows' keys are judged against each
+//! other and against the rows that keep theirs (`rekey`, `clash`). Keys that the index lacks get a number before
+//! the rows change, and all get their own afterwards, which takes no memory.
 #![tactic(auto)]
 
 mod apply;
@@ -33,6 +34,7 @@ mod cell;
 mod chains;
 mod change;
 mod claim;
+mod clash;
 mod column;
 mod columns;
 mod grid;

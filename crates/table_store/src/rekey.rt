@@ -1,55 +1,58 @@
 //! The keys of rows once others took the place of some of them.
 
 ghost use Rattle.std.specs.Prelude.{◌≡◌, ◌==◌, ℕ, ◌+◌, ◌^◌, ◌<◌, ◌≤◌, Bool, true, false, List, [], ◌∷◌, ◌++◌};
-ghost use Rattle.std.specs.Prelude.{Option, Some, None, find, OnOk, OnErr, IfOk, IsSome, MatchOption, length};
-ghost use Rattle.std.specs.Prelude.{map, take, slice_get, slice_index_or};
+ghost use Rattle.std.specs.Prelude.{Option, Some, None, find, OnOk, OnErr, IfOk, IfErr, IsSome, length};
+ghost use Rattle.std.specs.Prelude.{map, take, slice_get, Err};
 ghost use Rattle.std.specs.BTreeMap.{get};
-ghost use Rattle.std.specs.List.{AllByRecursion};
-ghost use Rattle.std.specs.Option.{option_map, option_to_list};
-ghost use Rattle.row_version.specs.History.{current};
+ghost use Rattle.std.specs.List.{AllByRecursion, list_all, list_any};
+ghost use Rattle.std.specs.Option.{option_map};
 ghost use Rattle.sql_model.specs.Changes.{clash_after, clash_by};
 ghost use Rattle.sql_model.specs.KeyOrder.{key_order};
-ghost use Rattle.sql_model.specs.Keys.{key_at};
-ghost use Rattle.table_store.specs.Claims.{row_then, rows_then, IsIndexOf, both_stop, KeepsKey};
-ghost use Rattle.table_store.specs.Histories.{no_history, rows_now};
-ghost use Rattle.table_store.specs.KeyIndex.{AreIndexed};
+ghost use Rattle.table_store.specs.Claims.{both_stop, KeepsKey};
+ghost use Rattle.table_store.specs.GivenKeys.{with_claims, keeper, AreJudged};
+ghost use Rattle.table_store.specs.Histories.{rows_now};
+ghost use Rattle.table_store.specs.KeyIndex.{AreHeld, AreIndexed};
 ghost use Rattle.table_store.specs.Stops.{are_sorted_rows, replaced_by, StopsAs};
 
-use crate::index::{Index, has_key_at, key_of};
+use crate::clash::{Clash, sooner, soonest};
+use crate::index::{Index, has_key_at, held_number, key_of};
 use crate::rows::Rows;
 use crate::stop::StoreStop;
 use ldv_value::Places;
 use sql_model::{RowKey, TableRow};
 use std::alloc::{AllocError, Global};
 
-/// The index of the rows that stand, once given ones took the place of those of their numbers; `None` where
-/// each of these keeps its key, so that the index that there is stays right. Only then are no others looked
-/// at.
-pub(crate) fn index_if_changed(
+/// The numbers of the given rows under the keys that they have, once they took the place of those of their
+/// numbers; none where each of them keeps its key. With these put, the index is that of the rows then.
+/// KeyTaken: two rows would have one key. No other row is looked at than the given ones and those that have one
+/// of their keys.
+pub(crate) fn claims_of(
     alloc: Global,
     index: &Index,
     stored: &Rows,
     places: &Places,
     given: &[TableRow],
-) -> Result<Option<Index>, StoreStop>
+) -> Result<Index, StoreStop>
     requires sorted { are_sorted_rows given.now ≡ true }
+    requires stand { list_all (λ row. list_any (λ old. old.number == row.number)
+        (rows_now stored.now.slots)) given.now ≡ true }
     requires indexed { AreIndexed places.now (λ key. get key_order index.now.held key)
         (rows_now stored.now.slots) }
-    ensures ok { IfOk result (λ made. let rows = map (replaced_by given.now) (rows_now stored.now.slots) in
-        MatchOption made (AreIndexed places.now (λ key. get key_order index.now.held key) rows)
-        (λ index. AreIndexed places.now (λ key. get key_order index.held key) rows)) }
+    ensures ok { IfOk result (λ claims. AreIndexed places.now
+        (with_claims (λ key. get key_order claims.held key) (λ key. get key_order index.now.held key))
+        (map (replaced_by given.now) (rows_now stored.now.slots))) }
     ensures stop { StopsAs (both_stop places.now
         (clash_by places.now (map (replaced_by given.now) (rows_now stored.now.slots)))) result }
 {
+    if places.is_empty() {
+        return Ok(Index::new(alloc));
+    }
     stored.tell_order();
     let keep = keep_keys(alloc, stored, places, given)?;
     if keep {
-        return Ok(None);
+        return Ok(Index::new(alloc));
     }
-    match index_after(alloc, stored, places, given) {
-        Ok(made) => Ok(Some(made)),
-        Err(stop) => Err(stop),
-    }
+    claim_keys(alloc, index, stored, places, given)
 }
 
 // Whether each given row has the key of the row of its number.
@@ -83,107 +86,113 @@ fn keeps_key(
     Ok(has_key_at(stored, places, &key.values, row.number as u64))
 }
 
-// The index of the rows that stand, once given ones took the place of those of their numbers. The keys are
-// judged row by row of the result, and no row is looked at twice.
-fn index_after(
+// The numbers of the given rows under their keys, where there is a key.
+fn claim_keys(
     alloc: Global,
+    index: &Index,
     stored: &Rows,
     places: &Places,
     given: &[TableRow],
 ) -> Result<Index, StoreStop>
-    requires { are_sorted_rows given.now ≡ true }
-    ensures ok { IfOk result (λ index. AreIndexed places.now (λ key. get key_order index.held key)
+    requires sorted { are_sorted_rows given.now ≡ true }
+    requires stand { list_all (λ row. list_any (λ old. old.number == row.number)
+        (rows_now stored.now.slots)) given.now ≡ true }
+    requires held { AreHeld places.now (λ key. get key_order index.now.held key) (rows_now stored.now.slots) }
+    ensures ok { IfOk result (λ claims. AreHeld places.now
+        (with_claims (λ key. get key_order claims.held key) (λ key. get key_order index.now.held key))
         (map (replaced_by given.now) (rows_now stored.now.slots))) }
     ensures stop { StopsAs (both_stop places.now
-        (clash_by places.now (map (replaced_by given.now) (rows_now stored.now.slots)))) result }
+        (clash_after places.now [] (map (replaced_by given.now) (rows_now stored.now.slots)))) result }
 {
-    if places.is_empty() {
-        return Ok(Index::new(alloc));
-    }
-    index_all(alloc, stored, places, given)
-}
-
-// The same where there is a key.
-fn index_all(
-    alloc: Global,
-    stored: &Rows,
-    places: &Places,
-    given: &[TableRow],
-) -> Result<Index, StoreStop>
-    requires { are_sorted_rows given.now ≡ true }
-    ensures ok { IfOk result (λ index. IsIndexOf places.now (λ key. get key_order index.held key)
-        (rows_then given.now stored.now.slots)) }
-    ensures stop { StopsAs (both_stop places.now
-        (clash_after places.now [] (rows_then given.now stored.now.slots))) result }
-{
-    let mut index = Index::new(alloc);
-    for slot in 0..stored.len() {
-        match index_slot(alloc, &mut index, stored, places, given, slot) {
-            Ok(()) => {}
+    stored.tell_order();
+    let mut claims = Index::new(alloc);
+    let mut first = None;
+    for place in 0..given.len() {
+        match claim_next(
+            alloc,
+            &mut claims,
+            first,
+            index,
+            stored,
+            places,
+            given,
+            place,
+        ) {
+            Ok(next) => first = next,
             Err(stop) => return Err(stop),
         }
     }
-    Ok(index)
+    match first {
+        None => Ok(claims),
+        Some(clash) => Err(clash.into_stop()),
+    }
 }
 
-// Puts the row of one more slot into the index.
-fn index_slot(
+// Claims the key of one more given row, and returns the first clash so far of a given row and one that keeps
+// its key. KeyTaken: an earlier given row has the key. As later given rows clash later, the first clash is known
+// then.
+fn claim_next(
     alloc: Global,
-    index: &mut Index,
+    claims: &mut Index,
+    first: Option<Clash>,
+    index: &Index,
     stored: &Rows,
     places: &Places,
     given: &[TableRow],
-    slot: usize,
-) -> Result<(), StoreStop>
-    requires within { slot < length stored.now.slots }
+    place: usize,
+) -> Result<Option<Clash>, StoreStop>
+    requires within { place < length given.now }
     requires sorted { are_sorted_rows given.now ≡ true }
-    requires index { IsIndexOf places.now (λ key. get key_order index.old.held key)
-        (rows_then given.now (take slot stored.now.slots)) }
-    ensures ok { OnOk result (IsIndexOf places.now (λ key. get key_order index.new.held key)
-        (rows_then given.now (take (slot + 1) stored.now.slots))) }
-    ensures stop { StopsAs (both_stop places.now
-        (clash_after places.now (rows_then given.now (take slot stored.now.slots))
-        (option_to_list (row_then given.now (slice_index_or stored.now.slots slot no_history))))) result }
+    requires stand { list_all (λ row. list_any (λ old. old.number == row.number)
+        (rows_now stored.now.slots)) given.now ≡ true }
+    requires held { AreHeld places.now (λ key. get key_order index.now.held key) (rows_now stored.now.slots) }
+    requires judged { AreJudged places.now (rows_now stored.now.slots) given.now
+        (λ key. get key_order claims.old.held key) first (take place given.now) }
+    ensures ok { IfOk result (λ next. AreJudged places.now (rows_now stored.now.slots) given.now
+        (λ key. get key_order claims.new.held key) next (take (place + 1) given.now)) }
+    ensures stop { IfErr result (λ stop. StopsAs {X = Unit {0}} (both_stop places.now
+        (clash_after places.now [] (map (replaced_by given.now) (rows_now stored.now.slots)))) (Err stop)) }
 {
-    if !stored.stands(slot) {
-        return Ok(());
-    }
     stored.tell_order();
-    let number = stored.number(slot);
-    let key = key_then(alloc, stored, places, given, slot)?;
-    match index.number(&key) {
-        Some(earlier) => Err(StoreStop::KeyTaken {
-            earlier: Some(earlier as u32),
-            later: Some(number),
-            key: key.values,
-        }),
+    let row = &given[place];
+    let key = key_of(alloc, places, &row.values)?;
+    match claims.number(&key) {
+        Some(earlier) => Err(sooner(
+            first,
+            Clash {
+                earlier: earlier as u32,
+                later: row.number,
+                key: key.values,
+            },
+        )
+        .into_stop()),
         None => {
-            index.put(key, number as u64)?;
-            Ok(())
+            let kept = keeper(index, stored, places, given, &key);
+            let next = soonest(first, kept, row.number, &key.values)?;
+            claims.put(key, row.number as u64)?;
+            Ok(next)
         }
     }
 }
 
-// The key that the row in a slot has then.
-fn key_then(
-    alloc: Global,
+// The number of the row that has a key and isn't given, so that it keeps the key.
+fn keeper(
+    index: &Index,
     stored: &Rows,
     places: &Places,
     given: &[TableRow],
-    slot: usize,
-) -> Result<RowKey, AllocError>
-    requires within { slot < length stored.now.slots }
+    key: &RowKey,
+) -> Option<u32>
     requires sorted { are_sorted_rows given.now ≡ true }
-    requires stands { IsSome (current (slice_index_or stored.now.slots slot no_history).changes) }
-    ensures { IfOk result (λ key. option_map (λ row. key_at places.now row.values)
-        (row_then given.now (slice_index_or stored.now.slots slot no_history)) ≡ Some key) }
+    requires held { AreHeld places.now (λ key. get key_order index.now.held key) (rows_now stored.now.slots) }
+    ensures { result ≡ keeper places.now (rows_now stored.now.slots) given.now key.now.values }
 {
-    match given_row(given, stored.number(slot)) {
-        Some(row) => key_of(alloc, places, &row.values),
-        None => {
-            let values = stored.copy_values(alloc, slot)?;
-            key_of(alloc, places, &values)
-        }
+    match held_number(index, stored, places, key) {
+        None => None,
+        Some(number) => match given_row(given, number) {
+            None => Some(number),
+            Some(_given) => None,
+        },
     }
 }
 

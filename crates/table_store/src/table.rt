@@ -30,10 +30,10 @@ ghost use Rattle.table_store.specs.TableView.{begun, kinds_in, AreTimed};
 use crate::cell::Cell;
 use crate::change::{RowChange, removals, rewrites};
 use crate::claim::claim;
-use crate::index::{Index, held_number, index_of, number_by_slots, use_index};
+use crate::index::{Index, held_number, index_of, number_by_slots};
 use crate::insert::{any_lacks_value, any_row_lacks_value, is_full, numbered_rows};
 use crate::nexts::{NextSince, first_next, next_as_of};
-use crate::rekey::index_if_changed;
+use crate::rekey::claims_of;
 use crate::rows::Rows;
 use crate::stop::StoreStop;
 use ldv_value::{Cmp, List, Numbers, RowList, Utf8, Values};
@@ -307,20 +307,21 @@ impl TableStore {
             return Err(StoreStop::NotNull);
         }
         let alloc = self.name.allocator();
-        let index = match index_if_changed(
+        let claims = match claims_of(
             alloc,
             &self.index,
             &self.rows,
             &self.schema.key,
             rows.items(),
         ) {
-            Ok(index) => index,
+            Ok(claims) => claims,
             Err(stop) => return Err(stop),
         };
+        self.index.open_all(&claims)?;
         self.rows.tell_order();
         let given = rewrites(alloc, rows)?;
         change_rows(alloc, &mut self.rows, &mut self.nexts, given, time)?;
-        use_index(&mut self.index, index);
+        self.index.set_all(claims);
         Ok(())
     }
 

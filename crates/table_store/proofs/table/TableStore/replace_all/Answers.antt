@@ -1,4 +1,4 @@
-use Rattle.std.proofs.Common.{rules, ◌≡◌, ◌∙◌, ◌<◌, ap, sym, subst, ℕ, List, Bool, map, true, false, None, Option, refl}
+use Rattle.std.proofs.Common.{rules, ◌≡◌, ◌∙◌, ◌==◌, ◌<◌, ap, sym, subst, ℕ, List, Bool, map, true, false, None, Option, refl}
 use Rattle.std.specs.Prelude.{Err}
 use Rattle.std.specs.BTreeMap.{get}
 use Rattle.std.specs.List.{list_all, list_any}
@@ -7,6 +7,7 @@ use Rattle.sql_model.specs.Changes.{has_null, clash_by}
 use Rattle.sql_model.specs.KeyOrder.{key_order}
 use Rattle.table_store.specs.Types.{TableRow}
 use Rattle.table_store.specs.Claims.{both_stop}
+use Rattle.table_store.specs.GivenKeys.{with_claims}
 use Rattle.table_store.specs.Histories.{RowHistory, NextSince, TableHistory, changed_by, last_since, last_next, noted, replaced, rewritten, rows_now, table_now}
 use Rattle.table_store.specs.KeyIndex.{Held, AreIndexed}
 use Rattle.table_store.specs.Nexts.{nexts_of}
@@ -17,10 +18,16 @@ use Rattle.table_store.specs.TableView.{IsStored}
 use Rattle.table_store.specs.declared.change.RowChange.{RowChange}
 use Rattle.table_store.specs.declared.stop.StoreStop.{StoreStop}
 use Rattle.table_store.specs.declared.index.Index.{Index}
-use Rattle.table_store.proofs.KeptKeyLaws.{used_holds}
+use Rattle.table_store.proofs.IndexChangeLaws.{claims_kept, indexed_same}
 use Rattle.table_store.proofs.RekeyLaws.{replace_stop_is, stop_as}
-use Rattle.table_store.proofs.TableChangeLaws.{before_all, rewrites_rise, rewrites_stand, rewrites_fit, changes_written, stored_changed, indexed_replaced, GivenStand, given_stand, replaced_now}
+use Rattle.table_store.proofs.TableChangeLaws.{before_all, rewrites_rise, rewrites_stand, rewrites_fit, changes_written, stored_changed, stored_wider, indexed_replaced, GivenStand, given_stand, replaced_now}
 use Rattle.table_store.proofs.table.TableStore.replace_all.Goals as goal
+
+pub claims_of-requires-clause-stand : goal.claims_of-requires-clause-stand
+claims_of-requires-clause-stand c =
+    let a = c.self.inside in
+    subst (λ (l : List TableRow). list_all (λ row. list_any (λ old. old.number == row.number) (rows_now a.rows.slots)) l ≡ true) (sym c.items-3.ensures)
+    (subst (λ (t : TableHistory). all_stood c.args.rows (table_now t) ≡ true) (sym c.self.view_is) c.requires.stand)
 
 pub change_rows-requires-clause-before : goal.change_rows-requires-clause-before
 change_rows-requires-clause-before c =
@@ -51,7 +58,7 @@ returns-in-Err-clause-stop c =
     let lacks : list_any (has_null made.schema.columns) c.args.rows ≡ false = search rules in
     let given = c.items-3.ensures in
     let stop = subst (λ (l : List TableRow). StopsAs {X = Unit {0}} (both_stop a.schema.key (clash_by a.schema.key (map (replaced_by l) (rows_now a.rows.slots)))) (Err c.in-Err.stop)) given
-    (stop_as (Option Index) (Unit {0}) (both_stop a.schema.key (clash_by a.schema.key (map (replaced_by c.items-3.result.now) (rows_now a.rows.slots)))) c.in-Err.stop c.in-Err.ensures.stop) in
+    (stop_as Index (Unit {0}) (both_stop a.schema.key (clash_by a.schema.key (map (replaced_by c.items-3.result.now) (rows_now a.rows.slots)))) c.in-Err.stop c.in-Err.ensures.stop) in
     subst (λ (t : TableHistory). StopsAs {X = Unit {0}} (replace_stop c.args.rows (table_now t)) (Err c.in-Err.stop)) c.self.view_is
     (subst (λ (o : Option StoreStop). StopsAs {X = Unit {0}} o (Err c.in-Err.stop)) (sym (replace_stop_is c.args.rows made lacks)) stop)
 
@@ -64,21 +71,42 @@ returns-clause-stop c =
     let none = subst (λ (l : List TableRow). both_stop a.schema.key (clash_by a.schema.key (map (replaced_by l) (rows_now a.rows.slots))) ≡ None) given c.in-Ok.ensures.stop in
     subst (λ (t : TableHistory). replace_stop c.args.rows (table_now t) ≡ None) c.self.view_is (replace_stop_is c.args.rows made lacks ∙ none)
 
+pub invariant_of-self : goal.invariant_of-self
+invariant_of-self c =
+    let a = c.self.inside in
+    stored_wider a.schema a.rows (λ key. get key_order a.index.held key) (λ key. get key_order c.open_all.new.self.held key) (nexts_of a.nexts.items) c.open_all.ensures.kept c.self.invariant
+
+pub invariant_of-self-in_err-given : goal.invariant_of-self-in_err-given
+invariant_of-self-in_err-given c =
+    let a = c.self.inside in
+    stored_wider a.schema a.rows (λ key. get key_order a.index.held key) (λ key. get key_order c.open_all.new.self.held key) (nexts_of a.nexts.items) c.open_all.ensures.kept c.self.invariant
+
+pub invariant_of-self-in_err-change_rows : goal.invariant_of-self-in_err-change_rows
+invariant_of-self-in_err-change_rows c =
+    let a = c.self.inside in
+    let opened : Held = λ key. get key_order c.open_all.new.self.held key in
+    let nexts : nexts_of a.nexts.items ≡ nexts_of c.change_rows.new.nexts.items = ap nexts_of (sym c.in_err-change_rows.ensures.nexts_err) in
+    subst (λ (r : RowsHistory). IsStored a.schema r opened (nexts_of c.change_rows.new.nexts.items)) (sym c.in_err-change_rows.ensures.err)
+    (subst (λ (n : List NextSince). IsStored a.schema a.rows opened n) nexts
+    (stored_wider a.schema a.rows (λ key. get key_order a.index.held key) opened (nexts_of a.nexts.items) c.open_all.ensures.kept c.self.invariant))
+
 pub invariant_of-self-2 : goal.invariant_of-self-2
 invariant_of-self-2 c =
     let a = c.self.inside in
     let time = c.args.time in
     let rows = c.args.rows in
     let old : Held = λ key. get key_order a.index.held key in
-    let held : Held = λ key. get key_order c.use_index.new.held.held key in
+    let held : Held = λ key. get key_order c.set_all.new.self.held key in
     let nexts = nexts_of a.nexts.items in
     let made : TableHistory = record { name = a.name; schema = a.schema; slots = a.rows.slots; nexts = nexts } in
     let given = c.in_ok-given.given.items in
     let later : last_since nexts < time = subst (λ (t : TableHistory). last_since t.nexts < time) (sym c.self.view_is) c.requires.later in
     let stood = subst (λ (t : TableHistory). all_stood rows (table_now t) ≡ true) (sym c.self.view_is) c.requires.stand in
     let stand : GivenStand rows a.rows.slots = given_stand time rows (table_now made) a.rows.slots a.rows.next refl c.tell_order.ensures.order stood in
-    let used = subst (λ (i : Index). AreIndexed a.schema.key (λ key. get key_order i.held key) (map (replaced_by c.items-3.result.now) (rows_now a.rows.slots))) (sym c.use_index.ensures)
-    (used_holds (λ (i : Index). AreIndexed a.schema.key (λ key. get key_order i.held key) (map (replaced_by c.items-3.result.now) (rows_now a.rows.slots))) c.in-Ok.index a.index c.in-Ok.ensures.ok) in
+    let claims : Held = λ key. get key_order c.in-Ok.claims.held key in
+    let opened : Held = λ key. get key_order c.open_all.new.self.held key in
+    let after : List TableRow = map (replaced_by c.items-3.result.now) (rows_now a.rows.slots) in
+    let used : AreIndexed a.schema.key held after = indexed_same a.schema.key (with_claims claims opened) held (λ q. sym (c.set_all.ensures q)) after (claims_kept a.schema.key claims old opened c.open_all.ensures.kept after c.in-Ok.ensures.ok) in
     let keys = subst (λ (l : List TableRow). AreIndexed a.schema.key held (map (replaced_by l) (rows_now a.rows.slots))) c.items-3.ensures used in
     let indexed = subst (λ (l : List RowChange). AreIndexed a.schema.key held (rows_now (map (changed_by (changes_given time l)) a.rows.slots))) (sym c.in_ok-given.ensures) (indexed_replaced a.schema.key held time rows a.rows.slots stand keys) in
     let whole = stored_changed a.schema a.rows old held nexts time given c.self.invariant later indexed in

@@ -1,0 +1,83 @@
+//! Two rows that have one key, once given rows took the place of others.
+
+ghost use Rattle.std.specs.Prelude.{◌≡◌, ℕ, List, Option, Some, None, IfOk};
+ghost use Rattle.table_store.specs.GivenKeys.{clash_of, sooner, soonest};
+ghost use Rattle.table_store.specs.declared.stop.StoreStop.TheVariants.{KeyTaken};
+
+use crate::stop::StoreStop;
+use ldv_value::Values;
+use std::alloc::AllocError;
+
+/// Two rows that have one key, by their numbers.
+#[derive(Drop)]
+pub(crate) struct Clash {
+    pub(crate) earlier: u32,
+    pub(crate) later: u32,
+    pub(crate) key: Values,
+}
+
+impl Clash {
+    /// Two rows of a key, whichever of them comes first.
+    pub(crate) fn of(a: u32, b: u32, key: Values) -> Clash
+        ensures { result ≡ clash_of a b key }
+    {
+        if a < b {
+            Clash {
+                earlier: a,
+                later: b,
+                key,
+            }
+        } else {
+            Clash {
+                earlier: b,
+                later: a,
+                key,
+            }
+        }
+    }
+
+    /// What refuses the change.
+    pub(crate) fn into_stop(self) -> StoreStop
+        ensures { result ≡ KeyTaken (Some self.earlier) (Some self.later) self.key }
+    {
+        StoreStop::KeyTaken {
+            earlier: Some(self.earlier),
+            later: Some(self.later),
+            key: self.key,
+        }
+    }
+}
+
+/// Of two clashes the one whose later row comes first.
+pub(crate) fn sooner(first: Option<Clash>, clash: Clash) -> Clash
+    ensures { result ≡ sooner first clash }
+{
+    match first {
+        None => clash,
+        Some(other) => {
+            if clash.later < other.later {
+                clash
+            } else {
+                other
+            }
+        }
+    }
+}
+
+/// The first clash, after a given row and the one that keeps its key, if any, were looked at.
+pub(crate) fn soonest(
+    first: Option<Clash>,
+    keeper: Option<u32>,
+    number: u32,
+    key: &Values,
+) -> Result<Option<Clash>, AllocError>
+    ensures { IfOk result (λ made. made ≡ soonest first keeper number key.now) }
+{
+    match keeper {
+        None => Ok(first),
+        Some(kept) => {
+            let key = key.copy()?;
+            Ok(Some(sooner(first, Clash::of(number, kept, key))))
+        }
+    }
+}
