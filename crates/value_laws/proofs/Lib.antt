@@ -1,0 +1,5 @@
+pub mod GoodScripts
+pub mod GoodStatements
+pub mod GoodTokens
+pub mod ListParts
+pub mod ScriptTokens

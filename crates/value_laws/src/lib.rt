@@ -1,0 +1,13 @@
+//! Laws of the values that a run makes: each is a number of 64 bits, or a text of UTF-8 that isn't too long.
+//!
+//! `specs/Values.antt` says what a good value is, and so a good statement, table, reply and entry. The crate
+//! promises to the layers above, each as the contract of a function without a body:
+//! - `literals_law`: the constants of scripts are good, and so are those of statements with good parameters
+//!   (`specs/Literals.antt`).
+//!
+//! It is a crate of its own, so that a new law proves nothing anew in the crates below.
+#![tactic(auto)]
+
+mod literals;
+
+pub use literals::literals_law;
