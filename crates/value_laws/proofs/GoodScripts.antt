@@ -1,5 +1,5 @@
 -- The instructions of a script are good.
-use Rattle.std.proofs.Common.{◌≡◌, ℕ, ◌≤◌, List, [], ◌∷◌, ◌++◌, length, map, refl, sym, subst, Some, None}
+use Rattle.std.proofs.Common.{◌≡◌, ℕ, List, [], ◌∷◌, map, refl, sym, subst, Some, None}
 use Rattle.std.specs.Prelude.{Option}
 use Rattle.std.specs.List.{AllByRecursion, AllZip}
 use Rattle.ldv_value.specs.declared.value.Value.TheVariants as value
@@ -49,7 +49,7 @@ instr_good (instr.Close f) l form good = tt
 instr_good (instr.Remove v place) l form good = operand_good v good.1.0
 instr_good (instr.Exists x v) l form good = operand_good v good.1.1.0
 instr_good (instr.Spawn p v vs place) l form good =
-    (operand_good v good.1.1.0, operands_good vs (all_front GoodPiece (map written vs) (word "else" ∷ Word l ∷ []) good.1.1.1))
+    (operand_good v good.1.1.0, operands_good vs (all_front GoodPiece (map written vs) (word "else" ∷ Word l ∷ []) good.1.1.1), form.2.0)
 instr_good (instr.Wait x p) l form good = tt
 instr_good (instr.Sql c v vs) l form good = (operand_good v good.1.1.0, operands_good vs good.1.1.1, form.2.0)
 instr_good (instr.Fetch c xs place) l form good = tt

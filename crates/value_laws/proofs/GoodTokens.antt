@@ -1,22 +1,22 @@
 -- The tokens of a text of SQL: each constant among them is good, and they are no more than its bytes.
-use Rattle.std.proofs.Common.{◌≡◌, ℕ, ◌<◌, ◌≤◌, List, [], ◌∷◌, ◌++◌, append_assoc, length, refl, sym, ap, ◌∙◌, subst, true, inl, inr, arith, w64}
-use Rattle.std.specs.Prelude.{◌&&◌, ◌==◌, nat_le, ℤ, pos, FitsSigned, IsTrue, IsUtf8}
+use Rattle.std.proofs.Common.{◌≡◌, ℕ, ◌<◌, ◌≤◌, List, [], ◌∷◌, ◌++◌, append_assoc, length, refl, sym, ap, ◌∙◌, subst, inl, inr, arith, w64}
+use Rattle.std.specs.Prelude.{ℤ, pos, FitsSigned, IsTrue, IsUtf8}
 use Rattle.std.specs.List.{AllByRecursion}
-use Rattle.std.proofs.lemmas.Bool.{eqb-true, leb-true, le-leb}
+use Rattle.std.proofs.lemmas.Bool.{le-leb}
 use Rattle.ldv_value.specs.Limits.{text_limit}
-use Rattle.ldv_value.proofs.Booleans.{and-parts}
 use Rattle.ldv_value.proofs.Lists.{length-append}
 use Rattle.ldv_value.proofs.Utf8Parts.{utf8-tail, utf8-cut, utf8-rest}
 use Rattle.sql_laws.specs.Types.{Value, Int, Text}
 use Rattle.sql_model.specs.declared.token.Token.{Token}
 use Rattle.sql_model.specs.declared.token.Token.TheVariants.{Word, Number, Quoted, Given}
 use Rattle.sql_model.specs.GrammarOfStatements.{IsGiven}
-use Rattle.sql_model.specs.GrammarOfTokens.{AreBlanks, is_inside, digits_from, doubled, IsToken, Spells}
+use Rattle.sql_model.specs.GrammarOfTokens.{is_inside, digits_from, doubled, IsToken, Spells}
 use Rattle.sql_model.specs.TextBytes.{is_blank, is_digit, is_letter}
 use Rattle.sql_parse.proofs.Choices.{or_go}
 use Rattle.sql_parse.proofs.Quotes.{doubled_utf8}
 use Rattle.sql_parse.proofs.Symbols.{symbol_form, symbol_low}
 use Rattle.value_laws.specs.Values.{GoodValue, GoodValues}
+use Rattle.value_laws.proofs.LowBytes.{low_as, low_within, all_low}
 
 -- a constant is good
 abbrev pub GoodToken : Token → Type 0
@@ -30,15 +30,6 @@ GoodTokens = AllByRecursion GoodToken
 
 -- ---- bytes below 128
 
-abbrev AreLow : List ℕ → Type 0
-AreLow = AllByRecursion (λ b. b < 128)
-
-low_as : (b c : ℕ) → c < 128 → (b == c) ≡ true → b < 128
-low_as b c low e = omega (arith, eqb-true b c e, low)
-
-low_within : (a b c : ℕ) → b < 128 → (nat_le a c && nat_le c b) ≡ true → c < 128
-low_within a b c low h = omega (arith, leb-true c b (and-parts (nat_le a c) (nat_le c b) h).1, low)
-
 blank_low : (b : ℕ) → IsTrue (is_blank b) → b < 128
 blank_low b h = or_go _ _ h (λ h. or_go _ _ h (λ h. or_go _ _ h (low_as b 32 (omega arith)) (low_as b 9 (omega arith))) (low_as b 10 (omega arith))) (low_as b 13 (omega arith))
 
@@ -50,10 +41,6 @@ digit_low b h = low_within 48 57 b (omega arith) h
 
 inside_low : (b : ℕ) → IsTrue (is_inside b) → b < 128
 inside_low b h = or_go _ _ h (letter_low b) (digit_low b)
-
-all_low : (Is : ℕ → Type 0) → ((b : ℕ) → Is b → b < 128) → (bytes : List ℕ) → AllByRecursion Is bytes → AreLow bytes
-all_low Is low [] are = tt
-all_low Is low (b ∷ bytes) are = (low b are.0, all_low Is low bytes are.1)
 
 -- ---- one token, and what stands after it
 

@@ -2,7 +2,7 @@
 use Rattle.std.specs.Prelude.{◌≡◌, ℕ, ◌≤◌, List, length, Some}
 use Rattle.std.specs.List.{AllByRecursion}
 use Rattle.std.specs.Str.{IsUtf8}
-use Rattle.ldv_value.specs.Limits.{text_limit, max_params}
+use Rattle.ldv_value.specs.Limits.{text_limit, max_operands, max_params}
 use Rattle.script_parse.specs.declared.script.Instr.{Instr}
 use Rattle.script_parse.specs.declared.script.Instr.TheVariants as instr
 use Rattle.script_parse.specs.declared.script.Operand.{Operand}
@@ -22,7 +22,8 @@ GoodOperand (Variable x) = Unit {0}
 abbrev pub GoodOperands : List Operand → Type 0
 GoodOperands = AllByRecursion GoodOperand
 
--- each constant in it is good, and a statement has no more than max_params parameters
+-- each constant in it is good, and neither has a child more than max_operands arguments nor a statement more
+-- than max_params parameters
 abbrev pub GoodInstr : Instr → Type 0
 GoodInstr (instr.Let x v) = GoodOperand v
 GoodInstr (instr.Calc x op v w) = GoodOperand v × GoodOperand w
@@ -40,7 +41,7 @@ GoodInstr (instr.CopyRest f g) = Unit {0}
 GoodInstr (instr.Close f) = Unit {0}
 GoodInstr (instr.Remove v place) = GoodOperand v
 GoodInstr (instr.Exists x v) = GoodOperand v
-GoodInstr (instr.Spawn p v vs place) = GoodOperand v × GoodOperands vs
+GoodInstr (instr.Spawn p v vs place) = GoodOperand v × GoodOperands vs × (length vs ≤ max_operands)
 GoodInstr (instr.Wait x p) = Unit {0}
 GoodInstr (instr.Sql c v vs) = GoodOperand v × GoodOperands vs × (length vs ≤ max_params)
 GoodInstr (instr.Fetch c xs place) = Unit {0}
