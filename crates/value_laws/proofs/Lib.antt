@@ -4,3 +4,9 @@ pub mod GoodCounts
 pub mod GoodMeaning
 pub mod GoodQueries
 pub mod GoodRefusals
+pub mod GoodScripts
+pub mod GoodStatements
+pub mod GoodTokens
+pub mod ListParts
+pub mod LowBytes
+pub mod ScriptTokens

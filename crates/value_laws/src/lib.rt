@@ -2,6 +2,8 @@
 //!
 //! `specs/Values.antt` says what a good value is, and so a good statement, table, reply and entry. The crate
 //! promises to the layers above, each as the contract of a function without a body:
+//! - `literals_law`: the constants of scripts are good, and so are those of statements with good parameters
+//!   (`specs/Literals.antt`);
 //! - `answers_law`: a good statement over good tables has a good reply, and leaves good tables
 //!   (`specs/Answers.antt`).
 //!
@@ -9,5 +11,7 @@
 #![tactic(auto)]
 
 mod answers;
+mod literals;
 
 pub use answers::answers_law;
+pub use literals::literals_law;
