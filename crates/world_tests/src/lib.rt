@@ -16,6 +16,8 @@ mod faults;
 #[cfg(test)]
 mod limits;
 #[cfg(test)]
+mod origins;
+#[cfg(test)]
 mod packages;
 #[cfg(test)]
 mod replies;
