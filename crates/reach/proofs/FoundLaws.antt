@@ -55,6 +55,11 @@ source_put old new k nodes latest edge node within at named is put =
     ap (map node_of) put ∙ key_put old k ∙ ap (placed (map node_of old)) named
     ∙ sym (ap (with_source (map node_of old)) there)
 
+-- a graph is made of its nodes and edges
+pub in_graph : (graph : Parts) (nodes : List Node) (edges : List Edge) → nodes ≡ graph.nodes → edges ≡ graph.edges
+    → ◌≡◌ {A = Parts} (record { nodes = nodes; edges = edges }) graph
+in_graph graph nodes edges nodes_are edges_are = λ j. record { nodes = nodes_are j; edges = edges_are j }
+
 -- ---- both ways
 
 module _ (graph : Parts) (node time : ℕ) (latest : Times) (are : AreLatest graph.edges node time latest) where

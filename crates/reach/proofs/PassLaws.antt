@@ -13,7 +13,7 @@ use Rattle.reach.specs.Found.{Times, time_at, reaches}
 use Rattle.reach.specs.Search.{last_by, is_later, raised, start_times, HasPath, AreKnown, Stands, AreLatest, room_of}
 use Rattle.reach.specs.Depends.{brought_by, brought, passed, room, passes, first_times, latest_of}
 use Rattle.reach.proofs.Members.{in_nil, in_head, in_tail, in_cons}
-use Rattle.reach.proofs.TimeLaws.{raised_length}
+use Rattle.reach.proofs.TimeLaws.{no_time, raised_length}
 use Rattle.reach.proofs.PathLaws.{in_limit}
 use Rattle.reach.proofs.Standing.{start_known, rising_known}
 use Rattle.reach.proofs.WorkLaws.{room_raised}
@@ -147,7 +147,7 @@ module _ (edges : List Edge) (node limit : ℕ) where
         by false is (inr less) next = next (omega (arith, less, fuel))
 
 -- no node has a time
-none_first : (nodes : List Node) → map (λ (n : Node). None {T = ℕ}) nodes ≡ replicate (length nodes) None
+none_first : (nodes : List Node) → map (λ (n : Node). no_time) nodes ≡ replicate (length nodes) None
 none_first [] = refl
 none_first (n ∷ ns) = ap (λ (l : Times). None ∷ l) (none_first ns)
 
@@ -165,6 +165,6 @@ latest_are graph node time between within =
       among = λ e at. at;
       source = λ e at. All-contains (λ (x : Edge). x.source < count) edges e from at;
     } in
-    let long : length start ≡ count = length-set (replicate count None) node (Some time) ∙ length-replicate count (None {T = ℕ}) in
+    let long : length start ≡ count = length-set (replicate count None) node (Some time) ∙ length-replicate count no_time in
     subst (λ (l : Times). AreLatest edges node time (passes time (room time l) edges l)) (sym (first_is graph.nodes node time))
     (passes_latest edges node time count taken (room time start) start (start_known edges node time count within) long (omega arith))

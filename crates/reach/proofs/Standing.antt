@@ -13,7 +13,7 @@ use Rattle.reach.specs.Reach.{Leg, Leaves, IsPath}
 use Rattle.reach.specs.Found.{Times, time_at, reaches}
 use Rattle.reach.specs.Search.{Queue, last_by, is_later, raised, queued, raised_all, queued_all, is_time, is_current, visited, visited_queue, start_times, is_into, edges_into, IsDone, HasPath, ArePending, AreKnown, Stands}
 use Rattle.reach.proofs.Members.{in_nil, in_head, in_tail, in_cons, in_same, in_filter, from_filter}
-use Rattle.reach.proofs.TimeLaws.{time_is, reaches_at, later_parts, later_falls, not_later, set_there, set_elsewhere, set_rises, raised_length}
+use Rattle.reach.proofs.TimeLaws.{no_time, time_is, reaches_at, later_parts, later_falls, not_later, set_there, set_elsewhere, set_rises, raised_length}
 use Rattle.reach.proofs.PathLaws.{earlier}
 
 same_entry : (a b c d : ℕ) → a ≡ c → b ≡ d → ◌≡◌ {A = ℕ × ℕ} (a, b) (c, d)
@@ -58,7 +58,7 @@ module _ (edges : List Edge) (node limit : ℕ) where
   -- ---- at first
 
   module _ (count : ℕ) (within : node < count) where
-    short : node < length (replicate count (None {T = ℕ}))
+    short : node < length (replicate count no_time)
     short = subst (λ (n : ℕ). node < n) (sym (length-replicate count None)) within
 
     there : (place : ℕ) → place ≡ node → time_at (start_times count node limit) place ≡ Some limit
@@ -67,7 +67,7 @@ module _ (edges : List Edge) (node limit : ℕ) where
     none : (place : ℕ) → time_at (replicate count None) place ≡ None
     none place = time_is (replicate count None) place ∙ elim (cases_lt place count) [
       | inl lt ↦ get_or-replicate count place None None lt
-      | inr le ↦ get_or_past (replicate count None) place None (omega (arith, length-replicate count (None {T = ℕ}), le))
+      | inr le ↦ get_or_past (replicate count None) place None (omega (arith, length-replicate count no_time, le))
     ]
 
     pub start_only : (place time : ℕ) → time_at (start_times count node limit) place ≡ Some time → (place ≡ node) × (limit ≡ time)

@@ -20,6 +20,9 @@ reaches_some a (Some t) is = (t, refl, leb-true a t is)
 pub reaches_at : (a t : ℕ) (o : Option ℕ) → o ≡ Some t → a ≤ t → reaches a o ≡ true
 reaches_at a t o is le = ap (reaches a) is ∙ le-leb a t le
 
+abbrev pub no_time : Option ℕ
+no_time = None
+
 -- a time is where it is read
 pub time_is : (latest : Times) (place : ℕ) → time_at latest place ≡ get_or latest place None
 time_is latest place = unwrap_or-slice_get latest place None

@@ -13,6 +13,7 @@ use Rattle.reach.specs.Types.{Edge}
 use Rattle.reach.specs.Found.{Times}
 use Rattle.reach.specs.Incoming.{edges_to, incoming_of}
 use Rattle.reach.specs.Search.{Queue, is_current, visited, visited_queue, is_into, edges_into, ComeFrom, IsWithin, Stands, AreLatest, start_times, work_left}
+use Rattle.reach.proofs.TimeLaws.{no_time}
 use Rattle.reach.proofs.PathLaws.{in_limit}
 use Rattle.reach.proofs.IncomingLaws.{incoming_length, incoming_is}
 use Rattle.reach.proofs.Standing.{current_at, permuted, start_stands, visited_stands}
@@ -95,7 +96,7 @@ module _ (count : ℕ) (edges : List Edge) (lists : List (List Edge)) (made : li
 module _ (edges : List Edge) (node limit count : ℕ) (latest : Times) (queue : Queue) (within : node < count)
     (latest_is : latest ≡ start_times count node limit) (queue_is : IsPermutation ((limit, node) ∷ []) queue) where
   pub begin_long : length latest ≡ count
-  begin_long = ap (λ (l : Times). length l) latest_is ∙ length-set (replicate count None) node (Some limit) ∙ length-replicate count (None {T = ℕ})
+  begin_long = ap (λ (l : Times). length l) latest_is ∙ length-set (replicate count None) node (Some limit) ∙ length-replicate count no_time
 
   pub begin_within : IsWithin count queue
   begin_within =
