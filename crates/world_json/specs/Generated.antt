@@ -15,9 +15,15 @@ use Rattle.run_model.specs.OutcomeText.{line}
 
 -- ---- the script
 
+-- the sums of what each customer has ordered
+abbrev pub sums_line : List ℕ
+sums_line =
+    codes "sql q \"SELECT c.name, SUM(o.amount) FROM orders o JOIN customers c ON o.customer = c.id "
+    ++ codes "WHERE o.amount < 50 GROUP BY c.name\""
+
 abbrev pub script_lines : List (List ℕ)
 script_lines =
-    codes "sql q \"SELECT c.name, SUM(o.amount) FROM orders o JOIN customers c ON o.customer = c.id WHERE o.amount < 50 GROUP BY c.name\""
+    sums_line
     ∷ codes "open f w \"report.txt\" else done"
     ∷ codes "next:"
     ∷ codes "fetch q n s else done"
