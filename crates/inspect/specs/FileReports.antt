@@ -2,7 +2,7 @@
 use Rattle.std.specs.Prelude.{ℕ, List, ◌++◌, length, codes, Option, Some, None}
 use Rattle.std.specs.List.{flat_map}
 use Rattle.std.specs.Fmt.{decimal}
-use Rattle.run_model.specs.Types.{PackedFile}
+use Rattle.inspect.specs.Types.{PackedFile}
 use Rattle.run_model.specs.OutcomeText.{line}
 
 -- `present PATH`, or `whole LENGTH PATH`

@@ -1,10 +1,10 @@
 -- The names of the processes of a trace, made from its Spawned events in order. That of a run's processes is
 -- made in the same way as they are (run_model's `child_of`), so a trace has the names of its run.
-use Rattle.std.specs.Prelude.{ℕ, ◌+◌, List, [], ◌∷◌, ◌++◌, map, Option, Some, None, slice_get, slice_set}
-use Rattle.run_model.specs.Types.{Act, Event}
+use Rattle.std.specs.Prelude.{ℕ, ◌+◌, List, [], ◌∷◌, ◌++◌, Bool, true, false, if◌then◌else◌, Option}
+use Rattle.std.specs.Prelude.{Some, None, slice_get, slice_set}
+use Rattle.inspect.specs.Types.{Act, Event, Named}
 use Rattle.run_model.specs.declared.event.Act.TheVariants as acts
 use Rattle.run_model.specs.OutcomeText.{name_text}
-use Rattle.inspect.specs.declared.names.Named.{Named}
 
 -- the first process of a run, before it has children
 abbrev pub first_process : Named
@@ -23,28 +23,33 @@ with_child number None processes = processes
 with_child number (Some parent) processes =
     slice_set processes number (parent_of parent) ++ child_of parent ∷ []
 
--- after an act of a process
-abbrev pub named_after : List Named → ℕ → Act → List Named
-named_after processes number (acts.Started path) = processes
-named_after processes number (acts.Spawned path) = with_child number (slice_get processes number) processes
-named_after processes number (acts.Unspawned path found) = processes
-named_after processes number (acts.OpenedRead path) = processes
-named_after processes number (acts.OpenedWrite path) = processes
-named_after processes number (acts.OpenedAppend path found) = processes
-named_after processes number (acts.OpenedNew path) = processes
-named_after processes number (acts.Unopened path found) = processes
-named_after processes number (acts.Read path) = processes
-named_after processes number (acts.Wrote path) = processes
-named_after processes number (acts.Removed path) = processes
-named_after processes number (acts.Tested path found) = processes
-named_after processes number (acts.Waited child) = processes
-named_after processes number (acts.Ended status) = processes
-named_after processes number (acts.Asked statement tables reads made) = processes
+-- whether a child was made
+abbrev pub is_spawn : Act → Bool
+is_spawn (acts.Started path) = false
+is_spawn (acts.Spawned path) = true
+is_spawn (acts.Unspawned path found) = false
+is_spawn (acts.OpenedRead path) = false
+is_spawn (acts.OpenedWrite path) = false
+is_spawn (acts.OpenedAppend path found) = false
+is_spawn (acts.OpenedNew path) = false
+is_spawn (acts.Unopened path found) = false
+is_spawn (acts.Read path) = false
+is_spawn (acts.Wrote path) = false
+is_spawn (acts.Removed path) = false
+is_spawn (acts.Tested path found) = false
+is_spawn (acts.Waited child) = false
+is_spawn (acts.Ended status) = false
+is_spawn (acts.Asked statement tables reads made) = false
+
+-- after an event
+abbrev pub named_after : List Named → Event → List Named
+named_after processes e =
+    if is_spawn e.act then with_child e.process (slice_get processes e.process) processes else processes
 
 -- after events
 abbrev pub named_with : List Named → List Event → List Named
 named_with processes [] = processes
-named_with processes (e ∷ es) = named_with (named_after processes e.process e.act) es
+named_with processes (e ∷ es) = named_with (named_after processes e) es
 
 -- the processes of a trace, by creation number
 abbrev pub processes_of : List Event → List Named

@@ -3,9 +3,7 @@
 use Rattle.std.specs.Prelude.{ℕ, List, ◌++◌, codes}
 use Rattle.std.specs.List.{flat_map}
 use Rattle.std.specs.Fmt.{decimal}
-use Rattle.sql_model.specs.declared.need.Rule.{Rule}
-use Rattle.sql_model.specs.declared.need.Rule.TheVariants.{L, H, K}
-use Rattle.run_model.specs.Types.{PackedRow, PackedTable}
+use Rattle.inspect.specs.Types.{PackedRow, PackedTable, Rule, L, H, K}
 use Rattle.run_model.specs.OutcomeText.{line}
 
 abbrev pub rule_text : Rule → List ℕ

@@ -2,10 +2,9 @@
 use Rattle.std.specs.Prelude.{ℕ, List, ◌++◌, length, codes, Bool, true, false}
 use Rattle.std.specs.List.{flat_map}
 use Rattle.std.specs.Fmt.{decimal}
-use Rattle.run_model.specs.Types.{Act, Event}
+use Rattle.inspect.specs.Types.{Act, Event, Named}
 use Rattle.run_model.specs.declared.event.Act.TheVariants as acts
 use Rattle.run_model.specs.OutcomeText.{line}
-use Rattle.inspect.specs.declared.names.Named.{Named}
 use Rattle.inspect.specs.ProcessNames.{processes_of, name_in}
 
 abbrev pub found_text : Bool → List ℕ
@@ -18,6 +17,9 @@ path_act name path = name ++ path
 
 abbrev pub found_act : List ℕ → Bool → List ℕ → List ℕ
 found_act name found path = name ++ found_text found ++ path
+
+abbrev pub waited_text : List Named → ℕ → List ℕ
+waited_text processes child = codes "waited " ++ name_in processes child
 
 -- `asked S tables N reads N made N`, with the numbers of tables, of versions read and of versions made
 abbrev pub asked_text : ℕ → ℕ → ℕ → ℕ → List ℕ
@@ -39,7 +41,7 @@ act_text processes (acts.Read path) = path_act (codes "read ") path
 act_text processes (acts.Wrote path) = path_act (codes "wrote ") path
 act_text processes (acts.Removed path) = path_act (codes "removed ") path
 act_text processes (acts.Tested path found) = found_act (codes "tested ") found path
-act_text processes (acts.Waited child) = codes "waited " ++ name_in processes child
+act_text processes (acts.Waited child) = waited_text processes child
 act_text processes (acts.Ended status) = codes "ended " ++ decimal status
 act_text processes (acts.Asked statement tables reads made) =
     asked_text statement (length tables) (length reads) (length made)

@@ -2,7 +2,7 @@
 use Rattle.std.specs.Prelude.{ℕ, ◌==◌, List, [], ◌++◌, codes, find, Bool, false, bytes_eq}
 use Rattle.std.specs.Prelude.{Option, Some, None, option_map, option_and_then}
 use Rattle.std.specs.Fmt.{decimal}
-use Rattle.run_model.specs.Types.{Act, Event, PackedRow, PackedTable}
+use Rattle.inspect.specs.Types.{Act, Event, PackedRow, PackedTable, Named}
 use Rattle.run_model.specs.declared.event.Act.TheVariants as acts
 use Rattle.run_model.specs.OutcomeText.{line}
 use Rattle.inspect.specs.ProcessNames.{processes_of, name_in}
@@ -44,13 +44,16 @@ asked_in events statement = find (λ e. asks statement e.act) events
 
 -- ---- the report
 
--- `statement S process NAME step T rule R`, by the event of the statement, which a valid package has
+-- `statement S process NAME step T rule R`
+abbrev pub reason_line : List Named → PackedRow → Event → List ℕ
+reason_line processes row e =
+    line (codes "statement " ++ decimal row.statement ++ codes " process " ++ name_in processes e.process
+    ++ codes " step " ++ decimal e.step ++ codes " rule " ++ rule_text row.rule)
+
+-- by the event of the statement, which a valid package has
 abbrev pub reason_text : List Event → PackedRow → Option Event → List ℕ
 reason_text events row None = []
-reason_text events row (Some e) =
-    line (codes "statement " ++ decimal row.statement ++ codes " process "
-    ++ name_in (processes_of events) e.process ++ codes " step " ++ decimal e.step ++ codes " rule "
-    ++ rule_text row.rule)
+reason_text events row (Some e) = reason_line (processes_of events) row e
 
 abbrev pub reason_of : List Event → PackedRow → List ℕ
 reason_of events row = reason_text events row (asked_in events row.statement)
