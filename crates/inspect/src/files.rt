@@ -10,8 +10,8 @@ use ldv_value::{Bytes, Utf8};
 use run_model::{Package, PackedFile};
 use std::alloc::{AllocError, Global};
 
-/// A line for each file of a package, by path: `whole LENGTH PATH` with the length in bytes, or `present PATH`
-/// where only its being there was needed.
+/// A line for each file of a package, by path: `whole LENGTH PATH` with the length in bytes, or
+/// `present PATH` where only its being there was needed.
 pub fn files_text(alloc: Global, package: &Package) -> Result<Bytes, AllocError>
     ensures { IfOk result (λ text. text ≡ files_report «package».now.files) }
 {

@@ -3,8 +3,8 @@
 ghost use Rattle.std.specs.Prelude.{◌≡◌, ◌++◌, IfOk, OnOk};
 ghost use Rattle.std.specs.List.{flat_map};
 ghost use Rattle.run_model.specs.ValidTrace.{IsTrace};
-ghost use Rattle.inspect.specs.TraceReports.{act_text, asked_text, event_line, found_act, found_text, path_act};
-ghost use Rattle.inspect.specs.TraceReports.{trace_report, waited_text};
+ghost use Rattle.inspect.specs.TraceReports.{act_text, asked_text, event_line, found_act, found_text};
+ghost use Rattle.inspect.specs.TraceReports.{path_act, trace_report, waited_text};
 
 use crate::append::append_numbered;
 use crate::names::{Named, append_process, processes_of};
@@ -12,8 +12,8 @@ use ldv_value::{Bytes, Utf8, append_number};
 use run_model::{Act, Event, Package};
 use std::alloc::{AllocError, Global};
 
-/// A line `STEP NAME ACT` for each event of a package, with the fields of the act. The flag `found` or `absent`
-/// stands before the path.
+/// A line `STEP NAME ACT` for each event of a package, with the fields of the act. The flag `found` or
+/// `absent` stands before the path.
 pub fn trace_text(alloc: Global, package: &Package) -> Result<Bytes, AllocError>
     requires { IsTrace «package».now.events }
     ensures { IfOk result (λ text. text ≡ trace_report «package».now.events) }

@@ -14,8 +14,9 @@ use ldv_value::Bytes;
 use run_model::{Act, Event, Package, PackedRow, PackedTable};
 use std::alloc::{AllocError, Global};
 
-/// A line `statement S process NAME step T rule R` for a row of a package: the first statement that needed it,
-/// the process and the step that asked it, and the rule. `NoSuch` where the package's tables don't hold that row.
+/// A line `statement S process NAME step T rule R` for a row of a package: the first statement that needed
+/// it, the process and the step that asked it, and the rule. `NoSuch` exactly where the package's tables
+/// don't hold that row.
 pub fn why_text(
     alloc: Global,
     package: &Package,

@@ -40,13 +40,17 @@ script_lines =
 abbrev pub script_file : File
 script_file = record { path = codes "main"; content = flat_map line script_lines }
 
--- ---- the tables, whose first column is their key
+-- ---- the tables: no column may be NULL, and the first is the key
 
 abbrev pub needed_column : List ℕ → Bool → Column
 needed_column name text = record { name = name; text = text; not_null = true }
 
 abbrev pub keyed_by_first : List Column → Schema
 keyed_by_first columns = record { columns = columns; key = 0 ∷ [] }
+
+abbrev pub keyed_table : List ℕ → List Column → List TableRow → ℕ → Table
+keyed_table name columns rows next =
+    record { name = name; schema = keyed_by_first columns; rows = rows; next = next }
 
 abbrev pub numbered_row : ℕ → List Value → TableRow
 numbered_row number values = record { number = number; values = values }
@@ -57,13 +61,11 @@ customer_values i = Int (pos i) ∷ Text (codes "c" ++ decimal i) ∷ []
 abbrev pub customer_row : ℕ → TableRow
 customer_row i = numbered_row i (customer_values i)
 
+abbrev pub customer_columns : List Column
+customer_columns = needed_column (codes "id") false ∷ needed_column (codes "name") true ∷ []
+
 abbrev pub customers : Table
-customers = record {
-  name = codes "customers";
-  schema = keyed_by_first (needed_column (codes "id") false ∷ needed_column (codes "name") true ∷ []);
-  rows = map customer_row (range_with_len 0 10);
-  next = 10;
-}
+customers = keyed_table (codes "customers") customer_columns (map customer_row (range_with_len 0 10)) 10
 
 -- each customer orders in turn
 abbrev pub order_values : ℕ → List Value
@@ -78,12 +80,7 @@ order_columns =
     ∷ needed_column (codes "amount") false ∷ []
 
 abbrev pub orders : ℕ → Table
-orders n = record {
-  name = codes "orders";
-  schema = keyed_by_first order_columns;
-  rows = map order_row (range_with_len 0 n);
-  next = n;
-}
+orders n = keyed_table (codes "orders") order_columns (map order_row (range_with_len 0 n)) n
 
 -- ---- the world
 
