@@ -1,16 +1,19 @@
 -- The processes of a trace have room for the children that are still to be made.
-use Rattle.std.proofs.Common.{◌≡◌, ℕ, ◌+◌, ◌<◌, ◌^◌, List, [], ◌∷◌, ◌++◌, true, false, length, refl, arith, Option}
-use Rattle.std.specs.Prelude.{if◌then◌else◌, Bool, Some, None, slice_get, slice_set, slice_index_or}
-use Rattle.std.specs.List.{All}
+use Rattle.std.proofs.Common.{◌≡◌, ℕ, ◌+◌, ◌<◌, ◌≤◌, ◌^◌, List, [], ◌∷◌, ◌++◌, true, false, length, refl, arith, Option}
+use Rattle.std.specs.Prelude.{if◌then◌else◌, Bool, Some, None, nat_le, slice_get, slice_set, slice_index_or}
+use Rattle.std.proofs.lemmas.Bool.{leb-true}
 use Rattle.std.proofs.lemmas.List.Elements.{All-append, All-set}
 use Rattle.inspect.specs.ChildRoom.{HasRoom, HaveRoom, births, all_births}
-use Rattle.inspect.specs.ProcessNames.{first_process, parent_of, child_of, with_child, named_after, is_spawn}
-use Rattle.inspect.specs.Types.{Event, Named}
+use Rattle.ldv_value.proofs.Booleans.{and-first, and-second}
+use Rattle.ldv_value.specs.Limits.{max_processes}
+use Rattle.run_model.specs.ValidTrace.{made_after, IsTrace}
+use Rattle.run_model.specs.declared.event.Act.TheVariants as acts
+use Rattle.trace_graph.specs.Building.{made_fits}
+use Rattle.trace_graph.proofs.TraceLaws.{trace_fits}
+use Rattle.inspect.specs.ProcessNames.{parent_of, child_of, with_child, named_after, is_spawn}
+use Rattle.inspect.specs.Types.{Act, Event, Named}
 
--- who has room for more children has room for fewer
-pub room_less : (few more : ℕ) (ps : List Named) → HaveRoom (few + more) ps → HaveRoom few ps
-room_less few more ps room k d below = let here : HasRoom (few + more) (slice_index_or ps k d) = room k d below in omega (arith, here)
-
+-- who has room for one child more than others need has room for them
 room_later : (more : ℕ) (ps : List Named) → HaveRoom (1 + more) ps → HaveRoom more ps
 room_later more ps room k d below = let here : HasRoom (1 + more) (slice_index_or ps k d) = room k d below in omega (arith, here)
 
@@ -40,5 +43,38 @@ room_if false more ps number room = room
 pub room_after : (e : Event) (more : ℕ) (ps : List Named) → HaveRoom (births e + more) ps → HaveRoom more (named_after ps e)
 room_after e more ps room = room_if (is_spawn e.act) more ps e.process room
 
-pub first_room : (more : ℕ) → more < 2 ^ 32 → HaveRoom more (first_process ∷ [])
-first_room more below = room_single more first_process below
+-- ---- how many children the events of a trace make
+
+made_births : (made : ℕ) (act : Act) → made_after made act ≡ made + (if is_spawn act then 1 else 0)
+made_births made (acts.Started path) = omega arith
+made_births made (acts.Spawned path) = omega arith
+made_births made (acts.Unspawned path found) = omega arith
+made_births made (acts.OpenedRead path) = omega arith
+made_births made (acts.OpenedWrite path) = omega arith
+made_births made (acts.OpenedAppend path found) = omega arith
+made_births made (acts.OpenedNew path) = omega arith
+made_births made (acts.Unopened path found) = omega arith
+made_births made (acts.Read path) = omega arith
+made_births made (acts.Wrote path) = omega arith
+made_births made (acts.Removed path) = omega arith
+made_births made (acts.Tested path found) = omega arith
+made_births made (acts.Waited child) = omega arith
+made_births made (acts.Ended status) = omega arith
+made_births made (acts.Asked statement tables reads written) = omega arith
+
+births_among : (made : ℕ) (es : List Event) → made ≤ max_processes → made_fits made es ≡ true
+    → made + all_births es ≤ max_processes
+births_among made [] below fits = omega (arith, below)
+births_among made (e ∷ es) below fits =
+    let next : made_after made e.act ≤ max_processes =
+    leb-true (made_after made e.act) max_processes
+    (and-first (nat_le (made_after made e.act) max_processes) (made_fits (made_after made e.act) es) fits) in
+    let rest : made_after made e.act + all_births es ≤ max_processes =
+    births_among (made_after made e.act) es next
+    (and-second (nat_le (made_after made e.act) max_processes) (made_fits (made_after made e.act) es) fits) in
+    omega (arith, rest, made_births made e.act)
+
+pub births_fit : (events : List Event) → IsTrace events → all_births events < 2 ^ 32
+births_fit events trace =
+    let most : 1 + all_births events ≤ max_processes = births_among 1 events (omega arith) (trace_fits events trace) in
+    omega (arith, most)
