@@ -1,5 +1,5 @@
 use Rattle.std.proofs.Common.{◌≡◌, ◌∙◌, ◌+◌, ◌∷◌, sym, ap, subst, drop, ℕ, List}
-use Rattle.std.proofs.lemmas.List.{drop_more}
+use Rattle.ldv_value.proofs.Places.{drop_item}
 use Rattle.inspect.specs.Types.{Event, Named}
 use Rattle.inspect.specs.ChildRoom.{HaveRoom, all_births}
 use Rattle.inspect.specs.ProcessNames.{named_after, named_with}
@@ -13,7 +13,7 @@ loop-event-preserved c =
     let e : Event = c.event-item.result in
     let ps : List Named = c.loop-event.processes.items in
     let rest : List Event = drop (i + 1) all in
-    let split : drop i all ≡ e ∷ rest = drop_more all i e c.loop-event-test.true ∙ ap (λ (x : Event). x ∷ rest) (sym c.event-item.is) in
+    let split : drop i all ≡ e ∷ rest = drop_item all i e c.loop-event-test.true c.event-item.is in
     let made : c.add_event.new.processes.items ≡ named_after ps e = c.in_ok-add_event.ensures in
     record {
       named = ap (λ (qs : List Named). named_with qs rest) made ∙ sym (ap (named_with ps) split) ∙ c.loop-event.invariant.named;
