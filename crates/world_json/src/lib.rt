@@ -17,7 +17,7 @@ mod cells;
 mod content;
 mod document;
 mod fault;
-mod generate;
+mod generator;
 mod keys;
 mod kinds;
 mod limits;
@@ -31,5 +31,5 @@ mod start;
 mod world;
 
 pub use fault::{WorldFault, WorldStop};
-pub use generate::generate;
+pub use generator::generate;
 pub use world::world_of;
