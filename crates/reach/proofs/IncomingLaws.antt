@@ -1,13 +1,12 @@
 -- The edges to each place are those whose target it is.
-use Rattle.std.proofs.Common.{◌≡◌, ◌∙◌, sym, ap, subst, refl, inl, inr, ◌⊎◌, arith, ℕ, ◌<◌, ◌≤◌, Bool, true, false, cond}
-use Rattle.std.proofs.Common.{List, [], ◌∷◌, ◌++◌, length, get_or, set}
-use Rattle.std.specs.Prelude.{fold, replicate, ◌==◌}
-use Rattle.std.specs.List.{filter}
+use Rattle.std.proofs.Common.{◌≡◌, ◌∙◌, sym, ap, subst, refl, inl, inr, ◌⊎◌, ℕ, ◌<◌, Bool, cond}
+use Rattle.std.proofs.Common.{List, [], ◌∷◌, ◌++◌, length, set}
+use Rattle.std.specs.Prelude.{fold, replicate}
 use Rattle.std.proofs.lemmas.Bool.{cases_eq, eq-eqb, ne_eqb}
 use Rattle.std.proofs.lemmas.List.{append-nil, append_assoc, length-set, length-replicate, get_or-set_same, get_or-set_other, get_or-replicate}
 use Rattle.reach.specs.Types.{Edge}
 use Rattle.reach.specs.Incoming.{no_edges, edges_to, with_edge, incoming_of}
-use Rattle.reach.specs.Search.{is_into, edges_into}
+use Rattle.reach.specs.Search.{edges_into}
 
 length_more : (lists : List (List Edge)) (edges : List Edge) → length (fold with_edge lists edges) ≡ length lists
 length_more lists [] = refl

@@ -1,16 +1,15 @@
 -- Passes over the edges find the latest times.
 use Rattle.std.proofs.Common.{◌≡◌, ◌∙◌, sym, ap, subst, refl, inl, inr, ◌⊎◌, arith, ℕ, ◌+◌, ◌<◌, ◌≤◌, zero, suc, Bool, true, false}
 use Rattle.std.proofs.Common.{List, [], ◌∷◌, length, set, map, Option, Some, None, IsTrue}
-use Rattle.std.specs.Prelude.{◌==◌, Contains, fold, sum_by, replicate, if◌then◌else◌}
+use Rattle.std.specs.Prelude.{◌==◌, Contains, replicate, if◌then◌else◌}
 use Rattle.std.proofs.lemmas.Bool.{eqb-true, eqb-false}
 use Rattle.std.proofs.lemmas.List.{length-set, length-replicate}
 use Rattle.std.proofs.lemmas.List.Elements.{All-contains}
 use Rattle.std.proofs.lemmas.Option.{none-some, same_Some}
 use Rattle.trace_graph.specs.Graph.{Parts, are_between}
 use Rattle.reach.specs.Types.{Node, Edge}
-use Rattle.reach.specs.Reach.{Leg, Leaves, IsPath}
-use Rattle.reach.specs.Found.{Times, time_at, reaches}
-use Rattle.reach.specs.Search.{last_by, is_later, raised, start_times, HasPath, AreKnown, Stands, AreLatest, room_of}
+use Rattle.reach.specs.Found.{Times, time_at}
+use Rattle.reach.specs.Search.{last_by, is_later, start_times, AreKnown, AreLatest}
 use Rattle.reach.specs.Depends.{brought_by, brought, passed, room, passes, first_times, latest_of}
 use Rattle.reach.proofs.Members.{in_nil, in_head, in_tail, in_cons}
 use Rattle.reach.proofs.TimeLaws.{no_time, raised_length}

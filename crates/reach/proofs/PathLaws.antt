@@ -1,13 +1,13 @@
 -- Paths and latest times.
-use Rattle.std.proofs.Common.{◌≡◌, ◌∙◌, sym, ap, subst, refl, inl, inr, arith, ℕ, ◌≤◌, Bool, true, false, List, [], ◌∷◌, Option, Some, None}
-use Rattle.std.specs.Prelude.{◌&&◌, Contains, min, nat_le}
+use Rattle.std.proofs.Common.{◌≡◌, sym, subst, refl, inl, inr, arith, ℕ, ◌≤◌, true, false, List, [], ◌∷◌, Some}
+use Rattle.std.specs.Prelude.{Contains, nat_le}
 use Rattle.std.proofs.lemmas.Bool.{leb-true, le-leb, and_parts, and_from}
 use Rattle.reach.specs.Types.{Edge}
 use Rattle.reach.specs.Reach.{Leg, Leaves, IsPath, Leads}
 use Rattle.reach.specs.Found.{Times, time_at, reaches, is_open}
-use Rattle.reach.specs.Search.{last_by, is_later, IsDone, HasPath, Stands, AreLatest}
+use Rattle.reach.specs.Search.{last_by, is_later, HasPath, AreLatest}
 use Rattle.reach.proofs.Members.{in_nil}
-use Rattle.reach.proofs.TimeLaws.{reaches_less, reaches_some, reaches_at, brought}
+use Rattle.reach.proofs.TimeLaws.{reaches_less, reaches_some, brought}
 
 -- a path is also one for an earlier time
 pub earlier : (edges : List Edge) (node limit : ℕ) (legs : List Leg) (place a b : ℕ) → a ≤ b

@@ -1,15 +1,14 @@
 -- Where the search stands: at first, after an edge, and after a place.
-use Rattle.std.proofs.Common.{◌≡◌, ◌∙◌, sym, ap, subst, refl, inl, inr, ◌⊎◌, arith, ℕ, ◌<◌, ◌≤◌, Bool, true, false, cond}
-use Rattle.std.proofs.Common.{List, [], ◌∷◌, length, get_or, set, Option, Some, None}
-use Rattle.std.specs.Prelude.{◌==◌, Contains, min, replicate, if◌then◌else◌, IsTrue}
-use Rattle.std.specs.List.{filter, All}
+use Rattle.std.proofs.Common.{◌≡◌, ◌∙◌, sym, ap, subst, refl, inl, inr, ◌⊎◌, arith, ℕ, ◌<◌, ◌≤◌, Bool, true, false}
+use Rattle.std.proofs.Common.{List, [], ◌∷◌, length, set, Option, Some, None}
+use Rattle.std.specs.Prelude.{Contains, replicate, if◌then◌else◌}
 use Rattle.std.specs.List.Sorted.{IsPermutation}
-use Rattle.std.proofs.lemmas.Bool.{false≢true, le-leb, cases_eq, cases_lt, eqb-true, eq-eqb}
+use Rattle.std.proofs.lemmas.Bool.{false≢true, cases_eq, cases_lt, eqb-true, eq-eqb}
 use Rattle.std.proofs.lemmas.Option.{none-some, same_Some}
-use Rattle.std.proofs.lemmas.List.{length-replicate, length-set, get_or-set_same, get_or-set_other, get_or-replicate, get_or_past}
+use Rattle.std.proofs.lemmas.List.{length-replicate, get_or-replicate, get_or_past}
 use Rattle.std.proofs.lemmas.List.Sorted.{Contains-permutation}
 use Rattle.reach.specs.Types.{Edge}
-use Rattle.reach.specs.Reach.{Leg, Leaves, IsPath}
+use Rattle.reach.specs.Reach.{Leg, Leaves}
 use Rattle.reach.specs.Found.{Times, time_at, reaches}
 use Rattle.reach.specs.Search.{Queue, last_by, is_later, raised, queued, raised_all, queued_all, is_time, is_current, visited, visited_queue, start_times, is_into, edges_into, IsDone, HasPath, ArePending, AreKnown, Stands}
 use Rattle.reach.proofs.Members.{in_nil, in_head, in_tail, in_cons, in_same, in_filter, from_filter}

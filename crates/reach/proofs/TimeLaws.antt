@@ -1,8 +1,8 @@
 -- What the tests of times say.
-use Rattle.std.proofs.Common.{◌≡◌, ◌∙◌, sym, ap, subst, refl, inl, inr, ◌⊎◌, arith, ℕ, ◌<◌, ◌≤◌, Bool, true, false, not}
-use Rattle.std.proofs.Common.{List, [], ◌∷◌, length, get_or, set, Option, Some, None}
-use Rattle.std.specs.Prelude.{◌&&◌, min, nat_le, if◌then◌else◌}
-use Rattle.std.proofs.lemmas.Bool.{false≢true, true≢false, leb-true, leb-false, le-leb, and_parts, and_from, not-true, cases_eq}
+use Rattle.std.proofs.Common.{◌≡◌, ◌∙◌, sym, ap, subst, refl, inl, inr, arith, ℕ, ◌<◌, ◌≤◌, Bool, true, false, not}
+use Rattle.std.proofs.Common.{length, get_or, set, Option, Some, None}
+use Rattle.std.specs.Prelude.{◌&&◌, nat_le, if◌then◌else◌}
+use Rattle.std.proofs.lemmas.Bool.{false≢true, true≢false, leb-true, leb-false, le-leb, and_parts, not-true, cases_eq}
 use Rattle.std.proofs.lemmas.List.{get_or-set_same, get_or-set_other, get_or_default, length-set}
 use Rattle.std.proofs.lemmas.Option.{unwrap_or-slice_get}
 use Rattle.reach.specs.Types.{Edge}

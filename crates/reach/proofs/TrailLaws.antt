@@ -1,14 +1,12 @@
 -- Links that lead from node to node are a path of their graph.
-use Rattle.std.proofs.Common.{◌≡◌, ◌∙◌, sym, ap, subst, refl, inl, inr, ◌⊎◌, arith, ℕ, ◌+◌, ◌≤◌, zero, suc, Bool, true, false, ◌||◌, not, cond}
-use Rattle.std.proofs.Common.{List, [], ◌∷◌, length, Option, Some, None, IsTrue}
-use Rattle.std.specs.Prelude.{◌&&◌, Contains, nat_le, slice_get}
-use Rattle.std.specs.List.{flat_map, list_any, AllByRecursion, position_or_len}
-use Rattle.std.specs.Cmp.{IsEquivalence}
-use Rattle.std.specs.Option.{option_map_or}
-use Rattle.std.proofs.lemmas.Bool.{false≢true, leb-true, and_parts, or_parts}
+use Rattle.std.proofs.Common.{◌≡◌, ◌∙◌, sym, ap, subst, refl, arith, ℕ, ◌+◌, ◌≤◌, zero, suc, Bool, true, false, ◌||◌, not, cond}
+use Rattle.std.proofs.Common.{List, [], ◌∷◌, IsTrue}
+use Rattle.std.specs.Prelude.{◌&&◌, Contains, nat_le}
+use Rattle.std.specs.List.{flat_map, list_any}
+use Rattle.std.proofs.lemmas.Bool.{false≢true, leb-true, and_parts}
 use Rattle.std.proofs.lemmas.List.Elements.{All-from_recursion, All-contains}
 use Rattle.trace_graph.specs.Links.{Link}
-use Rattle.trace_graph.specs.Graph.{same_node, ends, nodes_of, place_in, edges_of, graph_by}
+use Rattle.trace_graph.specs.Graph.{same_node, ends, nodes_of, place_in, edges_of}
 use Rattle.trace_graph.specs.GraphLaws.{passes_at, covers, IntervalsLaw}
 use Rattle.trace_graph.proofs.Distinct.{AllApart, distinct_apart}
 use Rattle.trace_graph.proofs.NodeLaws.{node_is}

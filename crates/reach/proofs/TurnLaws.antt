@@ -1,7 +1,6 @@
 -- A turn of the search: a place is taken out of the queue, and the edges to it are looked at.
-use Rattle.std.proofs.Common.{◌≡◌, ◌∙◌, sym, ap, subst, refl, arith, ℕ, ◌+◌, ◌^◌, ◌<◌, ◌≤◌, suc, Bool, true, List, [], ◌∷◌, length, set, Option, Some, None, IsTrue}
+use Rattle.std.proofs.Common.{◌≡◌, ◌∙◌, sym, ap, subst, arith, ℕ, ◌^◌, ◌<◌, ◌≤◌, true, List, [], ◌∷◌, length, Some, None, IsTrue}
 use Rattle.std.specs.Prelude.{Contains, nat_lt, replicate}
-use Rattle.std.specs.List.{filter, All}
 use Rattle.std.specs.List.Sorted.{IsPermutation}
 use Rattle.std.proofs.lemmas.Bool.{ltb-true, and_parts}
 use Rattle.std.proofs.lemmas.List.Sums.{AllPass-from_list_all}

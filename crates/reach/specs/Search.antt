@@ -1,5 +1,5 @@
 -- The search for the latest times, which goes backwards from the node.
-use Rattle.std.specs.Prelude.{◌≡◌, ℕ, ◌+◌, ◌-◌, ◌^◌, ◌≤◌, ◌⊎◌, min, List, [], ◌∷◌, Bool, true, false, ◌&&◌, not, ◌==◌, nat_le}
+use Rattle.std.specs.Prelude.{◌≡◌, ℕ, ◌+◌, ◌-◌, ◌^◌, ◌⊎◌, min, List, [], ◌∷◌, Bool, true, false, ◌&&◌, not, ◌==◌, nat_le}
 use Rattle.std.specs.Prelude.{◌<◌, Option, None, Some, Contains, slice_set, length, sum_by, replicate, if◌then◌else◌}
 use Rattle.std.specs.List.{filter, All}
 use Rattle.reach.specs.Types.{Edge}

@@ -1,4 +1,4 @@
-use Rattle.std.proofs.Common.{◌≡◌, ◌∙◌, ap}
+use Rattle.std.proofs.Common.{◌∙◌, ap}
 use Rattle.trace_graph.specs.Graph.{Parts}
 use Rattle.reach.specs.Found.{open_sources}
 use Rattle.reach.specs.Depends.{latest_of}

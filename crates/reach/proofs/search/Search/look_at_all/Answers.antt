@@ -1,4 +1,4 @@
-use Rattle.std.proofs.Common.{◌≡◌, ◌∙◌, ap, arith, ℕ, ◌<◌, List, length, get_or}
+use Rattle.std.proofs.Common.{◌∙◌, ap, arith, ℕ, ◌<◌, length, get_or}
 use Rattle.std.specs.BinaryHeap.{heap_items}
 use Rattle.reach.specs.Types.{Edge}
 use Rattle.reach.specs.Found.{Times}
