@@ -18,6 +18,8 @@ mod graphs;
 #[cfg(test)]
 mod limits;
 #[cfg(test)]
+mod origins;
+#[cfg(test)]
 mod packages;
 #[cfg(test)]
 mod recorded;

@@ -1,0 +1,26 @@
+//! Reports on a package: why it has what it has, and what happened in the run that it was recorded of.
+//!
+//! It promises to the layers above, of every package whose events are a trace:
+//! - `rows_text` lists its rows, each with the statement and the rule by which it was needed
+//!   (`specs/RowReports.antt`);
+//! - `files_text` lists its files, whole and present ones (`specs/FileReports.antt`);
+//! - `trace_text` lists its events, under the names of their processes (`specs/TraceReports.antt`,
+//!   `specs/ProcessNames.antt`);
+//! - `why_text` says of one row which statement needed it, and when (`specs/WhyReports.antt`).
+//!
+//! Time and memory are linear in the package and the report. No clause says so.
+#![tactic(auto)]
+
+mod append;
+mod files;
+mod names;
+mod rows;
+mod stop;
+mod trace;
+mod why;
+
+pub use files::files_text;
+pub use rows::rows_text;
+pub use stop::InspectStop;
+pub use trace::trace_text;
+pub use why::why_text;

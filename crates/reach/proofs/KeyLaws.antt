@@ -1,0 +1,70 @@
+-- Keys are in the order of the nodes that they name.
+use Rattle.std.proofs.Common.{◌≡◌, ◌∙◌, sym, ap, refl, List, [], ◌∷◌, map}
+use Rattle.std.specs.List.{AllByRecursion}
+use Rattle.std.specs.List.Sorted.{IsStrictlySortedBy}
+use Rattle.std.specs.Ordering.{match_ordering}
+use Rattle.std.specs.BTreeSet.{insert_key}
+use Rattle.std.specs.declared.cmp.Ordering.{Ordering}
+use Rattle.std.specs.declared.cmp.Ordering.TheVariants.{Less, Equal, Greater}
+use Rattle.reach.specs.Types.{Node}
+use Rattle.reach.specs.Order.{node_cmp}
+use Rattle.reach.specs.Keys.{node_of}
+use Rattle.reach.specs.Found.{placed}
+use Rattle.reach.specs.declared.key.NodeKey.{NodeKey}
+use Rattle.reach.specs.declared.key.NodeKey.TheVariants as keys
+use Rattle.reach.specs.contracts.key.NodeKeyOrd.TheImpl as key_order
+
+abbrev pub key_cmp : NodeKey → NodeKey → Ordering
+key_cmp = (key_order.ghosts).cmp
+
+pub key_ordered : (a b : NodeKey) → key_cmp a b ≡ node_cmp (node_of a) (node_of b)
+key_ordered (keys.Path a) (keys.Path b) = refl
+key_ordered (keys.Path a) (keys.Process b) = refl
+key_ordered (keys.Path a) (keys.Row b r v) = refl
+key_ordered (keys.Path a) (keys.Ask b) = refl
+key_ordered (keys.Path a) (keys.Reply b) = refl
+key_ordered (keys.Process a) (keys.Path b) = refl
+key_ordered (keys.Process a) (keys.Process b) = refl
+key_ordered (keys.Process a) (keys.Row b r v) = refl
+key_ordered (keys.Process a) (keys.Ask b) = refl
+key_ordered (keys.Process a) (keys.Reply b) = refl
+key_ordered (keys.Row a r v) (keys.Path b) = refl
+key_ordered (keys.Row a r v) (keys.Process b) = refl
+key_ordered (keys.Row a q u) (keys.Row b r v) = refl
+key_ordered (keys.Row a r v) (keys.Ask b) = refl
+key_ordered (keys.Row a r v) (keys.Reply b) = refl
+key_ordered (keys.Ask a) (keys.Path b) = refl
+key_ordered (keys.Ask a) (keys.Process b) = refl
+key_ordered (keys.Ask a) (keys.Row b r v) = refl
+key_ordered (keys.Ask a) (keys.Ask b) = refl
+key_ordered (keys.Ask a) (keys.Reply b) = refl
+key_ordered (keys.Reply a) (keys.Path b) = refl
+key_ordered (keys.Reply a) (keys.Process b) = refl
+key_ordered (keys.Reply a) (keys.Row b r v) = refl
+key_ordered (keys.Reply a) (keys.Ask b) = refl
+key_ordered (keys.Reply a) (keys.Reply b) = refl
+
+-- a key that is inserted
+pub key_put : (ks : List NodeKey) (k : NodeKey) → map node_of (insert_key key_cmp ks k) ≡ placed (map node_of ks) (node_of k)
+key_put [] k = refl
+key_put (x ∷ xs) k = by (key_put xs k) (key_cmp k x) (key_ordered k x)
+  where
+    by : map node_of (insert_key key_cmp xs k) ≡ placed (map node_of xs) (node_of k) → (o : Ordering) → o ≡ node_cmp (node_of k) (node_of x)
+        → map node_of (match_ordering o (k ∷ x ∷ xs) (x ∷ xs) (x ∷ insert_key key_cmp xs k))
+        ≡ match_ordering (node_cmp (node_of k) (node_of x)) (node_of k ∷ node_of x ∷ map node_of xs) (node_of x ∷ map node_of xs)
+        (node_of x ∷ placed (map node_of xs) (node_of k))
+    by rest Less is = ap (λ (o : Ordering). match_ordering o (node_of k ∷ node_of x ∷ map node_of xs) (node_of x ∷ map node_of xs) (node_of x ∷ placed (map node_of xs) (node_of k))) is
+    by rest Equal is = ap (λ (o : Ordering). match_ordering o (node_of k ∷ node_of x ∷ map node_of xs) (node_of x ∷ map node_of xs) (node_of x ∷ placed (map node_of xs) (node_of k))) is
+    by rest Greater is =
+        ap (λ (l : List Node). node_of x ∷ l) rest
+        ∙ ap (λ (o : Ordering). match_ordering o (node_of k ∷ node_of x ∷ map node_of xs) (node_of x ∷ map node_of xs) (node_of x ∷ placed (map node_of xs) (node_of k))) is
+
+-- sorted keys name sorted nodes
+above : (k : NodeKey) (ks : List NodeKey) → AllByRecursion (λ y. key_cmp k y ≡ Less) ks → AllByRecursion (λ y. node_cmp (node_of k) y ≡ Less) (map node_of ks)
+above k [] all = tt
+above k (x ∷ xs) all = (sym (key_ordered k x) ∙ all.0, above k xs all.1)
+
+pub keys_sorted : (ks : List NodeKey) → IsStrictlySortedBy key_cmp ks → IsStrictlySortedBy node_cmp (map node_of ks)
+unfolding IsStrictlySortedBy
+keys_sorted [] sorted = tt
+keys_sorted (k ∷ ks) sorted = (above k ks sorted.0, keys_sorted ks sorted.1)

@@ -1,0 +1,12 @@
+pub mod Members
+pub mod TimeLaws
+pub mod PathLaws
+pub mod IncomingLaws
+pub mod Standing
+pub mod WorkLaws
+pub mod TurnLaws
+pub mod KeyLaws
+pub mod FoundLaws
+pub mod PassLaws
+pub mod SameLaws
+pub mod TrailLaws

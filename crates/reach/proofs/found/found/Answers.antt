@@ -1,0 +1,9 @@
+use Rattle.std.proofs.Common.{sym, subst, List}
+use Rattle.std.specs.List.Sorted.{IsStrictlySortedBy}
+use Rattle.reach.specs.Types.{Node}
+use Rattle.reach.specs.Order.{node_cmp}
+use Rattle.reach.proofs.found.found.Goals as goal
+
+pub returns-clause-sorted : goal.returns-clause-sorted
+returns-clause-sorted c =
+    subst (λ (l : List Node). IsStrictlySortedBy node_cmp l) (sym c.in_ok-nodes.ensures.nodes) c.in_ok-nodes.ensures.sorted

@@ -1,0 +1,9 @@
+pub mod Types
+pub mod Order
+pub mod Reach
+pub mod Keys
+pub mod Found
+pub mod Incoming
+pub mod Search
+pub mod ReachLaws
+pub mod Depends

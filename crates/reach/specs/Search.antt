@@ -1,0 +1,120 @@
+-- The search for the latest times, which goes backwards from the node.
+use Rattle.std.specs.Prelude.{◌≡◌, ℕ, ◌+◌, ◌-◌, ◌^◌, ◌⊎◌, min, List, [], ◌∷◌, Bool, true, false, ◌&&◌, not, ◌==◌, nat_le}
+use Rattle.std.specs.Prelude.{◌<◌, Option, None, Some, Contains, slice_set, length, sum_by, replicate, if◌then◌else◌}
+use Rattle.std.specs.List.{filter, All}
+use Rattle.reach.specs.Types.{Edge}
+use Rattle.reach.specs.Reach.{Leg, IsPath}
+use Rattle.reach.specs.Found.{Times, time_at, reaches}
+
+-- ---- one edge
+
+-- the latest time at which an edge may be taken, where its target may be left up to a time
+abbrev pub last_by : Edge → ℕ → ℕ
+last_by edge time = min edge.last time
+
+-- it may be taken then, which is later than the latest time that its source has so far
+abbrev pub is_later : Times → Edge → ℕ → Bool
+is_later latest edge time =
+    nat_le edge.first (last_by edge time) && not (reaches (last_by edge time) (time_at latest edge.source))
+
+-- with that time for its source
+abbrev pub raised : Times → Edge → ℕ → Times
+raised latest edge time =
+    if is_later latest edge time then slice_set latest edge.source (Some (last_by edge time)) else latest
+
+-- places whose edges are to be looked at, each with its latest time
+abbrev pub Queue : Type 0
+Queue = List (ℕ × ℕ)
+
+abbrev pub queued : Times → Edge → ℕ → Queue → Queue
+queued latest edge time queue =
+    if is_later latest edge time then (last_by edge time, edge.source) ∷ queue else queue
+
+abbrev pub is_into : ℕ → Edge → Bool
+is_into place edge = edge.target == place
+
+-- the edges to a place
+abbrev pub edges_into : List Edge → ℕ → List Edge
+edges_into edges place = filter (is_into place) edges
+
+-- ---- the edges to a place
+
+abbrev pub raised_all : Times → List Edge → ℕ → Times
+raised_all latest [] time = latest
+raised_all latest (edge ∷ edges) time = raised_all (raised latest edge time) edges time
+
+abbrev pub queued_all : Times → List Edge → ℕ → Queue → Queue
+queued_all latest [] time queue = queue
+queued_all latest (edge ∷ edges) time queue =
+    queued_all (raised latest edge time) edges time (queued latest edge time queue)
+
+abbrev pub is_time : ℕ → Option ℕ → Bool
+is_time time None = false
+is_time time (Some latest) = latest == time
+
+-- a time is still the latest of its place
+abbrev pub is_current : Times → ℕ → ℕ → Bool
+is_current latest time place = is_time time (time_at latest place)
+
+-- what is left of the queue's first place, its time and the edges to it
+abbrev pub visited : Times → List Edge → ℕ × ℕ → Times
+visited latest edges entry =
+    if is_current latest entry.0 entry.1 then raised_all latest edges entry.0 else latest
+
+abbrev pub visited_queue : Times → List Edge → ℕ × ℕ → Queue → Queue
+visited_queue latest edges entry queue =
+    if is_current latest entry.0 entry.1 then queued_all latest edges entry.0 queue else queue
+
+-- at first only the node has a time
+abbrev pub start_times : ℕ → ℕ → ℕ → Times
+start_times count node time = slice_set (replicate count None) node (Some time)
+
+-- ---- within the places
+
+abbrev pub ComeFrom : ℕ → List Edge → Type 0
+ComeFrom count edges = All (λ edge. edge.source < count) edges
+
+abbrev pub IsWithin : ℕ → Queue → Type 0
+IsWithin count queue = All (λ entry. entry.1 < count) queue
+
+-- ---- where the search stands
+
+-- the edge makes its source no later
+abbrev pub IsDone : Times → Edge → ℕ → Type 0
+IsDone latest edge time = is_later latest edge time ≡ false
+
+-- what leaves the place by the time gets to the node
+abbrev pub HasPath : List Edge → ℕ → ℕ → ℕ → ℕ → Type 0
+HasPath edges node limit place time = (legs : List Leg) × IsPath edges node limit place time legs
+
+-- each edge to a place that has a time is done, or the place is in the queue with that time, or the edge is
+-- among those that are looked at now, for the time that is given
+abbrev pub ArePending : List Edge → Times → Queue → List Edge → ℕ → Type 0
+ArePending edges latest queue rest now =
+    (edge : Edge) → Contains edges edge → (time : ℕ) → time_at latest edge.target ≡ Some time
+    → IsDone latest edge time ⊎ (Contains queue (time, edge.target) ⊎ (Contains rest edge × (time ≡ now)))
+
+-- each time is that of a path, and the node may be left up to the limit
+pub record AreKnown (edges : List Edge) (node limit : ℕ) (latest : Times) : Type 0 where
+  pub sound : (place time : ℕ) → time_at latest place ≡ Some time → HasPath edges node limit place time
+  pub start : reaches limit (time_at latest node) ≡ true
+
+pub record Stands (edges : List Edge) (node limit : ℕ) (latest : Times) (queue : Queue) (rest : List Edge) (now : ℕ)
+    : Type 0 where
+  pub known : AreKnown edges node limit latest
+  pub pending : ArePending edges latest queue rest now
+
+-- each time is the latest: nothing is left to look at
+abbrev pub AreLatest : List Edge → ℕ → ℕ → Times → Type 0
+AreLatest edges node limit latest = Stands edges node limit latest [] [] 0
+
+-- ---- how much is left
+
+-- by how much a time may still rise, up to a limit
+abbrev pub room_of : ℕ → Option ℕ → ℕ
+room_of limit None = limit + 1
+room_of limit (Some time) = limit - time
+
+-- what falls with each place that is taken out of the queue. No time is above the limit
+abbrev pub work_left : Times → Queue → ℕ
+work_left latest queue = length queue + sum_by (room_of (2 ^ 32 - 1)) latest

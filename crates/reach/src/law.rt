@@ -1,0 +1,14 @@
+//! The law of reach.
+
+ghost use Rattle.reach.specs.ReachLaws.{TrailsLaw};
+
+use trace_graph::graph_law;
+
+/// Where links lead from one node to another, each at its one time, and the times never fall and are at most
+/// some time, a path of the graph that the links make does by that time. So a graph with intervals loses
+/// nothing that the single events show. It may show more. The contract is the theorem.
+pub fn reach_law()
+    ensures { TrailsLaw }
+{
+    graph_law();
+}

@@ -1,0 +1,118 @@
+//! The search for the latest times.
+
+ghost use Rattle.std.specs.Prelude.{◌≡◌, ◌<◌, length, IfOk, OnOk, ◌∷◌, []};
+ghost use Rattle.std.specs.List.Sorted.{IsPermutation};
+ghost use Rattle.std.specs.BinaryHeap.{heap_items};
+ghost use Rattle.reach.specs.Incoming.{edges_to};
+ghost use Rattle.reach.specs.Search.{is_later, raised, queued, raised_all, queued_all};
+ghost use Rattle.reach.specs.Search.{is_current, visited, visited_queue, start_times, ComeFrom};
+
+use crate::latest::{reaches, time_at};
+use std::alloc::{AllocError, Global};
+use std::collections::BinaryHeap;
+use trace_graph::{Edge, Edges};
+
+// Whether an edge may be taken later than its source may be left so far, where its target may be left up to a
+// time.
+fn is_later(latest: &[Option<u32>], edge: &Edge, time: u32) -> bool
+    requires { edge.now.source < length latest.now }
+    ensures { result ≡ is_later latest.now edge.now time }
+{
+    let last = edge.last.min(time);
+    edge.first <= last && !reaches(last, time_at(latest, edge.source))
+}
+
+// Whether a time is still the latest of its place.
+fn is_current(latest: &[Option<u32>], time: u32, place: usize) -> bool
+    requires { place < length latest.now }
+    ensures { result ≡ is_current latest.now time place }
+{
+    match time_at(latest, place) {
+        None => false,
+        Some(latest) => latest == time,
+    }
+}
+
+/// The search: the latest time of each place so far, and the places whose edges are to be looked at, each with
+/// its latest time. The latest comes first.
+#[derive(Drop)]
+pub(crate) struct Search {
+    pub(crate) latest: Vec<Option<u32>>,
+    pub(crate) queue: BinaryHeap<(u32, usize)>,
+}
+
+impl Search {
+    /// It begins at a place, which may be left up to a time.
+    pub(crate) fn start(
+        alloc: Global,
+        count: usize,
+        place: usize,
+        time: u32,
+    ) -> Result<Search, AllocError>
+        requires { place < count }
+        ensures latest { IfOk result (λ search. search.latest.items ≡ start_times count place time) }
+        ensures queue { IfOk result (λ search. IsPermutation ((time, place) ∷ []) (heap_items search.queue)) }
+    {
+        let mut latest = vec![in alloc; None; count]?;
+        latest[place] = Some(time);
+        let mut queue = BinaryHeap::new(alloc);
+        queue.push((time, place))?;
+        Ok(Search { latest, queue })
+    }
+
+    // Looks at an edge whose target may be left up to a time.
+    fn look_at(&mut self, edge: &Edge, time: u32) -> Result<(), AllocError>
+        requires { edge.now.source < length self.old.latest.items }
+        ensures latest { OnOk result (self.new.latest.items
+            ≡ raised self.old.latest.items edge.now time) }
+        ensures queue { OnOk result (IsPermutation
+            (queued self.old.latest.items edge.now time (heap_items self.old.queue))
+            (heap_items self.new.queue)) }
+    {
+        if !is_later(&self.latest, edge, time) {
+            return Ok(());
+        }
+        let last = edge.last.min(time);
+        self.queue.push((last, edge.source))?;
+        self.latest[edge.source] = Some(last);
+        Ok(())
+    }
+
+    // Looks at edges to one place, which may be left up to a time.
+    fn look_at_all(&mut self, edges: &[Edge], time: u32) -> Result<(), AllocError>
+        requires { ComeFrom (length self.old.latest.items) edges.now }
+        ensures latest { OnOk result (self.new.latest.items
+            ≡ raised_all self.old.latest.items edges.now time) }
+        ensures queue { OnOk result (IsPermutation
+            (queued_all self.old.latest.items edges.now time (heap_items self.old.queue))
+            (heap_items self.new.queue)) }
+    {
+        for edge in edges {
+            self.look_at(edge, time)?;
+        }
+        Ok(())
+    }
+
+    /// Looks at the edges to a place, unless its time has risen since it was queued.
+    pub(crate) fn visit(
+        &mut self,
+        lists: &[Edges],
+        time: u32,
+        place: usize,
+    ) -> Result<(), AllocError>
+        requires place { place < length self.old.latest.items }
+        requires lists { length lists.now ≡ length self.old.latest.items }
+        requires sources { ComeFrom (length self.old.latest.items) (edges_to lists.now place) }
+        ensures latest { OnOk result (self.new.latest.items
+            ≡ visited self.old.latest.items (edges_to lists.now place) (time, place)) }
+        ensures queue { OnOk result (IsPermutation
+            (visited_queue self.old.latest.items (edges_to lists.now place) (time, place)
+            (heap_items self.old.queue))
+            (heap_items self.new.queue)) }
+    {
+        if !is_current(&self.latest, time, place) {
+            return Ok(());
+        }
+        self.look_at_all(lists[place].items(), time)
+    }
+}
