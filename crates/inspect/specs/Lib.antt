@@ -5,4 +5,5 @@ pub mod RowReports
 pub mod FileReports
 pub mod TraceReports
 pub mod WhyReports
+pub mod DependsReports
 pub mod Stopping

@@ -6,12 +6,15 @@
 //! - `files_text` lists its files, whole and present ones (`specs/FileReports.antt`);
 //! - `trace_text` lists its events, under the names of their processes (`specs/TraceReports.antt`,
 //!   `specs/ProcessNames.antt`);
-//! - `why_text` says of one row which statement needed it, and when (`specs/WhyReports.antt`).
+//! - `why_text` says of one row which statement needed it, and when (`specs/WhyReports.antt`);
+//! - `depends_text` lists what the content of a path came from (`specs/DependsReports.antt`), by the graph of
+//!   the events.
 //!
 //! Time and memory are linear in the package and the report. No clause says so.
 #![tactic(auto)]
 
 mod append;
+mod depends;
 mod files;
 mod names;
 mod rows;
@@ -19,6 +22,7 @@ mod stop;
 mod trace;
 mod why;
 
+pub use depends::depends_text;
 pub use files::files_text;
 pub use rows::rows_text;
 pub use stop::InspectStop;
