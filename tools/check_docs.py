@@ -10,7 +10,8 @@ ROOT is the top of a checkout, by default that of this script. Checked are
 - each relative link of each document, with its heading where it names one;
 - each path in a document that begins with a folder of this repository or with a crate, such as
   `crates/ldv_top/specs/Due.antt` or `ldv_top/specs/Due.antt`;
-- the tables of docs/DEFINITIONS.md: that each name is defined in the file of its row.
+- the tables of docs/DEFINITIONS.md: that each name is defined in the file of its row;
+- the manual page docs/ldv.1: that it has the commands of docs/COMMANDS.md, and its statuses with their messages.
 
 It prints a line for each difference, and ends with status 1 where there is one.
 """
@@ -20,6 +21,8 @@ import sys
 
 ARCHITECTURE = 'docs/ARCHITECTURE.md'
 DEFINITIONS = 'docs/DEFINITIONS.md'
+COMMANDS = 'docs/COMMANDS.md'
+MANUAL = 'docs/ldv.1'
 FOLDERS = ('crates', 'docs', 'tools', 'examples', 'bench', '.ci')
 LINK = re.compile(r'\[[^\]\n]*\]\(([^)\s]+)\)')
 CODE = re.compile(r'`([^`\n]+)`')
@@ -206,6 +209,45 @@ def check_definitions(root, differ):
                 differ.add(DEFINITIONS, number, f'{name} is not defined in {" ".join(files)}')
 
 
+# ---- the manual page
+
+def listed_commands(text):
+    """The words of each command in the tables of words, and each status with its message in those of statuses; both
+    with their line."""
+    commands, statuses = {}, {}
+    for number, cells, head in tables(text):
+        if head[0] == 'Words':
+            commands.update((words, number) for words in codes(cells[0]))
+        elif head[0] == 'Status' and head[1].startswith('Message'):
+            messages = [message for message in codes(cells[1]) if message.startswith('ldv:')]
+            statuses[cells[0], ''.join(messages)] = number
+    return commands, statuses
+
+
+def manual_commands(text):
+    """The same of a manual page: the items of its lists that begin with a command or with a number."""
+    commands, statuses = {}, {}
+    for number, line in enumerate(text.splitlines(), 1):
+        if line.startswith('.It Cm '):
+            words = re.sub(r'\b(?:Cm|Ar) ', '', line[len('.It '):])
+            commands[re.sub(r'\bFl (?=-)', '-', words)] = number
+        found = re.fullmatch(r'\.It (\d+(?:, \d+)*)(?: Li (.*))?', line)
+        if found:
+            statuses[found[1], found[2] or ''] = number
+    return commands, statuses
+
+
+def check_manual(root, differ):
+    listed, manual = listed_commands(read(root, COMMANDS)), manual_commands(read(root, MANUAL))
+    for what, here, there in zip(('command', 'status'), listed, manual):
+        for name in sorted(set(here) ^ set(there)):
+            shown = name if isinstance(name, str) else ' '.join(name).strip()
+            if name in here:
+                differ.add(COMMANDS, here[name], f'{MANUAL} has no {what} {shown}')
+            else:
+                differ.add(MANUAL, there[name], f'{COMMANDS} has no {what} {shown}')
+
+
 def main(words):
     root = words[0] if words else os.path.dirname(os.path.dirname(os.path.abspath(__file__)))
     differ = Differences()
@@ -213,6 +255,7 @@ def main(words):
     for document in documents(root):
         check_paths(root, document, differ)
     check_definitions(root, differ)
+    check_manual(root, differ)
     return 1 if differ.count else 0
 
 

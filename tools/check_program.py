@@ -8,6 +8,7 @@ streams in memory is the matter of `crates/conformance`; here are the few calls 
 its words, its streams, a stream that is closed or full, inputs and runs at the limits, and the examples of the folder
 EXAMPLES (default: examples/ beside tools/), each against the outcome that lies beside it.
 """
+import hashlib
 import json
 import os
 import subprocess
@@ -21,6 +22,9 @@ PROCESS_LIMIT = 65_535
 HELLO = b'{"start":["main"],"files":{"main":"print \\"hi\\"\\n"}}'
 HELLO_OUTCOME = b'outcome 1 0\nprocess 0 0 3 0\nhi\n\n'
 SECONDS = 60
+
+# The words of the two kinds of packages.
+KINDS = (['record'], ['record', '--excluded'])
 
 
 def call(program, words, data=b'', **streams):
@@ -66,11 +70,21 @@ def words_and_worlds(check):
 
 
 def packages(check):
-    status, package, error = call(check.program, ['record'], HELLO)
-    check.same('record', (status, b'', error), (0, b'', b''))
-    check.expect('replay of what was recorded', ['replay'], package, 0, HELLO_OUTCOME)
-    check.expect('a package cut by its last byte', ['replay'], package[:-1], 8, error=b'ldv: damaged: digest\n')
-    check.expect('another first byte', ['replay'], b'l' + package[1:], 8, error=b'ldv: damaged: magic\n')
+    for words in KINDS:
+        status, package, error = call(check.program, words, HELLO)
+        check.same(' '.join(words), (status, b'', error), (0, b'', b''))
+        check.expect('replay of what was recorded', ['replay'], package, 0, HELLO_OUTCOME)
+        check.expect('a package cut by its last byte', ['replay'], package[:-1], 8, error=b'ldv: damaged: digest\n')
+        check.expect('another first byte', ['replay'], b'l' + package[1:], 8, error=b'ldv: damaged: magic\n')
+        check.expect('a report', ['inspect', 'trace'], package, 0, b'0 0 started main\n2 0 ended 0\n')
+        check.expect('a table that is not there', ['table', 't', '0'], package, 10, error=b'ldv: no such item\n')
+
+
+def generated(check):
+    summary = (b'gen 100 rows 110 kept 70 steps 38\n'
+               b'package 4554 7b5e9868ea93cce961865b19be48b73992d3e7eab1dd7adb1db4c3ffdb57e2ac\n'
+               b'replay 404\n')
+    check.expect('a generated world', ['gen', '100'], b'', 0, summary)
 
 
 def at_the_limits(check):
@@ -158,9 +172,30 @@ def examples(check, folder):
         with open(os.path.join(folder, name), 'rb') as document, open(outcome, 'rb') as wanted:
             world, text = document.read(), wanted.read()
         check.expect('run of ' + name, ['run'], world, 0, text)
-        status, package, error = call(check.program, ['record'], world)
-        check.same('record of ' + name, (status, b'', error), (0, b'', b''))
-        check.expect('replay of ' + name, ['replay'], package, 0, text)
+        for words in KINDS:
+            status, package, error = call(check.program, words, world)
+            check.same('%s of %s' % (' '.join(words), name), (status, b'', error), (0, b'', b''))
+            check.expect('replay of %s of %s' % (' '.join(words), name), ['replay'], package, 0, text)
+
+
+def changed(package, old, new):
+    """The package with some of its bytes changed, and the digest of the changed ones."""
+    body = package[:-32].replace(old, new)
+    return body + hashlib.sha256(body).digest()
+
+
+def recorded_replies(check, folder):
+    """The example pay.json as a package of recorded replies: it has no name in it, and it answers what was asked alone."""
+    with open(os.path.join(folder, 'pay.json'), 'rb') as document:
+        world = document.read()
+    for words, has_name in zip(KINDS, (True, False)):
+        status, package, error = call(check.program, words, world)
+        check.same('%s, and whether Ada is in it' % ' '.join(words), (status, b'Ada' in package, error), (0, has_name, b''))
+    for old, new, statement in ((b'> 2 ORDER BY team"', b'> 1 ORDER BY team"', 0), (b'?" 3000', b'?" 3001', 1)):
+        check.expect('a script that asks something else', ['replay'], changed(package, old, new), 9,
+                     error=b'ldv: diverged: process 0 statement %d\n' % statement)
+    check.expect('a script that asks nothing', ['replay'], changed(package, b'\nsql ', b'\n### '), 0,
+                 b'outcome 1 0\n' + process(b'0'))
 
 
 def main():
@@ -170,10 +205,13 @@ def main():
     check = Check(program)
     words_and_worlds(check)
     packages(check)
+    generated(check)
     at_the_limits(check)
     runs_at_the_limits(check)
     streams(check)
-    examples(check, sys.argv[2] if len(sys.argv) == 3 else os.path.join(HERE, '..', 'examples'))
+    folder = sys.argv[2] if len(sys.argv) == 3 else os.path.join(HERE, '..', 'examples')
+    examples(check, folder)
+    recorded_replies(check, folder)
     print('the real program: %d calls, %d differ' % (check.calls, check.differ))
     sys.exit(1 if check.differ or not check.calls else 0)
 

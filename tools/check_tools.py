@@ -1,7 +1,8 @@
 #!/usr/bin/env python3
-"""Tests tools/world.py, tools/outcome.py and tools/package.py, and the examples, with the program where it is there.
+"""Tests world.py, outcome.py, package.py and picture.py of tools/, and the examples, with the program where it is there.
 
-The examples are those of examples/, the tutorial and docs/SCRIPTS.md.
+The examples are those of examples/, the tutorial, docs/SCRIPTS.md and docs/PACKAGES.md. The manual page is read by
+groff and by mandoc, where they are installed.
 
     tools/check_tools.py [PROGRAM]
 
@@ -11,11 +12,13 @@ from SQLite. Ends with status 1 where a test fails.
 """
 import contextlib
 import glob
+import html
 import io
 import json
 import os
 import re
 import shlex
+import shutil
 import sqlite3
 import subprocess
 import sys
@@ -23,10 +26,13 @@ import tempfile
 import unittest
 
 import against_sqlite
+import check_docs
+import check_page
 import check_scripts
 import outcome
 import package
 import packages
+import picture
 import world
 from world_tables import RESERVED
 
@@ -373,6 +379,15 @@ file a has 3 bytes
 file bb was removed
 """)
 
+    def test_control_characters(self):
+        """What a terminal could take for a command is shown as an escape."""
+        given = FAMILY.replace(b"text 3\na\nb\n", b"text 5\na\x7f\xc2\x9b1\n").replace(b"a\nx\ny", b"a\n\x1bxy").replace(
+            b"removed 2\nbb", b"removed 2\n\xc2\x9b")
+        status, out, err = tool(outcome, given=given)
+        self.assertEqual((status, err), (0, ""))
+        for shown in ('"a\\u007f\\u009b1"', "| \\u001bxy", "file \\u009b was removed"):
+            self.assertIn(shown, out.decode())
+
     def test_csv(self):
         rows = b'"a\nb",7\n"",\n'
         sections = (b"# process 0 reply 1: 1 row changed\nchanged,1\n\n"
@@ -614,7 +629,7 @@ class ScriptsPage(unittest.TestCase):
             for old, new in ((b"0 0 2", b"0 1 2"), (b"\n1\n", b"\n2\n"), (b"removed 1\nf", b"file 1 0\nf\n")):
                 wrong = right.replace(old, new, 1)
                 self.assertEqual(check_scripts.check(page, lambda given: (0, wrong, b"")), (1, 1))
-            self.assertEqual(check_scripts.check(page, lambda given: (13, b"", b"ldv: not built\n")), (1, 1))
+            self.assertEqual(check_scripts.check(page, lambda given: (7, b"", b"ldv: not ended after 1000000 steps\n")), (1, 1))
         self.assertEqual(printed.getvalue().count("\n"), 4)
 
 
@@ -675,12 +690,238 @@ table t (k INT NOT NULL, g TEXT, v INT, key k): 2 rows, next row 5
         self.assertIn(b"trace                  69\n", shown[1])
         self.assertIn(b"rows, trace, logs     137\n", shown[1])
 
+    def test_names(self):
+        """A table whose name leads out of the folder, or out of a statement, is refused."""
+        for table, name in (("../t", "k"), ("t", 'k" INT); --'), ("", "k"), ("T", "k"), ("t", "k" * 64)):
+            trace = [packages.started(), packages.ended()]
+            bytes_of = packages.encode(packages.package(
+                tables=[packages.table(table, [packages.column(name)], next=0)], trace=trace))
+            for words in (["--csv", os.path.join(self.folder, "tables")],
+                          ["--sqlite", os.path.join(self.folder, "t.db")]):
+                status, out, _ = tool(package, *words, given=bytes_of)
+                self.assertIn("is no name", status)
+                self.assertEqual(os.listdir(self.folder), ["t.package"])
+
     def test_damaged(self):
         bytes_of = read(self.path)
         for given, said in ((bytes_of[:-1], "its digest"), (b"x" + bytes_of, "LDVPACK1"), (b"", "LDVPACK1")):
             status, out, _ = tool(package, given=given)
             self.assertIn(said, status)
             self.assertEqual(out, b"")
+
+
+# A script that tests a file, starts a child with an argument, waits for it and removes a file; the child asks twice.
+TRACE = """0 0 started main
+1 0 tested absent a "b" \\ c
+2 0 spawned w
+3 0.0 openedread in
+4 0 openednew log
+5 0.0 asked 0 tables 2 reads 2 made 0
+6 0.0 read in
+7 0.0 asked 1 tables 1 reads 0 made 1
+8 0.0 openedappend found log
+9 0.0 ended 3
+10 0 waited 0.0
+11 0 removed log
+12 0 ended 0
+"""
+DRAWN = """digraph trace {
+  rankdir=LR;
+  node [fontname="Helvetica", fontsize=11];
+  edge [fontname="Helvetica", fontsize=9, arrowsize=0.7];
+  "process 0" [shape=box, label="process 0\\nended with 0"];
+  "path main" [shape=ellipse, style="filled", fillcolor="#cfe8cf", label="main"];
+  "path a \\"b\\" \\\\ c" [shape=ellipse, label="a \\"b\\" \\\\ c"];
+  "path w" [shape=ellipse, label="w"];
+  "process 0.0" [shape=box, style="filled", fillcolor="#cfe8cf", label="process 0.0\\nended with 3"];
+  "path in" [shape=ellipse, label="in"];
+  "path log" [shape=ellipse, label="log"];
+  "statement 0" [shape=box, style="rounded,filled", fillcolor="#cfe8cf", label="statement 0\\nneeds 2, makes 0"];
+  "statement 1" [shape=box, style="rounded", label="statement 1\\nneeds 0, makes 1"];
+  "rows of t for 0" [shape=note, style="filled", fillcolor="#cfe8cf", label="t\\nrow 0, rule L\\nrow 7, rule H"];
+  "path main" -> "process 0" [label="0"];
+  "path a \\"b\\" \\\\ c" -> "process 0" [label="1"];
+  "path w" -> "process 0" [label="2"];
+  "path w" -> "process 0.0" [label="2"];
+  "process 0" -> "process 0.0" [label="2"];
+  "path in" -> "process 0.0" [label="3 to 6"];
+  "path log" -> "process 0" [label="4 to 11"];
+  "process 0" -> "path log" [label="4 to 11"];
+  "process 0.0" -> "statement 0" [label="5"];
+  "statement 0" -> "process 0.0" [label="5"];
+  "process 0.0" -> "statement 1" [label="7"];
+  "statement 1" -> "process 0.0" [label="7"];
+  "process 0.0" -> "path log" [label="8"];
+  "process 0.0" -> "process 0" [label="10"];
+  "rows of t for 0" -> "statement 0" [label="5"];
+}
+"""
+
+
+def titles(image):
+    """The names of the nodes and arrows of an image that dot made, in order."""
+    found = re.findall(r"(?s)class=\"(?:node|edge)\">\s*<title>(.*?)</title>", image)
+    return [html.unescape(title) for title in found]
+
+
+def drawn_names(graph):
+    """The same of the graph that it was made of."""
+    return [re.sub(r'"|(?<=") | (?=")', "", name) for name in re.findall(r"(?m)^  (\".*\") \[", graph)]
+
+
+class Pictures(InFolder):
+    def words(self):
+        rows, depends = "t 0 0 L\nt 7 0 H\n", "path main\nprocess 0.0\nrow t 7 2\nrow u 1 0\nask 0\nreply 0\n"
+        return ["--rows", self.put("rows", rows), "--depends", self.put("depends", depends)]
+
+    def test_drawn(self):
+        self.assertEqual(tool(picture, *self.words(), given=TRACE.encode()), (0, DRAWN.encode(), ""))
+        alone = tool(picture, self.put("trace", TRACE))
+        self.assertEqual((alone[0], alone[2]), (0, ""))
+        self.assertNotIn(b"filled", alone[1])
+        self.assertNotIn(b"note", alone[1])
+
+    def test_limit(self):
+        self.assertEqual(tool(picture, "--limit", "13", given=TRACE.encode())[0], 1)
+        self.assertEqual(tool(picture, "--limit", "14", given=TRACE.encode())[0], 0)
+        self.assertEqual(tool(picture, "--limit", "14", *self.words(), given=TRACE.encode())[0], 1)
+        many = "0 0 started m\n" + "".join(f"{n} 0 openedwrite f{n}\n" for n in range(1, 200))
+        self.assertEqual(tool(picture, given=many.encode())[0], 0)
+        many += "200 0 openedwrite g\nno event is read any more\n"
+        self.assertEqual(tool(picture, given=many.encode()), (
+            1, b"", "picture.py: trace, line 201: the picture would have more than 200 arrows; --limit N takes N\n"))
+
+    def test_malformed(self):
+        for old, new, message in (
+                ("0 0 started", "0 1 started", "line 1: there is no process 1"),
+                ("3 0.0 opened", "3 0.1 opened", "line 4: there is no process 0.1"),
+                ("3 0.0 opened", "1 0.0 opened", "line 4: no event"),
+                ("3 0.0 opened", "03 0.0 opened", "line 4: '03' is no number"),
+                ("openedread", "openread", "line 4: no event"),
+                ("openedread in", "openedread", "line 4: openedread has no path"),
+                ("absent a", "a", "line 2: tested has no flag"),
+                ("asked 1", "asked 2", "line 8: no statement"),
+                ("waited 0.0", "waited 0.1", "line 11: there is no process 0.1"),
+                ("ended 0\n", "ended 0", "the last line doesn't end")):
+            self.assertIn(old, TRACE)
+            status, out, err = tool(picture, given=TRACE.replace(old, new, 1).encode())
+            self.assertEqual((status, out), (1, b""), new)
+            self.assertIn(message, err)
+        self.assertIn("it has no event", tool(picture)[2])
+        self.assertIn("isn't UTF-8", tool(picture, given=b"\xff")[2])
+        for word, text, message in (
+                ("--rows", "t 0 2 L\n", "rows, line 1: no row that a statement of the trace needed"),
+                ("--rows", "t 0 0 L\nt 0 0 H\n", "rows, line 2: the row is there twice"),
+                ("--depends", "path x\n", "depends, line 1: the trace has no 'path x'"),
+                ("--depends", "reply 2\n", "depends, line 1: the trace has no")):
+            status, _, err = tool(picture, word, self.put("other", text), given=TRACE.encode())
+            self.assertEqual(status, 1)
+            self.assertIn(message, err)
+
+    def test_image(self):
+        """By a program in place of dot, by one that fails, by none, and by dot where it is installed."""
+        path, script = os.path.join(self.folder, "t.svg"), self.put("fake", '#!/bin/sh\necho "$@"; cat\n')
+        os.chmod(script, 0o755)
+        words = ["--svg", path, "--dot"]
+        self.assertEqual(tool(picture, *words, script, *self.words(), given=TRACE.encode()), (0, b"", ""))
+        self.assertEqual(read(path), b"-Tsvg\n" + DRAWN.encode())
+        self.put("fake", "#!/bin/sh\necho no >&2; exit 3\n")
+        self.assertIn("fake ended with 3: no", tool(picture, *words, script, given=TRACE.encode())[2])
+        status, out, err = tool(picture, *words, "no-such-dot", given=TRACE.encode())
+        self.assertEqual((status, out), (1, b""))
+        self.assertIn("no-such-dot isn't installed", err)
+        if shutil.which("dot"):
+            self.assertEqual(tool(picture, "--svg", path, *self.words(), given=TRACE.encode())[0], 0)
+            self.assertEqual(sorted(titles(read(path).decode())), sorted(drawn_names(DRAWN)))
+
+    def test_stored_image(self):
+        """The image of the page on packages is of the reports that the page shows."""
+        page = read(check_page.PAGE).decode()
+        shown = {each.command: "".join(line + "\n" for line in each.lines) for each in check_page.commands(page)}
+        trace, rows, depends = (shown[f"./ldv inspect {words} < orders.package"]
+                                for words in ("trace", "rows", "depends report.txt"))
+        graph = picture.drawn(trace, rows, depends, picture.LIMIT)
+        image = read(os.path.join(EXAMPLES, "orders.svg")).decode()
+        self.assertEqual(sorted(titles(image)), sorted(drawn_names(graph)))
+        self.assertEqual(image.count("#cfe8cf"), graph.count("#cfe8cf"))
+
+
+PAGE = """# a page
+
+    $ echo one \\
+        two; ls
+    one two
+
+    no command
+
+    $ false
+    $ ./ldv run
+    said run
+    more
+
+text
+"""
+
+
+class Pages(InFolder):
+    def program(self):
+        path = self.put("fake", '#!/bin/sh\nprintf "said $1\\r\\nmore\\n" >&2\n')
+        os.chmod(path, 0o755)
+        return path
+
+    def test_page(self):
+        program = self.program()
+        shown = [(each.command, each.lines) for each in check_page.commands(PAGE)]
+        self.assertEqual(shown, [("echo one \\\n        two; ls", ["one two"]), ("false", []),
+                                 ("./ldv run", ["said run", "more"])])
+        path = self.put("page.md", PAGE)
+        words = ["--program", program, path]
+        status, out, _ = tool(check_page, *words)
+        self.assertEqual(status, 1)
+        self.assertIn(b"line 6: echo one", out)
+        self.assertIn(b"page: nothing\n    now:  examples\n", out)
+        self.assertIn(b"3 commands, 1 differ", out)
+        self.assertEqual(tool(check_page, "--fill", *words)[0], 0)
+        self.assertEqual(read(path).decode(), PAGE.replace("    one two\n", "    one two\n    examples\n    ldv\n    tools\n"))
+        self.assertEqual(tool(check_page, *words)[0], 0)
+        self.put("page.md", read(path).decode().replace("    more\n", ""))
+        self.assertIn(b"now:  more", tool(check_page, *words)[1])
+        self.assertEqual(tool(check_page, "--program", program + "x", path)[0], 1)
+
+
+class ManualPage(InFolder):
+    def test_formatted(self):
+        """groff and mandoc have nothing to say against the page."""
+        page = os.path.join(ROOT, check_docs.MANUAL)
+        for words in (["groff", "-mandoc", "-ww", "-Tutf8", page], ["mandoc", "-Tlint", page]):
+            if shutil.which(words[0]):
+                status, out, err = command(words)
+                self.assertEqual((status, err), (0, b""), words)
+                self.assertTrue(words[0] == "groff" or out == b"", out)
+
+    def test_compared(self):
+        """A command or a status that one of the two pages has is found where the other hasn't."""
+        listed = ("| Words | Input |\n|---|---|\n| `run` | a |\n| `inspect why TABLE ROW` | b |\n\n"
+                  "| Status | Message on standard error | When |\n|---|---|---|\n| 0 | none | |\n"
+                  "| 2 | `ldv: usage` | |\n| 126, 127 | of the script `./ldv` | |\n")
+        manual = ".It Cm run\n.It Cm inspect why Ar TABLE ROW\n.It 0\n.It 2 Li ldv: usage\n.It 126, 127\n"
+        for name, text in ((check_docs.COMMANDS, listed), (check_docs.MANUAL, manual)):
+            os.makedirs(os.path.join(self.folder, "docs"), exist_ok=True)
+            self.put(name, text)
+        self.assertEqual(self.differences(), "")
+        self.put(check_docs.MANUAL, manual.replace("why", "how").replace("usage", "use") + ".It Cm record Fl -excluded\n")
+        self.assertEqual(self.differences(), f"""\
+docs/ldv.1:2: docs/COMMANDS.md has no command inspect how TABLE ROW
+docs/COMMANDS.md:4: docs/ldv.1 has no command inspect why TABLE ROW
+docs/ldv.1:6: docs/COMMANDS.md has no command record --excluded
+docs/COMMANDS.md:9: docs/ldv.1 has no status 2 ldv: usage
+docs/ldv.1:4: docs/COMMANDS.md has no status 2 ldv: use
+""")
+
+    def differences(self):
+        with contextlib.redirect_stdout(io.StringIO()) as printed:
+            check_docs.check_manual(self.folder, check_docs.Differences())
+        return printed.getvalue()
 
 
 class Program(InFolder):
@@ -697,6 +938,9 @@ class Program(InFolder):
         status, package, err = ldv(["record"], document)
         self.assertEqual((status, err), (0, b""))
         self.assertEqual(ldv(["replay"], package), (0, expected, b""))
+        status, replies, err = ldv(["record", "--excluded"], document)
+        self.assertEqual((status, err), (0, b""))
+        self.assertEqual(ldv(["replay"], replies), (0, expected, b""))
         return package
 
     def test_examples(self):
@@ -723,6 +967,24 @@ class Program(InFolder):
         self.assertEqual(tool(package, "--csv", self.folder, "--reasons", path)[0], 0)
         self.assertEqual(read(f"{self.folder}/customers.csv"), b"ldv_row,ldv_statement,ldv_rule,id,name\r\n"
                          b"0,2,L,1,Ada\r\n1,2,H,2,Bo\r\n2,2,H,3,Cy\r\n")
+
+    def test_manual_page(self):
+        """The examples of the manual page, in their order."""
+        check_page.folder_with(PROGRAM, self.folder)
+        page = read(os.path.join(ROOT, check_docs.MANUAL)).decode()
+        lines = re.findall(r"(?m)^\.Dl (.*)$", page)
+        for block in re.findall(r"(?s)\n\.Bd .*?\n(.*?)\n\.Ed", page):
+            lines += block.split("\n")
+        self.assertEqual(len(lines), 19)
+        path = self.folder + os.pathsep + os.environ["PATH"]
+        for line in lines:
+            done = subprocess.run(["sh", "-c", line], cwd=self.folder, stdout=subprocess.PIPE, stderr=subprocess.PIPE,
+                                  env={**os.environ, "PATH": path}, check=False)
+            self.assertEqual((done.returncode, done.stderr), (0, b""), line)
+
+    def test_packages_page(self):
+        status, out, err = tool(check_page, "--program", PROGRAM)
+        self.assertEqual((status, err), (0, ""), out.decode())
 
     def test_scripts_page(self):
         with contextlib.redirect_stdout(io.StringIO()) as printed:

@@ -207,8 +207,13 @@ def cell(value):
         return str(value)
     looks_else = value in ("", "NULL") or re.fullmatch("-?[0-9]+", value) or value[0] == '"'
     if looks_else or value != value.strip() or not value.isprintable():
-        return json.dumps(value, ensure_ascii=False)
+        return escaped(json.dumps(value, ensure_ascii=False))
     return value
+
+
+def escaped(text):
+    """A text with control characters as escapes: a terminal could take them for commands."""
+    return "".join(char if char.isprintable() or char == "\t" else json.dumps(char)[1:-1] for char in text)
 
 
 def table_lines(rows):
@@ -261,8 +266,8 @@ def shown_lines(processes, touched):
 
 def path_lines(path, content):
     if content is None:
-        return [f"file {path} was removed"]
-    lines = [f"file {path} has {counted(len(content), 'byte')}"]
+        return [f"file {escaped(path)} was removed"]
+    lines = [f"file {escaped(path)} has {counted(len(content), 'byte')}"]
     try:
         return lines + ["  | " + line for line in text_lines(content.decode())]
     except UnicodeDecodeError:
@@ -272,8 +277,7 @@ def path_lines(path, content):
 def text_lines(text):
     """The lines of a text, with control characters as escapes."""
     lines = (text[:-1] if text.endswith("\n") else text).split("\n") if text else []
-    return ["".join(char if char.isprintable() or char == "\t" else json.dumps(char)[1:-1] for char in line)
-            for line in lines]
+    return [escaped(line) for line in lines]
 
 
 # ---- CSV

@@ -18,11 +18,15 @@ Statuses: 0 shown; 1 the input is no package, or a file can't be read or written
 import argparse
 import hashlib
 import os
+import re
 import sqlite3
 import sys
 
+from outcome import escaped
+
 MAGIC = b"LDVPACK1"
 DIGEST = 32
+NAME = re.compile(r"[a-z_][a-z0-9_]{0,62}")
 MODES = {1: "included", 2: "excluded"}
 KINDS = {1: "INT", 2: "TEXT", 3: "INT NOT NULL", 4: "TEXT NOT NULL"}
 RULES = {1: "L", 2: "H", 3: "K"}
@@ -62,6 +66,13 @@ class Reader:
             return self.take(self.number(4)).decode()
         except UnicodeDecodeError:
             raise Malformed(f"byte {start}: a text that isn't UTF-8") from None
+
+    def name(self):
+        """Of a table or a column."""
+        start, name = self.place, self.text()
+        if not NAME.fullmatch(name):
+            raise Malformed(f"byte {start}: {name!r} is no name")
+        return name
 
     def list(self, width, item):
         return [item() for _ in range(self.number(width))]
@@ -107,10 +118,10 @@ class Package:
         return path, self.reader.take(self.reader.number(4)) if whole else None
 
     def column(self):
-        return self.reader.text(), self.reader.among(KINDS)
+        return self.reader.name(), self.reader.among(KINDS)
 
     def table(self):
-        name, columns = self.reader.text(), self.reader.list(1, self.column)
+        name, columns = self.reader.name(), self.reader.list(1, self.column)
         key = self.reader.list(1, lambda: self.reader.number(1))
         if any(place >= len(columns) for place in key):
             raise Malformed(f"table {name}: a key column that isn't there")
@@ -171,10 +182,10 @@ def counted(count, one, many):
 
 
 def tell(package):
-    print(f"{package.mode}, start {' '.join(package.start)}, seed {package.seed}, "
+    print(f"{package.mode}, start {escaped(' '.join(package.start))}, seed {package.seed}, "
           f"{counted(package.steps, 'step', 'steps')}, {counted(len(package.events), 'event', 'events')}")
     for path, content in package.files:
-        print(f"file {path}: " + ("present" if content is None else counted(len(content), "byte", "bytes")))
+        print(f"file {escaped(path)}: " + ("present" if content is None else counted(len(content), "byte", "bytes")))
     for table in package.tables:
         columns = ", ".join(f"{name} {kind}" for name, kind in table["columns"])
         key = f", key {', '.join(table['key'])}" if table["key"] else ""

@@ -447,23 +447,17 @@ def outcome(p):
 
 # ---- cases
 
-# Whether the program replays excluded packages. Until it does, a valid one ends with its own status.
-REPLAYS_EXCLUDED = False
-
 # What is due where nothing is replayed: the status and the line.
 REFUSED = {
     'magic': (8, 'ldv: damaged: magic\n'),
     'digest': (8, 'ldv: damaged: digest\n'),
     'form': (8, 'ldv: damaged: form\n'),
     'too long': (5, 'ldv: input longer than 67108864 bytes\n'),
-    'excluded': (13, 'ldv: not built\n'),
 }
 
 
 def due(p, expect):
     """The status, the output and the line."""
-    if expect == 'valid' and p['mode'] == 2 and not REPLAYS_EXCLUDED:
-        expect = 'excluded'
     if expect == 'valid':
         return 0, outcome(p), ''
     status, line = REFUSED[expect]

@@ -2,16 +2,14 @@
 
 ghost use Rattle.std.specs.Prelude.{◌≡◌, ◌+◌, ◌<◌, ◌^◌, ◌∷◌, ◌++◌, [], length, Some, slice_get, slice_set};
 ghost use Rattle.std.specs.Prelude.{IfOk, OnOk};
-ghost use Rattle.std.specs.Fmt.{decimal};
-ghost use Rattle.run_model.specs.OutcomeText.{name_text, parts_text};
 ghost use Rattle.run_model.specs.ValidTrace.{IsTrace};
 ghost use Rattle.inspect.specs.ChildRoom.{HasRoom, HaveRoom, all_births, births};
 ghost use Rattle.inspect.specs.ProcessNames.{child_of, first_process, is_spawn, name_in, named_after};
 ghost use Rattle.inspect.specs.ProcessNames.{parent_of, processes_of, with_child};
 ghost use Rattle.inspect.specs.declared.names.Named.{Named};
 
-use ldv_value::{Bytes, Parts, append_number};
-use run_model::{Act, Event};
+use ldv_value::{Bytes, Parts};
+use run_model::{Act, Event, append_name};
 use std::alloc::{AllocError, Global};
 
 /// A process of a trace: its spawn path, and how many children it made so far.
@@ -147,30 +145,4 @@ pub(crate) fn append_process(
         None => Ok(()),
         Some(process) => append_name(to, process.parts.items()),
     }
-}
-
-fn append_name(to: &mut Bytes, parts: &[u32]) -> Result<(), AllocError>
-    ensures { OnOk result (to.new ≡ to.old ++ name_text parts.now) }
-{
-    match parts {
-        [] => Ok(()),
-        [first, rest @ ..] => append_parts_from(to, *first, rest),
-    }
-}
-
-fn append_parts_from(to: &mut Bytes, first: u32, rest: &[u32]) -> Result<(), AllocError>
-    ensures { OnOk result (to.new ≡ to.old ++ decimal first ++ parts_text rest.now) }
-{
-    append_number(first as u64, to)?;
-    append_parts(to, rest)
-}
-
-fn append_parts(to: &mut Bytes, parts: &[u32]) -> Result<(), AllocError>
-    ensures { OnOk result (to.new ≡ to.old ++ parts_text parts.now) }
-{
-    for part in parts {
-        to.extend(b".")?;
-        append_number(*part as u64, to)?;
-    }
-    Ok(())
 }

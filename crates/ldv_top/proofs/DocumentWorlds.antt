@@ -1,16 +1,15 @@
 -- The world of a document meets the rules of worlds, and its tables are a database: documents, packages and
 -- databases cite the same tests of tables.
 use Rattle.std.proofs.Common.{◌≡◌, ℕ, suc, ◌+◌, ◌<◌, ◌≤◌, List, [], ◌∷◌, length, map, find, zip, Option, Some, None, is_some, Ok, refl, sym, ap, ◌∙◌, subst, Bool, true, false, not, ◌&&◌, ◌==◌, IsTrue, nat_le, nat_lt, bytes_eq, slice_get, arith, inl, inr}
-use Rattle.std.specs.List.{list_all, list_any, position_or_len, AllByRecursion, IsDistinct}
+use Rattle.std.specs.List.{list_all, list_any, position_or_len, AllByRecursion}
 use Rattle.std.specs.Prelude.{nat_eq}
 use Rattle.std.proofs.lemmas.Bool.{cases_Bool, lt-ltb, ltb-true, leb-true}
 use Rattle.std.proofs.lemmas.Bool.Decides.{nat_tests, Decides-eqb}
 use Rattle.std.proofs.lemmas.List.Folds.{find_at}
-use Rattle.std.proofs.lemmas.Map.Steps.{length-le_from_distinct_below}
 use Rattle.std.proofs.lemmas.Option.{slice_get_within}
 use Rattle.std.proofs.lemmas.Slice.Eq.{bytes_eq-Decides}
 use Rattle.ldv_value.proofs.Booleans.{and-parts, and-from, and-first, and-second, or-parts, or-from, not-true, true≢false}
-use Rattle.ldv_value.proofs.Lists.{list_all-map, list_all-weaker, length-map, found-all, sorted-under}
+use Rattle.ldv_value.proofs.Lists.{list_all-map, list_all-weaker, length-map, sorted-under}
 use Rattle.ldv_value.specs.FileState.{file_at}
 use Rattle.ldv_value.specs.Limits.{file_limit, max_files, max_tables, max_columns, max_start_words}
 use Rattle.ldv_value.specs.Names.{path_test}
@@ -29,6 +28,7 @@ use Rattle.run_model.specs.declared.package.PackedRow.{PackedRow}
 use Rattle.run_model.specs.declared.package.PackedTable.{PackedTable}
 use Rattle.run_model.specs.declared.world.World.{World}
 use Rattle.package_layout.specs.Room.{key_room, row_room, table_room}
+use Rattle.replay_db.proofs.KeyPlaces.{found, key_within}
 use Rattle.replay_db.proofs.WorldRules.{next_within, ruled_tables}
 use Rattle.replay_db.proofs.WorldsThatRun.{ruled_runs}
 use Rattle.replay_db.specs.Runs.{CanRun}
@@ -59,13 +59,6 @@ all-both p q (x ∷ xs) ps qs =
     let a = and-parts (p x) (list_all p xs) ps in
     let b = and-parts (q x) (list_all q xs) qs in
     and-from (p x && q x) (list_all (λ x. p x && q x) xs) (and-from (p x) (q x) a.0 b.0) (all-both p q xs a.1 b.1)
-
-found : {X : Type 0} (p : X → Bool) (xs : List X) → list_any p xs ≡ true → (x : X) × (find p xs ≡ Some x) × (p x ≡ true)
-found p [] any = cc
-found p (x ∷ xs) any = elim (cases_Bool (p x)) [
-  | inl hit ↦ (x, rw hit refl, hit)
-  | inr miss ↦ let later = found p xs (rw miss at any) in (later.0, rw miss later.1, later.2)
-]
 
 -- ---- the places of a key's columns
 
@@ -123,29 +116,10 @@ module _ (columns : List Column) where
 
 -- ---- a table by the rules has room in the format
 
-none_equal : (n : ℕ) (ns : List ℕ) → list_any (nat_eq n) ns ≡ false → AllByRecursion (λ m. nat_eq n m ≡ false) ns
-none_equal n [] none = tt
-none_equal n (m ∷ ns) none = let parts = or-parts (nat_eq n m) (list_any (nat_eq n) ns) none in (parts.0, none_equal n ns parts.1)
-
-distinct : (ns : List ℕ) → repeats nat_eq ns ≡ false → IsDistinct nat_eq ns
-unfolding IsDistinct
-distinct [] none = tt
-distinct (n ∷ ns) none =
-    let parts = or-parts (list_any (nat_eq n) ns) (repeats nat_eq ns) none in
-    (none_equal n ns parts.0, distinct ns parts.1)
-
-each_below : (limit : ℕ) (ns : List ℕ) → list_all (λ n. nat_lt n limit) ns ≡ true → (q : ℕ) → list_any (nat_eq q) ns ≡ true → q < limit
-each_below limit ns all q any =
-    let one = found (nat_eq q) ns any in
-    let below : nat_lt one.0 limit ≡ true = found-all (nat_eq q) (λ n. nat_lt n limit) ns one.0 all one.1 in
-    let same : q ≡ one.0 = (Decides-eqb q one.0).0 one.2 in
-    let less : one.0 < limit = ltb-true one.0 limit below in
-    omega arith
-
 key_room_met : (columns : List Column) (key : List ℕ) → length columns ≤ max_columns → key_places_test columns key ≡ true → key_room key ≡ true
 key_room_met columns key few met =
     let parts = and-parts (list_all (λ p. nat_lt p (length columns)) key) (not (repeats nat_eq key)) met in
-    let count : length key ≤ length columns = length-le_from_distinct_below key (length columns) (distinct key (not-true (repeats nat_eq key) parts.1)) (each_below (length columns) key parts.0) in
+    let count : length key ≤ length columns = key_within columns key met in
     and-from (nat_lt (length key) 256) (list_all (λ p. nat_lt p 256) key) (lt-ltb (length key) 256 (omega arith))
     (list_all-weaker (λ p. nat_lt p (length columns)) (λ p. nat_lt p 256) (λ p below. let less : p < length columns = ltb-true p (length columns) below in lt-ltb p 256 (omega arith)) key parts.0)
 

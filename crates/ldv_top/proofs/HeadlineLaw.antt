@@ -1,6 +1,6 @@
 -- A package that was recorded is replayed as its world is run.
-use Rattle.std.proofs.Common.{◌≡◌, ℕ, ◌≤◌, List, [], length, refl, sym, ap, ◌∙◌, subst, Bool, true, false, IsTrue, arith, inl, inr}
-use Rattle.std.specs.Prelude.{Some, Ok, if◌then◌else◌}
+use Rattle.std.proofs.Common.{◌≡◌, ℕ, ◌≤◌, List, [], length, refl, sym, ap, ◌∙◌, subst, true, false, arith, inl, inr}
+use Rattle.std.specs.Prelude.{Some, Ok}
 use Rattle.std.proofs.lemmas.Bool.{cases_Bool}
 use Rattle.std.proofs.lemmas.Bool.Decides.{nat_tests}
 use Rattle.ldv_value.proofs.Cases.{cases-option}
@@ -10,6 +10,7 @@ use Rattle.run_model.specs.declared.package.Mode.{Mode}
 use Rattle.run_model.specs.declared.package.Mode.TheVariants.{Included, Excluded}
 use Rattle.run_model.specs.declared.package.Package.{Package}
 use Rattle.run_model.specs.declared.world.World.{World}
+use Rattle.run_model.specs.LogRun.{log_outcome}
 use Rattle.run_model.specs.Package.{package_of, own_world}
 use Rattle.run_model.specs.WorldRun.{ends_within, outcome_within, steps_by}
 use Rattle.sql_model.specs.Tables.{tables_test}
@@ -18,45 +19,42 @@ use Rattle.package_layout.specs.Whole.{spelling, IsTyped}
 use Rattle.replay_db.proofs.BudgetLaw.{outcome_ends, ended_outcome, enough_outcome}
 use Rattle.replay_db.proofs.EndedLaw.{ended_starts}
 use Rattle.replay_db.proofs.TraceValid.{steps_at_most}
+use Rattle.replay_db.specs.Auditing.{SoundLaw, RecordedSoundLaw, IsOwn, verdict_on, own_spelling}
+use Rattle.replay_db.specs.declared.soundness.Verdict.{Verdict}
+use Rattle.replay_db.specs.declared.soundness.Verdict.TheVariants.{Sound}
 use Rattle.replay_db.specs.Laws.{SameRun, ReplayLaw}
-use Rattle.replay_db.specs.Worlds.{world_rules, WorldTablesLaw, ValidPackageLaw, TypedPackageLaw}
+use Rattle.replay_db.specs.LogLaws.{PickedLogLaw}
+use Rattle.replay_db.specs.Worlds.{TypedFor, TypedWorld, ValidWorld, WorldTablesLaw, ValidPackageLaw, TypedPackageLaw}
 use Rattle.world_json.specs.Reading.{world_reading}
-use Rattle.ldv_top.specs.declared.exit.Exit.TheVariants.{Done, NotEnded, PackageTooLong, NotBuilt}
-use Rattle.ldv_top.specs.Due.{Due, refused, due_of_run, due_outcome, outcome_due, due_world, due_reading, due_run, is_supported, is_too_long, due_spelling, package_due, recorded_world, recorded_reading, due_record, replayed_reading, due_replay}
+use Rattle.ldv_top.specs.declared.exit.Exit.TheVariants.{Done, NotEnded, PackageTooLong}
+use Rattle.ldv_top.specs.Due.{Due, due_of_run, due_outcome, outcome_due, due_world, due_reading, due_run, is_too_long, due_spelling, package_due, recorded_world, recorded_reading, due_record, due_divergence, due_log, replayed_as, replayed_reading, due_replay}
+use Rattle.ldv_top.specs.DueOfAudits.{verdict_text, verdict_due, audited_package, due_audit}
+use Rattle.ldv_top.specs.DueParts.{done, due_of_reading}
 use Rattle.ldv_top.specs.Headline.{IsPackageOf, Recorded}
 use Rattle.ldv_top.proofs.RecordLaws.{not_too_long}
 
 -- ---- runs that are written
 
 -- what is written of a run is that of its outcome
-pub record Written (mode : Mode) (n : ℕ) (w : World) (written : Outcome → Due) : Type 0 where
-  pub supported : is_supported mode ≡ true
+pub record Written (n : ℕ) (w : World) (written : Outcome → Due) : Type 0 where
   pub outcome : Outcome
   pub comes : outcome_within n w ≡ Some outcome
-  pub due : due_of_run mode n w written ≡ written outcome
+  pub due : due_of_run n w written ≡ written outcome
   pub finished : (written outcome).exit ≡ Done
 
-run_written : (mode : Mode) (n : ℕ) (w : World) (written : Outcome → Due) → (due_of_run mode n w written).exit ≡ Done → Written mode n w written
-run_written mode n w written finished = elim (cases_Bool (is_supported mode)) [
-  | inr other ↦
-      let never : NotBuilt ≡ Done = ap (λ (b : Bool). (if b then due_outcome n written (outcome_within n w) else refused NotBuilt).exit) (sym other) ∙ finished in
+run_written : (n : ℕ) (w : World) (written : Outcome → Due) → (due_of_run n w written).exit ≡ Done → Written n w written
+run_written n w written finished = elim (cases-option (outcome_within n w)) [
+  | inl none ↦
+      let never : NotEnded n ≡ Done = ap (λ (d : Due). d.exit) (sym (ap (due_outcome n written) none)) ∙ finished in
       cc
-  | inl is ↦
-      let run : due_of_run mode n w written ≡ due_outcome n written (outcome_within n w) = ap (λ (b : Bool). if b then due_outcome n written (outcome_within n w) else refused NotBuilt) is in
-      elim (cases-option (outcome_within n w)) [
-        | inl none ↦
-            let never : NotEnded n ≡ Done = ap (λ (d : Due). d.exit) (sym (run ∙ ap (due_outcome n written) none)) ∙ finished in
-            cc
-        | inr some ↦
-            let due : due_of_run mode n w written ≡ written some.0 = run ∙ ap (due_outcome n written) some.1 in
-            record {
-              supported = is;
-              outcome = some.0;
-              comes = some.1;
-              due = due;
-              finished = ap (λ (d : Due). d.exit) (sym due) ∙ finished;
-            }
-      ]
+  | inr some ↦
+      let due : due_of_run n w written ≡ written some.0 = ap (due_outcome n written) some.1 in
+      record {
+        outcome = some.0;
+        comes = some.1;
+        due = due;
+        finished = ap (λ (d : Due). d.exit) (sym due) ∙ finished;
+      }
 ]
 
 -- two worlds with one outcome give the same
@@ -82,12 +80,20 @@ spelling_done bytes done = elim (cases_Bool (is_too_long bytes)) [
 
 -- ---- the laws
 
-module _ (again : (p : Package) → IsTyped p → Valid p → length (spelling p) ≤ 67108864 → reading (spelling p) ≡ Ok p) (valid : ValidPackageLaw) (replay : ReplayLaw) where
-  read_back : (n : ℕ) (w : World) → n ≤ max_steps → ends_within n w ≡ true → IsTrue (world_rules w) → tables_test w.tables ≡ true
-      → IsTyped (package_of Included n w) → length (spelling (package_of Included n w)) ≤ input_limit
-      → reading (spelling (package_of Included n w)) ≡ Ok (package_of Included n w)
-  read_back n w bounded ended ruled tables typed short = again (package_of Included n w) typed (valid n w ruled tables bounded ended) short
+-- whatever a package of this mode asks of a world's values
+typed_for : (mode : Mode) (w : World) → TypedWorld w → TypedFor mode w
+typed_for Included w typed = tt
+typed_for Excluded w typed = typed
 
+module _ (again : (p : Package) → IsTyped p → Valid p → length (spelling p) ≤ 67108864 → reading (spelling p) ≡ Ok p) (valid : ValidPackageLaw) (typed : TypedPackageLaw) (valid_tables : WorldTablesLaw) (replay : ReplayLaw) (logs : PickedLogLaw) (sound : SoundLaw) (own_sound : RecordedSoundLaw) where
+  read_back : (mode : Mode) (n : ℕ) (w : World) → ValidWorld w → n ≤ max_steps → ends_within n w ≡ true
+      → length (spelling (package_of mode n w)) ≤ input_limit
+      → reading (spelling (package_of mode n w)) ≡ Ok (package_of mode n w)
+  read_back mode n w valid_world bounded ended short =
+      again (package_of mode n w) (typed mode n w valid_world bounded ended)
+      (valid mode n w valid_world.ruled (valid_tables w valid_world) (typed_for mode w valid_world.typed) bounded ended) short
+
+  -- over the needed rows
   own_due : (n budget : ℕ) (w : World) → ends_within n w ≡ true → tables_test w.tables ≡ true → steps_by n [] w ≤ budget
       → (outcome : Outcome) → outcome_within n w ≡ Some outcome
       → due_world budget (own_world (package_of Included n w)) ≡ due_world n w
@@ -99,46 +105,90 @@ module _ (again : (p : Package) → IsTyped p → Valid p → length (spelling p
       let in_v : outcome_within budget v ≡ Some outcome = enough_outcome n v (same.ends ∙ ended) budget steps ∙ same.outcome ∙ comes in
       same_due budget n v w outcome in_v comes
 
-  spelling_due : (n budget : ℕ) (w : World) → n ≤ max_steps → IsTrue (world_rules w) → tables_test w.tables ≡ true
-      → IsTyped (package_of Included n w) → length (spelling (package_of Included n w)) ≤ input_limit
+  -- over the recorded replies
+  log_due : (n budget : ℕ) (w : World) → ends_within n w ≡ true → tables_test w.tables ≡ true → steps_by n [] w ≤ budget
+      → (outcome : Outcome) → outcome_within n w ≡ Some outcome
+      → due_log budget (package_of Excluded n w) ≡ due_world n w
+  log_due n budget w ended tables enough outcome comes =
+      let p : Package = package_of Excluded n w in
+      let script = ended_starts n [] w ended in
+      let law = logs n budget [] w script.0 script.1 tables ended in
+      let in_p : log_outcome budget [] p ≡ Some outcome = law.1 ∙ enough_outcome n w ended budget enough ∙ comes in
+      ap (due_divergence (due_outcome budget outcome_due (log_outcome budget [] p))) law.0
+      ∙ ap (due_outcome budget outcome_due) in_p
+      ∙ sym (ap (due_outcome n outcome_due) comes)
+
+  either_due : (mode : Mode) (n budget : ℕ) (w : World) → ends_within n w ≡ true → tables_test w.tables ≡ true → steps_by n [] w ≤ budget
+      → (outcome : Outcome) → outcome_within n w ≡ Some outcome
+      → replayed_as mode budget (package_of mode n w) ≡ due_world n w
+  either_due Included n budget w ended tables enough outcome comes = own_due n budget w ended tables enough outcome comes
+  either_due Excluded n budget w ended tables enough outcome comes = log_due n budget w ended tables enough outcome comes
+
+  spelling_due : (mode : Mode) (n budget : ℕ) (w : World) → ValidWorld w → n ≤ max_steps
+      → length (spelling (package_of mode n w)) ≤ input_limit
       → steps_by n [] w ≤ budget
       → (outcome : Outcome) → outcome_within n w ≡ Some outcome
-      → due_replay budget (spelling (package_of Included n w)) ≡ due_world n w
-  spelling_due n budget w bounded ruled tables typed short enough outcome comes =
+      → due_replay budget (spelling (package_of mode n w)) ≡ due_world n w
+  spelling_due mode n budget w valid_world bounded short enough outcome comes =
       let ended : ends_within n w ≡ true = outcome_ends n w outcome comes in
-      rw (not_too_long (spelling (package_of Included n w)) short)
-      (ap (replayed_reading budget) (read_back n w bounded ended ruled tables typed short) ∙ own_due n budget w ended tables enough outcome comes)
+      rw (not_too_long (spelling (package_of mode n w)) short)
+      (ap (replayed_reading budget) (read_back mode n w valid_world bounded ended short)
+      ∙ either_due mode n budget w ended (valid_tables w valid_world) enough outcome comes)
+
+  -- an audit of the package with the needed rows
+  sound_due : (n budget : ℕ) (w : World) (bytes : List ℕ) → ValidWorld w → n ≤ max_steps → ends_within n w ≡ true
+      → length (spelling (package_of Included n w)) ≤ input_limit
+      → steps_by n [] w ≤ budget
+      → bytes ≡ spelling (package_of Included n w)
+      → due_audit budget bytes ≡ done (verdict_text Sound)
+  sound_due n budget w bytes valid_world bounded ended short enough is =
+      let p : Package = package_of Included n w in
+      let script = ended_starts n [] w ended in
+      let own : IsOwn budget p = own_sound n budget w script.0 script.1 (valid_tables w valid_world) ended enough in
+      let outcome = ended_outcome budget (own_world p) own.ends in
+      let verdict : verdict_on (spelling p) (own_spelling budget p) ≡ Sound = (sound (spelling p) (own_spelling budget p)).1 (sym own.due) in
+      let within : length (own_spelling budget p) ≤ input_limit = subst (λ (due : List ℕ). length due ≤ input_limit) (sym own.due) short in
+      ap (due_audit budget) is
+      ∙ rw (not_too_long (spelling p) short)
+      (ap (due_of_reading (audited_package budget (spelling p))) (read_back Included n w valid_world bounded ended short)
+      ∙ ap (due_outcome budget (verdict_due (spelling p) (own_spelling budget p))) outcome.1
+      ∙ rw (not_too_long (own_spelling budget p) within) (ap (λ (v : Verdict). done (verdict_text v)) verdict))
+
+  -- the same by the mode, which is that one
+  mode_sound : (mode : Mode) (n budget : ℕ) (w : World) (bytes : List ℕ) → mode ≡ Included → ValidWorld w → n ≤ max_steps → ends_within n w ≡ true
+      → length (spelling (package_of mode n w)) ≤ input_limit
+      → steps_by n [] w ≤ budget
+      → bytes ≡ spelling (package_of mode n w)
+      → due_audit budget bytes ≡ done (verdict_text Sound)
+  mode_sound Included n budget w bytes included = sound_due n budget w bytes
+  mode_sound Excluded n budget w bytes included = absurd cc
 
   -- the package of a valid world
-  pub replay_due : TypedPackageLaw → WorldTablesLaw → (mode : Mode) (n budget : ℕ) (w : World) (input : List ℕ) → IsPackageOf mode n w input → steps_by n [] w ≤ budget → due_replay budget input ≡ due_world n w
-  replay_due typed valid_tables Excluded n budget w input package_of enough = let never : false ≡ true = package_of.supported in cc
-  replay_due typed valid_tables Included n budget w input package_of enough =
+  pub replay_due : (mode : Mode) (n budget : ℕ) (w : World) (input : List ℕ) → IsPackageOf mode n w input → steps_by n [] w ≤ budget → due_replay budget input ≡ due_world n w
+  replay_due mode n budget w input package_of enough =
       let outcome = ended_outcome n w package_of.ends in
       ap (due_replay budget) package_of.same
-      ∙ spelling_due n budget w package_of.bounded package_of.valid.ruled (valid_tables w package_of.valid) (typed n w package_of.valid package_of.bounded package_of.ends) package_of.short enough outcome.0 outcome.1
+      ∙ spelling_due mode n budget w package_of.valid package_of.bounded package_of.short enough outcome.0 outcome.1
 
   -- the package that is recorded of a document
-  pub recorded_due : (mode : Mode) (n : ℕ) (document : List ℕ) (w : World) → length document ≤ input_limit → n ≤ max_steps → world_reading document ≡ Ok w → IsTrue (world_rules w) → tables_test w.tables ≡ true
-      → IsTyped (package_of mode n w) → (due_record mode n document).exit ≡ Done → Recorded mode n document (due_record mode n document).bytes
-  recorded_due mode n document w short bounded is ruled tables typed done =
+  pub recorded_due : (mode : Mode) (n : ℕ) (document : List ℕ) (w : World) → length document ≤ input_limit → n ≤ max_steps → world_reading document ≡ Ok w → ValidWorld w
+      → (due_record mode n document).exit ≡ Done → Recorded mode n document (due_record mode n document).bytes
+  recorded_due mode n document w short bounded is valid_world done =
       let recorded : due_record mode n document ≡ recorded_world mode n w = rw (not_too_long document short) (ap (recorded_reading mode n) is) in
-      by mode typed recorded (run_written mode n w (package_due mode n w) (ap (λ (d : Due). d.exit) (sym recorded) ∙ done))
-    where
-      by : (k : Mode) → IsTyped (package_of k n w) → due_record mode n document ≡ recorded_world k n w → Written k n w (package_due k n w) → Recorded k n document (due_record mode n document).bytes
-      by Excluded typed_it recorded ran = let never : false ≡ true = ran.supported in cc
-      by Included typed_it recorded ran =
-          let runs : due_run n document ≡ due_world n w = rw (not_too_long document short) (ap (due_reading n) is) in
-          let p : Package = package_of Included n w in
-          let spelled : Spelled (due_spelling (spelling p)) (spelling p) = spelling_done (spelling p) ran.finished in
-          let bytes : (due_record mode n document).bytes ≡ spelling p = ap (λ (d : Due). d.bytes) (recorded ∙ ran.due) ∙ spelled.1 in
-          let ended : ends_within n w ≡ true = outcome_ends n w ran.outcome ran.comes in
-          let done_world : due_world n w ≡ outcome_due ran.outcome = ap (due_outcome n outcome_due) ran.comes in
-          record {
-            world = w;
-            is_world = is;
-            spelled = bytes;
-            read_back = ap reading bytes ∙ read_back n w bounded ended ruled tables typed_it spelled.0;
-            within = steps_at_most n [] w;
-            replayed = λ steps enough. ap (due_replay steps) bytes ∙ spelling_due n steps w bounded ruled tables typed_it spelled.0 enough ran.outcome ran.comes ∙ sym runs;
-            ends = ap (λ (d : Due). d.exit) (runs ∙ done_world);
-          }
+      let ran : Written n w (package_due mode n w) = run_written n w (package_due mode n w) (ap (λ (d : Due). d.exit) (sym recorded) ∙ done) in
+      let runs : due_run n document ≡ due_world n w = rw (not_too_long document short) (ap (due_reading n) is) in
+      let p : Package = package_of mode n w in
+      let spelled : Spelled (due_spelling (spelling p)) (spelling p) = spelling_done (spelling p) ran.finished in
+      let bytes : (due_record mode n document).bytes ≡ spelling p = ap (λ (d : Due). d.bytes) (recorded ∙ ran.due) ∙ spelled.1 in
+      let ended : ends_within n w ≡ true = outcome_ends n w ran.outcome ran.comes in
+      let done_world : due_world n w ≡ outcome_due ran.outcome = ap (due_outcome n outcome_due) ran.comes in
+      record {
+        world = w;
+        is_world = is;
+        spelled = bytes;
+        read_back = ap reading bytes ∙ read_back mode n w valid_world bounded ended spelled.0;
+        within = steps_at_most n [] w;
+        replayed = λ steps enough. ap (due_replay steps) bytes ∙ spelling_due mode n steps w valid_world bounded spelled.0 enough ran.outcome ran.comes ∙ sym runs;
+        ends = ap (λ (d : Due). d.exit) (runs ∙ done_world);
+        sound = λ included steps enough. mode_sound mode n steps w _ included valid_world bounded ended spelled.0 enough bytes;
+      }

@@ -1,20 +1,20 @@
 -- What the clauses of the parts of the top call say together.
-use Rattle.std.proofs.Common.{◌≡◌, ◌≢◌, ◌≤◌, ℕ, List, [], ◌++◌, refl, sym, ap, ◌∙◌, subst, append-nil, inl, inr}
-use Rattle.std.specs.Prelude.{Option, Some, None, ◌⊎◌, true, false}
+use Rattle.std.proofs.Common.{◌≡◌, ◌≢◌, ◌<◌, ◌≤◌, ℕ, List, [], ◌++◌, length, refl, sym, ap, ◌∙◌, subst, append-nil, inl, inr}
+use Rattle.std.specs.Prelude.{Option, Some, None, is_some, IfSome, ◌⊎◌, true, false}
 use Rattle.std.specs.Io.KnownBytes.{Consumes, IsAtEnd}
 use Rattle.ldv_io.specs.Causes.{Rose}
 use Rattle.run_model.specs.declared.package.Mode.{Mode}
 use Rattle.run_model.specs.declared.world.World.{World}
 use Rattle.run_model.specs.WorldRun.{steps_by}
 use Rattle.ldv_top.specs.Comes.{Comes, IsQuiet}
-use Rattle.ldv_top.specs.Due.{Due, due_of, due_record, due_replay, due_world}
-use Rattle.ldv_top.specs.Ends.{Ends}
+use Rattle.ldv_top.specs.Due.{Due, due_of, due_record, due_replay, due_world, is_too_long}
+use Rattle.ldv_top.specs.Ends.{Ends, Responds}
 use Rattle.ldv_top.specs.Headline.{IsPackageOf, Recorded}
 use Rattle.ldv_top.specs.Words.{command_of, reads}
 use Rattle.ldv_top.specs.declared.command.Command.{Command}
-use Rattle.ldv_top.specs.declared.command.Command.TheVariants.{Run, Record, Replay}
+use Rattle.ldv_top.specs.declared.command.Command.TheVariants.{Run, Record, Replay, Audit, Table, Inspect, Generate}
 use Rattle.ldv_top.specs.declared.exit.Exit.{Exit}
-use Rattle.ldv_top.specs.declared.exit.Exit.TheVariants.{Done, Usage, ReadFault, WriteFault, TooLong, NotWorld, NotEnded, Damaged, Diverged, NoSuch, NoMemory, PackageTooLong, NotBuilt}
+use Rattle.ldv_top.specs.declared.exit.Exit.TheVariants.{Done, Usage, ReadFault, WriteFault, TooLong, NotWorld, NotEnded, Damaged, Diverged, NoSuch, NoMemory, PackageTooLong}
 
 -- what was read to the end is all that there was
 pub got_all : (old new : Option (List ℕ)) (got input : List ℕ) → old ≡ Some input → Consumes old new got → IsAtEnd new → got ≡ input
@@ -38,13 +38,35 @@ complete d (Damaged kind) old new R W out is read write no_read no_write = let e
 complete d (Diverged process index) old new R W out is read write no_read no_write = let e : Diverged process index ≡ Done = sym out ∙ is in cc
 complete d NoSuch old new R W out is read write no_read no_write = let e : NoSuch ≡ Done = sym out ∙ is in cc
 complete d PackageTooLong old new R W out is read write no_read no_write = let e : PackageTooLong ≡ Done = sym out ∙ is in cc
-complete d NotBuilt old new R W out is read write no_read no_write = let e : NotBuilt ≡ Done = sym out ∙ is in cc
 
--- every command reads
-all_read_input : (command : Command) → reads (Some command) ≡ true
-all_read_input (Run budget) = refl
-all_read_input (Record mode budget) = refl
-all_read_input (Replay budget) = refl
+-- what is due for a command that reads nothing is the same for every input
+pub due_unread : (command : Command) → reads (Some command) ≡ false → (given input : List ℕ) → due_of (Some command) given ≡ due_of (Some command) input
+due_unread (Run budget) unread given input = let never : true ≡ false = unread in cc
+due_unread (Record mode budget) unread given input = let never : true ≡ false = unread in cc
+due_unread (Replay budget) unread given input = let never : true ≡ false = unread in cc
+due_unread (Audit budget) unread given input = let never : true ≡ false = unread in cc
+due_unread (Table name step budget) unread given input = let never : true ≡ false = unread in cc
+due_unread (Inspect report) unread given input = let never : true ≡ false = unread in cc
+due_unread (Generate orders) unread given input = refl
+
+-- an input that is too long is due to be refused, whichever command reads it
+pub too_long_due : (command : Command) → reads (Some command) ≡ true → (input : List ℕ) → is_too_long input ≡ true
+    → (due_of (Some command) input).exit ≡ TooLong
+too_long_due (Run budget) reading input long = rw long refl
+too_long_due (Record mode budget) reading input long = rw long refl
+too_long_due (Replay budget) reading input long = rw long refl
+too_long_due (Audit budget) reading input long = rw long refl
+too_long_due (Table name step budget) reading input long = rw long refl
+too_long_due (Inspect report) reading input long = rw long refl
+too_long_due (Generate orders) reading input long = let never : false ≡ true = reading in cc
+
+-- what a source has is longer than a limit
+pub longer : (left : Option (List ℕ)) (limit : ℕ) (input : List ℕ) → left ≡ Some input → IfSome left (λ bytes. limit < length bytes)
+    → limit < length input
+longer None limit input told long = let never : None ≡ Some input = told in cc
+longer (Some bytes) limit input told long =
+    let same : bytes ≡ input = cc in
+    subst (λ (l : List ℕ). limit < length l) same long
 
 some_same : {a b : Command} → Some a ≡ Some b → a ≡ b
 some_same same = cc
@@ -70,8 +92,54 @@ module _ {Reader Writer : Type 0} (left : Reader → Option (List ℕ)) (read_fa
         let never : None ≡ Some (Replay budget) = sym none ∙ is in cc;
   }
 
-  -- a command, of which the parts are known
-  module _ (command : Command) (is : command_of words ≡ Some command) (source source_after : Reader) (sink sink_after : Writer) (exit : Exit)
+  -- words that are a command, where memory ran out while they were read
+  pub memory_ends : (source : Reader) (sink : Writer) → is_some (command_of words) ≡ true
+      → Ends left read_faults taken write_faults words source source sink sink NoMemory
+  memory_ends source sink some = record {
+    usage = (
+      λ is. let never : NoMemory ≡ Usage = is in cc,
+      λ none. let never : false ≡ true = sym (ap (λ (o : Option Command). is_some o) none) ∙ some in cc,
+    );
+    unread = λ is. refl;
+    read_fault = λ is. let never : NoMemory ≡ ReadFault = is in cc;
+    write_fault = λ is. let never : NoMemory ≡ WriteFault = is in cc;
+    due = λ input is. tt;
+    unwritten = λ quiet. refl;
+    all_read = λ is reading. let never : NoMemory ≡ Done = is in cc;
+    complete = λ input is done no_read no_write. inr refl;
+    recorded = λ mode budget document is told done. let never : NoMemory ≡ Done = done in cc;
+    headline = λ mode n budget w input is told packed enough. tt;
+  }
+
+  -- a command that reads nothing
+  pub unread_ends : (command : Command) → command_of words ≡ Some command → reads (Some command) ≡ false
+      → (source : Reader) (sink sink_after : Writer) (exit : Exit)
+      → ((input : List ℕ) → Responds taken write_faults (due_of (Some command) input) sink sink_after exit)
+      → Ends left read_faults taken write_faults words source source sink sink_after exit
+  unread_ends command is unread source sink sink_after exit responds =
+      let one = responds [] in
+      let due : (input : List ℕ) → Comes (due_of (command_of words) input) exit (taken sink) (taken sink_after) =
+      λ input. subst (λ (o : Option Command). Comes (due_of o input) exit (taken sink) (taken sink_after)) (sym is) (responds input).due in
+      let none_read : reads (command_of words) ≡ false = ap reads is ∙ unread in
+      record {
+        usage = (λ used. absurd (one.not_usage used), λ none. let never : None ≡ Some command = sym none ∙ is in cc);
+        unread = λ none. refl;
+        read_fault = λ failed. absurd (one.not_read failed);
+        write_fault = one.write_fault;
+        due = λ input told. due input;
+        unwritten = one.unwritten;
+        all_read = λ done reading. let never : false ≡ true = sym none_read ∙ reading in cc;
+        complete = λ input told done no_read no_write.
+            complete (due_of (command_of words) input) exit (taken sink) (taken sink_after) _ _
+            (due input) done (λ failed. absurd (one.not_read failed)) one.write_fault no_read no_write;
+        recorded = λ mode budget document named told done.
+            let never : false ≡ true = sym none_read ∙ ap reads named in cc;
+        headline = λ mode n budget w input named told packed enough.
+            let never : false ≡ true = sym none_read ∙ ap reads named in cc;
+      }
+
+  -- a command that reads its input, of which the parts are known
+  module _ (command : Command) (is : command_of words ≡ Some command) (reading : reads (Some command) ≡ true) (source source_after : Reader) (sink sink_after : Writer) (exit : Exit)
       (read_fault : exit ≡ ReadFault → Rose (read_faults source) (read_faults source_after))
       (write_fault : exit ≡ WriteFault → Rose (write_faults sink) (write_faults sink_after))
       (due : (input : List ℕ) → left source ≡ Some input
@@ -85,7 +153,7 @@ module _ {Reader Writer : Type 0} (left : Reader → Option (List ℕ)) (read_fa
       (replayed : (mode : Mode) (n budget : ℕ) (w : World) (input : List ℕ) → IsPackageOf mode n w input
       → steps_by n [] w ≤ budget → due_replay budget input ≡ due_world n w) where
     reads_input : reads (command_of words) ≡ true
-    reads_input = ap reads is ∙ all_read_input command
+    reads_input = ap reads is ∙ reading
 
     pub command_ends : Ends left read_faults taken write_faults words source source_after sink sink_after exit
     command_ends = record {

@@ -1,15 +1,38 @@
 //! The words of the command line.
 
-ghost use Rattle.std.specs.Prelude.{◌≡◌, ◌≤◌, ◌∷◌, [], map, string_bytes, length, IfSome, ◌*◌, ◌+◌, ◌<◌, ◌^◌};
+ghost use Rattle.std.specs.Prelude.{◌≡◌, ◌≤◌, ◌∷◌, map, string_bytes, IfOk, IfSome};
+ghost use Rattle.ldv_value.specs.Gives.{Gives};
 ghost use Rattle.ldv_value.specs.Limits.{max_steps};
-ghost use Rattle.ldv_top.specs.Words.{IsBounded, budget_in, command_flagged, command_named, command_of};
-ghost use Rattle.ldv_top.specs.Words.{positive_within, with_digit, with_digits};
+ghost use Rattle.ldv_top.specs.WordStops.{Stops};
+ghost use Rattle.ldv_top.specs.Words.{IsBounded, command_of, inspect_of};
+ghost use Rattle.ldv_top.specs.WordsOfRuns.{budget_in, command_flagged, command_named, run_of};
 
-use ldv_value::{DEFAULT_STEPS, MAX_STEPS};
+use crate::generating::generate_of;
+use crate::inspecting::report_of;
+use crate::numbers::positive_within;
+use crate::tabling::table_of;
+use crate::word_stop::WordStop;
+use ldv_value::{DEFAULT_STEPS, MAX_STEPS, Utf8};
 use run_model::Mode;
+use std::alloc::Global;
+
+/// What `inspect` reports of a package.
+#[derive(Drop)]
+pub enum Report {
+    /// Its rows, each with the statement and the rule by which it was needed.
+    Rows,
+    /// Its files.
+    Files,
+    /// Its events.
+    Trace,
+    /// Why a row of a table is in it.
+    Why { table: Utf8, row: u32 },
+    /// What the content of a path came from.
+    Depends { path: Utf8 },
+}
 
 /// A command, with what its words say. A budget is the number of steps that a run may take.
-#[derive(Clone, Copy, Debug, PartialEq, Eq)]
+#[derive(Drop)]
 pub enum Command {
     /// `run`: the input is a world document, the output its outcome.
     Run { budget: u32 },
@@ -17,21 +40,75 @@ pub enum Command {
     Record { mode: Mode, budget: u32 },
     /// `replay`: the input is a package, the output the outcome of the world in it.
     Replay { budget: u32 },
+    /// `audit`: the input is a package, the output whether it is that of its own world's run.
+    Audit { budget: u32 },
+    /// `table`: the input is a package, the output a table of the world in it after a step.
+    Table { name: Utf8, step: u32, budget: u32 },
+    /// `inspect`: the input is a package, the output a report on it.
+    Inspect { report: Report },
+    /// `gen`: nothing is read, and the output sums up the record and the replay of a world of so many orders.
+    Generate { orders: u32 },
 }
 
-/// The command that the words are, `None` where they are none.
-pub fn read_words(words: &[String]) -> Option<Command>
-    ensures command { result ≡ command_of (map string_bytes words.now) }
-    ensures bounded { IfSome result (λ command. IsBounded command) }
+/// The command that the words are. `Usage` exactly where they are none.
+pub fn read_words(alloc: Global, words: &[String]) -> Result<Command, WordStop>
+    ensures command { Gives Stops result (command_of (map string_bytes words.now)) }
+    ensures bounded { IfOk result (λ command. IsBounded command) }
 {
     match words {
-        [word] => command_named(word.as_str(), DEFAULT_STEPS),
-        [word, flag] => command_flagged(word.as_str(), flag.as_str(), DEFAULT_STEPS),
-        [word, option, number] => {
-            command_named(word.as_str(), budget_in(option.as_str(), number.as_str())?)
-        }
-        [word, flag, option, number] => command_flagged(
-            word.as_str(),
+        [] => Err(WordStop::Usage),
+        [word, others @ ..] => command_of(alloc, word.as_str(), others),
+    }
+}
+
+// By the first word.
+fn command_of(alloc: Global, word: &str, others: &[String]) -> Result<Command, WordStop>
+    ensures command { Gives Stops result (command_of (word.now ∷ map string_bytes others.now)) }
+    ensures bounded { IfOk result (λ command. IsBounded command) }
+{
+    if word == "table" {
+        table_of(alloc, others)
+    } else if word == "inspect" {
+        inspect_of(alloc, others)
+    } else if word == "gen" {
+        known(generate_of(others))
+    } else {
+        known(run_of(word, others))
+    }
+}
+
+fn inspect_of(alloc: Global, words: &[String]) -> Result<Command, WordStop>
+    ensures command { Gives Stops result (inspect_of (map string_bytes words.now)) }
+    ensures bounded { IfOk result (λ command. IsBounded command) }
+{
+    match report_of(alloc, words) {
+        Ok(report) => Ok(Command::Inspect { report }),
+        Err(stop) => Err(stop),
+    }
+}
+
+// A command for which no memory is wanted.
+fn known(command: Option<Command>) -> Result<Command, WordStop>
+    requires { IfSome command (λ command. IsBounded command) }
+    ensures command { Gives Stops result command }
+    ensures bounded { IfOk result (λ command. IsBounded command) }
+{
+    match command {
+        Some(command) => Ok(command),
+        None => Err(WordStop::Usage),
+    }
+}
+
+fn run_of(word: &str, others: &[String]) -> Option<Command>
+    ensures command { result ≡ run_of word.now (map string_bytes others.now) }
+    ensures bounded { IfSome result (λ command. IsBounded command) }
+{
+    match others {
+        [] => command_named(word, DEFAULT_STEPS),
+        [flag] => command_flagged(word, flag.as_str(), DEFAULT_STEPS),
+        [option, number] => command_named(word, budget_in(option.as_str(), number.as_str())?),
+        [flag, option, number] => command_flagged(
+            word,
             flag.as_str(),
             budget_in(option.as_str(), number.as_str())?,
         ),
@@ -51,6 +128,8 @@ fn command_named(word: &str, budget: u32) -> Option<Command>
         Some(Command::Record { mode, budget })
     } else if word == "replay" {
         Some(Command::Replay { budget })
+    } else if word == "audit" {
+        Some(Command::Audit { budget })
     } else {
         None
     }
@@ -69,50 +148,13 @@ fn command_flagged(word: &str, flag: &str, budget: u32) -> Option<Command>
     }
 }
 
-fn budget_in(option: &str, number: &str) -> Option<u32>
+/// The budget that `--steps N` gives.
+pub(crate) fn budget_in(option: &str, number: &str) -> Option<u32>
     ensures budget { result ≡ budget_in option.now number.now }
     ensures bounded { IfSome result (λ budget. budget ≤ max_steps) }
 {
     if option == "--steps" {
         positive_within(MAX_STEPS, number.as_bytes())
-    } else {
-        None
-    }
-}
-
-// A number from 1 to the limit, decimal without sign and leading zeros.
-fn positive_within(limit: u32, bytes: &[u8]) -> Option<u32>
-    ensures number { result ≡ positive_within limit bytes.now }
-    ensures bounded { IfSome result (λ number. number ≤ limit) }
-{
-    match bytes {
-        [] => None,
-        [b'0', ..] => None,
-        _ => with_digits(limit, bytes),
-    }
-}
-
-fn with_digits(limit: u32, bytes: &[u8]) -> Option<u32>
-    ensures number { result ≡ with_digits limit 0 bytes.now }
-    ensures bounded { IfSome result (λ number. number ≤ limit) }
-{
-    let mut number: u32 = 0;
-    for byte in bytes {
-        number = with_digit(limit, number, *byte)?;
-    }
-    Some(number)
-}
-
-fn with_digit(limit: u32, number: u32, byte: u8) -> Option<u32>
-    ensures number { result ≡ with_digit limit number byte }
-    ensures bounded { IfSome result (λ next. next ≤ limit) }
-{
-    if byte < b'0' || b'9' < byte {
-        return None;
-    }
-    let next = number as u64 * 10 + (byte - b'0') as u64;
-    if next <= limit as u64 {
-        Some(next as u32)
     } else {
         None
     }

@@ -37,8 +37,6 @@ pub enum Exit {
     NoMemory,
     /// The package would have more than 67,108,864 bytes.
     PackageTooLong,
-    /// The package would have the recorded replies, or has them: it isn't made or replayed yet.
-    NotBuilt,
 }
 
 /// The status with which the program ends.
@@ -61,6 +59,5 @@ pub fn status(exit: &Exit) -> u8
         Exit::NoSuch => 10,
         Exit::NoMemory => 11,
         Exit::PackageTooLong => 12,
-        Exit::NotBuilt => 13,
     }
 }

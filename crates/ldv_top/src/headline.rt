@@ -1,37 +1,35 @@
 //! What `record` and `replay` promise of each other.
 
-ghost use Rattle.std.specs.Prelude.{◌≡◌, ◌≤◌, ℕ, List, [], length, true, Ok, IsTrue};
+ghost use Rattle.std.specs.Prelude.{◌≡◌, ◌≤◌, ℕ, List, [], length, Ok};
 ghost use Rattle.ldv_value.specs.Limits.{input_limit, max_steps};
 ghost use Rattle.run_model.specs.declared.package.Mode.{Mode};
 ghost use Rattle.run_model.specs.declared.world.World.{World};
-ghost use Rattle.run_model.specs.Package.{package_of};
 ghost use Rattle.run_model.specs.WorldRun.{steps_by};
-ghost use Rattle.sql_model.specs.Tables.{tables_test};
-ghost use Rattle.package_layout.specs.Whole.{IsTyped};
-ghost use Rattle.replay_db.specs.Worlds.{world_rules};
+ghost use Rattle.replay_db.specs.Worlds.{ValidWorld};
 ghost use Rattle.world_json.specs.Reading.{world_reading};
 ghost use Rattle.ldv_top.specs.Due.{due_record, due_replay, due_world};
 ghost use Rattle.ldv_top.specs.Headline.{IsPackageOf, Recorded};
 ghost use Rattle.ldv_top.specs.declared.exit.Exit.{Exit};
 
 use package_layout::round_trip_law;
-use replay_db::{between_law, package_law};
+use replay_db::{audit_law, between_law, log_law, package_law};
 
-/// The package of a valid world's run is replayed, within any budget of at least the steps of that run, as
-/// the world is run; and what is recorded of a world document is such a package. It says so of every world,
-/// and does nothing.
+/// The package of a valid world's run, with the needed rows or with the recorded replies, is replayed, within
+/// any budget of at least the steps of that run, as the world is run; and what is recorded of a world document
+/// is such a package. It says so of every world, and does nothing.
 pub fn headline_law()
     ensures replayed { (mode : Mode) (n budget : ℕ) (w : World) (input : List ℕ)
         → IsPackageOf mode n w input → steps_by n [] w ≤ budget
         → due_replay budget input ≡ due_world n w }
     ensures recorded { (mode : Mode) (budget : ℕ) (document : List ℕ) (w : World)
         → length document ≤ input_limit → budget ≤ max_steps
-        → world_reading document ≡ Ok w → IsTrue (world_rules w) → tables_test w.tables ≡ true
-        → IsTyped (package_of mode budget w)
+        → world_reading document ≡ Ok w → ValidWorld w
         → (due_record mode budget document).exit ≡ Exit.Done
         → Recorded mode budget document (due_record mode budget document).bytes }
 {
+    audit_law();
     between_law();
+    log_law();
     package_law();
     round_trip_law();
 }

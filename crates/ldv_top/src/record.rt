@@ -2,9 +2,7 @@
 
 ghost use Rattle.std.specs.Prelude.{◌≡◌, ◌≤◌, length, IfOk, OnOk};
 ghost use Rattle.ldv_value.specs.Limits.{input_limit, max_steps};
-ghost use Rattle.run_model.specs.declared.package.Mode.{Mode};
-ghost use Rattle.run_model.specs.Package.{package_of};
-ghost use Rattle.package_layout.specs.Whole.{spelling, IsTyped};
+ghost use Rattle.package_layout.specs.Whole.{spelling};
 ghost use Rattle.replay_db.specs.Runs.{CanRun};
 ghost use Rattle.ldv_top.specs.Due.{response_due, due_spelling, recorded_world, due_record};
 ghost use Rattle.ldv_top.specs.Headline.{Recorded};
@@ -12,6 +10,7 @@ ghost use Rattle.ldv_top.specs.declared.exit.Exit.{Exit};
 
 use crate::headline::headline_law;
 use crate::response::Response;
+use crate::typed::see_types;
 use ldv_value::Bytes;
 use package_layout::{SpellStop, spell};
 use replay_db::{EndStop, record_world};
@@ -21,29 +20,12 @@ use world_json::{WorldStop, world_of};
 
 #[tactic(auto, using(crate::proofs::RecordLaws::spelling_ends))]
 fn spelling_response(alloc: Global, package: &Package) -> Result<Response, AllocError>
-    ensures due { IfOk result (λ response. response_due response ≡ due_spelling (spelling «package».now)) }
-    ensures typed { OnOk result ((due_spelling (spelling «package».now)).exit ≡ Exit.Done
-        → IsTyped «package».now) }
+    ensures { IfOk result (λ response. response_due response ≡ due_spelling (spelling «package».now)) }
 {
     match spell(alloc, package) {
         Ok(bytes) => Ok(Response::Written(bytes)),
         Err(SpellStop::TooLong) => Ok(Response::PackageTooLong),
         Err(SpellStop::NoMemory) => Err(AllocError),
-    }
-}
-
-fn included_response(alloc: Global, budget: u32, world: World) -> Result<Response, AllocError>
-    requires can_run { CanRun world }
-    requires bounded { budget ≤ max_steps }
-    ensures due { IfOk result (λ response. response_due response
-        ≡ recorded_world Mode.Included budget world) }
-    ensures typed { OnOk result ((recorded_world Mode.Included budget world).exit ≡ Exit.Done
-        → IsTyped (package_of Mode.Included budget world)) }
-{
-    match record_world(alloc, &world, Mode::Included, budget) {
-        Ok(package) => spelling_response(alloc, &package),
-        Err(EndStop::NotEnded) => Ok(Response::NotEnded(budget)),
-        Err(EndStop::NoMemory) => Err(AllocError),
     }
 }
 
@@ -55,13 +37,12 @@ fn recorded_response(
 ) -> Result<Response, AllocError>
     requires can_run { CanRun world }
     requires bounded { budget ≤ max_steps }
-    ensures due { IfOk result (λ response. response_due response ≡ recorded_world mode budget world) }
-    ensures typed { OnOk result ((recorded_world mode budget world).exit ≡ Exit.Done
-        → IsTyped (package_of mode budget world)) }
+    ensures { IfOk result (λ response. response_due response ≡ recorded_world mode budget world) }
 {
-    match mode {
-        Mode::Excluded => Ok(Response::NotBuilt),
-        Mode::Included => included_response(alloc, budget, world),
+    match record_world(alloc, &world, mode, budget) {
+        Ok(package) => spelling_response(alloc, &package),
+        Err(EndStop::NotEnded) => Ok(Response::NotEnded(budget)),
+        Err(EndStop::NoMemory) => Err(AllocError),
     }
 }
 
@@ -81,7 +62,10 @@ pub fn record_response(
 {
     headline_law();
     match world_of(alloc, input.as_slice()) {
-        Ok(world) => recorded_response(alloc, mode, budget, world),
+        Ok(world) => {
+            see_types(&world);
+            recorded_response(alloc, mode, budget, world)
+        }
         Err(WorldStop::Fault(fault)) => Ok(Response::NotWorld(fault)),
         Err(WorldStop::NoMemory) => Err(AllocError),
     }

@@ -1,16 +1,20 @@
-//! From a package to the outcome of its own world.
+//! From a package to the outcome of its run.
 
 ghost use Rattle.std.specs.Prelude.{◌≡◌, ◌≤◌, length, IfOk};
 ghost use Rattle.ldv_value.specs.Limits.{input_limit, max_steps};
+ghost use Rattle.run_model.specs.declared.package.Package.{Package};
 ghost use Rattle.run_model.specs.Package.{own_world};
 ghost use Rattle.replay_db.specs.Runs.{CanRun};
-ghost use Rattle.ldv_top.specs.Due.{response_due, due_world, replayed_package, due_replay};
+ghost use Rattle.replay_log.specs.Replays.{CanReplay, Replays};
+ghost use Rattle.ldv_top.specs.Due.{response_due, due_world, due_log, replayed_package, due_replay};
 
 use crate::response::{Response, ended_response};
 use ldv_value::Bytes;
 use package_layout::{PackageStop, read_package};
+use proc_core::RunStop;
 use replay_db::replay_included;
-use run_model::{Mode, Package};
+use replay_log::{can_replay_law, replay_owned};
+use run_model::{Mode, Outcome, Package, outcome_text};
 use std::alloc::{AllocError, Global};
 
 fn included_response(alloc: Global, budget: u32, package: &Package) -> Result<Response, AllocError>
@@ -22,14 +26,42 @@ fn included_response(alloc: Global, budget: u32, package: &Package) -> Result<Re
     ended_response(alloc, budget, ended)
 }
 
-fn replay_package(alloc: Global, budget: u32, package: &Package) -> Result<Response, AllocError>
-    requires can_run { CanRun (own_world «package».now) }
+// The response to what comes of the run of a package over its recorded replies.
+#[tactic(auto, using(crate::proofs::LogResponses::log_ends))]
+fn log_response(
+    alloc: Global,
+    budget: u32,
+    ended: Result<Outcome, RunStop>,
+) -> Result<Response, AllocError>
+    ensures { (p : Package) → Replays budget p ended
+        → IfOk result (λ response. response_due response ≡ due_log budget p) }
+{
+    match ended {
+        Ok(outcome) => Ok(Response::Written(outcome_text(alloc, &outcome)?)),
+        Err(RunStop::NotEnded) => Ok(Response::NotEnded(budget)),
+        Err(RunStop::Diverged { process, index }) => Ok(Response::Diverged(process, index)),
+        Err(RunStop::NoMemory) => Err(AllocError),
+    }
+}
+
+fn excluded_response(alloc: Global, budget: u32, package: Package) -> Result<Response, AllocError>
+    requires can_replay { CanReplay «package» }
     requires bounded { budget ≤ max_steps }
-    ensures { IfOk result (λ response. response_due response ≡ replayed_package budget «package».now) }
+    ensures { IfOk result (λ response. response_due response ≡ due_log budget «package») }
+{
+    let ended = replay_owned(alloc, package, budget);
+    log_response(alloc, budget, ended)
+}
+
+fn replay_package(alloc: Global, budget: u32, package: Package) -> Result<Response, AllocError>
+    requires can_run { CanRun (own_world «package») }
+    requires can_replay { CanReplay «package» }
+    requires bounded { budget ≤ max_steps }
+    ensures { IfOk result (λ response. response_due response ≡ replayed_package budget «package») }
 {
     match package.mode {
-        Mode::Excluded => Ok(Response::NotBuilt),
-        Mode::Included => included_response(alloc, budget, package),
+        Mode::Included => included_response(alloc, budget, &package),
+        Mode::Excluded => excluded_response(alloc, budget, package),
     }
 }
 
@@ -39,8 +71,9 @@ pub fn replay_response(alloc: Global, budget: u32, input: &Bytes) -> Result<Resp
     requires bounded { budget ≤ max_steps }
     ensures { IfOk result (λ response. response_due response ≡ due_replay budget input.now) }
 {
+    can_replay_law();
     match read_package(alloc, input.as_slice()) {
-        Ok(package) => replay_package(alloc, budget, &package),
+        Ok(package) => replay_package(alloc, budget, package),
         Err(PackageStop::Damaged(kind)) => Ok(Response::Damaged(kind)),
         Err(PackageStop::NoMemory) => Err(AllocError),
     }

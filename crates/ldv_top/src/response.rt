@@ -11,7 +11,7 @@ ghost use Rattle.ldv_top.specs.Due.{response_due, due_world, due_run};
 use ldv_value::Bytes;
 use package_layout::DamageKind;
 use replay_db::{EndStop, run_owned};
-use run_model::{Outcome, World, outcome_text};
+use run_model::{Outcome, ProcName, World, outcome_text};
 use std::alloc::{AllocError, Global};
 use world_json::{WorldFault, WorldStop, world_of};
 
@@ -22,12 +22,15 @@ pub enum Response {
     Written(Bytes),
     /// The input is no world.
     NotWorld(WorldFault),
-    /// A package that holds the recorded replies, which isn't made or replayed yet.
-    NotBuilt,
     /// The run hasn't ended after the steps of this budget.
     NotEnded(u32),
+    /// The replay of a package of recorded replies: this process asks, as its statement of this number from 0,
+    /// what isn't the recorded one, or when none is left.
+    Diverged(ProcName, u32),
     /// The input is no package.
     Damaged(DamageKind),
+    /// The package has no such item.
+    NoSuch,
     /// The package would have more than 67,108,864 bytes.
     PackageTooLong,
 }

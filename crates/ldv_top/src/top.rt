@@ -1,6 +1,7 @@
 //! The top call, and what `main` makes of it.
 
-ghost use Rattle.std.specs.Prelude.{◌≡◌, ◌≢◌, ◌⊎◌, ◌≤◌, ℕ, List, Some, length, map, string_bytes, IfOk, OnOk};
+ghost use Rattle.std.specs.Prelude.{◌≡◌, ◌≢◌, ◌⊎◌, ◌≤◌, ℕ, List, Some, true, false, length, map};
+ghost use Rattle.std.specs.Prelude.{string_bytes, IfOk, OnOk};
 ghost use Rattle.std.specs.Io.KnownBytes.{IsAtEnd};
 ghost use Rattle.ldv_io.specs.Causes.{Rose};
 ghost use Rattle.ldv_top.specs.Comes.{Comes, IsQuiet, Tells};
@@ -8,18 +9,23 @@ ghost use Rattle.ldv_top.specs.Exits.{status_of, line_of};
 ghost use Rattle.ldv_top.specs.declared.exit.Exit.{Exit};
 ghost use Rattle.ldv_top.specs.Due.{due_of, due_record, done, response_due};
 ghost use Rattle.ldv_top.specs.Ends.{Ends, Responds};
-ghost use Rattle.ldv_top.specs.Words.{IsBounded};
+ghost use Rattle.ldv_top.specs.Words.{IsBounded, reads};
 ghost use Rattle.ldv_top.specs.Headline.{Recorded};
 ghost use Rattle.ldv_value.specs.Limits.{input_limit};
 ghost use Rattle.run_model.specs.declared.package.Mode.{Mode};
 
+use crate::auditing::audit_response;
 use crate::command::{Command, read_words};
 use crate::exit::{Exit, status};
+use crate::generating::generate_response;
 use crate::headline::headline_law;
+use crate::inspecting::inspect_response;
 use crate::messages::exit_line;
 use crate::record::record_response;
 use crate::replay::replay_response;
 use crate::response::{Response, run_response};
+use crate::tabling::table_response;
+use crate::word_stop::WordStop;
 use ldv_io::{ReadStop, Sink, Source, read_all, write_all};
 use ldv_value::{Bytes, INPUT_LIMIT};
 use std::alloc::{AllocError, Global};
@@ -36,56 +42,94 @@ fn write_output<K: Sink>(sink: &mut K, bytes: &[u8]) -> Exit
     }
 }
 
-fn write_response<K: Sink>(sink: &mut K, response: &Response) -> Exit
-    ensures { Responds K.taken K.faults (response_due response.now) sink.old sink.new result }
+fn write_response<K: Sink>(sink: &mut K, response: Response) -> Exit
+    ensures { Responds K.taken K.faults (response_due response) sink.old sink.new result }
 {
     match response {
         Response::Written(bytes) => write_output(sink, bytes.as_slice()),
-        Response::NotWorld(fault) => Exit::NotWorld(*fault),
-        Response::NotBuilt => Exit::NotBuilt,
-        Response::NotEnded(budget) => Exit::NotEnded { steps: *budget },
-        Response::Damaged(kind) => Exit::Damaged(*kind),
+        Response::NotWorld(fault) => Exit::NotWorld(fault),
+        Response::NotEnded(budget) => Exit::NotEnded { steps: budget },
+        Response::Diverged(process, index) => Exit::Diverged { process, index },
+        Response::Damaged(kind) => Exit::Damaged(kind),
+        Response::NoSuch => Exit::NoSuch,
         Response::PackageTooLong => Exit::PackageTooLong,
     }
 }
 
-fn respond(alloc: Global, command: Command, input: &Bytes) -> Result<Response, AllocError>
-    requires short { length input.now ≤ input_limit }
+fn respond(alloc: Global, command: Command, input: Bytes) -> Result<Response, AllocError>
+    requires short { length input ≤ input_limit }
     requires bounded { IsBounded command }
-    ensures due { IfOk result (λ response. response_due response ≡ due_of (Some command) input.now) }
+    ensures due { IfOk result (λ response. response_due response ≡ due_of (Some command) input) }
     ensures recorded { (mode : Mode) (budget : ℕ) → command ≡ Command.Record mode budget
-        → OnOk result ((due_record mode budget input.now).exit ≡ Exit.Done
-        → Recorded mode budget input.now (due_record mode budget input.now).bytes) }
+        → OnOk result ((due_record mode budget input).exit ≡ Exit.Done
+        → Recorded mode budget input (due_record mode budget input).bytes) }
 {
     match command {
-        Command::Run { budget } => run_response(alloc, budget, input),
-        Command::Record { mode, budget } => record_response(alloc, mode, budget, input),
-        Command::Replay { budget } => replay_response(alloc, budget, input),
+        Command::Run { budget } => run_response(alloc, budget, &input),
+        Command::Record { mode, budget } => record_response(alloc, mode, budget, &input),
+        Command::Replay { budget } => replay_response(alloc, budget, &input),
+        Command::Audit { budget } => audit_response(alloc, budget, &input),
+        Command::Table { name, step, budget } => {
+            table_response(alloc, name.as_str(), step, budget, input)
+        }
+        Command::Inspect { report } => inspect_response(alloc, &report, input),
+        Command::Generate { orders } => generate_response(alloc, orders),
     }
 }
 
 // Runs a command on its whole input, and writes what comes of it.
-fn respond_and_write<K: Sink>(alloc: Global, command: Command, input: &Bytes, sink: &mut K) -> Exit
-    requires short { length input.now ≤ input_limit }
+fn respond_and_write<K: Sink>(alloc: Global, command: Command, input: Bytes, sink: &mut K) -> Exit
+    requires short { length input ≤ input_limit }
     requires bounded { IsBounded command }
-    ensures responds { Responds K.taken K.faults (due_of (Some command) input.now) sink.old sink.new result }
+    ensures responds { Responds K.taken K.faults (due_of (Some command) input) sink.old sink.new result }
     ensures recorded { (mode : Mode) (budget : ℕ) → command ≡ Command.Record mode budget → result ≡ Exit.Done
-        → Recorded mode budget input.now (due_record mode budget input.now).bytes }
+        → Recorded mode budget input (due_record mode budget input).bytes }
 {
     match respond(alloc, command, input) {
-        Ok(response) => write_response(sink, &response),
+        Ok(response) => write_response(sink, response),
         Err(_) => Exit::NoMemory,
     }
 }
 
-// Reads the whole input, and runs the command on it.
+// Whether the command reads its input.
+fn reads(command: &Command) -> bool
+    ensures { result ≡ reads (Some command.now) }
+{
+    match command {
+        Command::Run { budget: _ } => true,
+        Command::Record { mode: _, budget: _ } => true,
+        Command::Replay { budget: _ } => true,
+        Command::Audit { budget: _ } => true,
+        Command::Table {
+            name: _,
+            step: _,
+            budget: _,
+        } => true,
+        Command::Inspect { report: _ } => true,
+        Command::Generate { orders: _ } => false,
+    }
+}
+
+// Runs a command that reads no input.
+fn run_unread<K: Sink>(alloc: Global, command: Command, sink: &mut K) -> Exit
+    requires bounded { IsBounded command }
+    requires unread { reads (Some command) ≡ false }
+    ensures { (input : List ℕ)
+        → Responds K.taken K.faults (due_of (Some command) input) sink.old sink.new result }
+{
+    let input = Bytes::new(alloc);
+    respond_and_write(alloc, command, input, sink)
+}
+
+// Reads the whole input, and runs on it a command that reads it.
 fn run_command<S: Source, K: Sink>(
     alloc: Global,
     command: Command,
     source: &mut S,
     sink: &mut K,
 ) -> Exit
-    requires { IsBounded command }
+    requires bounded { IsBounded command }
+    requires reading { reads (Some command) ≡ true }
     ensures read_fault { result ≡ Exit.ReadFault → Rose (S.faults source.old) (S.faults source.new) }
     ensures write_fault { result ≡ Exit.WriteFault → Rose (K.faults sink.old) (K.faults sink.new) }
     ensures due { (input : List ℕ) → S.left source.old ≡ Some input
@@ -98,7 +142,7 @@ fn run_command<S: Source, K: Sink>(
     ensures not_usage { result ≢ Exit.Usage }
 {
     match read_all(alloc, source, INPUT_LIMIT as u64) {
-        Ok(input) => respond_and_write(alloc, command, &input, sink),
+        Ok(input) => respond_and_write(alloc, command, input, sink),
         Err(ReadStop::Fault) => Exit::ReadFault,
         Err(ReadStop::TooLong) => Exit::TooLong,
         Err(ReadStop::NoMemory) => Exit::NoMemory,
@@ -120,9 +164,16 @@ pub fn ldv<S: Source, K: Sink>(
         sink.old sink.new result }
 {
     headline_law();
-    match read_words(words) {
-        None => Exit::Usage,
-        Some(command) => run_command(alloc, command, source, sink),
+    match read_words(alloc, words) {
+        Ok(command) => {
+            if reads(&command) {
+                run_command(alloc, command, source, sink)
+            } else {
+                run_unread(alloc, command, sink)
+            }
+        }
+        Err(WordStop::Usage) => Exit::Usage,
+        Err(WordStop::NoMemory) => Exit::NoMemory,
     }
 }
 

@@ -194,6 +194,13 @@ impl<D: Database, T: Tracer> Run<D, T> {
         outcome_of(&self.machine)
     }
 
+    /// The database.
+    pub fn db(&self) -> &D
+        ensures { result.now ≡ self.now.db }
+    {
+        &self.db
+    }
+
     /// The database and the tracer.
     pub fn into_parts(self) -> (D, T)
         ensures db { result.0 ≡ self.db }

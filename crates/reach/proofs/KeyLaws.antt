@@ -8,11 +8,11 @@ use Rattle.std.specs.declared.cmp.Ordering.{Ordering}
 use Rattle.std.specs.declared.cmp.Ordering.TheVariants.{Less, Equal, Greater}
 use Rattle.reach.specs.Types.{Node}
 use Rattle.reach.specs.Order.{node_cmp}
-use Rattle.reach.specs.Keys.{node_of}
+use Rattle.trace_graph.specs.Building.{node_of}
 use Rattle.reach.specs.Found.{placed}
-use Rattle.reach.specs.declared.key.NodeKey.{NodeKey}
-use Rattle.reach.specs.declared.key.NodeKey.TheVariants as keys
-use Rattle.reach.specs.contracts.key.NodeKeyOrd.TheImpl as key_order
+use Rattle.trace_graph.specs.declared.key.NodeKey.{NodeKey}
+use Rattle.trace_graph.specs.declared.key.NodeKey.TheVariants as keys
+use Rattle.trace_graph.specs.contracts.key.NodeKeyOrd.TheImpl as key_order
 
 abbrev pub key_cmp : NodeKey → NodeKey → Ordering
 key_cmp = (key_order.ghosts).cmp

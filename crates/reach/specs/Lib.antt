@@ -1,7 +1,6 @@
 pub mod Types
 pub mod Order
 pub mod Reach
-pub mod Keys
 pub mod Found
 pub mod Incoming
 pub mod Search

@@ -3,15 +3,14 @@
 ghost use Rattle.std.specs.Prelude.{◌≡◌, ◌<◌, length, map, IfOk, OnOk, IsTrue};
 ghost use Rattle.std.specs.List.Sorted.{IsStrictlySortedBy};
 ghost use Rattle.trace_graph.specs.Graph.{Parts, are_between};
+ghost use Rattle.trace_graph.specs.Building.{node_of};
 ghost use Rattle.reach.specs.Order.{node_cmp};
-ghost use Rattle.reach.specs.Keys.{node_of};
 ghost use Rattle.reach.specs.Found.{is_open, open_sources, open_source, with_source};
 
-use crate::key::{NodeKey, key_of, node_at};
 use crate::latest::{reaches, time_at};
 use std::alloc::{AllocError, Global};
 use std::collections::BTreeSet;
-use trace_graph::{Edge, Node, Nodes};
+use trace_graph::{Edge, Node, NodeKey, Nodes, key_of, node_at};
 
 /// Nodes, in the order of the report.
 type Keys<'a> = BTreeSet<NodeKey<'a>>;

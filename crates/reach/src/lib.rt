@@ -17,7 +17,6 @@
 
 mod found;
 mod incoming;
-mod key;
 mod latest;
 mod law;
 mod search;

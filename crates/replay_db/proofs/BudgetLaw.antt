@@ -3,13 +3,14 @@ use Rattle.std.proofs.Common.{◌≡◌, ℕ, zero, suc, ◌+◌, ◌≤◌, Lis
 use Rattle.std.specs.Prelude.{Some, None, if◌then◌else◌}
 use Rattle.std.proofs.lemmas.Bool.{cases_Bool}
 use Rattle.ldv_value.proofs.Cases.{cases-option}
-use Rattle.replay_db.specs.Types.{World}
+use Rattle.replay_db.specs.Types.{Mode, World}
 use Rattle.replay_db.proofs.EndedLaw.{ended_law, ended_over, ended_starts}
 use Rattle.replay_db.proofs.TraceValid.{steps_at_most}
 use Rattle.run_model.specs.declared.outcome.Outcome.{Outcome}
 use Rattle.run_model.specs.Core.{Core, all_ended, is_over}
 use Rattle.run_model.specs.Database.{Base}
 use Rattle.run_model.specs.Outcome.{outcome_of, outcome_at}
+use Rattle.run_model.specs.Package.{package_of}
 use Rattle.run_model.specs.Run.{first_pick, later_picks, move, run, steps}
 use Rattle.run_model.specs.SqlDatabase.{SqlDatabase, sql_base}
 use Rattle.run_model.specs.Start.{start_script, start_state}
@@ -93,3 +94,13 @@ module _ (n : ℕ) (w : World) (ended : ends_within n w ≡ true) where
   enough_outcome budget enough =
       (ended_law (steps_by n [] w) budget [] w ends_at_count enough).outcome
       ∙ sym (ended_law (steps_by n [] w) n [] w ends_at_count (steps_at_most n [] w)).outcome
+
+  pub enough_package : (mode : Mode) (budget : ℕ) → steps_by n [] w ≤ budget → package_of mode budget w ≡ package_of mode n w
+  enough_package mode budget enough =
+      (ended_law (steps_by n [] w) budget [] w ends_at_count enough).packed mode
+      ∙ sym ((ended_law (steps_by n [] w) n [] w ends_at_count (steps_at_most n [] w)).packed mode)
+
+  pub enough_ends : (budget : ℕ) → steps_by n [] w ≤ budget → ends_within budget w ≡ true
+  enough_ends budget enough =
+      let outcome = ended_outcome n w ended in
+      outcome_ends budget w outcome.0 (enough_outcome budget enough ∙ outcome.1)

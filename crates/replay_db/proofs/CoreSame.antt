@@ -20,7 +20,7 @@ use Rattle.run_model.proofs.StepKeeps.{AllFiles, open_holds, Keeps, keeps_place,
 use Rattle.replay_db.proofs.FilesAgree.{Agrees, SameAt, later_agrees, whole_at, absent_at}
 use Rattle.replay_db.proofs.FilesSame.{FileSame, open_same, read_same, write_same, copy_same, remove_same, test_same}
 use Rattle.replay_db.proofs.TraceLists.{all_append}
-use Rattle.replay_db.proofs.TraceState.{set_all}
+use Rattle.value_laws.proofs.ProcessPlaces.{set_all}
 
 -- the core with other files
 abbrev pub with_files : FileState → Core → Core

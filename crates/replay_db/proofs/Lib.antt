@@ -1,9 +1,11 @@
+mod AuditLaws
 pub mod EndedLaw
 mod FileLaws
 mod FilesAgree
 mod FilesSame
 mod CoreSame
 mod Keeps
+mod KeptLogs
 mod PackageLaws
 mod RunSame
 mod SliceLaws
@@ -16,6 +18,7 @@ mod SortedLists
 mod TraceLists
 mod Membership
 pub mod WorldRules
+mod WorldValues
 mod NeedsSorted
 mod RowGroups
 mod TraceState
@@ -23,7 +26,9 @@ mod StatementNames
 mod StatementEvents
 mod TraceReasons
 mod TraceRun
-mod PackageValid
+pub mod KeyPlaces
+mod PackageLogs
+pub mod PackageValid
 mod PackageValidLists
 mod PackageValidParts
 mod PackageValidTyped
@@ -41,8 +46,11 @@ mod InitialRows
 mod LogEntries
 mod LogLaws
 mod LogRuns
-mod ProcessNames
-mod ProcessPlaces
 mod QuietSteps
 mod RunSteps
-mod StepTrails
+mod KeptNames
+mod KeptRuns
+mod KeptSplits
+mod LoggedRuns
+mod TableDue
+mod TableSteps

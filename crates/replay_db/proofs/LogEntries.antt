@@ -1,9 +1,7 @@
 -- The recorded entries of a process: those that the logs of a run's end have for it, and what is left of them.
-use Rattle.std.proofs.Common.{◌≡◌, ◌≢◌, ℕ, zero, suc, List, [], ◌∷◌, length, refl, sym, ◌∙◌, subst, Bool, false, inl, inr}
+use Rattle.std.proofs.Common.{◌≡◌, ◌≢◌, ℕ, zero, suc, List, [], ◌∷◌, length, refl, sym, ◌∙◌, subst, false, inl, inr}
 use Rattle.std.specs.Prelude.{Some, map, filter, drop, not, ◌==◌, slice_get, bytes_eq}
 use Rattle.std.specs.List.{AllByRecursion}
-use Rattle.std.specs.Ordering.{nat_cmp, is_lt}
-use Rattle.std.specs.Cmp.Lexicographic.{slice_cmp}
 use Rattle.std.proofs.lemmas.Bool.{cases_Bool}
 use Rattle.ldv_value.proofs.Booleans.{not-false}
 use Rattle.ldv_value.proofs.Lists.{all-weaker, nil-from-length}
@@ -13,7 +11,8 @@ use Rattle.run_model.specs.Core.{Process, Core}
 use Rattle.run_model.specs.LogDatabase.{entries_left, logs_after}
 use Rattle.run_model.specs.Outcome.{insert_by_name, by_name}
 use Rattle.run_model.specs.WorldRun.{has_asked, log_of, logs_of}
-use Rattle.replay_db.proofs.ProcessNames.{name_of, names, at_name, Distinct}
+use Rattle.value_laws.proofs.ProcessNames.{name_of, names, at_name, Distinct}
+use Rattle.value_laws.proofs.SortedNames.{goes_first, sorted_all}
 use Rattle.sql_laws.proofs.ItemLists.{all_of_map}
 
 -- ---- of the logs of some processes
@@ -60,21 +59,6 @@ under_own p ps others = elim (cases_Bool (has_asked p)) [
 ]
 
 -- ---- in the order of names
-
-abbrev goes_first : Process → Process → Bool
-goes_first p q = is_lt (slice_cmp nat_cmp p.name q.name)
-
-insert_all : (P : Process → Type 0) (p : Process) (qs : List Process) → P p → AllByRecursion P qs
-    → AllByRecursion P (insert_by_name p qs)
-insert_all P p [] here all = (here, tt)
-insert_all P p (q ∷ qs) here all = elim (cases_Bool (goes_first p q)) [
-  | inl first ↦ rw first (here, all)
-  | inr later ↦ rw later (all.0, insert_all P p qs here all.1)
-]
-
-sorted_all : (P : Process → Type 0) (ps : List Process) → AllByRecursion P ps → AllByRecursion P (by_name ps)
-sorted_all P [] all = tt
-sorted_all P (p ∷ ps) all = insert_all P p (by_name ps) all.0 (sorted_all P ps all.1)
 
 insert_other : (name : List ℕ) (p : Process) (qs : List Process) → bytes_eq name p.name ≡ false
     → entries_under name (insert_by_name p qs) ≡ entries_under name qs

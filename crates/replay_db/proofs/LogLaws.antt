@@ -6,7 +6,7 @@ use Rattle.std.proofs.lemmas.Bool.{cases_Bool, ltb-true, ltb-false}
 use Rattle.ldv_value.proofs.Booleans.{false≢true}
 use Rattle.sql_model.specs.Statements.{reply_of}
 use Rattle.sql_model.specs.Tables.{tables_test}
-use Rattle.sql_parse.specs.Texts.{statement_of}
+use Rattle.sql_model.specs.Texts.{statement_of}
 use Rattle.replay_db.specs.Types.{File, Instr, Reply, Event, Entry, Excluded, Package, World}
 use Rattle.run_model.specs.Between.{cut_world, slice_cut}
 use Rattle.run_model.specs.Core.{Core, all_ended, start_core}
@@ -25,7 +25,7 @@ use Rattle.replay_db.specs.LogLaws.{LogLaw, PickedLogLaw}
 use Rattle.replay_db.proofs.EndedLaw.{ended_law}
 use Rattle.replay_db.proofs.LogEntries.{logged_entries}
 use Rattle.replay_db.proofs.LogRuns.{Follows, Left, run_follows, grows_more, log_run}
-use Rattle.replay_db.proofs.ProcessNames.{Grows, Named}
+use Rattle.value_laws.proofs.ProcessNames.{Grows, Named}
 use Rattle.replay_db.proofs.QuietSteps.{entries_in}
 use Rattle.replay_db.proofs.RunSteps.{steps_most, no_more}
 use Rattle.replay_db.proofs.SliceLaws.{own_files, slice_keeps}

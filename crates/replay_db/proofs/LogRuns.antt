@@ -25,8 +25,8 @@ use Rattle.run_model.specs.Step.{Ask, ask, entry_of, replied, quiet, asked_by, a
 use Rattle.run_model.specs.StepBase.{operand_value, operand_values}
 use Rattle.run_model.proofs.Equations.{run-zero, run-over, run-suc}
 use Rattle.replay_db.proofs.LogEntries.{left_after, left_other}
-use Rattle.replay_db.proofs.ProcessNames.{Later, Grows, grows_itself, grows_trans, found_later, set_grows, names, names_set, Distinct, place_of_name, Named, named_later}
-use Rattle.replay_db.proofs.ProcessPlaces.{set_there, set_other}
+use Rattle.value_laws.proofs.ProcessNames.{Later, Grows, grows_itself, grows_trans, found_later, set_grows, names, names_set, Distinct, place_of_name, Named, named_later}
+use Rattle.value_laws.proofs.ProcessPlaces.{set_there, set_other}
 use Rattle.replay_db.proofs.QuietSteps.{entries_in, Quiets, quiet_quiets}
 
 -- ---- who asks

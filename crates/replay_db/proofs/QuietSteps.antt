@@ -12,9 +12,9 @@ use Rattle.run_model.specs.StepFiles.{path_at, open_for, allows_read, allows_wri
 use Rattle.run_model.specs.StepProcesses.{Spawning, child_of, parent_of, with_child, spawn_script, script_within, spawn_file, spawn_path, spawning_of, status_in, wait_until, wait_for}
 use Rattle.run_model.specs.StepReplies.{counted, status_value}
 use Rattle.run_model.specs.StepVariables.{calculated, glued, to_number, printed_line}
-use Rattle.replay_db.proofs.ProcessNames.{later_trail, Grows, grows_itself, set_grows, names_set, Named, named_later, child_grows, child_named}
-use Rattle.replay_db.proofs.ProcessPlaces.{set_related, one_related}
-use Rattle.replay_db.proofs.StepTrails.{Trail, trail, trail_assign, trail_cut, trail_jump, trail_line, trail_fetch, trail_close, trail_open, trail_read, trail_write, trail_copy, trail_remove, trail_test}
+use Rattle.value_laws.proofs.ProcessNames.{later_trail, Grows, grows_itself, set_grows, names_set, Named, named_later, child_grows, child_named}
+use Rattle.value_laws.proofs.ProcessPlaces.{set_related, one_related}
+use Rattle.value_laws.proofs.StepTrails.{Trail, trail, trail_assign, trail_cut, trail_jump, trail_line, trail_fetch, trail_close, trail_open, trail_read, trail_write, trail_copy, trail_remove, trail_test}
 
 -- what the process of a creation number asked, if it was made
 abbrev pub entries_in : Option Process → List Entry

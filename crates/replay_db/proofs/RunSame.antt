@@ -10,7 +10,7 @@ use Rattle.ldv_value.proofs.Booleans.{and-parts}
 use Rattle.sql_model.specs.Needs.{need_of}
 use Rattle.sql_model.specs.Statements.{reply_of}
 use Rattle.sql_model.specs.Tables.{is_database, is_described, tables_test}
-use Rattle.sql_parse.specs.Texts.{statement_of}
+use Rattle.sql_model.specs.Texts.{statement_of}
 use Rattle.sql_laws.specs.QueryLaw.{KeepsNeeded as KeepsRows}
 use Rattle.sql_laws.proofs.DatabaseLaws.{tables_law}
 use Rattle.replay_db.specs.Types.{Act, Statement, Table, Event, Reply}
@@ -28,7 +28,7 @@ use Rattle.replay_db.proofs.CoreSame.{with_files, OpenSame, AllOpen, found_open,
 use Rattle.replay_db.proofs.FilesAgree.{Agrees, later_agrees}
 use Rattle.replay_db.proofs.Keeps.{KeepsAct, KeepsEvents, keeps_events_split, rows_of_reads, others_stay, events_more}
 use Rattle.replay_db.proofs.StatementSame.{answers_same}
-use Rattle.replay_db.proofs.TraceState.{set_all}
+use Rattle.value_laws.proofs.ProcessPlaces.{set_all}
 
 pub database_of : (tables : List Table) → tables_test tables ≡ true → is_database tables ≡ true
 database_of tables valid = (and-parts (is_database tables) (list_all is_described tables) valid).0

@@ -16,7 +16,7 @@ use Rattle.run_model.specs.Step.{Ask, execute, execute_next, quiet_of, took_of, 
 use Rattle.run_model.specs.StepFiles.{path_at}
 use Rattle.run_model.specs.StepProcesses.{Spawning, spawn_script, script_within, spawn_file, spawn_path, spawning_of, status_in, wait_until, wait_for}
 use Rattle.run_model.proofs.Equations.{run-zero, run-over, run-suc}
-use Rattle.sql_parse.specs.Texts.{statement_of}
+use Rattle.sql_model.specs.Texts.{statement_of}
 
 -- ---- instructions
 

@@ -7,7 +7,7 @@ use Rattle.ldv_value.specs.Limits.{max_processes}
 use Rattle.ldv_value.specs.Names.{path_test}
 use Rattle.ldv_value.proofs.Booleans.{and-from}
 use Rattle.sql_model.specs.Statements.{reply_of}
-use Rattle.sql_parse.specs.Texts.{statement_of}
+use Rattle.sql_model.specs.Texts.{statement_of}
 use Rattle.replay_db.specs.Types.{Reply, Statement, Act, Started, Spawned, Waited, Ended, Asked, Event}
 use Rattle.run_model.specs.Core.{Process, Core, all_ended, is_over}
 use Rattle.run_model.specs.Events.{event_at, events_of_step, events}

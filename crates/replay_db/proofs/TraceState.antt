@@ -1,6 +1,6 @@
 -- What every state of a run meets: children are processes that were made, open files have valid paths, statuses
 -- are bytes, and no more processes were made than may be. With it, what a step that asks nothing does.
-use Rattle.std.proofs.Common.{◌≡◌, ℕ, zero, suc, ◌+◌, ◌<◌, ◌≤◌, List, [], ◌∷◌, ◌++◌, length, refl, sym, ap, ◌∙◌, subst, Bool, true, false, arith, inl, inr}
+use Rattle.std.proofs.Common.{◌≡◌, ℕ, ◌+◌, ◌<◌, ◌≤◌, List, [], ◌∷◌, ◌++◌, length, refl, sym, ap, ◌∙◌, subst, Bool, true, false, arith, inl, inr}
 use Rattle.std.specs.Prelude.{Option, Some, None, not, nat_lt, ◌&&◌, slice_get, slice_set}
 use Rattle.std.specs.List.{AllByRecursion}
 use Rattle.std.specs.Str.{IsUtf8, is_utf8}
@@ -23,6 +23,7 @@ use Rattle.run_model.specs.StepReplies.{counted, status_value}
 use Rattle.run_model.specs.StepVariables.{calculated, to_number, printed_line, exit_status}
 use Rattle.run_model.specs.ValidTrace.{made_after}
 use Rattle.run_model.proofs.StepKeeps.{IsStatus, AllFiles, open_holds, Keeps, keeps_place, keeps_variable, keeps_end, keeps_assign, keeps_glue, keeps_cut, keeps_jump, keeps_line, keeps_fetch, keeps_close, keeps_open, keeps_read, keeps_write, keeps_copy, keeps_remove, keeps_test, calculated_byte, to_number_byte, counted_byte, status_value_byte, exit_byte}
+use Rattle.value_laws.proofs.ProcessPlaces.{set_length, found_all, set_all}
 use Rattle.replay_db.proofs.TraceLists.{all_append, all_filter}
 
 -- ---- paths
@@ -57,26 +58,6 @@ pub record GoodProcess (made : ℕ) (p : Process) : Type 0 where
 pub record GoodList (ps : List Process) : Type 0 where
   pub each : AllByRecursion (GoodProcess (length ps)) ps
   pub few : length ps ≤ 65535
-
-found_good : (made : ℕ) (ps : List Process) (k : ℕ) (p : Process) → AllByRecursion (GoodProcess made) ps
-    → slice_get ps k ≡ Some p → GoodProcess made p
-found_good made [] zero p all is = absurd cc
-found_good made [] (suc k) p all is = absurd cc
-found_good made (q ∷ ps) zero p all is = let same : q ≡ p = cc in subst (GoodProcess made) same all.0
-found_good made (q ∷ ps) (suc k) p all is = found_good made ps k p all.1 is
-
-pub set_all : (P : Process → Type 0) (ps : List Process) (k : ℕ) (q : Process) → P q → AllByRecursion P ps
-    → AllByRecursion P (slice_set ps k q)
-set_all P [] zero q here all = tt
-set_all P [] (suc k) q here all = tt
-set_all P (r ∷ ps) zero q here all = (here, all.1)
-set_all P (r ∷ ps) (suc k) q here all = (all.0, set_all P ps k q here all.1)
-
-set_length : (ps : List Process) (k : ℕ) (q : Process) → length (slice_set ps k q) ≡ length ps
-set_length [] zero q = refl
-set_length [] (suc k) q = refl
-set_length (r ∷ ps) zero q = refl
-set_length (r ∷ ps) (suc k) q = omega (arith, set_length ps k q)
 
 one_length : (ps : List Process) (q : Process) → length (ps ++ q ∷ []) ≡ length ps + 1
 one_length [] q = refl
@@ -440,7 +421,7 @@ pub quiet_step : (number : ℕ) (p : Process) (c : Core) → slice_get c.process
     → QuietStep c (quiet number c)
 quiet_step number p c is good =
     subst (λ (o : Option Process). QuietStep c (quiet_of o number c)) (sym is)
-    (next_step (slice_get p.script p.place) number p c (found_good (length c.processes) c.processes number p good.each is) good)
+    (next_step (slice_get p.script p.place) number p c (found_all (GoodProcess (length c.processes)) c.processes number p good.each is) good)
 
 -- ---- steps that ask
 
@@ -464,7 +445,7 @@ pub took_step : (number : ℕ) (p : Process) (a : Ask) (reply : Reply) (c : Core
     → GoodList c.processes → TookStep c (took number a reply c)
 took_step number p a reply c is good =
     subst (λ (o : Option Process). TookStep c (took_of o number a reply c)) (sym is)
-    (took_process number p a reply c (found_good (length c.processes) c.processes number p good.each is) good)
+    (took_process number p a reply c (found_all (GoodProcess (length c.processes)) c.processes number p good.each is) good)
 
 -- ---- the end
 
@@ -481,4 +462,4 @@ pub ends_plain : (number : ℕ) (c : Core) → GoodList c.processes
     → PlainActs (length c.processes) (ends_at number c) × (made_by (length c.processes) (ends_at number c) ≡ length c.processes)
 ends_plain number c good =
     end_plain c.processes (slice_get c.processes number)
-    (λ p is. (found_good (length c.processes) c.processes number p good.each is).status)
+    (λ p is. (found_all (GoodProcess (length c.processes)) c.processes number p good.each is).status)

@@ -1,10 +1,11 @@
--- Valid worlds: what a world's parts meet is what the layout asks of a package that has all of them.
+-- Valid worlds: what a world's parts meet is what the layout asks of a package that has all of them. The
+-- packages of their runs, of the needed rows or of the recorded replies, are valid.
 use Rattle.ldv_value.specs.Limits.{max_steps}
 use Rattle.std.specs.Prelude.{◌≡◌, ◌≤◌, ℕ, [], map, Bool, true, ◌&&◌, Some, IsTrue}
 use Rattle.std.specs.List.{list_all}
 use Rattle.sql_model.specs.declared.need.Rule.TheVariants.{L}
 use Rattle.sql_model.specs.Tables.{tables_test}
-use Rattle.replay_db.specs.Types.{File, Table, TableRow, Included, Package, PackedFile, PackedRow}
+use Rattle.replay_db.specs.Types.{File, Table, TableRow, Mode, Included, Excluded, Package, PackedFile, PackedRow}
 use Rattle.replay_db.specs.Types.{PackedTable, World}
 use Rattle.run_model.specs.Package.{package_of}
 use Rattle.run_model.specs.WorldRun.{ends_within}
@@ -65,15 +66,22 @@ pub record ValidWorld (w : World) : Type 0 where
 abbrev pub WorldTablesLaw : Type 0
 WorldTablesLaw = (w : World) → ValidWorld w → tables_test w.tables ≡ true
 
+-- what a package of each mode asks of the world's numbers and texts: those of recorded replies are made of
+-- them, and those of needed rows are left as they are
+abbrev pub TypedFor : Mode → World → Type 0
+TypedFor Included w = Unit {0}
+TypedFor Excluded w = TypedWorld w
+
 -- the package of a world that meets the rules and has valid tables, and whose run ends within so many steps,
--- is valid
+-- is valid, whether it has the needed rows or the recorded replies
 abbrev pub ValidPackageLaw : Type 0
-ValidPackageLaw = (n : ℕ) (w : World) → IsTrue (world_rules w) → tables_test w.tables ≡ true
+ValidPackageLaw = (mode : Mode) (n : ℕ) (w : World) → IsTrue (world_rules w) → tables_test w.tables ≡ true
+    → TypedFor mode w
     → n ≤ max_steps
     → ends_within n w ≡ true
-    → Valid (package_of Included n w)
+    → Valid (package_of mode n w)
 
 -- of a valid world, its numbers are those of their types and its texts are UTF-8
 abbrev pub TypedPackageLaw : Type 0
-TypedPackageLaw = (n : ℕ) (w : World) → ValidWorld w → n ≤ max_steps → ends_within n w ≡ true
-    → IsTyped (package_of Included n w)
+TypedPackageLaw = (mode : Mode) (n : ℕ) (w : World) → ValidWorld w → n ≤ max_steps → ends_within n w ≡ true
+    → IsTyped (package_of mode n w)

@@ -5,14 +5,16 @@ ghost use Rattle.ldv_value.specs.Gives.{Gives};
 ghost use Rattle.ldv_value.specs.Limits.{max_steps};
 ghost use Rattle.run_model.specs.ValidTrace.{IsTrace};
 ghost use Rattle.slicer.specs.InitialRows.{ReadsInitialRows};
+ghost use Rattle.replay_db.specs.Logging.{packed_logs};
 ghost use Rattle.replay_db.specs.Recording.{packed};
 ghost use Rattle.replay_db.specs.Runs.{CanRun, RecordsAs, Stops, package_within};
-ghost use Rattle.replay_db.specs.Types.{Included};
+ghost use Rattle.replay_db.specs.Types.{Included, Excluded};
 
 use crate::copy::copy_world;
+use crate::logged::{Logged, log_world};
 use crate::stop::EndStop;
 use crate::trace::{Traced, trace_world};
-use run_model::{Logs, Mode, Package, World};
+use run_model::{Logs, Mode, Package, PackedTables, World};
 use slicer::{Sliced, slice};
 use std::alloc::{AllocError, Global};
 use trace_graph::Graph;
@@ -51,9 +53,64 @@ fn package_of_run(alloc: Global, world: &World, budget: u32) -> Result<Package, 
     }
 }
 
-/// The package of the run of a world by its seed, within a budget of at most 10,000,000 steps: the files,
-/// tables and rows that the run needed, each row with the first statement that needed it and its rule, and
-/// the trace. The run changes a copy of the world.
+// What the run needed of the files of the world, and what was asked in it.
+fn pack_logs(alloc: Global, world: &World, logged: Logged) -> Result<Package, AllocError>
+    requires trace { IsTrace logged.events }
+    requires rows { ReadsInitialRows logged.events world.now.tables }
+    ensures { IfOk result (λ p. p ≡ packed_logs world.now logged) }
+{
+    let Logged {
+        events,
+        steps,
+        logs,
+    } = logged;
+    let graph = Graph::of_events(alloc, &events)?;
+    let Sliced { files, tables: _ } = slice(alloc, &events, &graph, world)?;
+    Ok(Package {
+        mode: Mode::Excluded,
+        start: world.start.copy()?,
+        seed: world.seed,
+        steps,
+        files,
+        tables: PackedTables::new(alloc),
+        logs,
+        events,
+    })
+}
+
+// The excluded package of the run of a world.
+fn logs_of_run(alloc: Global, world: &World, budget: u32) -> Result<Package, EndStop>
+    requires can_run { CanRun world.now }
+    requires bounded { budget ≤ max_steps }
+    ensures { Gives Stops result (package_within Excluded budget world.now) }
+{
+    let copy = copy_world(world)?;
+    match log_world(alloc, copy, budget) {
+        Ok(logged) => Ok(pack_logs(alloc, world, logged)?),
+        Err(stop) => Err(stop),
+    }
+}
+
+fn package_of_mode(
+    alloc: Global,
+    world: &World,
+    mode: Mode,
+    budget: u32,
+) -> Result<Package, EndStop>
+    requires can_run { CanRun world.now }
+    requires bounded { budget ≤ max_steps }
+    ensures { Gives Stops result (package_within mode budget world.now) }
+{
+    match mode {
+        Mode::Included => package_of_run(alloc, world, budget),
+        Mode::Excluded => logs_of_run(alloc, world, budget),
+    }
+}
+
+/// The package of the run of a world by its seed, within a budget of at most 10,000,000 steps: the files that
+/// the run needed, and the trace. An included one has the tables and rows that the run needed, each row with
+/// the first statement that needed it and its rule. An excluded one has what each process asked, with the
+/// replies. The run changes a copy of the world.
 ///
 /// `NotEnded` comes exactly where not all processes have ended after so many steps.
 pub fn record_world(
@@ -64,11 +121,9 @@ pub fn record_world(
 ) -> Result<Package, EndStop>
     requires can_run { CanRun world.now }
     requires bounded { budget ≤ max_steps }
-    // Packages that hold the recorded replies aren't supported yet.
-    requires included { mode ≡ Included }
     ensures recorded { Gives Stops result (package_within mode budget world.now) }
     // Where the world lies between the slice of a larger one and that one, its package is that one's.
     ensures between { RecordsAs mode budget world.now result }
 {
-    package_of_run(alloc, world, budget)
+    package_of_mode(alloc, world, mode, budget)
 }

@@ -23,8 +23,12 @@ use run_model::{NullTracer, Outcome, Tracer, World};
 use sql_engine::Engine;
 use std::alloc::{AllocError, Global};
 
-// The run of a world before its first step.
-fn begin<T: Tracer>(alloc: Global, world: World, tracer: T) -> Result<Run<Engine, T>, AllocError>
+/// The run of a world before its first step.
+pub(crate) fn begin<T: Tracer>(
+    alloc: Global,
+    world: World,
+    tracer: T,
+) -> Result<Run<Engine, T>, AllocError>
     requires { CanRun world }
     ensures state { IfOk result (λ run. (script : Items Instr) → start_script world ≡ Some script
         → Stands run.machine (database run.db) (start_state world script)) }

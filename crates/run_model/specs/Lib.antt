@@ -20,6 +20,7 @@ pub mod StepFiles
 pub mod StepProcesses
 pub mod StepReplies
 pub mod StepVariables
+pub mod TableText
 pub mod TypedPackage
 pub mod Types
 pub mod ValidPackage

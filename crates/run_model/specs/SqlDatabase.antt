@@ -3,7 +3,7 @@ use Rattle.std.specs.Prelude.{List, map, Option}
 use Rattle.sql_model.specs.Needs.{Versions, versions_after, read_of, need_of, asked_tables, made_by}
 use Rattle.sql_model.specs.Needs.{updated_rows}
 use Rattle.sql_model.specs.Statements.{reply_of, after}
-use Rattle.sql_parse.specs.Texts.{statement_of}
+use Rattle.sql_model.specs.Texts.{statement_of}
 use Rattle.run_model.specs.Types.{Statement, Table}
 use Rattle.run_model.specs.Database.{Lists, Answer, Gives, Base}
 

@@ -17,7 +17,8 @@
 //! - `Database` and `Tracer`: what a run asks and tells, so that the code that runs is proved once, over
 //!   every database and every tracer; `NullTracer` keeps nothing, and `ListTracer` all events;
 //! - files, tables, rows and logs of a package are in the orders of `specs/ValidPackage.antt`, by `Precedes`;
-//! - `outcome_text`: the text of an outcome (`specs/OutcomeText.antt`).
+//! - `outcome_text` and `table_text`: the texts of an outcome (`specs/OutcomeText.antt`) and of a table
+//!   (`specs/TableText.antt`); `append_name` is the name of a process in them.
 #![tactic(auto)]
 
 mod database;
@@ -40,6 +41,6 @@ pub use package::{
     Entries, Entry, Log, Logs, Mode, Package, PackedFile, PackedFiles, PackedRow, PackedRows,
     PackedTable, PackedTables,
 };
-pub use text::outcome_text;
+pub use text::{append_name, outcome_text, table_text};
 pub use tracer::{ListTracer, NullTracer, Tracer};
 pub use world::World;

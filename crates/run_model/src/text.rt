@@ -1,4 +1,4 @@
-//! The text of an outcome (`docs/FORMATS.md`).
+//! The texts of an outcome and of a table (`docs/FORMATS.md`).
 
 ghost use Rattle.std.specs.Prelude.{◌≡◌, ◌++◌, ◌∷◌, [], codes, length, IfOk, OnOk};
 ghost use Rattle.std.specs.List.{flat_map};
@@ -7,11 +7,11 @@ ghost use Rattle.run_model.specs.OutcomeText.{line, utf8_text, value_text, value
 ghost use Rattle.run_model.specs.OutcomeText.{key_text, refusal_text, reply_text, parts_text, name_text};
 ghost use Rattle.run_model.specs.OutcomeText.{head_text, process_text, file_text, removed_text, content_text};
 ghost use Rattle.run_model.specs.OutcomeText.{path_text, outcome_text_of};
+ghost use Rattle.run_model.specs.TableText.{table_row_text, table_text_of};
 
-use crate::name::ProcName;
 use crate::outcome::{Outcome, PathOutcome, ProcOutcome};
 use ldv_value::{Bytes, RowList, Utf8, Value, Values, append_number, append_signed};
-use sql_model::{Replies, Reply, SqlRefusal};
+use sql_model::{Replies, Reply, SqlRefusal, Table, TableRow};
 use std::alloc::{AllocError, Global};
 
 /// The text of an outcome: its counts, its processes and its touched paths.
@@ -27,6 +27,38 @@ pub fn outcome_text(alloc: Global, outcome: &Outcome) -> Result<Bytes, AllocErro
     append_processes(&mut text, outcome.processes.items())?;
     append_paths(&mut text, outcome.paths.items())?;
     Ok(text)
+}
+
+/// The text of a table: its name, the number that its next row gets, and its rows with their numbers.
+pub fn table_text(alloc: Global, table: &Table) -> Result<Bytes, AllocError>
+    ensures { IfOk result (λ text. text ≡ table_text_of table.now) }
+{
+    let mut text = Bytes::new(alloc);
+    text.extend(b"table ")?;
+    text.extend(table.name.as_str().as_bytes())?;
+    text.extend(b" ")?;
+    append_number(table.next as u64, &mut text)?;
+    append_counted(&mut text, b" ", table.rows.len() as u64)?;
+    append_table_rows(&mut text, table.rows.items())?;
+    Ok(text)
+}
+
+fn append_table_rows(to: &mut Bytes, rows: &[TableRow]) -> Result<(), AllocError>
+    ensures { OnOk result (to.new ≡ to.old ++ flat_map table_row_text rows.now) }
+{
+    for row in rows {
+        append_table_row(to, row)?;
+    }
+    Ok(())
+}
+
+fn append_table_row(to: &mut Bytes, row: &TableRow) -> Result<(), AllocError>
+    ensures { OnOk result (to.new ≡ to.old ++ table_row_text row.now) }
+{
+    to.extend(b"row ")?;
+    append_number(row.number as u64, to)?;
+    append_counted(to, b" ", row.values.len() as u64)?;
+    append_values(to, row.values.items())
 }
 
 fn append_line(to: &mut Bytes, bytes: &[u8]) -> Result<(), AllocError>
@@ -145,13 +177,8 @@ fn append_parts(to: &mut Bytes, parts: &[u32]) -> Result<(), AllocError>
     Ok(())
 }
 
-pub(crate) fn append_name(to: &mut Bytes, name: &ProcName) -> Result<(), AllocError>
-    ensures { OnOk result (to.new ≡ to.old ++ name_text name.now.parts) }
-{
-    append_joined(to, name.parts.items())
-}
-
-fn append_joined(to: &mut Bytes, parts: &[u32]) -> Result<(), AllocError>
+/// Puts the name of a process at the end, by its spawn path: `0`, `0.1`.
+pub fn append_name(to: &mut Bytes, parts: &[u32]) -> Result<(), AllocError>
     ensures { OnOk result (to.new ≡ to.old ++ name_text parts.now) }
 {
     match parts {
@@ -179,7 +206,7 @@ fn append_head(to: &mut Bytes, process: &ProcOutcome) -> Result<(), AllocError>
     ensures { OnOk result (to.new ≡ to.old ++ head_text process.now) }
 {
     to.extend(b"process ")?;
-    append_name(to, &process.name)?;
+    append_name(to, process.name.parts.items())?;
     to.extend(b" ")?;
     append_number(process.status as u64, to)?;
     to.extend(b" ")?;

@@ -13,7 +13,7 @@ use Rattle.query_eval.specs.Stored.{table_names}
 use Rattle.run_model.specs.SqlDatabase.{SqlDatabase, unchanged, lists_of, answer_of, sql_base}
 use Rattle.run_model.specs.Database.{Gives, asked_by}
 use Rattle.run_model.specs.declared.database.Asker.{Asker}
-use Rattle.sql_parse.specs.Texts.{statement_of}
+use Rattle.sql_model.specs.Texts.{statement_of}
 use Rattle.sql_engine.proofs.NeedLaws.{needs_are}
 use Rattle.sql_engine.proofs.StoreLaws.{answer_named, hidden_named, sorted_names}
 use Rattle.sql_engine.specs.Answering.{IsAnswer, IsAnswered, hidden_lineage}

@@ -6,7 +6,7 @@ ghost use Rattle.dml_versions.specs.Changing.{AreWellFormed, IsCheckedOver};
 ghost use Rattle.sql_engine.specs.Asking.{IsDone, IsTold, done_of};
 ghost use Rattle.sql_engine.specs.Listing.{names_table};
 ghost use Rattle.sql_model.specs.Scope.{catalog_of};
-ghost use Rattle.sql_parse.specs.Texts.{statement_of};
+ghost use Rattle.sql_model.specs.Texts.{statement_of};
 ghost use Rattle.table_store.specs.Histories.{tables_now};
 
 use crate::answered::{Answered, query_answer};

@@ -1,7 +1,9 @@
 pub mod Built
 pub mod Changes
 pub mod Codes
+pub mod Columns
 pub mod Evaluation
+pub mod Expressions
 pub mod Grammar
 pub mod GrammarOfStatements
 pub mod GrammarOfTokens
@@ -12,9 +14,13 @@ pub mod Levels
 pub mod Meaning
 pub mod MemberOrder
 pub mod Needs
+pub mod Operators
 pub mod Origins
+pub mod Parts
 pub mod Places
+pub mod Queries
 pub mod QueryAnswer
+pub mod Reader
 pub mod Refusals
 pub mod Scope
 pub mod Sorting
@@ -22,4 +28,6 @@ pub mod SqlNames
 pub mod Statements
 pub mod Tables
 pub mod TextBytes
+pub mod Texts
+pub mod Tokens
 pub mod Types

@@ -5,8 +5,8 @@ use Prim.Native.String.{String}
 use Rattle.ldv_value.specs.Options.{◌>>=◌}
 use Rattle.sql_model.specs.GrammarOfStatements.{After, Listed}
 use Rattle.sql_model.specs.declared.token.Token.{Token}
-use Rattle.sql_parse.specs.Parts.{listed}
-use Rattle.sql_parse.specs.Reader.{starts, tail, after_word}
+use Rattle.sql_model.specs.Parts.{listed}
+use Rattle.sql_model.specs.Reader.{starts, tail, after_word}
 use Rattle.sql_parse.proofs.Follows.{among, all_words, lacks, ends_lack}
 use Rattle.sql_parse.proofs.Laws.{Law, state_law, nothing_law, after_law, either_law}
 use Rattle.sql_parse.proofs.PartsLaw.{comma, listed_law}

@@ -5,11 +5,11 @@ use Rattle.sql_model.specs.declared.expr.ColumnName.{ColumnName}
 use Rattle.sql_model.specs.declared.expr.Expr.{Expr}
 use Rattle.sql_model.specs.declared.statement.Core.{Core}
 use Rattle.sql_model.specs.declared.statement.Item.{Item}
-use Rattle.sql_parse.specs.declared.state.Sources.{Sources}
+use Rattle.sql_model.specs.declared.reading.Sources.{Sources}
 use Rattle.sql_model.specs.declared.token.Token.{Token}
 use Rattle.sql_model.specs.GrammarOfStatements.{Then, After, Flag, Optionally, IsExpression, AreItems, IsColumnAt, IsGroup, IsCore, IsFirstCore, IsUnited, AreCores}
-use Rattle.sql_parse.specs.Queries.{reads_group, core_end, core_rest, reads_core, reads_cores}
-use Rattle.sql_parse.specs.Reader.{starts, passed}
+use Rattle.sql_model.specs.Queries.{reads_group, core_end, core_rest, reads_core, reads_cores}
+use Rattle.sql_model.specs.Reader.{starts, passed}
 use Rattle.sql_parse.proofs.ClausesLaw.{clause_law}
 use Rattle.sql_parse.proofs.Follows.{Follows, follows_after, follows_nothing, follows_optional, follows_then}
 use Rattle.sql_parse.proofs.Laws.{Law, state_law, after_law, then_law, made_law, optional_law, flag_law}

@@ -15,21 +15,21 @@ use Rattle.sql_model.specs.declared.expr.Fold.{Fold}
 use Rattle.sql_model.specs.declared.expr.Fold.TheVariants as fold
 use Rattle.sql_model.specs.declared.expr.Operator.{Operator}
 use Rattle.sql_model.specs.declared.expr.Operator.TheVariants.{Add, Subtract, Multiply, Compare, And, Or}
-use Rattle.sql_parse.specs.declared.state.ParsedExpr.{ParsedExpr}
-use Rattle.sql_parse.specs.declared.state.Opening.TheVariants.{Leaf, Nested}
-use Rattle.sql_parse.specs.declared.state.Prefix.{Prefix}
-use Rattle.sql_parse.specs.declared.state.Prefix.TheVariants.{Not, Minus, Bracket, FoldOf}
-use Rattle.sql_parse.specs.declared.state.Infix.{Infix}
-use Rattle.sql_parse.specs.declared.state.Infix.TheVariants.{Both, IsNull}
+use Rattle.sql_model.specs.declared.reading.ParsedExpr.{ParsedExpr}
+use Rattle.sql_model.specs.declared.reading.Opening.TheVariants.{Leaf, Nested}
+use Rattle.sql_model.specs.declared.reading.Prefix.{Prefix}
+use Rattle.sql_model.specs.declared.reading.Prefix.TheVariants.{Not, Minus, Bracket, FoldOf}
+use Rattle.sql_model.specs.declared.reading.Infix.{Infix}
+use Rattle.sql_model.specs.declared.reading.Infix.TheVariants.{Both, IsNull}
 use Rattle.sql_model.specs.declared.token.Token.{Token}
 use Rattle.sql_model.specs.declared.token.Token.TheVariants.{Word, Number, Quoted, Given}
-use Rattle.sql_parse.specs.Columns.{column_after}
-use Rattle.sql_parse.specs.Expressions.{word_opening, opening, inside_level, closed, pair, operand_at, operand, joined, goes_on, joins_more, within, reads_expr}
+use Rattle.sql_model.specs.Columns.{column_after}
+use Rattle.sql_model.specs.Expressions.{word_opening, opening, inside_level, closed, pair, operand_at, operand, joined, goes_on, joins_more, within, reads_expr}
 use Rattle.ldv_value.specs.Options.{◌>>=◌, only_if}
 use Rattle.sql_model.specs.Grammar.{word, fold_word, GoesNotOn, GoesOnWith, Writes, IsName, IsConstant, IsColumn, IsExpr}
 use Rattle.sql_model.specs.Levels.{operator_level, operator_left, right_of}
-use Rattle.sql_parse.specs.Operators.{joint_of, level_of, left_of, may_join, joins}
-use Rattle.sql_parse.specs.Reader.{starts, tail, repeat}
+use Rattle.sql_model.specs.Operators.{joint_of, level_of, left_of, may_join, joins}
+use Rattle.sql_model.specs.Reader.{starts, tail, repeat}
 use Rattle.sql_parse.proofs.ExpressionsLaw.{JointWrites, begins, form_level, joint_sound, starts_is, text_is}
 use Rattle.ldv_value.proofs.Options.{same-some}
 use Rattle.sql_parse.proofs.Repeat.{after, repeat_suc}

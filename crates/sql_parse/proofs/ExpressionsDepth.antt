@@ -3,19 +3,19 @@ use Rattle.std.proofs.Common.{◌≡◌, ℕ, zero, suc, ◌+◌, ◌≤◌, Lis
 use Rattle.std.specs.Prelude.{Option, codes, max, nat_le, if◌then◌else◌}
 use Rattle.std.proofs.lemmas.Bool.{leb-true}
 use Rattle.sql_model.specs.declared.expr.Expr.TheVariants as expr
-use Rattle.sql_parse.specs.declared.state.ParsedExpr.{ParsedExpr}
-use Rattle.sql_parse.specs.declared.state.Opening.{Opening}
-use Rattle.sql_parse.specs.declared.state.Opening.TheVariants.{Leaf, Nested}
-use Rattle.sql_parse.specs.declared.state.Prefix.{Prefix}
-use Rattle.sql_parse.specs.declared.state.Prefix.TheVariants.{Not, Minus, Bracket, FoldOf}
-use Rattle.sql_parse.specs.declared.state.Infix.{Infix}
-use Rattle.sql_parse.specs.declared.state.Infix.TheVariants.{Both, IsNull}
+use Rattle.sql_model.specs.declared.reading.ParsedExpr.{ParsedExpr}
+use Rattle.sql_model.specs.declared.reading.Opening.{Opening}
+use Rattle.sql_model.specs.declared.reading.Opening.TheVariants.{Leaf, Nested}
+use Rattle.sql_model.specs.declared.reading.Prefix.{Prefix}
+use Rattle.sql_model.specs.declared.reading.Prefix.TheVariants.{Not, Minus, Bracket, FoldOf}
+use Rattle.sql_model.specs.declared.reading.Infix.{Infix}
+use Rattle.sql_model.specs.declared.reading.Infix.TheVariants.{Both, IsNull}
 use Rattle.sql_model.specs.declared.token.Token.{Token}
-use Rattle.sql_parse.specs.Expressions.{opening, inside_level, closed, null_test, pair, operand_at, operand, joined, joined_within, goes_on, joins_more, within}
+use Rattle.sql_model.specs.Expressions.{opening, inside_level, closed, null_test, pair, operand_at, operand, joined, joined_within, goes_on, joins_more, within}
 use Rattle.ldv_value.specs.Options.{◌>>=◌}
 use Rattle.sql_model.specs.Levels.{right_of}
-use Rattle.sql_parse.specs.Operators.{joins}
-use Rattle.sql_parse.specs.Reader.{starts, passed, after_word, tail, repeat}
+use Rattle.sql_model.specs.Operators.{joins}
+use Rattle.sql_model.specs.Reader.{starts, passed, after_word, tail, repeat}
 use Rattle.ldv_value.proofs.Options.{bind-some, only_if-some, same-some}
 use Rattle.sql_parse.proofs.Repeat.{after, repeat_none, repeat_suc}
 use Rattle.sql_parse.proofs.Within.{within_none, within_suc}

@@ -12,25 +12,25 @@ use Rattle.sql_model.specs.declared.expr.Expr.{Expr}
 use Rattle.sql_model.specs.declared.expr.Expr.TheVariants as expr
 use Rattle.sql_model.specs.declared.expr.Fold.{Fold}
 use Rattle.sql_model.specs.declared.expr.Fold.TheVariants as fold
-use Rattle.sql_parse.specs.declared.state.ParsedExpr.{ParsedExpr}
-use Rattle.sql_parse.specs.declared.state.Opening.{Opening}
-use Rattle.sql_parse.specs.declared.state.Opening.TheVariants.{Leaf, Nested}
-use Rattle.sql_parse.specs.declared.state.Prefix.{Prefix}
-use Rattle.sql_parse.specs.declared.state.Prefix.TheVariants.{Not, Minus, Bracket, FoldOf}
-use Rattle.sql_parse.specs.declared.state.Infix.{Infix}
-use Rattle.sql_parse.specs.declared.state.Infix.TheVariants.{Both, IsNull}
+use Rattle.sql_model.specs.declared.reading.ParsedExpr.{ParsedExpr}
+use Rattle.sql_model.specs.declared.reading.Opening.{Opening}
+use Rattle.sql_model.specs.declared.reading.Opening.TheVariants.{Leaf, Nested}
+use Rattle.sql_model.specs.declared.reading.Prefix.{Prefix}
+use Rattle.sql_model.specs.declared.reading.Prefix.TheVariants.{Not, Minus, Bracket, FoldOf}
+use Rattle.sql_model.specs.declared.reading.Infix.{Infix}
+use Rattle.sql_model.specs.declared.reading.Infix.TheVariants.{Both, IsNull}
 use Rattle.sql_model.specs.Levels.{right_of}
-use Rattle.sql_parse.specs.Operators.{comparison_of, compared, joint_in, joint_of, level_of, left_of, may_join, joins}
+use Rattle.sql_model.specs.Operators.{comparison_of, compared, joint_in, joint_of, level_of, left_of, may_join, joins}
 use Rattle.sql_model.specs.declared.expr.Operator.{Operator}
 use Rattle.sql_model.specs.declared.expr.Operator.TheVariants.{Add, Subtract, Multiply, Compare, And, Or}
 use Rattle.ldv_value.specs.declared.value.Cmp.{Cmp}
 use Rattle.sql_model.specs.declared.token.Token.{Token}
 use Rattle.sql_model.specs.declared.token.Token.TheVariants.{Word, Number, Quoted, Given}
-use Rattle.sql_parse.specs.Expressions.{leaf, negation, fold_opening, count_inside, count_opening, column_opening, word_opening, opening, inside_level, closed, null_test, pair, operand_at, operand, joined, joined_within, goes_on, joins_more, within, reads_expr}
-use Rattle.sql_parse.specs.Columns.{column_after}
+use Rattle.sql_model.specs.Expressions.{leaf, negation, fold_opening, count_inside, count_opening, column_opening, word_opening, opening, inside_level, closed, null_test, pair, operand_at, operand, joined, joined_within, goes_on, joins_more, within, reads_expr}
+use Rattle.sql_model.specs.Columns.{column_after}
 use Rattle.ldv_value.specs.Options.{◌>>=◌, only_if}
 use Rattle.sql_model.specs.Grammar.{word, fold_word, Writes, IsName, IsConstant, IsColumn, IsExpr}
-use Rattle.sql_parse.specs.Reader.{starts, tail, after_word, name_in, reads_name, repeat}
+use Rattle.sql_model.specs.Reader.{starts, tail, after_word, name_in, reads_name, repeat}
 use Rattle.sql_parse.proofs.Named.{name_taken}
 use Rattle.sql_parse.proofs.Repeat.{after, repeat_none, repeat_suc}
 use Rattle.sql_parse.proofs.ExpressionsDepth.{within_depth}

@@ -9,9 +9,9 @@ use Rattle.sql_model.specs.SqlNames.{sql_name_test}
 use Rattle.sql_model.specs.declared.token.Token.{Token}
 use Rattle.sql_model.specs.declared.token.Token.TheVariants.{Word, Number, Quoted, Given}
 use Rattle.sql_model.specs.GrammarOfStatements.{Then, After, Optionally, Repeated}
-use Rattle.sql_parse.specs.Queries.{names}
+use Rattle.sql_model.specs.Queries.{names}
 use Rattle.ldv_value.specs.Options.{only_if}
-use Rattle.sql_parse.specs.Reader.{starts, passed, after_word}
+use Rattle.sql_model.specs.Reader.{starts, passed, after_word}
 use Rattle.sql_parse.proofs.Choices.{or_go}
 use Rattle.sql_parse.proofs.ExpressionsLaw.{text_is}
 use Rattle.ldv_value.proofs.Booleans.{and-parts}

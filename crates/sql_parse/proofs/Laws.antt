@@ -7,7 +7,7 @@ use Rattle.sql_model.specs.declared.token.Token.TheVariants.{Word}
 use Rattle.ldv_value.specs.Options.{◌>>=◌, only_if}
 use Rattle.sql_model.specs.Grammar.{word, IsName}
 use Rattle.sql_model.specs.GrammarOfStatements.{Then, After, Flag, Optionally, Named}
-use Rattle.sql_parse.specs.Reader.{starts, tail, passed, after_word, reads_token, reads_name}
+use Rattle.sql_model.specs.Reader.{starts, tail, passed, after_word, reads_token, reads_name}
 use Rattle.sql_parse.proofs.Choices.{choose}
 use Rattle.sql_parse.proofs.ExpressionsLaw.{starts_is, after_is}
 use Rattle.sql_parse.proofs.Named.{name_taken}

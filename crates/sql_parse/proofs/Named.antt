@@ -4,7 +4,7 @@ use Rattle.sql_model.specs.declared.token.Token.{Token}
 use Rattle.sql_model.specs.declared.token.Token.TheVariants.{Word, Number, Quoted, Given}
 use Rattle.sql_model.specs.SqlNames.{sql_name_test}
 use Rattle.sql_model.specs.Grammar.{IsName}
-use Rattle.sql_parse.specs.Reader.{name_of, reads_name}
+use Rattle.sql_model.specs.Reader.{name_of, reads_name}
 use Rattle.ldv_value.proofs.Options.{bind-some, same-some, tested-some}
 
 pub name_is : (t : Token) (x : List ℕ) → name_of t ≡ Some x → (t ≡ Word x) × IsName x

@@ -14,16 +14,16 @@ use Rattle.sql_model.specs.declared.statement.Item.{Item}
 use Rattle.sql_model.specs.SqlNames.{sql_name_test}
 use Rattle.sql_model.specs.declared.token.Token.{Token}
 use Rattle.sql_model.specs.declared.token.Token.TheVariants.{Word, Number, Quoted, Given}
-use Rattle.sql_parse.specs.Columns.{column_after, reads_column}
-use Rattle.sql_parse.specs.Expressions.{reads_expr}
+use Rattle.sql_model.specs.Columns.{column_after, reads_column}
+use Rattle.sql_model.specs.Expressions.{reads_expr}
 use Rattle.ldv_value.specs.Options.{◌>>=◌}
 use Rattle.sql_model.specs.Grammar.{word, fold_word, IsName, IsConstant, IsColumn, IsExpr}
 use Rattle.sql_model.specs.GrammarOfStatements.{Then, After, Only, Optionally, Listed, Named, IsExpression, IsColumnAt, IsItem, AreItems, AreColumns, IsTuple}
-use Rattle.sql_parse.specs.Operators.{joint_in, joint_of}
-use Rattle.sql_parse.specs.Parts.{listed, reads_tuple}
-use Rattle.sql_parse.specs.Queries.{reads_item, reads_items}
-use Rattle.sql_parse.specs.Reader.{starts, after_word}
-use Rattle.sql_parse.specs.Texts.{reads_columns}
+use Rattle.sql_model.specs.Operators.{joint_in, joint_of}
+use Rattle.sql_model.specs.Parts.{listed, reads_tuple}
+use Rattle.sql_model.specs.Queries.{reads_item, reads_items}
+use Rattle.sql_model.specs.Reader.{starts, after_word}
+use Rattle.sql_model.specs.Texts.{reads_columns}
 use Rattle.sql_parse.proofs.ExpressionsBack.{goes_not_on, expression_back}
 use Rattle.sql_parse.proofs.ExpressionsLaw.{expression_sound, text_is}
 use Rattle.sql_parse.proofs.Follows.{among, among_all, all_words, ends_by, lacks, ends_lack, follows_after, follows_optional}

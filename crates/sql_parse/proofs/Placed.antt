@@ -7,7 +7,7 @@ use Rattle.sql_parse.specs.declared.stop.ParseStop.TheVariants.{Syntax, NoMemory
 use Rattle.sql_model.specs.declared.token.Token.{Token}
 use Rattle.ldv_value.specs.Options.{◌>>=◌, only_if}
 use Rattle.sql_parse.specs.Gives.{Fails}
-use Rattle.sql_parse.specs.Texts.{placed_token, placed}
+use Rattle.sql_model.specs.Texts.{placed_token, placed}
 use Rattle.ldv_value.specs.Scan.{before}
 use Rattle.ldv_value.proofs.Scanning.{before-none}
 

@@ -13,8 +13,8 @@ use Rattle.sql_model.specs.declared.token.Token.TheVariants.{Word, Number, Quote
 use Rattle.ldv_value.specs.Options.{◌>>=◌, only_if}
 use Rattle.sql_model.specs.Grammar.{word, IsName}
 use Rattle.sql_model.specs.GrammarOfStatements.{Then, Optionally, AreCores, IsKey, IsDirection, IsOrder, AreOrders, IsBound, IsQuery}
-use Rattle.sql_parse.specs.Queries.{place_of, key_of, reads_key, directed, reads_order, reads_orders, bound_of, reads_bound, reads_limit, reads_query}
-use Rattle.sql_parse.specs.Reader.{starts, tail, passed, name_in}
+use Rattle.sql_model.specs.Queries.{place_of, key_of, reads_key, directed, reads_order, reads_orders, bound_of, reads_bound, reads_limit, reads_query}
+use Rattle.sql_model.specs.Reader.{starts, tail, passed, name_in}
 use Rattle.sql_parse.proofs.ClausesLaw.{clause_law}
 use Rattle.sql_parse.proofs.ExpressionsLaw.{starts_is}
 use Rattle.sql_parse.proofs.Follows.{ends_by, ends_lack, Follows, follows_after, follows_nothing, follows_optional, follows_then}

@@ -6,7 +6,7 @@ use Rattle.sql_parse.specs.declared.stop.ParseStop.TheVariants.{Syntax, NoMemory
 use Rattle.sql_model.specs.declared.token.Token.{Token}
 use Rattle.ldv_value.specs.Options.{◌>>=◌}
 use Rattle.sql_parse.specs.Gives.{Fails}
-use Rattle.sql_parse.specs.Reader.{repeat}
+use Rattle.sql_model.specs.Reader.{repeat}
 
 -- what a step leaves to do
 abbrev pub after : {A : Type 0} → (A → List Token → Option ((A × Bool) × List Token)) → ℕ → Option ((A × Bool) × List Token) → Option (A × List Token)

@@ -7,7 +7,7 @@ use Rattle.sql_model.specs.declared.token.Token.{Token}
 use Rattle.ldv_value.specs.Options.{◌>>=◌}
 use Rattle.sql_model.specs.Grammar.{word}
 use Rattle.sql_model.specs.GrammarOfStatements.{After, Repeated, Separated}
-use Rattle.sql_parse.specs.Reader.{starts, tail, repeat}
+use Rattle.sql_model.specs.Reader.{starts, tail, repeat}
 use Rattle.sql_parse.proofs.Choices.{choose}
 use Rattle.sql_parse.proofs.ExpressionsLaw.{starts_is}
 use Rattle.sql_parse.proofs.Follows.{all_words, among, ends_by, lacks, ends_lack, follows_repeated, starts_self}

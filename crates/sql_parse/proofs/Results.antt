@@ -7,7 +7,7 @@ use Rattle.sql_parse.specs.declared.stop.ParseStop.{ParseStop}
 use Rattle.sql_parse.specs.declared.stop.ParseStop.TheVariants.{Syntax, NoMemory}
 use Rattle.sql_model.specs.GrammarOfStatements.{Reads}
 use Rattle.sql_parse.specs.Gives.{Gives}
-use Rattle.sql_parse.specs.Texts.{statement_of}
+use Rattle.sql_model.specs.Texts.{statement_of}
 use Rattle.sql_parse.proofs.StatementsLaw.{reading_sound, reading_complete}
 
 pub reading_is : (text : List ℕ) (params : List Value) (r : Result Statement ParseStop) → Gives r (statement_of text params) → IfOk r (λ s. Reads text params s)

@@ -7,14 +7,14 @@ use Rattle.std.proofs.lemmas.List.{length-map}
 use Rattle.sql_model.specs.declared.expr.Expr.{Expr}
 use Rattle.sql_model.specs.declared.statement.FromItem.{FromItem}
 use Rattle.sql_model.specs.SqlNames.{sql_name_test}
-use Rattle.sql_parse.specs.declared.state.Sources.{Sources}
+use Rattle.sql_model.specs.declared.reading.Sources.{Sources}
 use Rattle.sql_model.specs.declared.token.Token.{Token}
 use Rattle.sql_model.specs.declared.token.Token.TheVariants.{Word}
 use Rattle.ldv_value.specs.Options.{◌>>=◌}
 use Rattle.sql_model.specs.Grammar.{word, IsName}
 use Rattle.sql_model.specs.GrammarOfStatements.{Then, After, Named, IsExpression, IsSecondName, IsSource, Joined, IsConditioned, IsJoinedBy, IsJoined, source_of, conditions, AreSources}
-use Rattle.sql_parse.specs.Queries.{names, second_name, reads_source, plain_source, joined_source, another_source, reads_sources}
-use Rattle.sql_parse.specs.Reader.{starts, tail, after_word, reads_name, repeat}
+use Rattle.sql_model.specs.Queries.{names, second_name, reads_source, plain_source, joined_source, another_source, reads_sources}
+use Rattle.sql_model.specs.Reader.{starts, tail, after_word, reads_name, repeat}
 use Rattle.sql_parse.proofs.Choices.{choose}
 use Rattle.sql_parse.proofs.ExpressionsLaw.{starts_is, after_is, text_is}
 use Rattle.sql_parse.proofs.Follows.{ends_by, ends_lack, ends_more, ends_unnamed, follows_after, follows_repeated}

@@ -11,17 +11,17 @@ use Rattle.sql_model.specs.declared.statement.Set.{Set}
 use Rattle.sql_model.specs.declared.statement.Statement.{Statement}
 use Rattle.sql_model.specs.declared.statement.Statement.TheVariants as statement
 use Rattle.sql_model.specs.declared.statement.Update.{Update}
-use Rattle.sql_parse.specs.declared.state.LexState.TheVariants.{Between}
+use Rattle.sql_model.specs.declared.reading.LexState.TheVariants.{Between}
 use Rattle.sql_model.specs.declared.token.Token.{Token}
 use Rattle.sql_model.specs.declared.token.Token.TheVariants.{Word, Number, Quoted, Given}
 use Rattle.ldv_value.specs.Options.{◌>>=◌, only_if}
 use Rattle.sql_model.specs.Grammar.{word}
 use Rattle.sql_model.specs.GrammarOfStatements.{Then, After, Optionally, Listed, Named, IsExpression, AreColumns, IsTuple, IsSet, IsStatement, IsEnd, IsWhole, IsGiven, Reads}
-use Rattle.sql_parse.specs.Parts.{reads_optional}
-use Rattle.sql_parse.specs.Queries.{reads_query}
-use Rattle.sql_parse.specs.Reader.{is_word, starts, tail}
-use Rattle.sql_parse.specs.Texts.{reads_insert, reads_set, reads_update, reads_delete, reads_statement, placed, is_end, whole_statement, statement_of}
-use Rattle.sql_parse.specs.Tokens.{tokens_of}
+use Rattle.sql_model.specs.Parts.{reads_optional}
+use Rattle.sql_model.specs.Queries.{reads_query}
+use Rattle.sql_model.specs.Reader.{is_word, starts, tail}
+use Rattle.sql_model.specs.Texts.{reads_insert, reads_set, reads_update, reads_delete, reads_statement, placed, is_end, whole_statement, statement_of}
+use Rattle.sql_model.specs.Tokens.{tokens_of}
 use Rattle.sql_parse.proofs.Choices.{choose}
 use Rattle.sql_parse.proofs.ExpressionsLaw.{starts_is, text_is}
 use Rattle.sql_parse.proofs.Follows.{ends_by, Follows, follows_after, follows_optional}

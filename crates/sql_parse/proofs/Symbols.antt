@@ -5,7 +5,7 @@ use Rattle.std.specs.List.{AllByRecursion}
 use Rattle.std.proofs.lemmas.Bool.{eqb-true}
 use Rattle.sql_parse.proofs.Choices.{or_go}
 use Rattle.sql_model.specs.GrammarOfTokens.{symbols, IsOneOf, IsSymbol}
-use Rattle.sql_parse.specs.Tokens.{is_whole_symbol, begins_symbol, is_pair}
+use Rattle.sql_model.specs.Tokens.{is_whole_symbol, begins_symbol, is_pair}
 use Rattle.ldv_value.proofs.Booleans.{and-parts}
 
 at : (P : ℕ → Type 0) (b c : ℕ) → P c → (b == c) ≡ true → P b

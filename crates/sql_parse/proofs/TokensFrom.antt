@@ -6,9 +6,9 @@ use Rattle.ldv_value.proofs.Scanning.{step-none, step-some}
 use Rattle.sql_parse.specs.declared.stop.ParseStop.{ParseStop}
 use Rattle.sql_parse.specs.declared.stop.ParseStop.TheVariants.{Syntax, NoMemory}
 use Rattle.sql_model.specs.declared.token.Token.{Token}
-use Rattle.sql_parse.specs.declared.state.LexState.{LexState}
+use Rattle.sql_model.specs.declared.reading.LexState.{LexState}
 use Rattle.sql_parse.specs.Gives.{Fails}
-use Rattle.sql_parse.specs.Tokens.{step, finish, tokens_from}
+use Rattle.sql_model.specs.Tokens.{step, finish, tokens_from}
 
 -- a step that fails, in a text of which these tokens are the front
 pub step_fails : (e : ParseStop) (front : List Token) (state : LexState) (bs : List ℕ) (i : ℕ) → i < length bs

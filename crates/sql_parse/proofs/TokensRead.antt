@@ -9,14 +9,14 @@ use Rattle.std.proofs.lemmas.Str.{IsUtf8-from_ascii}
 use Rattle.std.proofs.lemmas.Str.Ascii.{IsAscii-nil, IsAscii-cons}
 use Rattle.sql_model.specs.declared.token.Token.{Token}
 use Rattle.sql_model.specs.declared.token.Token.TheVariants.{Word, Number, Quoted, Given}
-use Rattle.sql_parse.specs.declared.state.LexState.{LexState}
-use Rattle.sql_parse.specs.declared.state.LexState.TheVariants.{Between, InWord, InNumber, InText, InSymbol, Ended}
+use Rattle.sql_model.specs.declared.reading.LexState.{LexState}
+use Rattle.sql_model.specs.declared.reading.LexState.TheVariants.{Between, InWord, InNumber, InText, InSymbol, Ended}
 use Rattle.ldv_value.specs.Options.{◌>>=◌}
 use Rattle.sql_model.specs.GrammarOfTokens.{AreBlanks, BeginsNot, is_inside, is_quote, digits_from, doubled, IsSymbol, IsWhole, IsToken, Spells}
 use Rattle.sql_model.specs.TextBytes.{is_blank, is_letter, is_upper, is_digit, folded}
 use Rattle.ldv_value.specs.Limits.{text_limit}
 use Rattle.ldv_value.specs.Scan.{before}
-use Rattle.sql_parse.specs.Tokens.{begins_symbol, is_pair, longer, word_token, number_token, text_token, symbol_token, short_symbol, start, step, finish, tokens_from, tokens_of}
+use Rattle.sql_model.specs.Tokens.{begins_symbol, is_pair, longer, word_token, number_token, text_token, symbol_token, short_symbol, start, step, finish, tokens_from, tokens_of}
 use Rattle.ldv_value.proofs.Scanning.{stays-run, stays-only}
 use Rattle.sql_parse.proofs.Choices.{or_go}
 use Rattle.sql_parse.proofs.Symbols.{pair_symbol, symbol_low}

@@ -8,13 +8,13 @@ use Rattle.std.proofs.lemmas.Option.{cond_some}
 use Rattle.std.proofs.lemmas.List.{length-map}
 use Rattle.sql_model.specs.declared.token.Token.{Token}
 use Rattle.sql_model.specs.declared.token.Token.TheVariants.{Word, Number, Quoted}
-use Rattle.sql_parse.specs.declared.state.LexState.{LexState}
-use Rattle.sql_parse.specs.declared.state.LexState.TheVariants.{Between, InWord, InNumber, InText, AfterQuote, InSymbol, Ended}
+use Rattle.sql_model.specs.declared.reading.LexState.{LexState}
+use Rattle.sql_model.specs.declared.reading.LexState.TheVariants.{Between, InWord, InNumber, InText, AfterQuote, InSymbol, Ended}
 use Rattle.ldv_value.specs.Options.{◌>>=◌}
 use Rattle.sql_model.specs.GrammarOfTokens.{BeginsNot, is_inside, is_quote, digits_from, doubled, IsSymbol, IsWhole, IsToken, Spells}
 use Rattle.sql_model.specs.TextBytes.{is_blank, is_letter, is_digit, folded}
 use Rattle.ldv_value.specs.Texts.{text_of}
-use Rattle.sql_parse.specs.Tokens.{is_whole_symbol, begins_symbol, is_pair, longer, word_token, number_token, text_token, symbol_token, short_symbol, start, tokens_from}
+use Rattle.sql_model.specs.Tokens.{is_whole_symbol, begins_symbol, is_pair, longer, word_token, number_token, text_token, symbol_token, short_symbol, start, tokens_from}
 use Rattle.sql_parse.proofs.Choices.{choose}
 use Rattle.ldv_value.proofs.Options.{bind-some, same-some}
 use Rattle.sql_parse.proofs.Symbols.{symbol_form, whole_cases, begins_cases, whole_symbol, less_symbol, more_symbol, pair_symbol}

@@ -2,13 +2,13 @@
 use Rattle.std.proofs.Common.{◌≡◌, ℕ, List, [], ◌∷◌, ◌++◌, refl, sym, ap, ◌∙◌, cond, true, false, Some, None}
 use Rattle.std.specs.Prelude.{Option, option_to_list}
 use Rattle.sql_model.specs.declared.token.Token.{Token}
-use Rattle.sql_parse.specs.declared.state.LexState.{LexState}
-use Rattle.sql_parse.specs.declared.state.LexState.TheVariants.{Between, InWord, InNumber, InText, AfterQuote, InSymbol, Ended}
+use Rattle.sql_model.specs.declared.reading.LexState.{LexState}
+use Rattle.sql_model.specs.declared.reading.LexState.TheVariants.{Between, InWord, InNumber, InText, AfterQuote, InSymbol, Ended}
 use Rattle.ldv_value.specs.Options.{◌>>=◌}
 use Rattle.sql_model.specs.GrammarOfTokens.{BeginsNot, is_inside, is_quote}
 use Rattle.sql_model.specs.TextBytes.{is_letter, is_digit, folded}
 use Rattle.ldv_value.specs.Scan.{before}
-use Rattle.sql_parse.specs.Tokens.{is_pair, longer, word_token, number_token, text_token, symbol_token, short_symbol, start, ends, tokens_from}
+use Rattle.sql_model.specs.Tokens.{is_pair, longer, word_token, number_token, text_token, symbol_token, short_symbol, start, ends, tokens_from}
 use Rattle.ldv_value.proofs.Options.{bind-some, same-some}
 use Rattle.ldv_value.proofs.Booleans.{not-so, or-parts}
 use Rattle.ldv_value.proofs.Scanning.{before-none}

@@ -2,8 +2,8 @@
 use Rattle.std.proofs.Common.{◌≡◌, ℕ, zero, suc, ◌-◌, ◌<◌, List, refl, None, subst, sym, arith}
 use Rattle.sql_model.specs.declared.token.Token.{Token}
 use Rattle.ldv_value.specs.Options.{◌>>=◌}
-use Rattle.sql_parse.specs.Reader.{repeat}
-use Rattle.sql_parse.specs.Expressions.{operand, joins_more, within}
+use Rattle.sql_model.specs.Reader.{repeat}
+use Rattle.sql_model.specs.Expressions.{operand, joins_more, within}
 
 pub within_none : (least : ℕ) (ts : List Token) → within 0 least ts ≡ None
 unfolding within

@@ -1,9 +1,1 @@
-pub mod Columns
-pub mod Expressions
 pub mod Gives
-pub mod Operators
-pub mod Parts
-pub mod Queries
-pub mod Reader
-pub mod Texts
-pub mod Tokens

@@ -1,7 +1,7 @@
 //! Statements that change a table.
 
 ghost use Rattle.sql_parse.specs.Gives.{Reads};
-ghost use Rattle.sql_parse.specs.Texts.{reads_columns, reads_insert, reads_set, reads_update, reads_delete};
+ghost use Rattle.sql_model.specs.Texts.{reads_columns, reads_insert, reads_set, reads_update, reads_delete};
 
 use crate::expression::expression;
 use crate::part::{Part, listed, optional};

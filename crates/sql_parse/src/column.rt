@@ -1,7 +1,7 @@
 //! Names of columns.
 
 ghost use Rattle.sql_parse.specs.Gives.{Reads};
-ghost use Rattle.sql_parse.specs.Columns.{column_after, reads_column};
+ghost use Rattle.sql_model.specs.Columns.{column_after, reads_column};
 
 use crate::reader::Reader;
 use crate::stop::ParseStop;

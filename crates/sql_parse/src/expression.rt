@@ -3,17 +3,16 @@
 ghost use Rattle.std.specs.Prelude.{◌≡◌, ◌≤◌, ◌<◌, ◌+◌, ◌-◌, IfOk, Some};
 ghost use Rattle.ldv_value.specs.Limits.{max_depth};
 ghost use Rattle.sql_parse.specs.Gives.{Gives, Reads};
-ghost use Rattle.sql_parse.specs.Expressions.{whole, closed, null_test, pair, operand_at, operand, joined};
-ghost use Rattle.sql_parse.specs.Expressions.{joined_within, goes_on, joins_more, within, reads_expr};
-ghost use Rattle.sql_parse.specs.Reader.{repeat};
+ghost use Rattle.sql_model.specs.Expressions.{whole, closed, null_test, pair, operand_at, operand, joined};
+ghost use Rattle.sql_model.specs.Expressions.{joined_within, goes_on, joins_more, within, reads_expr};
+ghost use Rattle.sql_model.specs.Reader.{repeat};
 
 use crate::opening::{inside_level, read_opening};
 use crate::operator::{joins, operator_level, right_of};
 use crate::reader::Reader;
-use crate::state::{Infix, Opening, ParsedExpr, Prefix};
 use crate::stop::ParseStop;
 use ldv_value::MAX_DEPTH;
-use sql_model::{Expr, Operator};
+use sql_model::{Expr, Infix, Opening, Operator, ParsedExpr, Prefix};
 use sqlite_items::Boxed;
 use std::alloc::Global;
 

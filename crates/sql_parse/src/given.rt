@@ -1,7 +1,7 @@
 //! The values of parameters in the places of their `?`.
 
 ghost use Rattle.sql_parse.specs.Gives.{Gives};
-ghost use Rattle.sql_parse.specs.Texts.{placed_token, placed};
+ghost use Rattle.sql_model.specs.Texts.{placed_token, placed};
 
 use crate::reader::is_word;
 use crate::stop::ParseStop;

@@ -5,12 +5,12 @@ ghost use Rattle.ldv_value.specs.declared.value.Value.{Value};
 ghost use Rattle.sql_model.specs.declared.expr.Expr.{Expr};
 ghost use Rattle.sql_model.specs.declared.statement.Statement.{Statement};
 ghost use Rattle.sql_model.specs.declared.token.Token.{Token};
-ghost use Rattle.sql_parse.specs.Expressions.{reads_expr};
+ghost use Rattle.sql_model.specs.Expressions.{reads_expr};
 ghost use Rattle.sql_model.specs.Grammar.{GoesNotOn, IsExpr};
 ghost use Rattle.sql_model.specs.GrammarOfStatements.{Reads};
 ghost use Rattle.sql_model.specs.GrammarOfTokens.{Spells};
-ghost use Rattle.sql_parse.specs.Texts.{statement_of};
-ghost use Rattle.sql_parse.specs.Tokens.{tokens_of};
+ghost use Rattle.sql_model.specs.Texts.{statement_of};
+ghost use Rattle.sql_model.specs.Tokens.{tokens_of};
 
 /// Reading agrees with the grammar of expressions, in both directions.
 ///

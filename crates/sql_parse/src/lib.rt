@@ -2,8 +2,8 @@
 //!
 //! It promises to the layers above that `parse` gives the statement as which a text with its parameters reads
 //! by the grammar, and `Syntax` exactly where there is none; only out of memory is free. The same is said
-//! with a function, `statement_of` (`specs/Texts.antt`, over `Queries`, `Parts`, `Columns`, `Expressions`,
-//! `Operators` and `Tokens`).
+//! with a function, `statement_of` of `sql_model` (`specs/Texts.antt`, over `Queries`, `Parts`, `Columns`,
+//! `Expressions`, `Operators` and `Tokens`).
 //!
 //! The grammar is apart from how it is read: relations of `sql_model` say form by form how bytes spell tokens
 //! (`specs/GrammarOfTokens.antt`), and which tokens are an expression (`specs/Grammar.antt`) or a statement
@@ -29,7 +29,6 @@ mod reading;
 mod scan;
 mod select;
 mod source;
-mod state;
 mod steps;
 mod stop;
 mod token;

@@ -2,15 +2,14 @@
 
 ghost use Rattle.std.specs.Prelude.{◌≡◌};
 ghost use Rattle.sql_parse.specs.Gives.{Gives, Reads};
-ghost use Rattle.sql_parse.specs.Expressions.{negation, fold_opening, count_inside, count_opening};
-ghost use Rattle.sql_parse.specs.Expressions.{column_opening, word_opening, opens, opening, inside_level};
+ghost use Rattle.sql_model.specs.Expressions.{negation, fold_opening, count_inside, count_opening};
+ghost use Rattle.sql_model.specs.Expressions.{column_opening, word_opening, opens, opening, inside_level};
 
 use crate::column::column_after;
 use crate::reader::{Reader, name_in};
-use crate::state::{Opening, Prefix};
 use crate::stop::ParseStop;
 use ldv_value::{Utf8, Value};
-use sql_model::{Expr, Fold, Token};
+use sql_model::{Expr, Fold, Opening, Prefix, Token};
 use std::alloc::Global;
 
 /// The beginning of an operand of at least a level.

@@ -2,13 +2,12 @@
 
 ghost use Rattle.std.specs.Prelude.{◌≡◌};
 ghost use Rattle.sql_model.specs.Levels.{operator_level, operator_left, right_of};
-ghost use Rattle.sql_parse.specs.Operators.{comparison_of, compared, joint_in, joint_of, level_of, left_of};
-ghost use Rattle.sql_parse.specs.Operators.{may_join, joins};
+ghost use Rattle.sql_model.specs.Operators.{comparison_of, compared, joint_in, joint_of, level_of, left_of};
+ghost use Rattle.sql_model.specs.Operators.{may_join, joins};
 
 use crate::reader::Reader;
-use crate::state::Infix;
 use ldv_value::Cmp;
-use sql_model::{Operator, Token};
+use sql_model::{Infix, Operator, Token};
 
 /// The next infix operator, if it binds at least as tightly as `least` and can follow an operand of `level`.
 pub(crate) fn joins(reader: &Reader, least: u8, level: u8) -> Option<Infix>

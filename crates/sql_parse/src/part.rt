@@ -2,11 +2,11 @@
 
 ghost use Rattle.std.specs.Prelude.{List as Items, Option};
 ghost use Rattle.sql_model.specs.declared.token.Token.{Token};
-ghost use Rattle.sql_parse.specs.Columns.{reads_column};
-ghost use Rattle.sql_parse.specs.Expressions.{reads_expr};
+ghost use Rattle.sql_model.specs.Columns.{reads_column};
+ghost use Rattle.sql_model.specs.Expressions.{reads_expr};
 ghost use Rattle.sql_parse.specs.Gives.{Reads};
-ghost use Rattle.sql_parse.specs.Parts.{another, listed, reads_tuple, reads_optional};
-ghost use Rattle.sql_parse.specs.Reader.{reads_name};
+ghost use Rattle.sql_model.specs.Parts.{another, listed, reads_tuple, reads_optional};
+ghost use Rattle.sql_model.specs.Reader.{reads_name};
 
 use crate::column::column;
 use crate::expression::expression;

@@ -2,10 +2,10 @@
 
 ghost use Rattle.std.specs.Prelude.{◌≡◌, codes};
 ghost use Rattle.sql_parse.specs.Gives.{Gives, Reads};
-ghost use Rattle.sql_parse.specs.Queries.{another_core, reads_cores, place_of, key_of, reads_key, directed};
-ghost use Rattle.sql_parse.specs.Queries.{reads_order, reads_orders, bound_of, reads_bound, reads_limit};
-ghost use Rattle.sql_parse.specs.Queries.{reads_query};
-ghost use Rattle.sql_parse.specs.Reader.{starts};
+ghost use Rattle.sql_model.specs.Queries.{another_core, reads_cores, place_of, key_of, reads_key, directed};
+ghost use Rattle.sql_model.specs.Queries.{reads_order, reads_orders, bound_of, reads_bound, reads_limit};
+ghost use Rattle.sql_model.specs.Queries.{reads_query};
+ghost use Rattle.sql_model.specs.Reader.{starts};
 
 use crate::part::{Part, listed};
 use crate::reader::{Reader, name_in};

@@ -2,8 +2,8 @@
 
 ghost use Rattle.std.specs.Prelude.{◌≡◌, ◌∷◌, [], length, MatchOption};
 ghost use Rattle.sql_parse.specs.Gives.{Gives, Reads, Passes};
-ghost use Rattle.sql_parse.specs.Reader.{is_word, starts, tail, passed, after_word, reads_token, name_in};
-ghost use Rattle.sql_parse.specs.Reader.{name_of, reads_name};
+ghost use Rattle.sql_model.specs.Reader.{is_word, starts, tail, passed, after_word, reads_token, name_in};
+ghost use Rattle.sql_model.specs.Reader.{name_of, reads_name};
 
 use crate::stop::ParseStop;
 use crate::token::Tokens;

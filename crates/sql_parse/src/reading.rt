@@ -5,7 +5,7 @@ ghost use Rattle.sql_model.specs.declared.statement.Statement.{Statement};
 ghost use Rattle.sql_model.specs.GrammarOfStatements.{Reads as ReadsAs};
 ghost use Rattle.sql_parse.specs.declared.stop.ParseStop.TheVariants.{Syntax};
 ghost use Rattle.sql_parse.specs.Gives.{Gives, Reads};
-ghost use Rattle.sql_parse.specs.Texts.{reads_statement, is_end, whole_statement, statement_of};
+ghost use Rattle.sql_model.specs.Texts.{reads_statement, is_end, whole_statement, statement_of};
 
 use crate::change::{delete, insert, update};
 use crate::given::placed;

@@ -3,16 +3,15 @@
 ghost use Rattle.std.specs.Prelude.{◌≡◌, ◌-◌, IsTrue};
 ghost use Rattle.sql_parse.specs.Gives.{Gives};
 ghost use Rattle.sql_model.specs.TextBytes.{is_blank, is_digit, is_upper, is_letter, folded};
-ghost use Rattle.sql_parse.specs.Tokens.{is_whole_symbol, begins_symbol, is_pair, short_symbol, longer};
-ghost use Rattle.sql_parse.specs.Tokens.{start, ends, step_between, step_in_word, step_in_number};
-ghost use Rattle.sql_parse.specs.Tokens.{step_in_text, step_after_quote, step_in_symbol, step, finish};
-ghost use Rattle.sql_parse.specs.Tokens.{tokens_of};
+ghost use Rattle.sql_model.specs.Tokens.{is_whole_symbol, begins_symbol, is_pair, short_symbol, longer};
+ghost use Rattle.sql_model.specs.Tokens.{start, ends, step_between, step_in_word, step_in_number};
+ghost use Rattle.sql_model.specs.Tokens.{step_in_text, step_after_quote, step_in_symbol, step, finish};
+ghost use Rattle.sql_model.specs.Tokens.{tokens_of};
 
-use crate::state::LexState;
 use crate::stop::ParseStop;
 use crate::token::{Tokens, number_token, symbol_token, text_token, word_token};
 use ldv_value::Bytes;
-use sql_model::Token;
+use sql_model::{LexState, Token};
 use std::alloc::Global;
 
 /// The tokens of a text.

@@ -2,17 +2,16 @@
 
 ghost use Rattle.std.specs.Prelude.{◌≡◌, ◌++◌, OnOk, option_to_list};
 ghost use Rattle.sql_parse.specs.Gives.{Reads};
-ghost use Rattle.sql_parse.specs.Queries.{reads_alias, reads_item, reads_items, reads_group, core_end};
-ghost use Rattle.sql_parse.specs.Queries.{core_rest, reads_core};
+ghost use Rattle.sql_model.specs.Queries.{reads_alias, reads_item, reads_items, reads_group, core_end};
+ghost use Rattle.sql_model.specs.Queries.{core_rest, reads_core};
 
 use crate::expression::expression;
 use crate::part::{Part, listed, optional};
 use crate::reader::Reader;
 use crate::source::all_sources;
-use crate::state::Sources;
 use crate::stop::ParseStop;
 use ldv_value::{MAX_SOURCES, Utf8};
-use sql_model::{ColumnName, ColumnNames, Core, Expr, Exprs, Item, Items};
+use sql_model::{ColumnName, ColumnNames, Core, Expr, Exprs, Item, Items, Sources};
 use std::alloc::{AllocError, Global};
 
 /// Parses a core; `joined_all`: it follows UNION ALL.

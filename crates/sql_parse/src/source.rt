@@ -2,16 +2,15 @@
 
 ghost use Rattle.std.specs.Prelude.{◌≡◌};
 ghost use Rattle.sql_parse.specs.Gives.{Reads};
-ghost use Rattle.sql_parse.specs.Queries.{is_name, names, second_name, reads_source, plain_source};
-ghost use Rattle.sql_parse.specs.Queries.{joined_source, another_source, reads_sources};
+ghost use Rattle.sql_model.specs.Queries.{is_name, names, second_name, reads_source, plain_source};
+ghost use Rattle.sql_model.specs.Queries.{joined_source, another_source, reads_sources};
 
 use crate::expression::expression;
 use crate::reader::Reader;
-use crate::state::Sources;
 use crate::steps::{Steps, all_steps};
 use crate::stop::ParseStop;
 use ldv_value::Utf8;
-use sql_model::{Exprs, FromItem, FromItems, Token, is_sql_name};
+use sql_model::{Exprs, FromItem, FromItems, Sources, Token, is_sql_name};
 use std::alloc::Global;
 
 /// The sources of a core, at most so many.

@@ -3,7 +3,7 @@
 ghost use Rattle.std.specs.Prelude.{Bool, List, Option};
 ghost use Rattle.sql_model.specs.declared.token.Token.{Token};
 ghost use Rattle.sql_parse.specs.Gives.{Reads};
-ghost use Rattle.sql_parse.specs.Reader.{repeat};
+ghost use Rattle.sql_model.specs.Reader.{repeat};
 
 use crate::reader::Reader;
 use crate::stop::ParseStop;

@@ -3,7 +3,7 @@
 ghost use Rattle.std.specs.Str.{is_utf8};
 ghost use Rattle.sql_parse.specs.Gives.{Gives};
 ghost use Rattle.ldv_value.specs.Texts.{text_of};
-ghost use Rattle.sql_parse.specs.Tokens.{word_token, number_token, text_token, symbol_token};
+ghost use Rattle.sql_model.specs.Tokens.{word_token, number_token, text_token, symbol_token};
 
 use crate::stop::ParseStop;
 use ldv_value::{Bytes, List, TEXT_LIMIT, Utf8};

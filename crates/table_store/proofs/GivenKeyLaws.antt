@@ -1,13 +1,13 @@
 -- Keys of given rows: which are claimed, and which two rows clash first.
-use Rattle.std.proofs.Common.{◌≡◌, ◌==◌, ℕ, zero, suc, ◌+◌, ◌<◌, ◌≤◌, inl, inr, Bool, true, false, cond, ◌&&◌, ◌||◌, List, [], ◌∷◌, ◌++◌, map, length, get_or, take, drop, refl, ap, sym, subst, ◌∙◌, arith, Option, Some, None, eq-eqb, append_assoc, append-nil}
-use Rattle.std.specs.Prelude.{find, is_some, nat_lt, if◌then◌else◌, unwrap_or, Result, Ok, Err}
+use Rattle.std.proofs.Common.{◌≡◌, ◌==◌, ℕ, ◌+◌, ◌<◌, ◌≤◌, inl, inr, Bool, true, false, cond, ◌&&◌, ◌||◌, List, [], ◌∷◌, ◌++◌, map, length, get_or, take, drop, refl, ap, sym, subst, ◌∙◌, arith, Option, Some, None, eq-eqb, append_assoc, append-nil}
+use Rattle.std.specs.Prelude.{find, is_some, nat_lt, if◌then◌else◌, unwrap_or}
 use Rattle.std.specs.List.{AllByRecursion, list_all, list_any}
 use Rattle.std.specs.Option.{option_map, option_or}
 use Rattle.std.specs.BTreeMap.{is_at}
 use Rattle.std.proofs.lemmas.Bool.{cases_Bool, cases_lt, ne_eqb, eqb-true, ltb-true, lt-ltb, le-ltb}
 use Rattle.std.proofs.lemmas.List.{take_more}
 use Rattle.std.proofs.lemmas.List.Folds.{find-append}
-use Rattle.ldv_value.proofs.Booleans.{and-parts, and-false, or-true, false≢true}
+use Rattle.ldv_value.proofs.Booleans.{and-parts, and-false, false≢true}
 use Rattle.sql_model.specs.Changes.{KeyClash, clash_or, clash_after, shares_key}
 use Rattle.sql_model.specs.KeyOrder.{key_order}
 use Rattle.sql_model.specs.Keys.{same_values, values_at, key_at}
@@ -17,7 +17,6 @@ use Rattle.table_store.specs.GivenKeys.{with_claims, not_given, keeper, clash_of
 use Rattle.table_store.specs.KeyIndex.{has_key, row_of_key, Held, AreHeld}
 use Rattle.table_store.specs.Stops.{replaced_by, are_sorted_rows}
 use Rattle.table_store.specs.declared.clash.Clash.{Clash}
-use Rattle.table_store.specs.declared.stop.StoreStop.{StoreStop}
 use Rattle.table_store.specs.declared.stop.StoreStop.TheVariants.{KeyTaken}
 use Rattle.table_store.proofs.IndexLaws.{same_itself, same_exact, any_alike, split_at}
 use Rattle.table_store.proofs.InsertLaws.{AllRows, all_append, all_weaker, found_all, RisesFrom, apart_key, clash_front}
@@ -554,21 +553,3 @@ module _ (places : List ℕ) (rows given : List TableRow) (rise : RisesFrom 0 ro
     judged_taken k earlier key is clash same =
         let here : k ≡ key_at places now.values = key ∙ ap (λ (r : TableRow). key_at places r.values) at in
         taken earlier (ap claims (sym here) ∙ is) clash (same ∙ (λ j. sooner first (record { earlier = earlier; later = (at j).number; key = (here j).values })))
-
-    -- an earlier given row stands
-    pub earlier_stood : (k : RowKey) (earlier : ℕ) → claims k ≡ Some earlier → list_any (λ one. one.number == earlier) rows ≡ true
-    earlier_stood k earlier is = by (row_of_key places k.values (take i given)) refl (sym (judged.index.only k) ∙ is) where
-      by : (o : Option TableRow) → row_of_key places k.values (take i given) ≡ o → option_map (λ (one : TableRow). one.number) o ≡ Some earlier → list_any (λ one. one.number == earlier) rows ≡ true
-      by None was not_some = cc
-      by (Some other) was one =
-          let found : find (has_key places k.values) given ≡ Some other =
-          ap (find (has_key places k.values)) parted ∙ find-append (has_key places k.values) (take i given) (now ∷ drop (i + 1) given) ∙ ap (λ (o : Option TableRow). option_or o (find (has_key places k.values) (now ∷ drop (i + 1) given))) was in
-          subst (λ (n : ℕ). list_any (λ one. one.number == n) rows ≡ true) (some_is one) (all_found (λ (r : TableRow). list_any (λ one. one.number == r.number) rows) (has_key places k.values) given other stand found)
-
--- a number of a row is below that of the next one
-pub stood_below : (next number : ℕ) (rows : List TableRow) → AllRows (λ row. row.number < next) rows → list_any (λ one. one.number == number) rows ≡ true → number < next
-stood_below next number [] below any = cc
-stood_below next number (row ∷ rows) below any = elim (cases_Bool (row.number == number)) [
-  | inl hit ↦ let same : row.number ≡ number = eqb-true row.number number hit in omega (arith, same, below.0)
-  | inr miss ↦ stood_below next number rows below.1 (sym (ap (λ b. b || list_any (λ one. one.number == number) rows) miss) ∙ any)
-]

@@ -11,7 +11,7 @@ use Rattle.std.proofs.lemmas.Map.Lookups.{exact_signed, exact_bytes}
 use Rattle.ldv_value.specs.declared.value.Value.TheVariants.{Null, Int, Text}
 use Rattle.std.specs.Cmp.{eq_by_cmp_equiv}
 use Rattle.std.specs.Cmp.Lexicographic.{slice_cmp}
-use Rattle.std.specs.BTreeMap.{BTreeMap, get, get_by, is_at}
+use Rattle.std.specs.BTreeMap.{is_at}
 use Rattle.std.proofs.lemmas.Bool.{cases_Bool, cases_lt, ne_eqb, eqb-true}
 use Rattle.ldv_value.proofs.Orderings.{is_eq-true}
 use Rattle.ldv_value.proofs.Booleans.{and-false, not-true, or-parts}
@@ -22,8 +22,10 @@ use Rattle.sql_model.specs.Keys.{same_values, values_at, key_at, repeats}
 use Rattle.sql_model.specs.Tables.{are_keys_unique}
 use Rattle.table_store.specs.Types.{Value, RowKey, TableRow}
 use Rattle.table_store.specs.Histories.{RowHistory, no_history, row_of, row_now, rows_now}
+use Rattle.table_store.specs.IndexView.{held_in}
 use Rattle.table_store.specs.KeyIndex.{has_key, Held, AreHeld, AreIndexed}
 use Rattle.table_store.specs.RowOrder.{AreInOrder}
+use Rattle.table_store.specs.declared.index.Index.{Index}
 
 -- ---- the same key
 
@@ -39,10 +41,6 @@ same_itself a = (eq_by_cmp_equiv key_order_total).refl (key a)
 -- the same keys are held alike
 pub Alike : Held → Type 0
 Alike held = (a b : RowKey) → same_values a.values b.values ≡ true → held a ≡ held b
-
-pub get_alike : (m : BTreeMap RowKey ℕ) → Alike (λ q. get key_order m q)
-unfolding Alike
-get_alike m a b same = ap (λ (f : RowKey → Ordering). get_by f m) (λ j q. key_order_total.congr a b q (is_eq-true (key_order a b) same) j)
 
 pub alike_held : (held : Held) → Alike held → (a b : RowKey) → same_values a.values b.values ≡ true → held a ≡ held b
 unfolding Alike
@@ -80,6 +78,9 @@ same_exact a b same = values_exact a b (is_eq-true (slice_cmp order a b) same)
 pub any_alike : (held : Held) → Alike held
 unfolding Alike
 any_alike held a b same = ap (λ (values : List Value). held (record { values = values })) (same_exact a.values b.values same)
+
+pub index_alike : (index : Index) → Alike (λ q. held_in index q)
+index_alike index = any_alike (λ q. held_in index q)
 
 -- ---- rows that are looked up
 

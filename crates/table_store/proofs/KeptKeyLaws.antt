@@ -1,6 +1,6 @@
 -- Rows that get other values and keep their keys.
 use Rattle.std.proofs.Common.{◌≡◌, ◌==◌, ℕ, zero, suc, ◌+◌, ◌<◌, ◌≤◌, inl, inr, Bool, true, cond, ◌&&◌, List, [], ◌∷◌, map, length, take, get_or, add-one, refl, ap, sym, subst, ◌∙◌, arith, Option, Some, None, eq-eqb, append-nil}
-use Rattle.std.specs.Prelude.{find, MatchOption, unwrap_or}
+use Rattle.std.specs.Prelude.{find, unwrap_or}
 use Rattle.std.specs.List.{AllByRecursion}
 use Rattle.std.specs.Option.{option_map}
 use Rattle.std.proofs.lemmas.Bool.{cases_Bool, ne_eqb}

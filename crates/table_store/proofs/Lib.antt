@@ -4,11 +4,14 @@ pub mod ClaimLaws
 pub mod FlagLaws
 pub mod GivenKeyLaws
 pub mod GridLaws
+pub mod HighLaws
 pub mod IndexChangeLaws
 pub mod IndexLaws
+pub mod IndexViewLaws
 pub mod InsertLaws
 pub mod IntCellLaws
 pub mod KeptKeyLaws
+pub mod KeyMapLaws
 pub mod NamedLaws
 pub mod NextLaws
 pub mod NowLaws

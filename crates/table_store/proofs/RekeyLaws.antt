@@ -1,25 +1,22 @@
 -- Keys of rows once others took the place of some of them.
-use Rattle.std.proofs.Common.{◌≡◌, ◌==◌, ℕ, zero, suc, ◌+◌, ◌<◌, ◌≤◌, inl, inr, Bool, true, false, cond, List, [], ◌∷◌, ◌++◌, map, length, get_or, take, drop, refl, ap, sym, subst, ◌∙◌, arith, Option, Some, None, is_some, eq-eqb, append_assoc, append-nil}
-use Rattle.std.specs.Prelude.{find, IsSome, IfOk, Result, Ok, Err, nat_lt, unwrap_or, slice_get, if◌then◌else◌}
-use Rattle.std.specs.List.{cons_option, list_any}
-use Rattle.std.specs.Option.{option_map, option_or, option_to_list}
+use Rattle.std.proofs.Common.{◌≡◌, ◌==◌, ℕ, zero, suc, ◌<◌, ◌≤◌, inl, inr, true, false, cond, List, [], ◌∷◌, ◌++◌, map, length, get_or, refl, ap, sym, subst, ◌∙◌, arith, Option, Some, None, eq-eqb}
+use Rattle.std.specs.Prelude.{find, IfOk, Result, Ok, Err, nat_lt, unwrap_or, slice_get, if◌then◌else◌}
+use Rattle.std.specs.List.{list_any}
+use Rattle.std.specs.Option.{option_map, option_or}
 use Rattle.std.specs.List.Sorted.{IsPartitionedBy}
 use Rattle.std.specs.Ordering.{is_eq}
 use Rattle.std.specs.BTreeMap.{is_at}
 use Rattle.std.proofs.lemmas.Bool.{cases_Bool, cases_lt, ne_eqb, ltb-true, lt-ltb}
-use Rattle.std.proofs.lemmas.List.{take_more}
 use Rattle.std.proofs.lemmas.List.Folds.{find-append}
-use Rattle.std.proofs.lemmas.List.Elements.{filter_map-append}
 use Rattle.ldv_value.proofs.Orderings.{is_eq-true}
 use Rattle.ldv_value.proofs.Booleans.{and-parts}
-use Rattle.row_version.specs.History.{current}
-use Rattle.sql_model.specs.Changes.{KeyClash, key_clash, clash_or, clash_after, clash_by, shares_key, has_null}
+use Rattle.sql_model.specs.Changes.{KeyClash, key_clash, clash_after, clash_by, has_null}
 use Rattle.sql_model.specs.KeyOrder.{key_order, key_order_total}
 use Rattle.sql_model.specs.Keys.{same_values, values_at, key_at}
 use Rattle.ldv_value.specs.Sorted.{precedes_first}
 use Rattle.table_store.specs.Types.{Value, RowKey, Table, TableRow}
 use Rattle.table_store.specs.Claims.{IsIndexOf, both_stop}
-use Rattle.table_store.specs.Histories.{RowHistory, TableHistory, no_history, row_of, rows_now, table_now}
+use Rattle.table_store.specs.Histories.{TableHistory, rows_now, table_now}
 use Rattle.table_store.specs.KeyIndex.{has_key, row_of_key, Held}
 use Rattle.table_store.specs.Stops.{replaced_by, with_replaced, are_sorted_rows, key_stop, stop_if, replace_stop, StopsAs}
 use Rattle.table_store.specs.declared.stop.StoreStop.{StoreStop}
@@ -27,7 +24,7 @@ use Rattle.table_store.specs.declared.stop.StoreStop.TheVariants.{NotNull, KeyTa
 use Rattle.table_store.proofs.IndexLaws.{key, same_turned, held_pushed}
 use Rattle.table_store.proofs.ClaimLaws.{keyed_clash, unkeyed_clash, stop_kept}
 use Rattle.table_store.proofs.InsertLaws.{AllRows, clash_all, any_self}
-use Rattle.table_store.proofs.TableLaws.{left_more, number_found}
+use Rattle.table_store.proofs.TableLaws.{number_found}
 
 -- ---- the same key
 

@@ -1,5 +1,5 @@
 -- Keys of new rows, and of rows that take the place of others.
-use Rattle.std.specs.Prelude.{◌≡◌, ◌==◌, ◌&&◌, ℕ, List, Option, Some, None, find, if◌then◌else◌}
+use Rattle.std.specs.Prelude.{◌≡◌, ◌==◌, ◌&&◌, ◌+◌, ◌^◌, ℕ, List, Option, Some, None, find, if◌then◌else◌}
 use Rattle.std.specs.Prelude.{nat_lt}
 use Rattle.std.specs.Option.{option_map}
 use Rattle.sql_model.specs.Changes.{KeyClash}
@@ -24,6 +24,11 @@ abbrev pub claim_stop : List ℕ → ℕ → Option KeyClash → Option StoreSto
 claim_stop key next None = None
 claim_stop key next (Some clash) =
     Some (KeyTaken (old_number next clash.earlier.number) None (values_at key clash.later.values))
+
+-- the number under a key, which is held apart where it is 2^32 or more
+abbrev pub high_or : Option ℕ → Option ℕ → Option ℕ
+high_or low None = low
+high_or low (Some above) = Some (above + 2 ^ 32)
 
 -- ---- keys after rows took the place of others
 

@@ -1,6 +1,6 @@
--- The keys of given rows, once these took the place of those of their numbers: which are claimed, and which two
--- rows clash first.
-use Rattle.std.specs.Prelude.{◌≡◌, ◌==◌, ◌&&◌, ℕ, ◌<◌, Bool, true, false, List, [], ◌∷◌, Option, Some, None}
+-- The keys of given rows, once these took the place of those of their numbers: which are claimed, and which
+-- two rows clash first.
+use Rattle.std.specs.Prelude.{◌≡◌, ◌==◌, ◌&&◌, ℕ, ◌<◌, Bool, true, false, List, Option, Some, None}
 use Rattle.std.specs.Prelude.{find, map, nat_lt, is_some, if◌then◌else◌}
 use Rattle.std.specs.List.{list_any, AllByRecursion}
 use Rattle.std.specs.Option.{option_map, option_or}
@@ -18,7 +18,8 @@ with_claims claims held q = option_or (claims q) (held q)
 -- a number that no given row has
 abbrev pub not_given : List TableRow → Option ℕ → Option ℕ
 not_given given None = None
-not_given given (Some number) = if is_some (find (λ new. new.number == number) given) then None else Some number
+not_given given (Some number) =
+    if is_some (find (λ new. new.number == number) given) then None else Some number
 
 -- the number of the row that has a key and isn't given, so that it keeps the key
 abbrev pub keeper : List ℕ → List TableRow → List TableRow → List Value → Option ℕ
@@ -56,7 +57,8 @@ IsLate first number (Some kept) = is_below first number ≡ true → is_below fi
 
 -- a row of a number has a key
 abbrev pub HasKeyAt : List ℕ → List Value → List TableRow → ℕ → Type 0
-HasKeyAt places key rows number = list_any (λ row. (row.number == number) && has_key places key row) rows ≡ true
+HasKeyAt places key rows number =
+    list_any (λ row. (row.number == number) && has_key places key row) rows ≡ true
 
 abbrev pub IsClash : List ℕ → List TableRow → Option Clash → Type 0
 IsClash places rows None = Unit {0}

@@ -2,9 +2,11 @@
 --
 -- It may have more keys than that: those of rows that are gone or have another key now. Whoever looks up a
 -- key looks at the row too.
-use Rattle.std.specs.Prelude.{◌≡◌, ℕ, Bool, List, [], ◌∷◌, Option, Some, find}
+use Rattle.std.specs.Prelude.{◌≡◌, ℕ, ℤ, Bool, List, [], ◌∷◌, Option, Some, None, find}
+use Rattle.std.specs.Map.{update_all}
+use Rattle.std.specs.Ordering.{int_cmp, eq_by_cmp}
 use Rattle.sql_model.specs.Keys.{same_values, values_at, key_at}
-use Rattle.table_store.specs.Types.{Value, RowKey, TableRow}
+use Rattle.table_store.specs.Types.{Value, Null, Int, Text, RowKey, TableRow}
 
 -- whether a row has a key
 abbrev pub has_key : List ℕ → List Value → TableRow → Bool
@@ -27,3 +29,25 @@ AreHeld places held (row ∷ rows) = (held (key_at places row.values) ≡ Some r
 abbrev pub AreIndexed : List ℕ → Held → List TableRow → Type 0
 AreIndexed [] held rows = Unit {0}
 AreIndexed (place ∷ places) held rows = AreHeld (place ∷ places) held rows
+
+-- the number that a value is
+abbrev pub int_of : Value → Option ℤ
+int_of Null = None
+int_of (Int n) = Some n
+int_of (Text t) = None
+
+-- the number that is a whole key
+abbrev pub int_key : List Value → Option ℤ
+int_key [] = None
+int_key (value ∷ []) = int_of value
+int_key (value ∷ other ∷ values) = None
+
+-- the last number under a key
+abbrev pub last_under : List (ℤ × ℕ) → ℤ → Option ℕ
+last_under pairs = update_all (eq_by_cmp int_cmp) (λ key. None) pairs
+
+-- a number in the place of another, where there is another
+abbrev pub in_place : Option ℕ → Option ℕ → Option ℕ
+in_place None old = old
+in_place (Some n) None = None
+in_place (Some n) (Some old) = Some n

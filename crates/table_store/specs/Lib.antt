@@ -4,6 +4,7 @@ pub mod Flags
 pub mod GivenKeys
 pub mod Grid
 pub mod Histories
+pub mod IndexView
 pub mod IntCells
 pub mod KeyIndex
 pub mod LentCells

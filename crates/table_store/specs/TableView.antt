@@ -1,12 +1,11 @@
 -- A table as it is kept.
 use Rattle.std.specs.Prelude.{◌≡◌, ℕ, ◌<◌, ◌≤◌, Bool, List, [], ◌∷◌, length, map}
 use Rattle.std.specs.Prelude.{slice_index_or}
-use Rattle.std.specs.BTreeMap.{get}
 use Rattle.row_version.specs.History.{IsSorted, last_time}
 use Rattle.table_store.specs.Types.{Column, Schema, Table}
 use Rattle.table_store.specs.Histories.{RowHistory, NextSince, TableHistory, no_history, last_next}
 use Rattle.table_store.specs.Histories.{last_since, added, rows_now}
-use Rattle.sql_model.specs.KeyOrder.{key_order}
+use Rattle.table_store.specs.IndexView.{held_in}
 use Rattle.table_store.specs.KeyIndex.{Held, AreIndexed}
 use Rattle.table_store.specs.Nexts.{nexts_of, AreInTime}
 use Rattle.table_store.specs.RowChains.{RowsHistory}
@@ -42,7 +41,7 @@ pub record IsStored (schema : Schema) (rows : RowsHistory) (held : Held) (nexts 
 
 -- what the index has at a key
 abbrev pub held_by : Inside → Held
-held_by a = λ key. get key_order a.index.held key
+held_by a = λ key. held_in a.index key
 
 abbrev pub IsTable : Inside → Type 0
 IsTable a = IsStored a.schema a.rows (held_by a) (nexts_of a.nexts.items)

@@ -1,16 +1,17 @@
 //! Keys of new rows: which is taken, and how they come into the index.
 
-ghost use Rattle.std.specs.Prelude.{◌≡◌, ◌==◌, ℕ, ◌+◌, ◌^◌, ◌<◌, ◌≤◌, ◌&&◌, Bool, true, false, List, [], ◌∷◌};
-ghost use Rattle.std.specs.Prelude.{◌++◌, if◌then◌else◌, Option, Some, None, find, OnOk, OnErr, IfOk, IfErr};
+ghost use Rattle.std.specs.Prelude.{◌≡◌, ◌==◌, ℕ, ◌+◌, ◌-◌, ◌^◌, ◌<◌, ◌≤◌, ◌&&◌, Bool, true, false};
+ghost use Rattle.std.specs.Prelude.{List, [], ◌∷◌, ◌++◌, if◌then◌else◌, Option, Some, None, find, OnOk, OnErr, IfOk, IfErr};
 ghost use Rattle.std.specs.Prelude.{IsSome, length, map, take, slice_index_or, cond};
 ghost use Rattle.table_store.specs.Types.{RowKey};
-ghost use Rattle.std.specs.BTreeMap.{get, is_at};
+ghost use Rattle.std.specs.BTreeMap.{is_at};
 ghost use Rattle.std.specs.Option.{option_map};
 ghost use Rattle.sql_model.specs.Changes.{clash_after, clash_by, numbered};
 ghost use Rattle.sql_model.specs.KeyOrder.{key_order};
 ghost use Rattle.sql_model.specs.Keys.{same_values, values_at};
-ghost use Rattle.table_store.specs.Claims.{claim_stop, taken_stop, old_number};
+ghost use Rattle.table_store.specs.Claims.{claim_stop, taken_stop, old_number, high_or};
 ghost use Rattle.table_store.specs.Histories.{rows_now};
+ghost use Rattle.table_store.specs.IndexView.{held_in};
 ghost use Rattle.table_store.specs.KeyIndex.{has_key, AreHeld, AreIndexed};
 ghost use Rattle.table_store.specs.Stops.{StopsAs};
 
@@ -31,12 +32,13 @@ pub(crate) fn claim(
     values: &[Values],
     next: u32,
 ) -> Result<(), StoreStop>
-    requires indexed { AreIndexed places.now (λ key. get key_order index.old.held key)
+    requires indexed { AreIndexed places.now (λ key. held_in index.old key)
         (rows_now stored.now.slots) }
     requires next { stored.now.next ≡ next }
-    ensures kept { AreIndexed places.now (λ key. get key_order index.new.held key)
+    ensures kept { AreIndexed places.now (λ key. held_in index.new key)
         (rows_now stored.now.slots) }
-    ensures ok { OnOk result (AreIndexed places.now (λ key. get key_order index.new.held key)
+    ensures ok { OnOk result (next + length values.now ≤ 2 ^ 32
+        → AreIndexed places.now (λ key. held_in index.new key)
         (rows_now stored.now.slots ++ numbered next values.now)) }
     ensures stop { StopsAs (claim_stop places.now next
         (clash_by places.now (rows_now stored.now.slots ++ numbered next values.now))) result }
@@ -48,7 +50,8 @@ pub(crate) fn claim(
     claim_all(alloc, index, stored, places, values, next)
 }
 
-// The same where there is a key.
+// The same where there is a key. Numbers that are too high for a row are held apart, as some row is refused
+// then, and it may be for its key.
 fn claim_all(
     alloc: Global,
     index: &mut Index,
@@ -57,16 +60,19 @@ fn claim_all(
     values: &[Values],
     next: u32,
 ) -> Result<(), StoreStop>
-    requires held { AreHeld places.now (λ key. get key_order index.old.held key) (rows_now stored.now.slots) }
+    requires held { AreHeld places.now (λ key. held_in index.old key) (rows_now stored.now.slots) }
     requires next { stored.now.next ≡ next }
-    ensures kept { AreHeld places.now (λ key. get key_order index.new.held key) (rows_now stored.now.slots) }
-    ensures ok { OnOk result (AreHeld places.now (λ key. get key_order index.new.held key)
+    ensures kept { AreHeld places.now (λ key. held_in index.new key) (rows_now stored.now.slots) }
+    ensures ok { OnOk result (next + length values.now ≤ 2 ^ 32
+        → AreHeld places.now (λ key. held_in index.new key)
         (rows_now stored.now.slots ++ numbered next values.now)) }
     ensures stop { StopsAs (claim_stop places.now next
         (clash_after places.now (rows_now stored.now.slots) (numbered next values.now))) result }
 {
+    stored.tell_order();
+    let mut high = Index::new(alloc);
     for count in 0..values.len() {
-        match claim_one(alloc, index, stored, places, values, count, next) {
+        match claim_one(alloc, index, &mut high, stored, places, values, count, next) {
             Ok(()) => {}
             Err(stop) => return Err(stop),
         }
@@ -78,6 +84,7 @@ fn claim_all(
 fn claim_one(
     alloc: Global,
     index: &mut Index,
+    high: &mut Index,
     stored: &Rows,
     places: &Places,
     values: &[Values],
@@ -85,26 +92,31 @@ fn claim_one(
     next: u32,
 ) -> Result<(), StoreStop>
     requires within { count < length values.now }
-    requires held { AreHeld places.now (λ key. get key_order index.old.held key)
+    requires held { AreHeld places.now (λ key. high_or (held_in index.old key) (held_in high.old key))
         (rows_now stored.now.slots ++ numbered next (take count values.now)) }
+    requires low { next + count < 2 ^ 32 → (q : RowKey) → held_in high.old q ≡ None }
     requires next { stored.now.next ≡ next }
-    ensures kept { AreHeld places.now (λ key. get key_order index.new.held key)
+    ensures kept { AreHeld places.now (λ key. high_or (held_in index.new key) (held_in high.new key))
         (rows_now stored.now.slots ++ numbered next (take count values.now)) }
-    ensures ok { OnOk result (AreHeld places.now (λ key. get key_order index.new.held key)
+    ensures ok { OnOk result (AreHeld places.now
+        (λ key. high_or (held_in index.new key) (held_in high.new key))
         (rows_now stored.now.slots ++ numbered next (take (count + 1) values.now))) }
+    ensures low { next + count < 2 ^ 32 → (q : RowKey) → held_in high.new q ≡ None }
     ensures stop { StopsAs (taken_stop places.now next (slice_index_or values.now count [])
         (find (has_key places.now (values_at places.now (slice_index_or values.now count [])))
         (rows_now stored.now.slots ++ numbered next (take count values.now)))) result }
 {
     let row = &values[count];
     let key = key_of(alloc, places, row)?;
-    match earlier(alloc, index, stored, places, values, count, next, &key)? {
+    match earlier(
+        alloc, index, high, stored, places, values, count, next, &key,
+    )? {
         Some(number) => Err(StoreStop::KeyTaken {
             earlier: old_number(number, next),
             later: None,
             key: key.values,
         }),
-        None => match put_new(index, key, next, count) {
+        None => match put_new(index, high, key, next, count) {
             Ok(()) => Ok(()),
             Err(_refused) => Err(StoreStop::NoMemory),
         },
@@ -112,15 +124,81 @@ fn claim_one(
 }
 
 // Puts the number of a new row under its key. No list has so many rows that the number doesn't fit.
-fn put_new(index: &mut Index, key: RowKey, next: u32, count: usize) -> Result<(), AllocError>
-    ensures ok { OnOk result ((q : RowKey) → get key_order index.new.held q
-        ≡ cond (is_at (key_order key) q) (Some (next + count)) (get key_order index.old.held q)) }
-    ensures err { OnErr result ((q : RowKey) → get key_order index.new.held q
-        ≡ get key_order index.old.held q) }
+fn put_new(
+    index: &mut Index,
+    high: &mut Index,
+    key: RowKey,
+    next: u32,
+    count: usize,
+) -> Result<(), AllocError>
+    requires { next + count < 2 ^ 32 → (q : RowKey) → held_in high.old q ≡ None }
+    ensures ok { OnOk result ((q : RowKey) → high_or (held_in index.new q) (held_in high.new q)
+        ≡ cond (is_at (key_order key) q) (Some (next + count))
+        (high_or (held_in index.old q) (held_in high.old q))) }
+    ensures err { OnErr result ((q : RowKey) → high_or (held_in index.new q) (held_in high.new q)
+        ≡ high_or (held_in index.old q) (held_in high.old q)) }
+    ensures low { next + count < 2 ^ 32 → (q : RowKey) → held_in high.new q ≡ None }
 {
     match (next as u64).checked_add(count as u64) {
         None => Err(AllocError),
-        Some(number) => index.put(key, number),
+        Some(number) => put_number(index, high, key, number),
+    }
+}
+
+// Puts a number under a key, apart where it is too high for a row.
+fn put_number(
+    index: &mut Index,
+    high: &mut Index,
+    key: RowKey,
+    number: u64,
+) -> Result<(), AllocError>
+    requires { number < 2 ^ 32 → (q : RowKey) → held_in high.old q ≡ None }
+    ensures ok { OnOk result ((q : RowKey) → high_or (held_in index.new q) (held_in high.new q)
+        ≡ cond (is_at (key_order key) q) (Some number)
+        (high_or (held_in index.old q) (held_in high.old q))) }
+    ensures err { OnErr result ((q : RowKey) → high_or (held_in index.new q) (held_in high.new q)
+        ≡ high_or (held_in index.old q) (held_in high.old q)) }
+    ensures low { number < 2 ^ 32 → (q : RowKey) → held_in high.new q ≡ None }
+{
+    if number < 4_294_967_296 {
+        index.put(key, number as u32)
+    } else {
+        put_high(high, key, number)
+    }
+}
+
+// Puts a number that is too high for a row under a key, by what it is above 2^32.
+fn put_high(high: &mut Index, key: RowKey, number: u64) -> Result<(), AllocError>
+    requires { 2 ^ 32 ≤ number }
+    ensures ok { OnOk result ((q : RowKey) → held_in high.new q
+        ≡ cond (is_at (key_order key) q) (Some (number - 2 ^ 32)) (held_in high.old q)) }
+    ensures err { OnErr result ((q : RowKey) → held_in high.new q ≡ held_in high.old q) }
+{
+    let above = number - 4_294_967_296;
+    if above < 4_294_967_296 {
+        high.put(key, above as u32)
+    } else {
+        Err(AllocError)
+    }
+}
+
+// The number under a key, also where it is too high for a row.
+#[tactic(auto, using(crate::proofs::HighLaws::high_none, crate::proofs::HighLaws::high_some))]
+fn number_under(index: &Index, high: &Index, key: &RowKey) -> Option<u64>
+    ensures { result ≡ high_or (held_in index.now key.now) (held_in high.now key.now) }
+{
+    match high.number(key) {
+        None => low_number(index, key),
+        Some(above) => Some(above as u64 + 4_294_967_296),
+    }
+}
+
+fn low_number(index: &Index, key: &RowKey) -> Option<u64>
+    ensures { result ≡ held_in index.now key.now }
+{
+    match index.number(key) {
+        None => None,
+        Some(number) => Some(number as u64),
     }
 }
 
@@ -139,6 +217,7 @@ fn old_number(number: u64, next: u32) -> Option<u32>
 fn earlier(
     alloc: Global,
     index: &Index,
+    high: &Index,
     stored: &Rows,
     places: &Places,
     values: &[Values],
@@ -147,14 +226,14 @@ fn earlier(
     key: &RowKey,
 ) -> Result<Option<u64>, AllocError>
     requires within { count < length values.now }
-    requires held { AreHeld places.now (λ key. get key_order index.now.held key)
+    requires held { AreHeld places.now (λ key. high_or (held_in index.now key) (held_in high.now key))
         (rows_now stored.now.slots ++ numbered next (take count values.now)) }
     requires next { stored.now.next ≡ next }
     ensures { IfOk result (λ number. number ≡ option_map (λ row. row.number)
         (find (has_key places.now key.now.values)
         (rows_now stored.now.slots ++ numbered next (take count values.now)))) }
 {
-    match index.number(key) {
+    match number_under(index, high, key) {
         None => Ok(None),
         Some(number) => {
             if is_earlier(alloc, stored, places, values, count, next, key, number)? {

@@ -1,112 +1,122 @@
 //! The index over the key of a table.
 
-ghost use Rattle.std.specs.Prelude.{◌≡◌, ◌==◌, ℕ, ◌+◌, ◌^◌, ◌<◌, ◌&&◌, Bool, true, false, List, [], ◌∷◌};
+ghost use Rattle.std.specs.Prelude.{◌≡◌, ◌==◌, ℕ, ℤ, ◌+◌, ◌^◌, ◌<◌, ◌&&◌, Bool, true, false, List, [], ◌∷◌};
 ghost use Rattle.std.specs.Prelude.{◌++◌, cond, if◌then◌else◌, Option, Some, None, find, OnOk, OnErr, IfOk};
 ghost use Rattle.std.specs.Prelude.{IsSome, length, map, slice_index_or, unwrap_or};
 ghost use Rattle.table_store.specs.Types.{RowKey};
 ghost use Rattle.std.specs.BTreeMap.{get, is_at};
 ghost use Rattle.std.specs.Option.{option_map, option_to_list, option_or};
+ghost use Rattle.std.specs.Ordering.{int_cmp};
 ghost use Rattle.sql_model.specs.KeyOrder.{key_order};
-ghost use Rattle.sql_model.specs.Keys.{key_at};
+ghost use Rattle.sql_model.specs.Keys.{values_at, key_at};
 ghost use Rattle.sql_model.specs.Tables.{are_keys_unique};
 ghost use Rattle.table_store.specs.Histories.{rows_now, row_now, no_history};
-ghost use Rattle.table_store.specs.KeyIndex.{has_key, AreHeld, AreIndexed};
+ghost use Rattle.table_store.specs.IndexView.{held_as, held_in};
+ghost use Rattle.table_store.specs.KeyIndex.{has_key, int_of, int_key, last_under, AreHeld, AreIndexed};
 
+use crate::key_map::KeyMap;
 use crate::rows::Rows;
-use ldv_value::{List, Places, Values};
+use ldv_value::{List, Places, Value, Values};
 use sql_model::{RowKey, TableRow, value_at};
 use std::alloc::{AllocError, Global};
-use std::collections::BTreeMap;
 
-/// The numbers of rows by their keys.
+/// The numbers of rows by their keys. A key that is one number is held as that, in a third of the memory or
+/// less.
 #[derive(Drop)]
 pub(crate) struct Index {
-    pub(crate) held: BTreeMap<RowKey, u64>,
+    pub(crate) ints: KeyMap<i64>,
+    pub(crate) others: KeyMap<RowKey>,
 }
 
 impl Index {
     /// An index with no key. It takes no memory.
     pub(crate) fn new(alloc: Global) -> Index
-        ensures { (q : RowKey) → get key_order result.held q ≡ None }
+        ensures { (q : RowKey) → held_in result q ≡ None }
     {
         Index {
-            held: BTreeMap::new(alloc),
+            ints: KeyMap::new(alloc),
+            others: KeyMap::new(alloc),
         }
     }
 
     /// The number under a key.
-    pub(crate) fn number(&self, key: &RowKey) -> Option<u64>
-        ensures { result ≡ get key_order self.now.held key.now }
+    pub(crate) fn number(&self, key: &RowKey) -> Option<u32>
+        ensures { result ≡ held_in self.now key.now }
     {
-        self.held.get(key).copied()
+        match int_key(key.values.items()) {
+            None => self.others.number(key),
+            Some(int) => self.ints.number(&int),
+        }
     }
 
     /// Puts a number under a key.
-    pub(crate) fn put(&mut self, key: RowKey, number: u64) -> Result<(), AllocError>
+    pub(crate) fn put(&mut self, key: RowKey, number: u32) -> Result<(), AllocError>
         ensures ok { OnOk result ((q : RowKey)
-            → get key_order self.new.held q ≡ cond (is_at (key_order key) q) (Some number)
-            (get key_order self.old.held q)) }
-        ensures err { OnErr result ((q : RowKey)
-            → get key_order self.new.held q ≡ get key_order self.old.held q) }
+            → held_in self.new q ≡ cond (is_at (key_order key) q) (Some number) (held_in self.old q)) }
+        ensures err { OnErr result ((q : RowKey) → held_in self.new q ≡ held_in self.old q) }
     {
-        self.held.insert(key, number)?;
-        Ok(())
-    }
-
-    /// Changes the number under a key, which has one. It takes no memory.
-    pub(crate) fn set(&mut self, key: &RowKey, number: u64)
-        requires { IsSome (get key_order self.old.held key.now) }
-        ensures { (q : RowKey) → get key_order self.new.held q
-            ≡ cond (is_at (key_order key.now) q) (Some number) (get key_order self.old.held q) }
-    {
-        match self.held.get_mut(key) {
-            Some(held) => *held = number,
-            None => unreachable!(),
+        match int_key(key.values.items()) {
+            None => self.others.put(key, number),
+            Some(int) => self.ints.put(int, number),
         }
-    }
-
-    /// Puts a number under a key that has none, and leaves that of a key that has one.
-    pub(crate) fn open(&mut self, key: &RowKey, number: u64) -> Result<(), AllocError>
-        ensures kept { (q : RowKey) (n : ℕ) → get key_order self.old.held q ≡ Some n
-            → get key_order self.new.held q ≡ Some n }
-        ensures ok { OnOk result (IsSome (get key_order self.new.held key.now)) }
-    {
-        if self.number(key).is_some() {
-            return Ok(());
-        }
-        let values = key.values.copy()?;
-        self.put(RowKey { values }, number)?;
-        Ok(())
     }
 
     /// Gives each key of other numbers one of them, unless it has one.
     pub(crate) fn open_all(&mut self, other: &Index) -> Result<(), AllocError>
-        ensures kept { (q : RowKey) (n : ℕ) → get key_order self.old.held q ≡ Some n
-            → get key_order self.new.held q ≡ Some n }
-        ensures ok { OnOk result ((q : RowKey) → IsSome (get key_order other.now.held q)
-            → IsSome (get key_order self.new.held q)) }
+        ensures kept { (q : RowKey) (n : ℕ) → held_in self.old q ≡ Some n → held_in self.new q ≡ Some n }
+        ensures ok { OnOk result ((q : RowKey) → IsSome (held_in other.now q)
+            → IsSome (held_in self.new q)) }
     {
-        for (key, number) in other.held.iter() {
-            match self.open(key, *number) {
-                Ok(()) => {}
-                Err(refused) => return Err(refused),
-            }
-        }
+        self.ints.open_all(&other.ints)?;
+        self.others.open_all(&other.others)?;
         Ok(())
     }
 
     /// Takes other numbers over, whose keys all have one. It takes no memory.
     pub(crate) fn set_all(&mut self, other: Index)
-        requires { (q : RowKey) → IsSome (get key_order other.held q)
-            → IsSome (get key_order self.old.held q) }
-        ensures { (q : RowKey) → get key_order self.new.held q
-            ≡ option_or (get key_order other.held q) (get key_order self.old.held q) }
+        requires { (q : RowKey) → IsSome (held_in other q) → IsSome (held_in self.old q) }
+        ensures { (q : RowKey) → held_in self.new q
+            ≡ option_or (held_in other q) (held_in self.old q) }
     {
-        let Index { held } = other;
-        let mut left = held;
-        while let Some((key, number)) = left.pop_first() {
-            self.set(&key, number);
-        }
+        let Index { ints, others } = other;
+        self.ints.set_all(ints);
+        self.others.set_all(others);
+    }
+}
+
+// The number that is a whole key.
+fn int_key(key: &[Value]) -> Option<i64>
+    ensures { result ≡ int_key key.now }
+{
+    match key {
+        [] => None,
+        [value] => int_of(value),
+        [_first, _second, ..] => None,
+    }
+}
+
+// The number that is the whole key of a row.
+fn int_at(places: &Places, values: &Values) -> Option<i64>
+    ensures { result ≡ int_key (values_at places.now values.now) }
+{
+    match places.items() {
+        [] => None,
+        [place] => match values.get(*place) {
+            None => None,
+            Some(value) => int_of(value),
+        },
+        [_first, _second, ..] => None,
+    }
+}
+
+// The number that a value is.
+fn int_of(value: &Value) -> Option<i64>
+    ensures { result ≡ int_of value.now }
+{
+    match value {
+        Value::Null => None,
+        Value::Int(number) => Some(*number),
+        Value::Text(_text) => None,
     }
 }
 
@@ -118,7 +128,7 @@ pub(crate) fn index_of(
     rows: &[TableRow],
 ) -> Result<Index, AllocError>
     requires { are_keys_unique places.now (map (λ row. row.values) rows.now) ≡ true }
-    ensures { IfOk result (λ index. AreIndexed places.now (λ key. get key_order index.held key) rows.now) }
+    ensures { IfOk result (λ index. AreIndexed places.now (λ key. held_in index key) rows.now) }
 {
     if places.is_empty() {
         return Ok(Index::new(alloc));
@@ -129,14 +139,46 @@ pub(crate) fn index_of(
 fn fill(alloc: Global, places: &Places, rows: &[TableRow]) -> Result<Index, AllocError>
     requires unique { are_keys_unique places.now (map (λ row. row.values) rows.now) ≡ true }
     requires key { (length places.now == 0) ≡ false }
-    ensures { IfOk result (λ index. AreHeld places.now (λ key. get key_order index.held key) rows.now) }
+    ensures { IfOk result (λ index. AreHeld places.now (λ key. held_in index key) rows.now) }
 {
-    let mut index = Index::new(alloc);
+    let mut pairs = Vec::with_capacity(alloc, rows.len())?;
+    let mut others = KeyMap::new(alloc);
     for row in rows {
-        let key = key_of(alloc, places, &row.values)?;
-        index.put(key, row.number as u64)?;
+        add_row(alloc, &mut pairs, &mut others, places, row)?;
     }
-    Ok(index)
+    let ints = KeyMap::of_pairs(alloc, pairs)?;
+    Ok(Index { ints, others })
+}
+
+// Adds the key of a row, with the row's number.
+fn add_row(
+    alloc: Global,
+    ints: &mut Vec<(i64, u32)>,
+    others: &mut KeyMap<RowKey>,
+    places: &Places,
+    row: &TableRow,
+) -> Result<(), AllocError>
+    ensures { OnOk result ((q : RowKey)
+        → held_as (last_under ints.new.items) (get key_order others.new.held q) (int_key q.values)
+        ≡ cond (is_at (key_order (key_at places.now row.now.values)) q) (Some row.now.number)
+        (held_as (last_under ints.old.items) (get key_order others.old.held q) (int_key q.values))) }
+{
+    match int_at(places, &row.values) {
+        None => {
+            let key = key_of(alloc, places, &row.values)?;
+            others.put(key, row.number)
+        }
+        Some(int) => add_int(ints, int, row.number),
+    }
+}
+
+// Adds a key of one number.
+fn add_int(ints: &mut Vec<(i64, u32)>, int: i64, number: u32) -> Result<(), AllocError>
+    ensures { OnOk result ((n : ℤ) → last_under ints.new.items n
+        ≡ cond (is_at (int_cmp int) n) (Some number) (last_under ints.old.items n)) }
+{
+    ints.push((int, number))?;
+    Ok(())
 }
 
 /// The key of a row.
@@ -185,15 +227,15 @@ fn has_key_in(rows: &Rows, places: &Places, key: &Values, slot: usize) -> bool
 
 /// The number of the row that stands with a key, by the index.
 pub(crate) fn held_number(index: &Index, rows: &Rows, places: &Places, key: &RowKey) -> Option<u32>
-    requires { AreHeld places.now (λ key. get key_order index.now.held key) (rows_now rows.now.slots) }
+    requires { AreHeld places.now (λ key. held_in index.now key) (rows_now rows.now.slots) }
     ensures { result ≡ option_map (λ row. row.number)
         (find (has_key places.now key.now.values) (rows_now rows.now.slots)) }
 {
     match index.number(key) {
         None => None,
         Some(number) => {
-            if has_key_at(rows, places, &key.values, number) {
-                Some(number as u32)
+            if has_key_at(rows, places, &key.values, number as u64) {
+                Some(number)
             } else {
                 None
             }

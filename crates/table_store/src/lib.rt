@@ -17,15 +17,16 @@
 //! How a table is kept: the last values of its rows stand in columns, one for each column of the schema. A
 //! column of INT is a list of words with a bit for each NULL, and one of TEXT a list of values (`column`).
 //! A bit says of each row whether it stands (`grid`). A row that has changed has a chain of `row_version`
-//! beside it (`chains`, `rows`). An index has the number of each row under its key (`index`). The index may
+//! beside it (`chains`, `rows`). An index has the number of each row under its key (`index`): in a map of
+//! numbers where a key is one number, and in a map of lists of values otherwise (`key_map`). The index may
 //! have keys that no row has any more, so that a change that fails half way needn't take keys back: whoever
 //! looks up a key looks at the row too.
 //!
 //! How rows change: all room that a change takes is made first (`room`), and then the change can't fail
 //! (`apply`). Keys of new rows go into the index one after the other (`claim`). Where rows get other
-//! values and keep their keys, the index stays. Where a key changes, the given rows' keys are judged against each
-//! other and against the rows that keep theirs (`rekey`, `clash`). Keys that the index lacks get a number before
-//! the rows change, and all get their own afterwards, which takes no memory.
+//! values and keep their keys, the index stays. Where a key changes, the given rows' keys are judged against
+//! each other and against the rows that keep theirs (`rekey`, `clash`). Keys that the index lacks get a
+//! number before the rows change, and all get their own afterwards, which takes no memory.
 #![tactic(auto)]
 
 mod apply;
@@ -41,6 +42,7 @@ mod grid;
 mod index;
 mod insert;
 mod int_column;
+mod key_map;
 mod nexts;
 mod push;
 mod rekey;

@@ -3,14 +3,13 @@
 ghost use Rattle.std.specs.Prelude.{◌≡◌, ◌==◌, ℕ, ◌+◌, ◌^◌, ◌<◌, ◌≤◌, Bool, true, false, List, [], ◌∷◌, ◌++◌};
 ghost use Rattle.std.specs.Prelude.{Option, Some, None, find, OnOk, OnErr, IfOk, IfErr, IsSome, length};
 ghost use Rattle.std.specs.Prelude.{map, take, slice_get, Err};
-ghost use Rattle.std.specs.BTreeMap.{get};
 ghost use Rattle.std.specs.List.{AllByRecursion, list_all, list_any};
 ghost use Rattle.std.specs.Option.{option_map};
 ghost use Rattle.sql_model.specs.Changes.{clash_after, clash_by};
-ghost use Rattle.sql_model.specs.KeyOrder.{key_order};
 ghost use Rattle.table_store.specs.Claims.{both_stop, KeepsKey};
 ghost use Rattle.table_store.specs.GivenKeys.{with_claims, keeper, AreJudged};
 ghost use Rattle.table_store.specs.Histories.{rows_now};
+ghost use Rattle.table_store.specs.IndexView.{held_in};
 ghost use Rattle.table_store.specs.KeyIndex.{AreHeld, AreIndexed};
 ghost use Rattle.table_store.specs.Stops.{are_sorted_rows, replaced_by, StopsAs};
 
@@ -24,8 +23,8 @@ use std::alloc::{AllocError, Global};
 
 /// The numbers of the given rows under the keys that they have, once they took the place of those of their
 /// numbers; none where each of them keeps its key. With these put, the index is that of the rows then.
-/// KeyTaken: two rows would have one key. No other row is looked at than the given ones and those that have one
-/// of their keys.
+/// KeyTaken: two rows would have one key. No other row is looked at than the given ones and those that have
+/// one of their keys.
 pub(crate) fn claims_of(
     alloc: Global,
     index: &Index,
@@ -36,10 +35,10 @@ pub(crate) fn claims_of(
     requires sorted { are_sorted_rows given.now ≡ true }
     requires stand { list_all (λ row. list_any (λ old. old.number == row.number)
         (rows_now stored.now.slots)) given.now ≡ true }
-    requires indexed { AreIndexed places.now (λ key. get key_order index.now.held key)
+    requires indexed { AreIndexed places.now (λ key. held_in index.now key)
         (rows_now stored.now.slots) }
     ensures ok { IfOk result (λ claims. AreIndexed places.now
-        (with_claims (λ key. get key_order claims.held key) (λ key. get key_order index.now.held key))
+        (with_claims (λ key. held_in claims key) (λ key. held_in index.now key))
         (map (replaced_by given.now) (rows_now stored.now.slots))) }
     ensures stop { StopsAs (both_stop places.now
         (clash_by places.now (map (replaced_by given.now) (rows_now stored.now.slots)))) result }
@@ -97,9 +96,9 @@ fn claim_keys(
     requires sorted { are_sorted_rows given.now ≡ true }
     requires stand { list_all (λ row. list_any (λ old. old.number == row.number)
         (rows_now stored.now.slots)) given.now ≡ true }
-    requires held { AreHeld places.now (λ key. get key_order index.now.held key) (rows_now stored.now.slots) }
+    requires held { AreHeld places.now (λ key. held_in index.now key) (rows_now stored.now.slots) }
     ensures ok { IfOk result (λ claims. AreHeld places.now
-        (with_claims (λ key. get key_order claims.held key) (λ key. get key_order index.now.held key))
+        (with_claims (λ key. held_in claims key) (λ key. held_in index.now key))
         (map (replaced_by given.now) (rows_now stored.now.slots))) }
     ensures stop { StopsAs (both_stop places.now
         (clash_after places.now [] (map (replaced_by given.now) (rows_now stored.now.slots)))) result }
@@ -129,8 +128,8 @@ fn claim_keys(
 }
 
 // Claims the key of one more given row, and returns the first clash so far of a given row and one that keeps
-// its key. KeyTaken: an earlier given row has the key. As later given rows clash later, the first clash is known
-// then.
+// its key. KeyTaken: an earlier given row has the key. As later given rows clash later, the first clash is
+// known then.
 fn claim_next(
     alloc: Global,
     claims: &mut Index,
@@ -145,11 +144,11 @@ fn claim_next(
     requires sorted { are_sorted_rows given.now ≡ true }
     requires stand { list_all (λ row. list_any (λ old. old.number == row.number)
         (rows_now stored.now.slots)) given.now ≡ true }
-    requires held { AreHeld places.now (λ key. get key_order index.now.held key) (rows_now stored.now.slots) }
+    requires held { AreHeld places.now (λ key. held_in index.now key) (rows_now stored.now.slots) }
     requires judged { AreJudged places.now (rows_now stored.now.slots) given.now
-        (λ key. get key_order claims.old.held key) first (take place given.now) }
+        (λ key. held_in claims.old key) first (take place given.now) }
     ensures ok { IfOk result (λ next. AreJudged places.now (rows_now stored.now.slots) given.now
-        (λ key. get key_order claims.new.held key) next (take (place + 1) given.now)) }
+        (λ key. held_in claims.new key) next (take (place + 1) given.now)) }
     ensures stop { IfErr result (λ stop. StopsAs {X = Unit {0}} (both_stop places.now
         (clash_after places.now [] (map (replaced_by given.now) (rows_now stored.now.slots)))) (Err stop)) }
 {
@@ -160,7 +159,7 @@ fn claim_next(
         Some(earlier) => Err(sooner(
             first,
             Clash {
-                earlier: earlier as u32,
+                earlier,
                 later: row.number,
                 key: key.values,
             },
@@ -169,7 +168,7 @@ fn claim_next(
         None => {
             let kept = keeper(index, stored, places, given, &key);
             let next = soonest(first, kept, row.number, &key.values)?;
-            claims.put(key, row.number as u64)?;
+            claims.put(key, row.number)?;
             Ok(next)
         }
     }
@@ -184,7 +183,7 @@ fn keeper(
     key: &RowKey,
 ) -> Option<u32>
     requires sorted { are_sorted_rows given.now ≡ true }
-    requires held { AreHeld places.now (λ key. get key_order index.now.held key) (rows_now stored.now.slots) }
+    requires held { AreHeld places.now (λ key. held_in index.now key) (rows_now stored.now.slots) }
     ensures { result ≡ keeper places.now (rows_now stored.now.slots) given.now key.now.values }
 {
     match held_number(index, stored, places, key) {

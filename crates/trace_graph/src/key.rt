@@ -1,4 +1,4 @@
-//! Nodes as the keys of a set, without a copy of their texts.
+//! Nodes as the keys of a set or a map, without a copy of their texts.
 
 ghost use Rattle.std.specs.Prelude.{◌≡◌, ◌++◌, [], map, IfOk, OnOk};
 ghost use Rattle.trace_graph.specs.Building.{node_of, with_node};
@@ -12,14 +12,19 @@ use ldv_value::Utf8;
 use sql_model::Member;
 use std::alloc::{AllocError, Global};
 
-/// A node whose texts are where they came from.
-#[derive(Clone, Copy, PartialEq, Eq, Hash)]
-pub(crate) enum NodeKey<'a> {
+/// A node whose texts are where they came from. Keys are in the order of the report on what an output depends
+/// on: by kind, then by content.
+#[derive(Clone, Copy, PartialEq, Eq, Hash, PartialOrd, Ord)]
+pub enum NodeKey<'a> {
+    /// A path.
     Path(&'a str),
+    /// A process, by creation number.
     Process(u32),
-    // a table, a row and its version
+    /// A table, a row and its version.
     Row(&'a str, u32, u32),
+    /// A statement, by its number.
     Ask(u32),
+    /// The reply to a statement, by its number.
     Reply(u32),
 }
 
@@ -41,7 +46,7 @@ pub(crate) fn row_key(member: &Member) -> NodeKey<'_>
 }
 
 /// The key of a node.
-pub(crate) fn key_of(node: &Node) -> NodeKey<'_>
+pub fn key_of(node: &Node) -> NodeKey<'_>
     ensures { node_of result ≡ node.now }
 {
     match node {
@@ -71,8 +76,8 @@ pub(crate) fn number<'a>(keys: &mut NodeKeys<'a>, key: NodeKey<'a>) -> Result<us
     Ok(place)
 }
 
-// The node of a key, with texts of its own.
-fn node_at(alloc: Global, key: &NodeKey<'_>) -> Result<Node, AllocError>
+/// The node of a key, with texts of its own.
+pub fn node_at(alloc: Global, key: &NodeKey<'_>) -> Result<Node, AllocError>
     ensures { IfOk result (λ node. node ≡ node_of key.now) }
 {
     match key {

@@ -9,6 +9,8 @@
 //!   first seen, and one edge for each pair of nodes, with the first and the last of its times;
 //! - `nodes` and `edges` lend these lists; each edge is between places of nodes;
 //! - `place` is where a node is in the list of nodes;
+//! - `NodeKey` is a node without a copy of its texts, `key_of` and `node_at` lead from one to the other
+//!   (`node_of` of `specs/Building.antt`);
 //! - `graph_law`: which nodes and edges a graph has, said of the links that it was made of
 //!   (`specs/GraphLaws.antt`), and which row versions, said of the events (`specs/VersionLaws.antt`).
 //!
@@ -27,5 +29,6 @@ mod span;
 
 pub use edge::{Edge, Edges};
 pub use graph::Graph;
+pub use key::{NodeKey, key_of, node_at};
 pub use law::graph_law;
 pub use node::{Node, Nodes};

@@ -15,7 +15,7 @@ use Rattle.sql_model.specs.declared.token.Token.{Token}
 use Rattle.sql_model.specs.declared.token.Token.TheVariants.{Word, Number, Quoted, Given}
 use Rattle.sql_model.specs.Grammar.{word, fold_word, IsConstant, IsExpr}
 use Rattle.sql_model.specs.GrammarOfStatements.{Then, After, Optionally, Repeated, Separated, Listed, IsExpression, IsItem, AreItems, Joined, IsConditioned, IsJoinedBy, IsJoined, conditions, AreSources, IsCoreEnd, IsCoreRest, IsCore, IsFirstCore, IsUnited, IsBound, IsQuery, IsTuple, IsInsert, IsSet, IsUpdate, IsDelete, IsStatement, Reads}
-use Rattle.sql_parse.specs.Texts.{statement_of}
+use Rattle.sql_model.specs.Texts.{statement_of}
 use Rattle.sql_parse.proofs.StatementsLaw.{reading_sound}
 use Rattle.value_laws.specs.Values.{GoodValue, GoodValues, constants_step, constants, GoodExpr, GoodExprs, GoodPick, GoodItem, GoodItems, GoodCore, GoodLimit, GoodQuery, GoodSet, GoodUpdate, GoodStatement}
 use Rattle.value_laws.proofs.ListParts.{all_front, all_back}

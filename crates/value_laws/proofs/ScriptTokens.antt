@@ -45,7 +45,8 @@ negative_fits (suc m) h = record { sfits = omega (arith, h) }
 positive_fits : (n : ℕ) → n < 2 ^ 63 → FitsSigned w64 (pos n)
 positive_fits n h = record { sfits = h }
 
-number_fits : (piece : List ℕ) (z : ℤ) → IsNumber piece z → FitsSigned w64 z
+-- what a number of a script is fits
+pub number_fits : (piece : List ℕ) (z : ℤ) → IsNumber piece z → FitsSigned w64 z
 number_fits piece z (digits, are, inl (e, is, below)) = subst (FitsSigned w64) (sym is) (positive_fits (digits_from 0 digits) below)
 number_fits piece z (digits, are, inr (e, is, within)) = subst (FitsSigned w64) (sym is) (negative_fits (digits_from 0 digits) within)
 

@@ -1,3 +1,4 @@
 pub mod Answers
 pub mod Literals
+pub mod Steps
 pub mod Values

@@ -8,7 +8,7 @@ use Rattle.script_parse.specs.declared.script.Instr.TheVariants as instr
 use Rattle.script_parse.specs.declared.script.Operand.{Operand}
 use Rattle.script_parse.specs.declared.script.Operand.TheVariants.{Constant, Variable}
 use Rattle.script_parse.specs.Script.{script_of}
-use Rattle.sql_parse.specs.Texts.{statement_of}
+use Rattle.sql_model.specs.Texts.{statement_of}
 use Rattle.sql_laws.specs.Types.{Value, Statement}
 use Rattle.value_laws.specs.Values.{GoodValue, GoodValues, GoodStatement}
 

@@ -7,3 +7,4 @@ pub mod Numbering
 pub mod ReadDocuments
 pub mod Readings
 pub mod WorldFiles
+pub mod GeneratedRows

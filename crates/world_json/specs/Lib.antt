@@ -3,3 +3,4 @@ pub mod Shape
 pub mod Faults
 pub mod Reading
 pub mod SortedWorld
+pub mod Generated

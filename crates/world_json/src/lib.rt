@@ -5,7 +5,8 @@
 //! their types, the document to a world. It promises to the layers above:
 //! - `world_of` gives the world of `specs/Reading.antt`, or its fault;
 //! - a fault is the first that holds, in the order of `WorldFault`, each tried over the whole document;
-//! - the files of a world are sorted by path, its tables by name (`specs/SortedWorld.antt`).
+//! - the files of a world are sorted by path, its tables by name (`specs/SortedWorld.antt`);
+//! - `generate` gives a world with a number of rows, to try out and to measure with (`specs/Generated.antt`).
 //!
 //! The definitions: `specs/Shape.antt` has the members of a document and their types, `specs/Faults.antt`
 //! a test for each later fault, by the rules for tables of sql_model's `specs/Tables.antt`, and
@@ -16,6 +17,7 @@ mod cells;
 mod content;
 mod document;
 mod fault;
+mod generator;
 mod keys;
 mod kinds;
 mod limits;
@@ -29,4 +31,5 @@ mod start;
 mod world;
 
 pub use fault::{WorldFault, WorldStop};
+pub use generator::generate;
 pub use world::world_of;

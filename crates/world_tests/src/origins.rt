@@ -56,7 +56,7 @@ fn read(alloc: Global, bytes: &[u8]) -> Option<Package>
     }
 }
 
-#[tactic(auto, using(crate::proofs::Traces::valid_trace))]
+#[tactic(auto, using(ldv_top::proofs::Traces::valid_trace))]
 fn graph(alloc: Global, package: &Package) -> Result<Graph, AllocError>
     requires { Valid «package».now }
 {

@@ -1,6 +1,6 @@
 -- The nodes so far, with those of the keys that are left, are those of all keys.
 use Rattle.std.proofs.Common.{◌≡◌, ◌++◌, map}
-use Rattle.reach.specs.Keys.{node_of}
+use Rattle.trace_graph.specs.Building.{node_of}
 use Rattle.reach.proofs.found.nodes_of.Given as goal
 
 abbrev pub invariant-loop-key : goal.invariant-loop-key

@@ -2,7 +2,7 @@
 use Rattle.std.proofs.Common.{◌≡◌, drop, map}
 use Rattle.std.specs.Prelude.{fold}
 use Rattle.std.specs.List.{filter_map}
-use Rattle.reach.specs.Keys.{node_of}
+use Rattle.trace_graph.specs.Building.{node_of}
 use Rattle.reach.specs.Found.{placed, open_source, open_sources}
 use Rattle.reach.proofs.found.open_keys.Given as goal
 

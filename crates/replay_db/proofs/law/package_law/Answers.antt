@@ -7,10 +7,10 @@ pub returns-clause-tables : goal.returns-clause-tables
 returns-clause-tables c = world_tables
 
 pub returns-clause-valid : goal.returns-clause-valid
-returns-clause-valid c = valid_package
+returns-clause-valid c = valid_package c.steps_law.ensures.logs
 
 pub returns-clause-typed : goal.returns-clause-typed
-returns-clause-typed c = typed_package
+returns-clause-typed c = typed_package c.steps_law.ensures.logs
 
 pub returns-clause-runs : goal.returns-clause-runs
 returns-clause-runs c = world_runs

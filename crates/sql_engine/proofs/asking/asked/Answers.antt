@@ -3,7 +3,7 @@ use Rattle.sql_engine.proofs.AskLaws.{syntax_done}
 use Rattle.sql_engine.specs.Asking.{IsDone, refused}
 use Rattle.sql_engine.specs.Types.{Statement, Syntax}
 use Rattle.sql_engine.specs.declared.done.Done.{Done}
-use Rattle.sql_parse.specs.Texts.{statement_of}
+use Rattle.sql_model.specs.Texts.{statement_of}
 use Rattle.sql_engine.proofs.asking.asked.Goals as goal
 
 pub returns-in-Err-Syntax-clause-done : goal.returns-in-Err-Syntax-clause-done

@@ -1,5 +1,5 @@
 use Rattle.std.proofs.Common.{◌-◌, arith}
-use Rattle.sql_parse.specs.Expressions.{joins_more, within}
+use Rattle.sql_model.specs.Expressions.{joins_more, within}
 use Rattle.sql_parse.proofs.Repeat.{steps_go, steps_stop}
 use Rattle.sql_parse.proofs.expression.+expression.Goals as goal
 

@@ -1,6 +1,6 @@
 use Rattle.std.proofs.Common.{◌≡◌, ◌≤◌, ◌+◌, ◌*◌, ◌-◌}
-use Rattle.sql_parse.specs.Expressions.{joins_more, within}
-use Rattle.sql_parse.specs.Reader.{repeat}
+use Rattle.sql_model.specs.Expressions.{joins_more, within}
+use Rattle.sql_model.specs.Reader.{repeat}
 use Rattle.sql_parse.proofs.expression.+expression.Given as goal
 
 abbrev pub decreases-within : goal.decreases-within

@@ -1,5 +1,5 @@
 use Rattle.std.proofs.Common.{◌≡◌}
-use Rattle.sql_parse.specs.Texts.{placed}
+use Rattle.sql_model.specs.Texts.{placed}
 use Rattle.ldv_value.specs.Scan.{before}
 use Rattle.sql_parse.proofs.given.placed.Given as goal
 

@@ -1,4 +1,4 @@
-use Rattle.sql_parse.specs.declared.state.LexState.TheVariants.{Between}
+use Rattle.sql_model.specs.declared.reading.LexState.TheVariants.{Between}
 use Rattle.sql_parse.proofs.TokensRead.{tokens_complete}
 use Rattle.sql_parse.proofs.TokensSound.{tokens_sound}
 use Rattle.sql_parse.proofs.law.token_law.Goals as goal

@@ -1,6 +1,6 @@
 use Rattle.std.proofs.Common.{◌≡◌, drop}
 use Rattle.ldv_value.specs.Scan.{before}
-use Rattle.sql_parse.specs.Tokens.{tokens_from, tokens_of}
+use Rattle.sql_model.specs.Tokens.{tokens_from, tokens_of}
 use Rattle.sql_parse.proofs.scan.tokens.Given as goal
 
 abbrev pub invariant-loop-b : goal.invariant-loop-b

@@ -1,5 +1,5 @@
 use Rattle.std.proofs.Common.{◌≡◌, ◌-◌}
-use Rattle.sql_parse.specs.Reader.{repeat}
+use Rattle.sql_model.specs.Reader.{repeat}
 use Rattle.sql_parse.proofs.steps.all_steps.Given as goal
 
 abbrev pub invariant-loop-count : goal.invariant-loop-count

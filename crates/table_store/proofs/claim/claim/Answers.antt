@@ -1,39 +1,40 @@
-use Rattle.std.proofs.Common.{rules, ◌≡◌, ◌∙◌, ◌++◌, ◌==◌, sym, subst, List, length, false, Option}
-use Rattle.std.specs.BTreeMap.{get}
+use Rattle.std.proofs.Common.{rules, ◌≡◌, ◌≤◌, ◌∙◌, ◌+◌, ◌++◌, ◌==◌, sym, subst, List, length, false, Option}
+use Rattle.std.specs.Prelude.{◌^◌}
 use Rattle.sql_model.specs.Changes.{KeyClash, clash_by, clash_after, numbered}
-use Rattle.sql_model.specs.KeyOrder.{key_order}
 use Rattle.table_store.specs.Types.{TableRow}
 use Rattle.table_store.specs.Claims.{claim_stop}
 use Rattle.table_store.specs.Histories.{rows_now}
+use Rattle.table_store.specs.IndexView.{held_in}
 use Rattle.table_store.specs.KeyIndex.{Held, AreHeld, AreIndexed}
 use Rattle.table_store.specs.Stops.{StopsAs}
 use Rattle.table_store.proofs.ClaimLaws.{keyed_held, keyed_clash, on_ok}
-use Rattle.table_store.proofs.IndexLaws.{get_alike, indexed_by}
+use Rattle.table_store.proofs.IndexLaws.{index_alike, indexed_by}
 use Rattle.table_store.proofs.InsertLaws.{clash_new}
 use Rattle.table_store.proofs.claim.claim.Goals as goal
 
 pub claim_all-requires-clause-held : goal.claim_all-requires-clause-held
 claim_all-requires-clause-held c =
-    keyed_held c.args.places.now (λ q. get key_order c.args.index.now.held q) (rows_now c.args.stored.now.slots) (search rules) c.requires.indexed
+    keyed_held c.args.places.now (λ q. held_in c.args.index.now q) (rows_now c.args.stored.now.slots) (search rules) c.requires.indexed
 
 pub returns-clause-kept : goal.returns-clause-kept
-returns-clause-kept c = indexed_by c.args.places.now (λ q. get key_order c.claim_all.new.index.held q) (rows_now c.args.stored.now.slots) c.claim_all.ensures.kept
+returns-clause-kept c = indexed_by c.args.places.now (λ q. held_in c.claim_all.new.index q) (rows_now c.args.stored.now.slots) c.claim_all.ensures.kept
 
 pub returns-clause-ok : goal.returns-clause-ok
 returns-clause-ok c =
     let places = c.args.places.now in
-    let new : Held = λ q. get key_order c.claim_all.new.index.held q in
+    let new : Held = λ q. held_in c.claim_all.new.index q in
     let rows = rows_now c.args.stored.now.slots ++ numbered c.args.next c.args.values.now in
-    on_ok (AreHeld places new rows) (AreIndexed places new rows) c.claim_all.result (indexed_by places new rows) c.claim_all.ensures.ok
+    on_ok (c.args.next + length c.args.values.now ≤ 2 ^ 32 → AreHeld places new rows) (c.args.next + length c.args.values.now ≤ 2 ^ 32 → AreIndexed places new rows) c.claim_all.result
+    (λ are few. indexed_by places new rows (are few)) c.claim_all.ensures.ok
 
 pub returns-clause-stop : goal.returns-clause-stop
 returns-clause-stop c =
     let places = c.args.places.now in
     let slots = c.args.stored.now.slots in
-    let old : Held = λ q. get key_order c.args.index.now.held q in
+    let old : Held = λ q. held_in c.args.index.now q in
     let more : List TableRow = numbered c.args.next c.args.values.now in
     let keyed : (length places == 0) ≡ false = search rules in
     let same : clash_by places (rows_now slots ++ more) ≡ clash_after places (rows_now slots) more =
     keyed_clash places (rows_now slots ++ more) keyed
-    ∙ clash_new places old (get_alike c.args.index.now.held) slots c.args.stored.now.next c.tell_order.ensures.order (keyed_held places old (rows_now slots) keyed c.requires.indexed) more in
+    ∙ clash_new places old (index_alike c.args.index.now) slots c.args.stored.now.next c.tell_order.ensures.order (keyed_held places old (rows_now slots) keyed c.requires.indexed) more in
     subst (λ (o : Option KeyClash). StopsAs (claim_stop places c.args.next o) c.claim_all.result) (sym same) c.claim_all.ensures.stop

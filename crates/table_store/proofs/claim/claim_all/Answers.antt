@@ -1,16 +1,17 @@
 use Rattle.std.proofs.Common.{◌≡◌, ◌∙◌, ◌++◌, ◌+◌, ap, sym, subst, ℕ, List, take, drop, get_or, [], None, Option, arith, append-nil}
 use Rattle.std.specs.Prelude.{find, Err}
-use Rattle.std.specs.BTreeMap.{get}
 use Rattle.std.proofs.lemmas.List.{take_all}
 use Rattle.sql_model.specs.Changes.{KeyClash, clash_or, clash_after, numbered}
-use Rattle.sql_model.specs.KeyOrder.{key_order}
 use Rattle.sql_model.specs.Keys.{values_at}
 use Rattle.table_store.specs.Types.{Value, TableRow}
 use Rattle.table_store.specs.Claims.{claim_stop}
 use Rattle.table_store.specs.Histories.{rows_now}
+use Rattle.table_store.specs.IndexView.{held_in}
 use Rattle.table_store.specs.KeyIndex.{Held, AreHeld, has_key}
+use Rattle.table_store.specs.RowOrder.{AreInOrder}
 use Rattle.table_store.specs.Stops.{StopsAs}
 use Rattle.table_store.proofs.ClaimLaws.{left_clash, not_taken, claim_taken, held_front, none_left}
+use Rattle.table_store.proofs.HighLaws.{both, widened, narrowed, old_few, all_few}
 use Rattle.table_store.proofs.claim.claim_all.Goals as goal
 
 pub loop-count-init : goal.loop-count-init
@@ -18,10 +19,12 @@ loop-count-init c =
     let places = c.args.places.now in
     let values = c.args.values.now in
     let rows : List TableRow = rows_now c.args.stored.now.slots in
-    let old : Held = λ q. get key_order c.args.index.now.held q in
+    let old : Held = λ q. held_in c.args.index.now q in
+    let high : Held = λ q. held_in c.new-high.result q in
     let start : c.args.next + 0 ≡ c.args.next = omega arith in
     record {
-      held = subst (λ (l : List TableRow). AreHeld places old l) (sym (append-nil rows)) c.requires.held;
+      held = subst (λ (l : List TableRow). AreHeld places (both old high) l) (sym (append-nil rows)) (widened places old high c.new-high.ensures rows c.requires.held);
+      low = λ few q. c.new-high.ensures q;
       clash = ap (λ (l : List TableRow). clash_after places l (numbered (c.args.next + 0) values)) (append-nil rows)
           ∙ ap (λ (n : ℕ). clash_after places rows (numbered n values)) start;
     }
@@ -39,6 +42,7 @@ loop-count-preserved c =
     let none : earlier ≡ None = not_taken places next (get_or values count []) earlier c.in-Ok.ensures.stop in
     record {
       held = c.in-Ok.ensures.ok;
+      low = λ few. c.claim_one.ensures.low (omega (arith, few));
       clash = sym (left_clash places next rows values count within
           ∙ ap (λ (o : Option TableRow). clash_or o row (clash_after places (rows ++ numbered next (take (count + 1) values)) (numbered (next + (count + 1)) (drop (count + 1) values)))) none)
           ∙ c.loop-count.invariant.clash;
@@ -46,7 +50,11 @@ loop-count-preserved c =
 
 pub returns-in-Err-clause-kept : goal.returns-in-Err-clause-kept
 returns-in-Err-clause-kept c =
-    held_front c.args.places.now (λ q. get key_order c.claim_one.new.index.held q) (rows_now c.args.stored.now.slots) (numbered c.args.next (take c.loop-count.count c.args.values.now)) c.claim_one.ensures.kept
+    let stored = c.args.stored.now in
+    let low : Held = λ q. held_in c.claim_one.new.index q in
+    let high : Held = λ q. held_in c.claim_one.new.high q in
+    narrowed c.args.places.now low high (rows_now stored.slots) (old_few stored.slots stored.next c.tell_order.ensures.order c.tell_order.ensures.small)
+    (held_front c.args.places.now (both low high) (rows_now stored.slots) (numbered c.args.next (take c.loop-count.count c.args.values.now)) c.claim_one.ensures.kept)
 
 pub returns-in-Err-clause-stop : goal.returns-in-Err-clause-stop
 returns-in-Err-clause-stop c =
@@ -64,12 +72,23 @@ returns-in-Err-clause-stop c =
 
 pub returns-clause-kept : goal.returns-clause-kept
 returns-clause-kept c =
-    held_front c.args.places.now (λ q. get key_order c.loop-count.index.held q) (rows_now c.args.stored.now.slots) (numbered c.args.next (take c.loop-count.count c.args.values.now)) c.loop-count.invariant.held
+    let stored = c.args.stored.now in
+    let low : Held = λ q. held_in c.loop-count.index q in
+    let high : Held = λ q. held_in c.loop-count.high q in
+    narrowed c.args.places.now low high (rows_now stored.slots) (old_few stored.slots stored.next c.tell_order.ensures.order c.tell_order.ensures.small)
+    (held_front c.args.places.now (both low high) (rows_now stored.slots) (numbered c.args.next (take c.loop-count.count c.args.values.now)) c.loop-count.invariant.held)
 
 pub returns-clause-ok : goal.returns-clause-ok
-returns-clause-ok c =
-    let all : take c.loop-count.count c.args.values.now ≡ c.args.values.now = take_all c.loop-count.count c.args.values.now (omega arith) in
-    subst (λ (l : List (List Value)). AreHeld c.args.places.now (λ q. get key_order c.loop-count.index.held q) (rows_now c.args.stored.now.slots ++ numbered c.args.next l)) all c.loop-count.invariant.held
+returns-clause-ok c = λ few.
+    let places = c.args.places.now in
+    let stored = c.args.stored.now in
+    let values = c.args.values.now in
+    let low : Held = λ q. held_in c.loop-count.index q in
+    let high : Held = λ q. held_in c.loop-count.high q in
+    let all : take c.loop-count.count values ≡ values = take_all c.loop-count.count values (omega arith) in
+    let order : AreInOrder stored.slots c.args.next = subst (λ (n : ℕ). AreInOrder stored.slots n) c.requires.next c.tell_order.ensures.order in
+    narrowed places low high (rows_now stored.slots ++ numbered c.args.next values) (all_few stored.slots c.args.next order (omega (arith, c.requires.next, c.tell_order.ensures.small)) values few)
+    (subst (λ (l : List (List Value)). AreHeld places (both low high) (rows_now stored.slots ++ numbered c.args.next l)) all c.loop-count.invariant.held)
 
 pub returns-clause-stop : goal.returns-clause-stop
 returns-clause-stop c =

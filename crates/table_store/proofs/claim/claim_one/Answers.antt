@@ -1,14 +1,14 @@
 use Rattle.std.proofs.Common.{rules, ◌≡◌, ◌∙◌, ◌++◌, ap, sym, subst, take, get_or, [], None}
 use Rattle.std.specs.Prelude.{find}
 use Rattle.std.proofs.lemmas.List.{get_or_default}
-use Rattle.std.specs.BTreeMap.{get}
 use Rattle.sql_model.specs.Changes.{numbered}
-use Rattle.sql_model.specs.KeyOrder.{key_order}
 use Rattle.sql_model.specs.Keys.{key_at, values_at}
 use Rattle.table_store.specs.Types.{RowKey}
 use Rattle.table_store.specs.Histories.{rows_now}
+use Rattle.table_store.specs.IndexView.{held_in}
 use Rattle.table_store.specs.KeyIndex.{Held, AreHeld, has_key}
 use Rattle.table_store.proofs.ClaimLaws.{none_from, put_kept, put_more}
+use Rattle.table_store.proofs.HighLaws.{both}
 use Rattle.table_store.proofs.claim.claim_one.Goals as goal
 
 pub returns-in-Ok-clause-kept : goal.returns-in-Ok-clause-kept
@@ -16,8 +16,8 @@ returns-in-Ok-clause-kept c =
     let places = c.args.places.now in
     let values = c.args.values.now in
     let rows = rows_now c.args.stored.now.slots in
-    let old : Held = λ q. get key_order c.args.index.now.held q in
-    let new : Held = λ q. get key_order c.put_new.new.index.held q in
+    let old : Held = both (λ q. held_in c.args.index.now q) (λ q. held_in c.args.high.now q) in
+    let new : Held = both (λ q. held_in c.put_new.new.index q) (λ q. held_in c.put_new.new.high q) in
     let key : RowKey = c.in_ok-key.key in
     let row : c.index-values-count.result ≡ get_or values c.args.count [] = c.index-values-count.is ∙ get_or_default values c.args.count c.index-values-count.result [] c.requires.within in
     let same : key ≡ key_at places (get_or values c.args.count []) = c.in_ok-key.ensures ∙ ap (key_at places) row in
@@ -31,8 +31,8 @@ returns-in-Ok-clause-ok c =
     let places = c.args.places.now in
     let values = c.args.values.now in
     let rows = rows_now c.args.stored.now.slots in
-    let old : Held = λ q. get key_order c.args.index.now.held q in
-    let new : Held = λ q. get key_order c.put_new.new.index.held q in
+    let old : Held = both (λ q. held_in c.args.index.now q) (λ q. held_in c.args.high.now q) in
+    let new : Held = both (λ q. held_in c.put_new.new.index q) (λ q. held_in c.put_new.new.high q) in
     let key : RowKey = c.in_ok-key.key in
     let row : c.index-values-count.result ≡ get_or values c.args.count [] = c.index-values-count.is ∙ get_or_default values c.args.count c.index-values-count.result [] c.requires.within in
     let same : key ≡ key_at places (get_or values c.args.count []) = c.in_ok-key.ensures ∙ ap (key_at places) row in
@@ -44,7 +44,7 @@ returns-in-Ok-clause-ok c =
 pub returns-in-Err-clause-kept : goal.returns-in-Err-clause-kept
 returns-in-Err-clause-kept c =
     let rows = rows_now c.args.stored.now.slots ++ numbered c.args.next (take c.args.count c.args.values.now) in
-    let old : Held = λ q. get key_order c.args.index.now.held q in
-    let new : Held = λ q. get key_order c.put_new.new.index.held q in
+    let old : Held = both (λ q. held_in c.args.index.now q) (λ q. held_in c.args.high.now q) in
+    let new : Held = both (λ q. held_in c.put_new.new.index q) (λ q. held_in c.put_new.new.high q) in
     let same : old ≡ new = λ j q. sym (c.in-Err.ensures.err q) j in
     subst (λ (held : Held). AreHeld c.args.places.now held rows) same c.requires.held

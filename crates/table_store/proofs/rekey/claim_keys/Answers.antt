@@ -1,13 +1,12 @@
-use Rattle.std.proofs.Common.{◌≡◌, ◌∙◌, ap, sym, subst, take, [], List, Some, None, Option, map, arith}
+use Rattle.std.proofs.Common.{◌≡◌, ap, sym, subst, take, [], List, Some, None, Option, map, arith}
 use Rattle.std.specs.Prelude.{Err}
-use Rattle.std.specs.BTreeMap.{get}
 use Rattle.std.proofs.lemmas.List.{take_all}
 use Rattle.sql_model.specs.Changes.{clash_after}
-use Rattle.sql_model.specs.KeyOrder.{key_order}
 use Rattle.table_store.specs.Types.{TableRow}
 use Rattle.table_store.specs.Claims.{both_stop}
 use Rattle.table_store.specs.GivenKeys.{AreJudged, with_claims}
 use Rattle.table_store.specs.Histories.{rows_now}
+use Rattle.table_store.specs.IndexView.{held_in}
 use Rattle.table_store.specs.KeyIndex.{Held}
 use Rattle.table_store.specs.Stops.{replaced_by, StopsAs}
 use Rattle.table_store.specs.declared.clash.Clash.{Clash}
@@ -19,7 +18,7 @@ use Rattle.table_store.proofs.RekeyLaws.{stop_as}
 use Rattle.table_store.proofs.rekey.claim_keys.Goals as goal
 
 pub loop-place-init : goal.loop-place-init
-loop-place-init c = judged_start c.args.places.now (rows_now c.args.stored.now.slots) c.args.given.now (λ q. get key_order c.new-claims.result.held q) c.new-claims.ensures
+loop-place-init c = judged_start c.args.places.now (rows_now c.args.stored.now.slots) c.args.given.now (λ q. held_in c.new-claims.result q) c.new-claims.ensures
 
 pub returns-in-Err-clause-stop : goal.returns-in-Err-clause-stop
 returns-in-Err-clause-stop c =
@@ -30,8 +29,8 @@ returns-in-None-clause-ok c =
     let slots = c.args.stored.now.slots in
     let given = c.args.given.now in
     let places = c.args.places.now in
-    let old : Held = λ q. get key_order c.args.index.now.held q in
-    let claims : Held = λ q. get key_order c.loop-place.claims.held q in
+    let old : Held = λ q. held_in c.args.index.now q in
+    let claims : Held = λ q. held_in c.loop-place.claims q in
     let rise : RisesFrom 0 (rows_now slots) = rows_rise 0 slots (λ i below. omega arith) c.tell_order.ensures.order.rising in
     let all : take c.loop-place.place given ≡ given = take_all c.loop-place.place given (omega arith) in
     let judged = subst (λ (l : List TableRow). AreJudged places (rows_now slots) given claims None l) all (subst (λ (o : Option Clash). AreJudged places (rows_now slots) given claims o (take c.loop-place.place given)) c.in-None.is c.loop-place.invariant) in
@@ -42,8 +41,8 @@ returns-in-None-clause-stop c =
     let slots = c.args.stored.now.slots in
     let given = c.args.given.now in
     let places = c.args.places.now in
-    let old : Held = λ q. get key_order c.args.index.now.held q in
-    let claims : Held = λ q. get key_order c.loop-place.claims.held q in
+    let old : Held = λ q. held_in c.args.index.now q in
+    let claims : Held = λ q. held_in c.loop-place.claims q in
     let rise : RisesFrom 0 (rows_now slots) = rows_rise 0 slots (λ i below. omega arith) c.tell_order.ensures.order.rising in
     let all : take c.loop-place.place given ≡ given = take_all c.loop-place.place given (omega arith) in
     let judged = subst (λ (l : List TableRow). AreJudged places (rows_now slots) given claims None l) all (subst (λ (o : Option Clash). AreJudged places (rows_now slots) given claims o (take c.loop-place.place given)) c.in-None.is c.loop-place.invariant) in
@@ -54,8 +53,8 @@ returns-in-Some-clause-stop c =
     let slots = c.args.stored.now.slots in
     let given = c.args.given.now in
     let places = c.args.places.now in
-    let old : Held = λ q. get key_order c.args.index.now.held q in
-    let claims : Held = λ q. get key_order c.loop-place.claims.held q in
+    let old : Held = λ q. held_in c.args.index.now q in
+    let claims : Held = λ q. held_in c.loop-place.claims q in
     let rise : RisesFrom 0 (rows_now slots) = rows_rise 0 slots (λ i below. omega arith) c.tell_order.ensures.order.rising in
     let all : take c.loop-place.place given ≡ given = take_all c.loop-place.place given (omega arith) in
     let judged = subst (λ (l : List TableRow). AreJudged places (rows_now slots) given claims (Some c.in-Some.clash) l) all

@@ -1,40 +1,26 @@
-use Rattle.std.proofs.Common.{rules, ◌≡◌, ◌∙◌, ◌<◌, ◌+◌, ap, sym, subst, take, get_or, Some, None, ℕ, Option, List, map, [], arith}
-use Rattle.std.specs.Prelude.{◌^◌, Err}
-use Rattle.std.specs.BTreeMap.{get}
+use Rattle.std.proofs.Common.{◌≡◌, ◌∙◌, ◌+◌, ap, sym, subst, take, ℕ, Option, map, [], arith}
+use Rattle.std.specs.Prelude.{Err}
 use Rattle.sql_model.specs.Changes.{clash_after}
-use Rattle.sql_model.specs.KeyOrder.{key_order}
 use Rattle.table_store.specs.Types.{RowKey, TableRow}
 use Rattle.table_store.specs.Claims.{both_stop}
 use Rattle.table_store.specs.GivenKeys.{AreJudged, keeper, soonest}
 use Rattle.table_store.specs.Histories.{rows_now}
+use Rattle.table_store.specs.IndexView.{held_in}
 use Rattle.table_store.specs.KeyIndex.{Held}
 use Rattle.table_store.specs.Stops.{replaced_by, StopsAs}
 use Rattle.table_store.specs.declared.clash.Clash.{Clash}
 use Rattle.table_store.specs.declared.stop.StoreStop.{StoreStop}
-use Rattle.table_store.proofs.GivenKeyLaws.{given_rise, judged_next, judged_taken, earlier_stood, stood_below}
-use Rattle.table_store.proofs.InsertLaws.{RisesFrom, rows_rise, rows_below}
+use Rattle.table_store.proofs.GivenKeyLaws.{given_rise, judged_next, judged_taken}
+use Rattle.table_store.proofs.InsertLaws.{RisesFrom, rows_rise}
 use Rattle.table_store.proofs.rekey.claim_next.Goals as goal
-
-pub overflow_cast-earlier : goal.overflow_cast-earlier
-overflow_cast-earlier c =
-    let slots = c.args.stored.now.slots in
-    let given = c.args.given.now in
-    let old : Held = λ q. get key_order c.args.index.now.held q in
-    let claims : Held = λ q. get key_order c.args.claims.now.held q in
-    let row : TableRow = c.index-given-place.result in
-    let rise : RisesFrom 0 (rows_now slots) = rows_rise 0 slots (λ i below. omega arith) c.tell_order.ensures.order.rising in
-    let stood = earlier_stood c.args.places.now (rows_now slots) given rise old c.requires.held (given_rise given c.requires.sorted) c.requires.stand claims c.args.first c.args.place row c.requires.within c.requires.judged c.index-given-place.is c.in_ok-key.key c.in-Some.earlier (sym c.number.ensures ∙ c.in-Some.is) in
-    let below : c.in-Some.earlier < c.args.stored.now.next = stood_below c.args.stored.now.next c.in-Some.earlier (rows_now slots) (rows_below c.args.stored.now.next slots c.tell_order.ensures.order.below) stood in
-    let small : c.in-Some.earlier < 2 ^ 32 = omega (arith, below, c.tell_order.ensures.small) in
-    search rules
 
 pub returns-in-Some-clause-stop : goal.returns-in-Some-clause-stop
 returns-in-Some-clause-stop c =
     let slots = c.args.stored.now.slots in
     let given = c.args.given.now in
     let places = c.args.places.now in
-    let old : Held = λ q. get key_order c.args.index.now.held q in
-    let claims : Held = λ q. get key_order c.args.claims.now.held q in
+    let old : Held = λ q. held_in c.args.index.now q in
+    let claims : Held = λ q. held_in c.args.claims.now q in
     let row : TableRow = c.index-given-place.result in
     let rise : RisesFrom 0 (rows_now slots) = rows_rise 0 slots (λ i below. omega arith) c.tell_order.ensures.order.rising in
     subst (λ (stop : StoreStop). StopsAs {X = Unit {0}} (both_stop places (clash_after places [] (map (replaced_by given) (rows_now slots)))) (Err stop)) (sym c.into_stop.ensures)
@@ -48,9 +34,9 @@ returns-in_ok-put-in-None-clause-ok c =
     let places = c.args.places.now in
     let place = c.args.place in
     let first = c.args.first in
-    let old : Held = λ q. get key_order c.args.index.now.held q in
-    let claims : Held = λ q. get key_order c.args.claims.now.held q in
-    let new : Held = λ q. get key_order c.put.new.self.held q in
+    let old : Held = λ q. held_in c.args.index.now q in
+    let claims : Held = λ q. held_in c.args.claims.now q in
+    let new : Held = λ q. held_in c.put.new.self q in
     let row : TableRow = c.index-given-place.result in
     let key : RowKey = c.in_ok-key.key in
     let rise : RisesFrom 0 (rows_now slots) = rows_rise 0 slots (λ i below. omega arith) c.tell_order.ensures.order.rising in

@@ -1,17 +1,16 @@
-use Rattle.std.proofs.Common.{rules, ◌≡◌, ◌∙◌, ◌==◌, ap, sym, subst, List, length, true, false, map, Option}
-use Rattle.std.specs.BTreeMap.{get}
-use Rattle.sql_model.specs.Changes.{KeyClash, clash_by, clash_after}
-use Rattle.sql_model.specs.KeyOrder.{key_order}
+use Rattle.std.proofs.Common.{rules, ◌≡◌, ◌==◌, ap, sym, subst, List, length, true, false, map, Option}
+use Rattle.sql_model.specs.Changes.{KeyClash}
 use Rattle.table_store.specs.Types.{TableRow}
 use Rattle.table_store.specs.Claims.{both_stop}
 use Rattle.table_store.specs.GivenKeys.{with_claims}
 use Rattle.table_store.specs.Histories.{rows_now}
+use Rattle.table_store.specs.IndexView.{held_in}
 use Rattle.table_store.specs.KeyIndex.{Held, AreHeld, AreIndexed}
 use Rattle.table_store.specs.Stops.{replaced_by, StopsAs}
 use Rattle.table_store.specs.declared.index.Index.{Index}
 use Rattle.table_store.proofs.ClaimLaws.{keyed_held, keyed_clash, unkeyed_clash}
 use Rattle.table_store.proofs.IndexChangeLaws.{no_claims}
-use Rattle.table_store.proofs.IndexLaws.{get_alike, indexed_by, indexed_none}
+use Rattle.table_store.proofs.IndexLaws.{index_alike, indexed_by, indexed_none}
 use Rattle.table_store.proofs.KeptKeyLaws.{still_indexed, none_clash}
 use Rattle.table_store.proofs.RekeyLaws.{if_ok}
 use Rattle.table_store.proofs.rekey.claims_of.Goals as goal
@@ -19,7 +18,7 @@ use Rattle.table_store.proofs.rekey.claims_of.Goals as goal
 pub returns-then-is_empty-clause-ok : goal.returns-then-is_empty-clause-ok
 returns-then-is_empty-clause-ok c =
     let none : (length c.args.places.now == 0) ≡ true = search rules in
-    indexed_none c.args.places.now (with_claims (λ key. get key_order c.new.result.held key) (λ key. get key_order c.args.index.now.held key)) (map (replaced_by c.args.given.now) (rows_now c.args.stored.now.slots)) none
+    indexed_none c.args.places.now (with_claims (λ key. held_in c.new.result key) (λ key. held_in c.args.index.now key)) (map (replaced_by c.args.given.now) (rows_now c.args.stored.now.slots)) none
 
 pub returns-then-is_empty-clause-stop : goal.returns-then-is_empty-clause-stop
 returns-then-is_empty-clause-stop c =
@@ -28,29 +27,29 @@ returns-then-is_empty-clause-stop c =
 
 pub returns-then-keep-clause-ok : goal.returns-then-keep-clause-ok
 returns-then-keep-clause-ok c =
-    let held : Held = λ key. get key_order c.args.index.now.held key in
+    let held : Held = λ key. held_in c.args.index.now key in
     let stored = c.args.stored.now in
-    no_claims c.args.places.now (λ key. get key_order c.new-then-keep.result.held key) held c.new-then-keep.ensures (map (replaced_by c.args.given.now) (rows_now stored.slots))
-    (still_indexed c.args.given.now held (get_alike c.args.index.now.held) stored.slots stored.next c.tell_order.ensures.order c.args.places.now (c.in_ok-keep.ensures c.if-keep.true) c.requires.indexed)
+    no_claims c.args.places.now (λ key. held_in c.new-then-keep.result key) held c.new-then-keep.ensures (map (replaced_by c.args.given.now) (rows_now stored.slots))
+    (still_indexed c.args.given.now held (index_alike c.args.index.now) stored.slots stored.next c.tell_order.ensures.order c.args.places.now (c.in_ok-keep.ensures c.if-keep.true) c.requires.indexed)
 
 pub returns-then-keep-clause-stop : goal.returns-then-keep-clause-stop
 returns-then-keep-clause-stop c =
-    let held : Held = λ key. get key_order c.args.index.now.held key in
+    let held : Held = λ key. held_in c.args.index.now key in
     let stored = c.args.stored.now in
     ap (both_stop c.args.places.now)
-    (none_clash c.args.given.now held (get_alike c.args.index.now.held) stored.slots stored.next c.tell_order.ensures.order c.args.places.now (c.in_ok-keep.ensures c.if-keep.true) c.requires.indexed)
+    (none_clash c.args.given.now held (index_alike c.args.index.now) stored.slots stored.next c.tell_order.ensures.order c.args.places.now (c.in_ok-keep.ensures c.if-keep.true) c.requires.indexed)
 
 pub claim_keys-requires-clause-held : goal.claim_keys-requires-clause-held
 claim_keys-requires-clause-held c =
-    keyed_held c.args.places.now (λ q. get key_order c.args.index.now.held q) (rows_now c.args.stored.now.slots) (search rules) c.requires.indexed
+    keyed_held c.args.places.now (λ q. held_in c.args.index.now q) (rows_now c.args.stored.now.slots) (search rules) c.requires.indexed
 
 pub returns-clause-ok : goal.returns-clause-ok
 returns-clause-ok c =
     let places = c.args.places.now in
-    let old : Held = λ key. get key_order c.args.index.now.held key in
+    let old : Held = λ key. held_in c.args.index.now key in
     let rows : List TableRow = map (replaced_by c.args.given.now) (rows_now c.args.stored.now.slots) in
-    if_ok (λ (claims : Index). AreHeld places (with_claims (λ key. get key_order claims.held key) old) rows) (λ (claims : Index). AreIndexed places (with_claims (λ key. get key_order claims.held key) old) rows) c.claim_keys.result
-    (λ claims are. indexed_by places (with_claims (λ key. get key_order claims.held key) old) rows are) c.claim_keys.ensures.ok
+    if_ok (λ (claims : Index). AreHeld places (with_claims (λ key. held_in claims key) old) rows) (λ (claims : Index). AreIndexed places (with_claims (λ key. held_in claims key) old) rows) c.claim_keys.result
+    (λ claims are. indexed_by places (with_claims (λ key. held_in claims key) old) rows are) c.claim_keys.ensures.ok
 
 pub returns-clause-stop : goal.returns-clause-stop
 returns-clause-stop c =

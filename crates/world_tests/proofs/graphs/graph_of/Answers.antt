@@ -1,4 +1,4 @@
-use Rattle.world_tests.proofs.Traces.{valid_trace}
+use Rattle.ldv_top.proofs.Traces.{valid_trace}
 use Rattle.world_tests.proofs.graphs.graph_of.Goals as goal
 
 pub of_events-requires : goal.of_events-requires

@@ -5,7 +5,7 @@ use Rattle.run_model.specs.SqlDatabase.{lists_of, sql_base}
 use Rattle.sql_engine.proofs.AskLaws.{formed_after, never_kept, seen_gives, seen_lists}
 use Rattle.sql_engine.specs.Asking.{database}
 use Rattle.sql_engine.specs.Types.{Reply}
-use Rattle.sql_parse.specs.Texts.{statement_of}
+use Rattle.sql_model.specs.Texts.{statement_of}
 use Rattle.sql_engine.proofs.engine.EngineDatabase.ask.Goals as goal
 
 pub invariant_of-self-then-not-KEEPS : goal.invariant_of-self-then-not-KEEPS

@@ -1,17 +1,18 @@
-use Rattle.std.proofs.Common.{rules, ◌≡◌, ◌∙◌, Some}
 use Rattle.std.specs.BTreeMap.{get}
+use Rattle.std.specs.Ordering.{int_cmp}
 use Rattle.sql_model.specs.KeyOrder.{key_order}
 use Rattle.table_store.specs.KeyIndex.{Held}
-use Rattle.table_store.proofs.IndexChangeLaws.{taken_over, still_some}
+use Rattle.table_store.proofs.IndexViewLaws.{Ints, taken_both}
 use Rattle.table_store.proofs.index.Index.set_all.Goals as goal
 
-pub loop-key-preserved : goal.loop-key-preserved
-loop-key-preserved c =
-    let left : Held = λ q. get key_order c.loop-key.left q in
-    let rest : Held = λ q. get key_order c.pop_first.new.self q in
-    let old : Held = λ q. get key_order c.loop-key.self.held q in
-    let new : Held = λ q. get key_order c.set.new.self.held q in
-    let here : left c.in-Some.key ≡ Some c.in-Some.number = c.in-Some.ensures.value in (
-      λ q. taken_over left rest old new c.in-Some.key c.in-Some.number here c.in-Some.ensures.updates.0 c.set.ensures q ∙ c.loop-key.invariant.0 q,
-      still_some left rest old new c.in-Some.key c.in-Some.number here c.in-Some.ensures.updates.0 c.set.ensures c.loop-key.invariant.1,
-    )
+pub returns : goal.returns
+returns c =
+    let index = c.args.self.now in
+    let other = c.args.other in
+    let left : Ints = λ n. get int_cmp other.ints.held n in
+    let old : Ints = λ n. get int_cmp index.ints.held n in
+    let new : Ints = λ n. get int_cmp c.set_all.new.self.held n in
+    let others : Held = λ q. get key_order other.others.held q in
+    let held : Held = λ q. get key_order index.others.held q in
+    let more : Held = λ q. get key_order c.set_all-2.new.self.held q in
+    taken_both left old new others held more c.set_all.ensures c.set_all-2.ensures c.requires

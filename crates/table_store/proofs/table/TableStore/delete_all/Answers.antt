@@ -1,8 +1,7 @@
 use Rattle.std.proofs.Common.{◌≡◌, ◌∙◌, ◌<◌, ap, sym, subst, ℕ, List, map}
-use Rattle.std.specs.BTreeMap.{get}
 use Rattle.row_version.specs.History.{Change}
-use Rattle.sql_model.specs.KeyOrder.{key_order}
 use Rattle.table_store.specs.Histories.{RowHistory, NextSince, TableHistory, changed_by, last_since, last_next, noted, rows_now, dropped, removed}
+use Rattle.table_store.specs.IndexView.{held_in}
 use Rattle.table_store.specs.KeyIndex.{Held, AreIndexed}
 use Rattle.table_store.specs.Nexts.{nexts_of}
 use Rattle.table_store.specs.RowChains.{RowsHistory}
@@ -37,7 +36,7 @@ invariant_of-self-2 c =
     let a = c.self.inside in
     let time = c.args.time in
     let numbers = c.args.numbers.now in
-    let held : Held = λ key. get key_order a.index.held key in
+    let held : Held = λ key. held_in a.index key in
     let nexts = nexts_of a.nexts.items in
     let given = c.in_ok-given.given.items in
     let is : given ≡ map removal numbers = c.in_ok-given.ensures ∙ ap (map removal) c.items.ensures in

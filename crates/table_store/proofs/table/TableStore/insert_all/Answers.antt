@@ -1,16 +1,15 @@
-use Rattle.std.proofs.Common.{◌≡◌, ◌∙◌, ◌++◌, ◌+◌, ◌<◌, ◌≤◌, ap, sym, subst, ℕ, List, length, map, true, false, Some, None, Option, arith}
-use Rattle.std.specs.Prelude.{zip, nat_lt, Err}
+use Rattle.std.proofs.Common.{◌≡◌, ◌∙◌, ◌++◌, ◌+◌, ◌<◌, ◌≤◌, ap, sym, subst, ℕ, List, length, map, true, Some, None, Option, arith}
+use Rattle.std.specs.Prelude.{zip, nat_lt, Err, ◌^◌}
 use Rattle.std.proofs.lemmas.Bool.{ltb-false}
-use Rattle.std.specs.BTreeMap.{get}
 use Rattle.std.specs.List.{list_any, list_all}
 use Rattle.std.specs.Option.{option_or}
 use Rattle.ldv_value.specs.Limits.{max_next}
 use Rattle.sql_model.specs.Changes.{numbered, refuses_null, clash_by}
-use Rattle.sql_model.specs.KeyOrder.{key_order}
 use Rattle.table_store.specs.Types.{Value, TableRow}
 use Rattle.table_store.specs.Claims.{claim_stop}
 use Rattle.table_store.specs.Grid.{AreNumberedFrom, are_of_kinds, next_after}
 use Rattle.table_store.specs.Histories.{NextSince, TableHistory, added, inserted, last_since, noted, rows_now, table_now}
+use Rattle.table_store.specs.IndexView.{held_in}
 use Rattle.table_store.specs.KeyIndex.{Held, AreIndexed}
 use Rattle.table_store.specs.Nexts.{nexts_of}
 use Rattle.table_store.specs.RowChains.{RowsHistory}
@@ -20,7 +19,7 @@ use Rattle.table_store.specs.TableView.{IsStored}
 use Rattle.table_store.specs.declared.stop.StoreStop.{StoreStop}
 use Rattle.table_store.specs.declared.stop.StoreStop.TheVariants.{NotNull, Full}
 use Rattle.table_store.proofs.ClaimLaws.{stop_first}
-use Rattle.table_store.proofs.IndexLaws.{get_alike}
+use Rattle.table_store.proofs.IndexLaws.{index_alike}
 use Rattle.table_store.proofs.InsertLaws.{null_stop, insert_stop_by, numbered_order, numbered_len, shapes_fit}
 use Rattle.table_store.proofs.TableChangeLaws.{stored_inserted, inserted_by}
 use Rattle.table_store.proofs.table.TableStore.insert_all.Goals as goal
@@ -42,10 +41,10 @@ returns-in-Err-clause-stop c =
     let made : TableHistory = record { name = a.name; schema = a.schema; slots = a.rows.slots; nexts = nexts_of a.nexts.items } in
     let same : list_any (λ values. list_any refuses_null (zip made.schema.columns values)) rows ≡ c.any_lacks_value.result =
     (λ j. list_any (λ values. list_any refuses_null (zip (sym c.items.ensures j) values)) (sym c.items-2.ensures j)) ∙ sym c.any_lacks_value.ensures in
-    let held : Held = λ q. get key_order a.index.held q in
+    let held : Held = λ q. held_in a.index q in
     let order : AreInOrder made.slots next = subst (λ (n : ℕ). AreInOrder a.rows.slots n) (sym c.next-next.ensures) c.tell_order.ensures.order in
     let whole : insert_stop rows (table_now made) ≡ option_or (claim_stop a.schema.key next (clash_by a.schema.key (rows_now a.rows.slots ++ numbered next c.items-3.result.now))) (stop_if (nat_lt max_next (next + length rows)) Full) =
-    insert_stop_by rows made next c.items-3.result.now held (get_alike a.index.held) order c.self.invariant.indexed (c.next-next.ensures ∙ sym c.self.invariant.next) c.items-3.ensures (same ∙ c.if-any_lacks_value.false) in
+    insert_stop_by rows made next c.items-3.result.now held (index_alike a.index) order c.self.invariant.indexed (c.next-next.ensures ∙ sym c.self.invariant.next) c.items-3.ensures (same ∙ c.if-any_lacks_value.false) in
     subst (λ (t : TableHistory). StopsAs {X = ℕ} (insert_stop rows (table_now t)) (Err c.in-Err.stop)) c.self.view_is
     (subst (λ (o : Option StoreStop). StopsAs {X = ℕ} o (Err c.in-Err.stop)) (sym whole)
     (stop_first (Unit {0}) ℕ (claim_stop a.schema.key next (clash_by a.schema.key (rows_now a.rows.slots ++ numbered next c.items-3.result.now))) (stop_if (nat_lt max_next (next + length rows)) Full) c.in-Err.stop c.in-Err.ensures.stop))
@@ -58,10 +57,10 @@ returns-then-is_full-clause-stop c =
     let made : TableHistory = record { name = a.name; schema = a.schema; slots = a.rows.slots; nexts = nexts_of a.nexts.items } in
     let same : list_any (λ values. list_any refuses_null (zip made.schema.columns values)) rows ≡ c.any_lacks_value.result =
     (λ j. list_any (λ values. list_any refuses_null (zip (sym c.items.ensures j) values)) (sym c.items-2.ensures j)) ∙ sym c.any_lacks_value.ensures in
-    let held : Held = λ q. get key_order a.index.held q in
+    let held : Held = λ q. held_in a.index q in
     let order : AreInOrder made.slots next = subst (λ (n : ℕ). AreInOrder a.rows.slots n) (sym c.next-next.ensures) c.tell_order.ensures.order in
     let whole : insert_stop rows (table_now made) ≡ option_or (claim_stop a.schema.key next (clash_by a.schema.key (rows_now a.rows.slots ++ numbered next c.items-3.result.now))) (stop_if (nat_lt max_next (next + length rows)) Full) =
-    insert_stop_by rows made next c.items-3.result.now held (get_alike a.index.held) order c.self.invariant.indexed (c.next-next.ensures ∙ sym c.self.invariant.next) c.items-3.ensures (same ∙ c.if-any_lacks_value.false) in
+    insert_stop_by rows made next c.items-3.result.now held (index_alike a.index) order c.self.invariant.indexed (c.next-next.ensures ∙ sym c.self.invariant.next) c.items-3.ensures (same ∙ c.if-any_lacks_value.false) in
     let full : nat_lt max_next (next + length rows) ≡ c.is_full.result = ap (λ (n : ℕ). nat_lt max_next (next + n)) (sym c.len.ensures) ∙ sym c.is_full.ensures in
     subst (λ (t : TableHistory). insert_stop rows (table_now t) ≡ Some Full) c.self.view_is
     (whole ∙ ap (λ (o : Option StoreStop). option_or o (stop_if (nat_lt max_next (next + length rows)) Full)) c.in-Ok.ensures.stop ∙ ap (λ b. stop_if b Full) (full ∙ c.if-is_full.true))
@@ -74,10 +73,10 @@ returns-clause-stop c =
     let made : TableHistory = record { name = a.name; schema = a.schema; slots = a.rows.slots; nexts = nexts_of a.nexts.items } in
     let same : list_any (λ values. list_any refuses_null (zip made.schema.columns values)) rows ≡ c.any_lacks_value.result =
     (λ j. list_any (λ values. list_any refuses_null (zip (sym c.items.ensures j) values)) (sym c.items-2.ensures j)) ∙ sym c.any_lacks_value.ensures in
-    let held : Held = λ q. get key_order a.index.held q in
+    let held : Held = λ q. held_in a.index q in
     let order : AreInOrder made.slots next = subst (λ (n : ℕ). AreInOrder a.rows.slots n) (sym c.next-next.ensures) c.tell_order.ensures.order in
     let whole : insert_stop rows (table_now made) ≡ option_or (claim_stop a.schema.key next (clash_by a.schema.key (rows_now a.rows.slots ++ numbered next c.items-3.result.now))) (stop_if (nat_lt max_next (next + length rows)) Full) =
-    insert_stop_by rows made next c.items-3.result.now held (get_alike a.index.held) order c.self.invariant.indexed (c.next-next.ensures ∙ sym c.self.invariant.next) c.items-3.ensures (same ∙ c.if-any_lacks_value.false) in
+    insert_stop_by rows made next c.items-3.result.now held (index_alike a.index) order c.self.invariant.indexed (c.next-next.ensures ∙ sym c.self.invariant.next) c.items-3.ensures (same ∙ c.if-any_lacks_value.false) in
     let full : nat_lt max_next (next + length rows) ≡ c.is_full.result = ap (λ (n : ℕ). nat_lt max_next (next + n)) (sym c.len.ensures) ∙ sym c.is_full.ensures in
     subst (λ (t : TableHistory). insert_stop rows (table_now t) ≡ None) c.self.view_is
     (whole ∙ ap (λ (o : Option StoreStop). option_or o (stop_if (nat_lt max_next (next + length rows)) Full)) c.in-Ok.ensures.stop ∙ ap (λ b. stop_if b Full) (full ∙ c.if-is_full.false))
@@ -117,12 +116,15 @@ invariant_of-self-2 c =
     let time = c.args.time in
     let nexts = nexts_of a.nexts.items in
     let more : List TableRow = numbered a.rows.next rows in
-    let old : Held = λ q. get key_order a.index.held q in
-    let new : Held = λ q. get key_order c.claim.new.index.held q in
+    let old : Held = λ q. held_in a.index q in
+    let new : Held = λ q. held_in c.claim.new.index q in
     let made_is : c.in_ok-made.made ≡ numbered a.rows.next rows = c.in_ok-made.ensures ∙ ap (λ (n : ℕ). numbered n rows) c.next-next.ensures in
     let later : last_since nexts < time = subst (λ (t : TableHistory). last_since t.nexts < time) (sym c.self.view_is) c.requires.later in
     let claimed : rows_now a.rows.slots ++ numbered next c.items-3.result.now ≡ rows_now a.rows.slots ++ more = λ j. rows_now a.rows.slots ++ numbered (c.next-next.ensures j) (c.items-3.ensures j) in
-    let indexed : AreIndexed a.schema.key new (rows_now a.rows.slots ++ more) = subst (λ (l : List TableRow). AreIndexed a.schema.key new l) claimed c.in-Ok.ensures.ok in
+    let full : nat_lt max_next (next + length rows) ≡ c.is_full.result = ap (λ (n : ℕ). nat_lt max_next (next + n)) (sym c.len.ensures) ∙ sym c.is_full.ensures in
+    let few : next + length rows ≤ max_next = ltb-false max_next (next + length rows) (full ∙ c.if-is_full.false) in
+    let fits : next + length c.items-3.result.now ≤ 2 ^ 32 = omega (arith, few, ap length c.items-3.ensures) in
+    let indexed : AreIndexed a.schema.key new (rows_now a.rows.slots ++ more) = subst (λ (l : List TableRow). AreIndexed a.schema.key new l) claimed (c.in-Ok.ensures.ok fits) in
     let rows_are : c.add_rows.new.rows ≡ record a.rows { slots = a.rows.slots ++ map (added time) more; next = next_after a.rows.next more } =
     c.in_ok-add_rows.ensures.ok ∙ ap (λ (l : List TableRow). record a.rows { slots = a.rows.slots ++ map (added time) l; next = next_after a.rows.next l }) made_is in
     let nexts_are : nexts_of c.add_rows.new.nexts.items ≡ noted time (next_after a.rows.next more) nexts =

@@ -1,8 +1,7 @@
 use Rattle.std.proofs.Common.{◌≡◌, ◌∙◌, ◌++◌, ◌∷◌, [], ap, refl, subst, sym, Bool, List, map, arith}
-use Rattle.std.specs.BTreeMap.{get}
-use Rattle.sql_model.specs.KeyOrder.{key_order}
 use Rattle.table_store.specs.Types.{Schema, TableRow}
 use Rattle.table_store.specs.Histories.{NextSince, added}
+use Rattle.table_store.specs.IndexView.{held_in}
 use Rattle.table_store.specs.KeyIndex.{Held, AreIndexed}
 use Rattle.table_store.specs.Nexts.{nexts_of}
 use Rattle.table_store.specs.RowChains.{RowsHistory}
@@ -14,7 +13,7 @@ pub invariant_of-result : goal.invariant_of-result
 invariant_of-result c =
     let table = c.args.table in
     let schema : Schema = record { columns = table.schema.columns; key = table.schema.key } in
-    let held : Held = λ key. get key_order c.in_ok-index.index.held key in
+    let held : Held = λ key. held_in c.in_ok-index.index key in
     let rows : RowsHistory = record { slots = map (added 0) table.rows; kinds = kinds_in table.schema.columns; next = table.next } in
     let made : c.set_next.new.self ≡ rows =
     c.set_next.ensures ∙ ap (λ (r : RowsHistory). record r { next = table.next }) c.in_ok-push_all.ensures.ok

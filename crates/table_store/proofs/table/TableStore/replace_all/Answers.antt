@@ -1,14 +1,13 @@
 use Rattle.std.proofs.Common.{rules, ◌≡◌, ◌∙◌, ◌==◌, ◌<◌, ap, sym, subst, ℕ, List, Bool, map, true, false, None, Option, refl}
 use Rattle.std.specs.Prelude.{Err}
-use Rattle.std.specs.BTreeMap.{get}
 use Rattle.std.specs.List.{list_all, list_any}
 use Rattle.row_version.specs.History.{Change}
 use Rattle.sql_model.specs.Changes.{has_null, clash_by}
-use Rattle.sql_model.specs.KeyOrder.{key_order}
 use Rattle.table_store.specs.Types.{TableRow}
 use Rattle.table_store.specs.Claims.{both_stop}
 use Rattle.table_store.specs.GivenKeys.{with_claims}
 use Rattle.table_store.specs.Histories.{RowHistory, NextSince, TableHistory, changed_by, last_since, last_next, noted, replaced, rewritten, rows_now, table_now}
+use Rattle.table_store.specs.IndexView.{held_in}
 use Rattle.table_store.specs.KeyIndex.{Held, AreIndexed}
 use Rattle.table_store.specs.Nexts.{nexts_of}
 use Rattle.table_store.specs.RowChains.{RowsHistory}
@@ -74,37 +73,37 @@ returns-clause-stop c =
 pub invariant_of-self : goal.invariant_of-self
 invariant_of-self c =
     let a = c.self.inside in
-    stored_wider a.schema a.rows (λ key. get key_order a.index.held key) (λ key. get key_order c.open_all.new.self.held key) (nexts_of a.nexts.items) c.open_all.ensures.kept c.self.invariant
+    stored_wider a.schema a.rows (λ key. held_in a.index key) (λ key. held_in c.open_all.new.self key) (nexts_of a.nexts.items) c.open_all.ensures.kept c.self.invariant
 
 pub invariant_of-self-in_err-given : goal.invariant_of-self-in_err-given
 invariant_of-self-in_err-given c =
     let a = c.self.inside in
-    stored_wider a.schema a.rows (λ key. get key_order a.index.held key) (λ key. get key_order c.open_all.new.self.held key) (nexts_of a.nexts.items) c.open_all.ensures.kept c.self.invariant
+    stored_wider a.schema a.rows (λ key. held_in a.index key) (λ key. held_in c.open_all.new.self key) (nexts_of a.nexts.items) c.open_all.ensures.kept c.self.invariant
 
 pub invariant_of-self-in_err-change_rows : goal.invariant_of-self-in_err-change_rows
 invariant_of-self-in_err-change_rows c =
     let a = c.self.inside in
-    let opened : Held = λ key. get key_order c.open_all.new.self.held key in
+    let opened : Held = λ key. held_in c.open_all.new.self key in
     let nexts : nexts_of a.nexts.items ≡ nexts_of c.change_rows.new.nexts.items = ap nexts_of (sym c.in_err-change_rows.ensures.nexts_err) in
     subst (λ (r : RowsHistory). IsStored a.schema r opened (nexts_of c.change_rows.new.nexts.items)) (sym c.in_err-change_rows.ensures.err)
     (subst (λ (n : List NextSince). IsStored a.schema a.rows opened n) nexts
-    (stored_wider a.schema a.rows (λ key. get key_order a.index.held key) opened (nexts_of a.nexts.items) c.open_all.ensures.kept c.self.invariant))
+    (stored_wider a.schema a.rows (λ key. held_in a.index key) opened (nexts_of a.nexts.items) c.open_all.ensures.kept c.self.invariant))
 
 pub invariant_of-self-2 : goal.invariant_of-self-2
 invariant_of-self-2 c =
     let a = c.self.inside in
     let time = c.args.time in
     let rows = c.args.rows in
-    let old : Held = λ key. get key_order a.index.held key in
-    let held : Held = λ key. get key_order c.set_all.new.self.held key in
+    let old : Held = λ key. held_in a.index key in
+    let held : Held = λ key. held_in c.set_all.new.self key in
     let nexts = nexts_of a.nexts.items in
     let made : TableHistory = record { name = a.name; schema = a.schema; slots = a.rows.slots; nexts = nexts } in
     let given = c.in_ok-given.given.items in
     let later : last_since nexts < time = subst (λ (t : TableHistory). last_since t.nexts < time) (sym c.self.view_is) c.requires.later in
     let stood = subst (λ (t : TableHistory). all_stood rows (table_now t) ≡ true) (sym c.self.view_is) c.requires.stand in
     let stand : GivenStand rows a.rows.slots = given_stand time rows (table_now made) a.rows.slots a.rows.next refl c.tell_order.ensures.order stood in
-    let claims : Held = λ key. get key_order c.in-Ok.claims.held key in
-    let opened : Held = λ key. get key_order c.open_all.new.self.held key in
+    let claims : Held = λ key. held_in c.in-Ok.claims key in
+    let opened : Held = λ key. held_in c.open_all.new.self key in
     let after : List TableRow = map (replaced_by c.items-3.result.now) (rows_now a.rows.slots) in
     let used : AreIndexed a.schema.key held after = indexed_same a.schema.key (with_claims claims opened) held (λ q. sym (c.set_all.ensures q)) after (claims_kept a.schema.key claims old opened c.open_all.ensures.kept after c.in-Ok.ensures.ok) in
     let keys = subst (λ (l : List TableRow). AreIndexed a.schema.key held (map (replaced_by l) (rows_now a.rows.slots))) c.items-3.ensures used in

@@ -1,0 +1,7 @@
+#!/bin/sh
+# Gives the program inputs made by mutation (hostile.py says which), and counts the answers that aren't as they have to be.
+#
+#     bench/hostile.sh [--count N] [--seed S] [--jobs J] ...
+here=$(cd "$(dirname "$0")" && pwd)
+. "$here/common.sh"
+python3 "$here/hostile.py" "$ldv" --keep "$here/../hostile_inputs" "$@"

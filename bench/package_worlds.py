@@ -1,0 +1,113 @@
+#!/usr/bin/env python3
+"""Makes the worlds of package.sh and inspect.sh, on standard output.
+
+usage: package_worlds.py NAME SIZE
+
+Worlds of one table with SIZE rows, each with an id, a number below 100 and a text:
+
+    pick        one SELECT, by an equality that picks one row of a hundred
+    change      three processes that take turns: one inserts 100 rows, one by one, one updates a hundredth of the rows
+                and deletes another, one writes counts of groups to a file
+    groups      one SELECT with sums over all rows, in 100 groups
+
+Worlds whose run has about SIZE events. The last event is that `out` is opened for writing:
+
+    files       each turn reads the file that the turn before made, and makes another
+    one         each turn tests the same file
+    rows        each turn updates one of 1,000 rows
+"""
+import json
+import sys
+
+PICK = {"main": 'sql q "SELECT * FROM t WHERE part = 7"\n'}
+GROUPS = {"main": 'sql q "SELECT part, COUNT(*), SUM(id) FROM t GROUP BY part"\n'}
+
+LOAD = """let i = {size}
+next:
+sql q "INSERT INTO t VALUES (?, 50, ?)" i "new"
+let i = i + 1
+if i < {last} goto next
+"""
+FIX = """sql q "UPDATE t SET part = part + 1 WHERE part = 7"
+sql q "DELETE FROM t WHERE part = 9"
+"""
+REPORT = """open f w "report.txt" else end
+sql q "SELECT part, COUNT(*) FROM t WHERE part < 3 GROUP BY part HAVING COUNT(*) > 5"
+row:
+fetch q part count else end
+write f part " " count
+goto row
+end:
+"""
+CHILDREN = ("load", "fix", "report")
+
+FILES = """let n = 0
+let q = "main"
+next:
+let p = "f" ++ n
+open f r q else end
+open g w p else end
+let q = p
+let n = n + 1
+if n < {turns} goto next
+open f r q else end
+open g w "out" else end
+end:
+"""
+ONE = """let n = 0
+next:
+exists y "main"
+let n = n + 1
+if n < {turns} goto next
+open g w "out" else end
+end:
+"""
+ROWS = """let n = 0
+let k = 0
+next:
+sql q "UPDATE t SET v = v + 1 WHERE k = ?" k
+let k = k + 1
+if k < 1000 goto same
+let k = 0
+same:
+let n = n + 1
+if n < {turns} goto next
+open g w "out" else end
+end:
+"""
+# The events of a turn, and beside the turns: Started, Ended, and the last.
+EVENTS = {"files": (2, 4), "one": (1, 3), "rows": (1, 3)}
+
+
+def change(size):
+    files = {"main": "".join(f'spawn {child} "{child}" else end\n' for child in CHILDREN)
+                     + "".join(f"wait s {child}\n" for child in CHILDREN) + "end:\n"}
+    texts = {"load": LOAD.format(size=size, last=size + 100), "fix": FIX, "report": REPORT}
+    return {**files, **texts}
+
+
+def parts(size):
+    return {"columns": [["id", "INT NOT NULL"], ["part", "INT"], ["name", "TEXT"]], "key": ["id"],
+            "rows": [[n, n % 100, f"name {n}"] for n in range(size)]}
+
+
+def counters():
+    return {"columns": [["k", "INT NOT NULL"], ["v", "INT"]], "key": ["k"], "rows": [[n, 0] for n in range(1000)]}
+
+
+def made(name, size):
+    """The files and the tables of a world."""
+    if name in EVENTS:
+        each, beside = EVENTS[name]
+        text = {"files": FILES, "one": ONE, "rows": ROWS}[name].format(turns=max(1, (size - beside) // each))
+        return {"main": text}, {"t": counters()} if name == "rows" else {}
+    return {"pick": PICK, "groups": GROUPS}.get(name) or change(size), {"t": parts(size)}
+
+
+def main():
+    name, size = sys.argv[1], int(sys.argv[2])
+    files, tables = made(name, size)
+    json.dump({"start": ["main"], "files": files, "tables": tables}, sys.stdout, separators=(",", ":"))
+
+
+main()

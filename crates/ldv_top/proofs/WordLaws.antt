@@ -1,0 +1,20 @@
+-- Words that are too many for a command.
+use Rattle.std.proofs.Common.{◌≡◌, ℕ, ◌≤◌, List, [], ◌∷◌, length, map, refl, arith}
+use Rattle.std.specs.Prelude.{None}
+use Rattle.ldv_top.specs.WordsOfReports.{report_of}
+use Rattle.ldv_top.specs.WordsOfTables.{table_of}
+
+pub report_many : {X : Type 0} (text : X → List ℕ) (words : List X) → 4 ≤ length words → report_of (map text words) ≡ None
+report_many text [] many = refl
+report_many text (a ∷ []) many = absurd (omega (arith, many))
+report_many text (a ∷ b ∷ []) many = absurd (omega (arith, many))
+report_many text (a ∷ b ∷ c ∷ []) many = absurd (omega (arith, many))
+report_many text (a ∷ b ∷ c ∷ d ∷ more) many = refl
+
+pub table_many : {X : Type 0} (text : X → List ℕ) (words : List X) → 5 ≤ length words → table_of (map text words) ≡ None
+table_many text [] many = refl
+table_many text (a ∷ []) many = refl
+table_many text (a ∷ b ∷ []) many = absurd (omega (arith, many))
+table_many text (a ∷ b ∷ c ∷ []) many = refl
+table_many text (a ∷ b ∷ c ∷ d ∷ []) many = absurd (omega (arith, many))
+table_many text (a ∷ b ∷ c ∷ d ∷ e ∷ more) many = refl

@@ -1,0 +1,37 @@
+-- What is due for `audit`: whether the input is the included package of its own world's run.
+use Rattle.std.specs.Prelude.{ℕ, List, ◌++◌, codes, if◌then◌else◌}
+use Rattle.std.specs.Fmt.{decimal}
+use Rattle.run_model.specs.declared.outcome.Outcome.{Outcome}
+use Rattle.run_model.specs.declared.package.Mode.{Mode}
+use Rattle.run_model.specs.declared.package.Mode.TheVariants.{Included, Excluded}
+use Rattle.run_model.specs.declared.package.Package.{Package}
+use Rattle.run_model.specs.OutcomeText.{line}
+use Rattle.run_model.specs.Package.{own_world}
+use Rattle.replay_db.specs.Auditing.{verdict_on, own_spelling}
+use Rattle.replay_db.specs.declared.soundness.Verdict.{Verdict}
+use Rattle.replay_db.specs.declared.soundness.Verdict.TheVariants.{Sound, Unsound}
+use Rattle.ldv_top.specs.declared.exit.Exit.TheVariants.{NoSuch, PackageTooLong}
+use Rattle.ldv_top.specs.DueParts.{Due, refused, done, due_of_run, due_of_package, is_too_long}
+
+-- `sound`, or `unsound` and the first place at which the bytes differ
+abbrev pub verdict_text : Verdict → List ℕ
+verdict_text Sound = line (codes "sound")
+verdict_text (Unsound at) = line (codes "unsound " ++ decimal at)
+
+-- the run of the own world has to end, and then its package has to be short enough
+abbrev pub verdict_due : List ℕ → List ℕ → Outcome → Due
+verdict_due input due outcome =
+    if is_too_long due then refused PackageTooLong else done (verdict_text (verdict_on input due))
+
+abbrev pub included_audit : ℕ → List ℕ → Package → Due
+included_audit budget input p = due_of_run budget (own_world p) (verdict_due input (own_spelling budget p))
+
+abbrev pub audit_by_mode : Mode → ℕ → List ℕ → Package → Due
+audit_by_mode Included budget input p = included_audit budget input p
+audit_by_mode Excluded budget input p = refused NoSuch
+
+abbrev pub audited_package : ℕ → List ℕ → Package → Due
+audited_package budget input p = audit_by_mode p.mode budget input p
+
+abbrev pub due_audit : ℕ → List ℕ → Due
+due_audit budget input = due_of_package (audited_package budget input) input

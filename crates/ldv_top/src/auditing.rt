@@ -1,0 +1,90 @@
+//! `audit`: from a package to what is found of it.
+
+ghost use Rattle.std.specs.Prelude.{◌≡◌, ◌≤◌, length, IfOk};
+ghost use Rattle.ldv_value.specs.Limits.{input_limit, max_steps};
+ghost use Rattle.run_model.specs.Package.{own_world};
+ghost use Rattle.replay_db.specs.Runs.{CanRun};
+ghost use Rattle.replay_db.specs.declared.soundness.Verdict.TheVariants.{Unsound};
+ghost use Rattle.ldv_top.specs.Due.{response_due};
+ghost use Rattle.ldv_top.specs.DueOfAudits.{audited_package, due_audit, included_audit, verdict_text};
+
+use crate::response::Response;
+use ldv_value::{Bytes, append_number};
+use package_layout::{PackageStop, read_package};
+use replay_db::{AuditStop, Verdict, audit, package_law};
+use run_model::{Mode, Package};
+use std::alloc::{AllocError, Global};
+
+/// The response of `audit` to an input.
+pub(crate) fn audit_response(
+    alloc: Global,
+    budget: u32,
+    input: &Bytes,
+) -> Result<Response, AllocError>
+    requires short { length input.now ≤ input_limit }
+    requires bounded { budget ≤ max_steps }
+    ensures { IfOk result (λ response. response_due response ≡ due_audit budget input.now) }
+{
+    package_law();
+    match read_package(alloc, input.as_slice()) {
+        Ok(package) => audited_response(alloc, budget, input.as_slice(), &package),
+        Err(PackageStop::Damaged(kind)) => Ok(Response::Damaged(kind)),
+        Err(PackageStop::NoMemory) => Err(AllocError),
+    }
+}
+
+fn audited_response(
+    alloc: Global,
+    budget: u32,
+    input: &[u8],
+    package: &Package,
+) -> Result<Response, AllocError>
+    requires can_run { CanRun (own_world «package».now) }
+    requires bounded { budget ≤ max_steps }
+    ensures { IfOk result (λ response. response_due response
+        ≡ audited_package budget input.now «package».now) }
+{
+    match package.mode {
+        Mode::Excluded => Ok(Response::NoSuch),
+        Mode::Included => included_response(alloc, budget, input, package),
+    }
+}
+
+#[tactic(auto, using(crate::proofs::AuditResponses::audit_ends))]
+fn included_response(
+    alloc: Global,
+    budget: u32,
+    input: &[u8],
+    package: &Package,
+) -> Result<Response, AllocError>
+    requires can_run { CanRun (own_world «package».now) }
+    requires bounded { budget ≤ max_steps }
+    ensures { IfOk result (λ response. response_due response
+        ≡ included_audit budget input.now «package».now) }
+{
+    match audit(alloc, package, input, budget) {
+        Ok(verdict) => Ok(Response::Written(verdict_text(alloc, verdict)?)),
+        Err(AuditStop::NotEnded) => Ok(Response::NotEnded(budget)),
+        Err(AuditStop::TooLong) => Ok(Response::PackageTooLong),
+        Err(AuditStop::NoMemory) => Err(AllocError),
+    }
+}
+
+fn verdict_text(alloc: Global, verdict: Verdict) -> Result<Bytes, AllocError>
+    ensures { IfOk result (λ text. text ≡ verdict_text verdict) }
+{
+    match verdict {
+        Verdict::Sound => Bytes::of_slice(alloc, b"sound\n"),
+        Verdict::Unsound { at } => unsound_text(alloc, at),
+    }
+}
+
+fn unsound_text(alloc: Global, at: u64) -> Result<Bytes, AllocError>
+    ensures { IfOk result (λ text. text ≡ verdict_text (Unsound at)) }
+{
+    let mut text = Bytes::new(alloc);
+    text.extend(b"unsound ")?;
+    append_number(at, &mut text)?;
+    text.extend(b"\n")?;
+    Ok(text)
+}

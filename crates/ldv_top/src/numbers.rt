@@ -1,0 +1,53 @@
+//! Numbers among the words.
+
+ghost use Rattle.std.specs.Prelude.{◌≡◌, ◌≤◌, ◌*◌, ◌+◌, IfSome};
+ghost use Rattle.ldv_top.specs.WordNumbers.{number_within, positive_within, with_digit, with_digits};
+
+/// A number from 0 to the limit, decimal without sign and leading zeros.
+pub(crate) fn number_within(limit: u32, bytes: &[u8]) -> Option<u32>
+    ensures { result ≡ number_within limit bytes.now }
+{
+    if bytes == b"0".as_slice() {
+        Some(0)
+    } else {
+        positive_within(limit, bytes)
+    }
+}
+
+/// A number from 1 to the limit, decimal without sign and leading zeros.
+pub(crate) fn positive_within(limit: u32, bytes: &[u8]) -> Option<u32>
+    ensures number { result ≡ positive_within limit bytes.now }
+    ensures bounded { IfSome result (λ number. number ≤ limit) }
+{
+    match bytes {
+        [] => None,
+        [b'0', ..] => None,
+        _ => with_digits(limit, bytes),
+    }
+}
+
+fn with_digits(limit: u32, bytes: &[u8]) -> Option<u32>
+    ensures number { result ≡ with_digits limit 0 bytes.now }
+    ensures bounded { IfSome result (λ number. number ≤ limit) }
+{
+    let mut number: u32 = 0;
+    for byte in bytes {
+        number = with_digit(limit, number, *byte)?;
+    }
+    Some(number)
+}
+
+fn with_digit(limit: u32, number: u32, byte: u8) -> Option<u32>
+    ensures number { result ≡ with_digit limit number byte }
+    ensures bounded { IfSome result (λ next. next ≤ limit) }
+{
+    if byte < b'0' || b'9' < byte {
+        return None;
+    }
+    let next = number as u64 * 10 + (byte - b'0') as u64;
+    if next <= limit as u64 {
+        Some(next as u32)
+    } else {
+        None
+    }
+}

@@ -1,0 +1,52 @@
+-- What an audit finds sound.
+use Rattle.std.proofs.Common.{◌≡◌, ℕ, ◌≤◌, List, [], refl, sym, ap, ◌∙◌, subst, true, inl, inr}
+use Rattle.std.specs.List.{common_prefix_len}
+use Rattle.std.specs.Prelude.{bytes_eq, nat_eq, Some, None}
+use Rattle.std.proofs.lemmas.Bool.{cases_Bool}
+use Rattle.ldv_value.proofs.SameBytes.{bytes_eq-true, bytes_eq-itself}
+use Rattle.run_model.specs.Package.{package_of, own_world}
+use Rattle.run_model.specs.WorldRun.{ends_within, steps_by}
+use Rattle.package_layout.specs.Whole.{spelling}
+use Rattle.replay_db.specs.Auditing.{SoundLaw, RecordedSoundLaw, verdict_on}
+use Rattle.replay_db.specs.Laws.{SameRun}
+use Rattle.replay_db.specs.Types.{Included, Package, World}
+use Rattle.replay_db.specs.declared.soundness.Verdict.TheVariants.{Sound, Unsound}
+use Rattle.replay_db.proofs.BudgetLaw.{enough_package, enough_ends}
+use Rattle.replay_db.proofs.RecordedRuns.{package_is, package_none}
+use Rattle.replay_db.specs.Runs.{package_within}
+use Rattle.replay_db.proofs.WorldLaws.{replay_law}
+
+same_bytes : (bytes due : List ℕ) → verdict_on bytes due ≡ Sound → bytes ≡ due
+same_bytes bytes due sound = elim (cases_Bool (bytes_eq bytes due)) [
+  | inl same ↦ bytes_eq-true bytes due same
+  | inr other ↦
+      let never : verdict_on bytes due ≡ Unsound (common_prefix_len nat_eq bytes due) = rw other refl in
+      let clash : Unsound (common_prefix_len nat_eq bytes due) ≡ Sound = sym never ∙ sound in
+      absurd cc
+]
+
+is_sound : (bytes due : List ℕ) → bytes ≡ due → verdict_on bytes due ≡ Sound
+is_sound bytes due same = ap (verdict_on bytes) (sym same) ∙ rw (bytes_eq-itself bytes) refl
+
+pub sound_law : SoundLaw
+sound_law bytes due = (same_bytes bytes due, is_sound bytes due)
+
+-- what is recorded of a world is the package of a run that has ended
+pub own_recorded : (n : ℕ) (w : World) (p : Package) → package_within Included n w ≡ Some p
+    → (ends_within n w ≡ true) × (p ≡ package_of Included n w)
+own_recorded n w p is = elim (cases_Bool (ends_within n w)) [
+  | inr going ↦ let never : None ≡ Some p = sym (package_none Included n w going) ∙ is in absurd cc
+  | inl ended ↦ let both : Some p ≡ Some (package_of Included n w) = sym is ∙ package_is Included n w ended in (ended, cc)
+]
+
+pub recorded_sound_law : RecordedSoundLaw
+recorded_sound_law n budget w script is valid ended enough =
+    let own : World = own_world (package_of Included n w) in
+    let same : SameRun n [] own w script = replay_law n w script is valid in
+    let ended_own : ends_within n own ≡ true = same.ends ∙ ended in
+    let enough_own : steps_by n [] own ≤ budget =
+    subst (λ (k : ℕ). k ≤ budget) (sym (ap (λ (p : Package). p.steps) (same.packed Included))) enough in
+    record {
+      ends = enough_ends n own ended_own budget enough_own;
+      due = ap spelling (enough_package n own ended_own Included budget enough_own ∙ same.packed Included);
+    }

@@ -1,0 +1,40 @@
+-- What is recorded of a run with its replies, and the excluded package that is made of it.
+use Rattle.std.specs.Prelude.{◌≡◌, ℕ, List, [], true}
+use Rattle.run_model.specs.RunLaw.{started}
+use Rattle.run_model.specs.Slice.{files_needed}
+use Rattle.run_model.specs.SqlDatabase.{SqlDatabase, unchanged}
+use Rattle.run_model.specs.State.{State}
+use Rattle.run_model.specs.WorldRun.{ends_within, events_within, steps_by, logs_by}
+use Rattle.replay_db.specs.KeptLaw.{nothing_kept}
+use Rattle.replay_db.specs.KeptReplies.{Keeping}
+use Rattle.replay_db.specs.Types.{Excluded, Instr, Package, World}
+use Rattle.replay_db.specs.declared.logged.Logged.{Logged}
+use Rattle.replay_db.specs.declared.recorder.Kept.{Kept}
+
+-- a database with what was kept
+abbrev pub keeping : SqlDatabase → List Kept → Keeping SqlDatabase
+keeping db kept = record { db = db; kept = kept }
+
+-- over the world's tables, with nothing kept
+abbrev pub kept_start : World → List Instr → State (Keeping SqlDatabase)
+kept_start w script = started w.start w.seed w.files script (nothing_kept (unchanged w.tables))
+
+-- what is recorded of a run that ends within so many steps
+pub record IsLogged (n : ℕ) (w : World) (l : Logged) : Type 0 where
+  pub ended : ends_within n w ≡ true
+  pub events : l.events ≡ events_within n w
+  pub steps : l.steps ≡ steps_by n [] w
+  pub logs : l.logs ≡ logs_by n [] w
+
+-- the excluded package of a world, with what is recorded of its run
+abbrev pub packed_logs : World → Logged → Package
+packed_logs w l = record {
+  mode = Excluded;
+  start = w.start;
+  seed = w.seed;
+  steps = l.steps;
+  files = files_needed l.events w.files;
+  tables = [];
+  logs = l.logs;
+  events = l.events;
+}

@@ -1,0 +1,89 @@
+//! Runs of which the replies are recorded too.
+
+ghost use Rattle.std.specs.Prelude.{◌≡◌, ◌≤◌, List as Items, Some, [], true, slice_get, IfOk, IfErr};
+ghost use Rattle.ldv_value.specs.Limits.{max_steps};
+ghost use Rattle.proc_core.specs.Running.{Stands};
+ghost use Rattle.run_model.specs.Events.{start_events};
+ghost use Rattle.run_model.specs.Start.{start_script};
+ghost use Rattle.sql_engine.specs.Asking.{database};
+ghost use Rattle.replay_db.specs.KeptReplies.{logs_kept};
+ghost use Rattle.replay_db.specs.Logging.{IsLogged, keeping, kept_start};
+ghost use Rattle.replay_db.specs.Recording.{HasNotEnded};
+ghost use Rattle.replay_db.specs.Runs.{CanRun};
+ghost use Rattle.replay_db.specs.Types.{Instr};
+
+use crate::recorder::Recorder;
+use crate::stop::EndStop;
+use file_tree::Tree;
+use proc_core::{Run, RunStop};
+use run_model::{Events, ListTracer, Logs, World};
+use sql_engine::Engine;
+use std::alloc::{AllocError, Global};
+
+/// What is recorded of a run that has ended: its events, the number of its steps, and what each process
+/// asked, with the replies.
+#[derive(Drop)]
+pub(crate) struct Logged {
+    pub events: Events,
+    pub steps: u32,
+    pub logs: Logs,
+}
+
+// The run of a world before its first step. What it will ask is kept.
+fn begin(alloc: Global, world: World) -> Result<Run<Recorder<Engine>, ListTracer>, AllocError>
+    requires { CanRun world }
+    ensures state { IfOk result (λ run. (script : Items Instr) → start_script world ≡ Some script
+        → Stands run.machine (keeping (database run.db.db) run.db.kept) (kept_start world script)) }
+    ensures told { IfOk result (λ run. run.tracer ≡ start_events (slice_get world.start 0)) }
+    ensures steps { IfOk result (λ run. run.steps ≡ 0) }
+{
+    let World {
+        start,
+        seed,
+        files,
+        tables,
+    } = world;
+    let tree = Tree::of_files(alloc, files)?;
+    let engine = Engine::of_tables(alloc, tables)?;
+    let recorder = Recorder::over(alloc, engine);
+    let begun = Run::start(&start, seed, tree, recorder, ListTracer::new(alloc))?;
+    Ok(begun)
+}
+
+// What is recorded of a run, at its end.
+fn recorded(run: Run<Recorder<Engine>, ListTracer>) -> Result<Logged, AllocError>
+    ensures events { IfOk result (λ logged. logged.events ≡ run.tracer) }
+    ensures steps { IfOk result (λ logged. logged.steps ≡ run.steps) }
+    ensures logs { IfOk result (λ logged. logged.logs ≡ logs_kept run.db.kept) }
+{
+    let steps = run.steps();
+    let (recorder, tracer) = run.into_parts();
+    let logs = recorder.logs()?;
+    Ok(Logged {
+        events: tracer.events(),
+        steps,
+        logs,
+    })
+}
+
+/// Runs a world within a budget of steps, and tells what is recorded of the run, with the replies. No question
+/// of SQL diverges.
+pub(crate) fn log_world(alloc: Global, world: World, budget: u32) -> Result<Logged, EndStop>
+    requires can_run { CanRun world }
+    requires bounded { budget ≤ max_steps }
+    ensures logged { IfOk result (λ logged. IsLogged budget world logged) }
+    ensures not_ended { IfErr result (HasNotEnded budget world) }
+{
+    let begun = begin(alloc, world)?;
+    match begun.to_end(budget) {
+        Ok(ended) => Ok(recorded(ended)?),
+        Err(RunStop::NotEnded) => Err(EndStop::NotEnded),
+        Err(
+            RunStop::Diverged {
+                process: _,
+                index: _,
+            },
+        ) => unreachable!(),
+        Err(RunStop::NoMemory) => Err(EndStop::NoMemory),
+    }
+}

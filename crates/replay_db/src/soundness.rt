@@ -1,0 +1,90 @@
+//! Whether a package is that of its own world's run.
+
+ghost use Rattle.std.specs.Prelude.{◌≡◌, ◌≤◌, ◌+◌, length, drop, nat_eq, IfOk};
+ghost use Rattle.std.specs.List.{common_prefix_len};
+ghost use Rattle.ldv_value.specs.Limits.{max_steps};
+ghost use Rattle.run_model.specs.Package.{own_world};
+ghost use Rattle.replay_db.specs.Auditing.{Audits, verdict_on};
+ghost use Rattle.replay_db.specs.Runs.{CanRun};
+
+use crate::own::own_world;
+use crate::record::record_world;
+use crate::stop::EndStop;
+use package_layout::{SpellStop, spell};
+use run_model::{Mode, Package};
+use std::alloc::Global;
+
+/// What an audit says of a package.
+#[derive(Clone, Copy, Debug, PartialEq, Eq)]
+pub enum Verdict {
+    /// Its bytes are those of the included package of its own world's run.
+    Sound,
+    /// They aren't: the two differ first at this place, in bytes from 0. Where one is the start of the other, that
+    /// is the length of the shorter.
+    Unsound { at: u64 },
+}
+
+/// Why there is no verdict.
+#[derive(Clone, Copy, Debug, PartialEq, Eq)]
+pub enum AuditStop {
+    /// The run of the own world hasn't ended after the steps of the budget.
+    NotEnded,
+    /// The package of the own world has more than 67,108,864 bytes.
+    TooLong,
+    /// Out of memory.
+    NoMemory,
+}
+
+// How many bytes are the same from the front on.
+fn common_length(bytes: &[u8], due: &[u8]) -> usize
+    ensures { result ≡ common_prefix_len nat_eq bytes.now due.now }
+{
+    let mut at = 0;
+    while at < bytes.len() && at < due.len() && bytes[at] == due[at] {
+        at += 1;
+    }
+    at
+}
+
+// The verdict on bytes, where others are due.
+fn verdict_on(bytes: &[u8], due: &[u8]) -> Verdict
+    ensures { result ≡ verdict_on bytes.now due.now }
+{
+    if bytes == due {
+        return Verdict::Sound;
+    }
+    Verdict::Unsound {
+        at: common_length(bytes, due) as u64,
+    }
+}
+
+/// Compares the bytes of an included package with those of the package of its own world's run, within a
+/// budget of at most 10,000,000 steps.
+///
+/// `NotEnded` comes exactly where that run hasn't ended after so many steps, and `TooLong` exactly where it
+/// has and its package has more than 67,108,864 bytes.
+pub fn audit(
+    alloc: Global,
+    package: &Package,
+    bytes: &[u8],
+    budget: u32,
+) -> Result<Verdict, AuditStop>
+    requires can_run { CanRun (own_world «package».now) }
+    requires bounded { budget ≤ max_steps }
+    ensures { Audits budget «package».now bytes.now result }
+{
+    let world = match own_world(alloc, package) {
+        Ok(world) => world,
+        Err(_) => return Err(AuditStop::NoMemory),
+    };
+    let own = match record_world(alloc, &world, Mode::Included, budget) {
+        Ok(own) => own,
+        Err(EndStop::NotEnded) => return Err(AuditStop::NotEnded),
+        Err(EndStop::NoMemory) => return Err(AuditStop::NoMemory),
+    };
+    match spell(alloc, &own) {
+        Ok(due) => Ok(verdict_on(bytes, due.as_slice())),
+        Err(SpellStop::TooLong) => Err(AuditStop::TooLong),
+        Err(SpellStop::NoMemory) => Err(AuditStop::NoMemory),
+    }
+}

@@ -1,0 +1,5 @@
+pub mod LeftLogs
+mod Replaying
+mod RunLaws
+pub mod SortedLogs
+mod ValidPackages

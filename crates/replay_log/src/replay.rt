@@ -1,0 +1,79 @@
+//! Runs over recorded replies.
+
+ghost use Rattle.std.specs.Prelude.{◌≡◌, ◌≤◌, List as Items, Some, [], IfOk};
+ghost use Rattle.ldv_value.specs.Limits.{max_steps};
+ghost use Rattle.proc_core.specs.Running.{Stands};
+ghost use Rattle.run_model.specs.LogRun.{log_start};
+ghost use Rattle.run_model.specs.Package.{own_world};
+ghost use Rattle.run_model.specs.Start.{start_script};
+ghost use Rattle.replay_log.specs.Types.{Instr};
+ghost use Rattle.replay_log.specs.Replays.{CanReplay, Replays};
+
+use crate::copies::copy_to_replay;
+use crate::own::own_files;
+use crate::reply_log::ReplyLog;
+use file_tree::Tree;
+use proc_core::{Run, RunStop};
+use run_model::{NullTracer, Outcome, Package};
+use std::alloc::{AllocError, Global};
+
+// The run of a package over its recorded replies, before its first step.
+fn begin(alloc: Global, package: Package) -> Result<Run<ReplyLog, NullTracer>, AllocError>
+    requires { CanReplay «package» }
+    ensures state { IfOk result (λ run. (script : Items Instr)
+        → start_script (own_world «package») ≡ Some script
+        → Stands run.machine run.db (log_start «package» script)) }
+    ensures steps { IfOk result (λ run. run.steps ≡ 0) }
+{
+    let Package {
+        mode: _,
+        start,
+        seed,
+        steps: _,
+        files,
+        tables: _,
+        logs,
+        events: _,
+    } = package;
+    let own = own_files(alloc, files)?;
+    let tree = Tree::of_files(alloc, own)?;
+    let db = ReplyLog::of_logs(alloc, logs);
+    let begun = Run::start(&start, seed, tree, db, NullTracer)?;
+    Ok(begun)
+}
+
+/// Runs the files of a package over its recorded replies, at most `budget` steps, and gives the outcome of
+/// the run. `NotEnded` comes exactly where it has neither ended nor diverged after so many steps, and
+/// `Diverged` exactly where a process asked what wasn't recorded next for it: the process, and the number of
+/// its questions before that one. Replies that are left over at the end are no matter.
+pub fn replay_owned(alloc: Global, package: Package, budget: u32) -> Result<Outcome, RunStop>
+    requires can_replay { CanReplay «package» }
+    requires bounded { budget ≤ max_steps }
+    ensures { Replays budget «package» result }
+{
+    let begun = match begin(alloc, package) {
+        Ok(begun) => begun,
+        Err(AllocError) => return Err(RunStop::NoMemory),
+    };
+    let ended = match begun.to_end(budget) {
+        Ok(ended) => ended,
+        Err(stop) => return Err(stop),
+    };
+    match ended.outcome() {
+        Ok(outcome) => Ok(outcome),
+        Err(AllocError) => Err(RunStop::NoMemory),
+    }
+}
+
+/// Runs the files of a package over its recorded replies, as `replay_owned` does. The package stays; the run
+/// uses a copy.
+pub fn replay_excluded(alloc: Global, package: &Package, budget: u32) -> Result<Outcome, RunStop>
+    requires can_replay { CanReplay «package».now }
+    requires bounded { budget ≤ max_steps }
+    ensures { Replays budget «package».now result }
+{
+    match copy_to_replay(alloc, package) {
+        Ok(copy) => replay_owned(alloc, copy, budget),
+        Err(AllocError) => Err(RunStop::NoMemory),
+    }
+}

@@ -1,0 +1,16 @@
+-- What an index has: the number of a row, or none, at each key.
+use Rattle.std.specs.Prelude.{ℕ, ℤ, Option, None, Some}
+use Rattle.std.specs.BTreeMap.{get}
+use Rattle.std.specs.Ordering.{int_cmp}
+use Rattle.sql_model.specs.KeyOrder.{key_order}
+use Rattle.table_store.specs.KeyIndex.{Held, int_key}
+use Rattle.table_store.specs.declared.index.Index.{Index}
+
+-- keys of one number are held apart from others
+abbrev pub held_as : (ℤ → Option ℕ) → Option ℕ → Option ℤ → Option ℕ
+held_as ints other None = other
+held_as ints other (Some n) = ints n
+
+abbrev pub held_in : Index → Held
+held_in index key =
+    held_as (λ n. get int_cmp index.ints.held n) (get key_order index.others.held key) (int_key key.values)

@@ -1,0 +1,138 @@
+#!/usr/bin/env python3
+"""Runs the commands of a page and compares what they write with what the page shows.
+
+    tools/check_page.py [--program PROGRAM] [--fill] [PAGE ..]
+
+A page is a document with indented blocks such as this one, by default docs/PACKAGES.md:
+
+    $ ./ldv record < examples/orders.json > orders.package
+    $ ./ldv inspect why orders 0 < orders.package
+    statement 1 process 0 step 14 rule K
+
+A line that begins with `$ ` is a command, and so is the next line where it ends with a backslash. The lines up to
+the next command or the end of the block are what it writes to standard output and standard error; one may end with
+CR too. A block without such a line is no matter of this program. The commands of a page are run in order by `sh`,
+in a folder of their own that has `ldv`, `tools` and `examples` of this checkout, so that it is as at its top.
+
+--program names another program than crates/ldv/out/ldv to be called as ./ldv. --fill writes what the commands
+write into the page, in place of what it shows.
+
+Statuses: 0 no difference, or filled; 1 a difference, or a program that isn't there; 2 wrong words.
+"""
+import argparse
+import os
+import subprocess
+import sys
+import tempfile
+
+HERE = os.path.dirname(os.path.abspath(__file__))
+ROOT = os.path.dirname(HERE)
+PAGE = os.path.join(ROOT, "docs", "PACKAGES.md")
+PROGRAM = os.path.join(ROOT, "crates", "ldv", "out", "ldv")
+INDENT = "    "
+PROMPT = INDENT + "$ "
+SECONDS = 60
+
+
+class Shown:
+    """A command of a page: where it stands, its words, and the lines that the page shows after it."""
+
+    def __init__(self, number, command):
+        self.number, self.command, self.lines = number, command, []
+        # The lines of the page that show what it writes: from one up to another.
+        self.begin = self.end = number
+
+
+def commands(page):
+    """The commands of a page, in order."""
+    found, current, goes_on = [], None, False
+    for number, line in enumerate(page.split("\n")):
+        if goes_on:
+            current.command += "\n" + line
+            current.begin = current.end = number + 1
+        elif line.startswith(PROMPT):
+            current = Shown(number, line[len(PROMPT):])
+            current.begin = current.end = number + 1
+            found.append(current)
+        elif current and line.startswith(INDENT):
+            current.lines.append(line[len(INDENT):])
+            current.end = number + 1
+        else:
+            current = None
+        goes_on = bool(current) and current.end == current.begin == number + 1 and line.endswith("\\")
+    return found
+
+
+def folder_with(program, folder):
+    """Makes a folder as the top of a checkout."""
+    os.symlink(os.path.abspath(program), os.path.join(folder, "ldv"))
+    for name in ("tools", "examples"):
+        os.symlink(os.path.join(ROOT, name), os.path.join(folder, name))
+
+
+def run(command, folder):
+    """The lines that a command writes."""
+    done = subprocess.run(["sh", "-c", command], cwd=folder, stdin=subprocess.DEVNULL, stdout=subprocess.PIPE,
+                          stderr=subprocess.STDOUT, timeout=SECONDS, check=False)
+    text = done.stdout.decode(errors="backslashreplace").replace("\r\n", "\n")
+    return text[:-1].split("\n") if text.endswith("\n") else text.split("\n") if text else []
+
+
+def outputs(page, program):
+    """Each command of a page with the lines that it writes."""
+    with tempfile.TemporaryDirectory() as folder:
+        folder_with(program, folder)
+        return [(shown, run(shown.command, folder)) for shown in commands(page)]
+
+
+def differences(page, results):
+    """A line for each command whose output isn't that of the page."""
+    for shown, lines in results:
+        for place in range(max(len(lines), len(shown.lines))):
+            was, got = (each[place] if place < len(each) else "nothing" for each in (shown.lines, lines))
+            if was != got:
+                yield f"line {shown.begin + place + 1}: {shown.command}\n    page: {was}\n    now:  {got}"
+                break
+
+
+def filled(page, results):
+    """The page with what its commands write."""
+    lines = page.split("\n")
+    for shown, written in reversed(results):
+        lines[shown.begin:shown.end] = [INDENT + line if line else INDENT.rstrip() for line in written]
+    return "\n".join(lines)
+
+
+def check(path, program, fill):
+    """Whether the page is as its commands say, or was made so."""
+    with open(path, encoding="utf-8") as file:
+        page = file.read()
+    results = outputs(page, program)
+    name = os.path.relpath(path, ROOT)
+    if fill:
+        with open(path, "w", encoding="utf-8") as file:
+            file.write(filled(page, results))
+        print(f"{name}: {len(results)} commands, filled")
+        return True
+    found = list(differences(page, results))
+    for each in found:
+        print(f"{name}, {each}")
+    print(f"{name}: {len(results)} commands, {len(found)} differ")
+    return bool(results) and not found
+
+
+def main(words=None):
+    parser = argparse.ArgumentParser(prog="check_page.py", description=__doc__,
+                                     formatter_class=argparse.RawDescriptionHelpFormatter)
+    parser.add_argument("pages", nargs="*", default=[PAGE], metavar="PAGE")
+    parser.add_argument("--program", default=PROGRAM)
+    parser.add_argument("--fill", action="store_true")
+    given = parser.parse_args(words)
+    if not os.access(given.program, os.X_OK):
+        print(f"check_page.py: {given.program} isn't there; compile it with ./ldv", file=sys.stderr)
+        return 1
+    return 0 if all([check(page, given.program, given.fill) for page in given.pages]) else 1
+
+
+if __name__ == "__main__":
+    sys.exit(main())
