@@ -2,18 +2,22 @@
 """Gives the program inputs that are made to break it, and looks at each answer.
 
     hostile.py PROGRAM [--count N] [--seed S] [--jobs J] [--memory MIB] [--seconds T] [--keep FOLDER]
+               [--commands NAME,..] [--modes included,excluded]
 
 The inputs are made by mutation of those of the cases in crates/conformance/data and of the documents in examples/:
 bytes of documents, their JSON values, lines of their scripts, bytes of packages with a digest that is right again, and
 words. Each call has 8 MiB of stack, MIB MiB of memory (default 512) and T seconds (default 20). An answer is as it
 has to be where
 
-- the status is one that docs/COMMANDS.md gives for the command, and no signal ended the program;
-- with status 0 there is an output and no message, else no output and one line of a message;
+- the status is one that docs/COMMANDS.md gives for the command, or 2 where the words are none, and no signal ended the
+  program;
+- with status 0 there is an output, which only `inspect rows` and `inspect depends` may leave empty, and no message, else
+  no output and one line of a message;
 - a world that `run` runs is recorded and replayed to the very bytes that `run` wrote, or the package is too long.
 
 It prints the number of answers by command and status, and ends with status 1 where one isn't as it has to be; that
-input lies in FOLDER then (default: hostile_inputs). The inputs depend on S (default 1) and J alone.
+input lies in FOLDER then (default: hostile_inputs). The inputs depend on these words and on the packages that the
+program records of worlds that aren't mutated, and not on its other answers.
 """
 import argparse
 import collections
@@ -44,6 +48,8 @@ STATUSES = {
     'inspect': {0, 8, 10},
 }
 USAGE, NO_MEMORY = 2, 11
+# The words whose output may be empty.
+MAY_BE_EMPTY = (['inspect', 'rows'], ['inspect', 'depends'])
 EDGES = [0, 1, 2, 255, 256, 65535, 65536, 2**31 - 1, 2**31, 2**32 - 1, 2**32, 2**63 - 1, 2**63, 2**64 - 1, 2**64]
 TEXTS = ['', 'a', 'main', "'", '"', '\\', '\n', '\0', '?', '*', '--', 'é', '\U0001f600', ' ' * 70, 'x' * 65537]
 SQL = ['SELECT', 'FROM', 'WHERE', 'GROUP BY', 'HAVING', 'ORDER BY', 'LIMIT', 'UNION', 'UNION ALL', 'JOIN', 'ON',
@@ -66,7 +72,7 @@ def corpus():
     for path in sorted(glob.glob(os.path.join(ROOT, 'crates/conformance/data/*.json'))):
         for case in json.load(open(path, encoding='utf-8')):
             data = bytes_of(case['input'])
-            if len(data) > LONGEST or not case['words']:
+            if len(data) > LONGEST or case['words'][:1] in ([], ['gen']):
                 continue
             reads_world = case['words'][0] in ('run', 'record')
             (documents if reads_world else packages).append(data)
@@ -141,7 +147,8 @@ def inner_places(value):
         found += [(value['files'], name) for name in value['files']]
     tables = value.get('tables') if isinstance(value, dict) else None
     for table in tables.values() if isinstance(tables, dict) else ():
-        for row in table.get('rows') or () if isinstance(table, dict) else ():
+        rows = table.get('rows') if isinstance(table, dict) else None
+        for row in rows if isinstance(rows, list) else ():
             found += [(row, place) for place in range(len(row))] if isinstance(row, list) else []
     return found
 
@@ -181,11 +188,12 @@ def edge_value(rng):
 
 def script_line(rng):
     return rng.choice((
-        'let x = 1', 'let x = x + 1', 'print "hi"', 'print x', 'exit 3', 'a:', 'goto a', 'if x < 3 goto a', 'yield',
-        'spawn p "main"', 'wait p else a', 'open f "q" read else a', 'open f "q" write', 'read f x else a', 'write f x',
-        'close f', 'remove "q" else a', 'exists x "q"', 'rand x', 'step x', 'arg x 1 else a',
+        'let x = 1', 'let x = x + 1', 'let x = x ++ "a"', 'let x = int arg1', 'cut x y x ","', 'print "hi"', 'print x',
+        'exit 3', 'a:', 'goto a', 'if x < 3 goto a', 'spawn p "main" else a', 'wait x p', 'open f r "q" else a',
+        'open f %s "q" else a' % rng.choice('wan'), 'readline x f else a', 'write f x', 'copy f f', 'close f',
+        'remove "q" else a', 'exists x "q"',
         'sql r "%s"' % ' '.join(rng.choice(SQL) for _ in range(rng.randrange(1, 12))),
-        'cell x r 0 0', 'rows x r', 'status x p', rng.choice(TEXTS)))
+        'fetch r x y else a', 'count x r', 'status x r', rng.choice(TEXTS)))
 
 
 def mutated_statement(rng, text):
@@ -267,6 +275,7 @@ def mutated_document(rng, data):
 # ---- words
 
 def words_of(rng, name):
+    """Words for a command, and whether they are a command."""
     words = [name]
     if name == 'record' and rng.random() < 0.5:
         words.append('--excluded')
@@ -277,9 +286,13 @@ def words_of(rng, name):
                              ['depends', 'main'], ['depends', 'q'], ['depends', 'f']))
     elif rng.random() < 0.7:
         words += ['--steps', str(rng.choice((1, 2, 10, 1000, 50_000)))]
+    # The name of a table is no reserved word.
+    right = name in STATUSES and words[:2] != ['table', 'order']
     if rng.random() < 0.02:
+        # None of these makes another command of a command.
         words.insert(rng.randrange(len(words) + 1), rng.choice(('', '--', '--steps', '01', '-1', 'run', 'x' * 5000)))
-    return words
+        right = False
+    return words, right
 
 
 # ---- one call
@@ -309,13 +322,15 @@ class Calls:
         return done.returncode, done.stdout, done.stderr
 
 
-def complaint(words, answer):
-    """What isn't as it has to be in an answer, or None."""
+def complaint(words, right, answer):
+    """What isn't as it has to be in an answer, or None. `right`: whether the words are a command."""
     status, output, error = answer
     if status is None:
         return 'no answer in time'
-    if status not in STATUSES[words[0]] | {USAGE, NO_MEMORY} if words and words[0] in STATUSES else status != USAGE:
+    if status not in (STATUSES[words[0]] | {NO_MEMORY} if right else {USAGE}):
         return 'status %r' % status
+    if status == 0 and not output and words[:2] not in MAY_BE_EMPTY:
+        return 'no output with status 0'
     if status == 0 and error or status != 0 and output:
         return 'output of %d bytes and message %.80r with status %d' % (len(output), error, status)
     if status != 0 and not (error.startswith(b'ldv: ') and error.endswith(b'\n') and error.count(b'\n') == 1):
@@ -341,29 +356,31 @@ def replays(calls, data, outcome, mode):
 # ---- many
 
 def work(job):
-    program, limits, seed, count, keep, names = job
+    program, limits, seed, count, keep, names, place = job
     rng = random.Random(seed)
     good, documents, sound, packages = corpus()
     counts, wrong = collections.Counter(), []
-    with tempfile.TemporaryDirectory(dir='/dev/shm' if os.path.isdir('/dev/shm') else None) as folder:
+    with tempfile.TemporaryDirectory(dir=place) as folder:
         calls = Calls(program, limits, folder)
         for document in rng.sample(good, min(len(good), 40)):
-            status, package, _ = calls.call(words_of(rng, 'record'), document)
+            status, package, _ = calls.call(words_of(rng, 'record')[0], document)
             if status == 0:
                 sound.append(package)
         for number in range(count):
             name = rng.choice(names)
-            words = words_of(rng, name)
+            words, right = words_of(rng, name)
             whole = rng.random() < 0.8
             data = mutated_document(rng, rng.choice(good if whole else documents)) if name in ('run', 'record') \
                 else mutated_package(rng, rng.choice(sound if whole else packages))
             if rng.random() < 0.02:
                 name = rng.choice(names)
-                words = words_of(rng, name)
+                words, right = words_of(rng, name)
+            # Drawn before the answer is known, so that the next inputs don't depend on it.
+            is_replayed, mode = rng.random() < 0.5, rng.choice(limits['modes'])
             answer = calls.call(words, data)
-            said = complaint(words, answer)
-            if not said and answer[0] == 0 and words == ['run'] and rng.random() < 0.5:
-                said = replays(calls, data, answer[1], rng.choice(limits['modes']))
+            said = complaint(words, right, answer)
+            if not said and answer[0] == 0 and words == ['run'] and is_replayed:
+                said = replays(calls, data, answer[1], mode)
                 counts['run, record, replay', 0] += 1
             counts[words[0] if words and words[0] in STATUSES else 'other', answer[0]] += 1
             if said:
@@ -375,7 +392,7 @@ def work(job):
     return counts, wrong
 
 
-def main():
+def main(words=None):
     parser = argparse.ArgumentParser(description=__doc__, formatter_class=argparse.RawDescriptionHelpFormatter)
     parser.add_argument('program')
     parser.add_argument('--count', type=int, default=10_000)
@@ -386,18 +403,22 @@ def main():
     parser.add_argument('--keep', default='hostile_inputs')
     parser.add_argument('--commands', default=','.join(STATUSES))
     parser.add_argument('--modes', default='included,excluded')
-    given = parser.parse_args()
+    given = parser.parse_args(words)
+    if not os.access(given.program, os.X_OK):
+        parser.error('%s is no program' % given.program)
     modes = [[] if mode == 'included' else ['--excluded'] for mode in given.modes.split(',')]
     limits = dict(memory=given.memory, seconds=given.seconds, modes=modes)
     names = given.commands.split(',')
     # Parts of a thousand or so, so that the jobs end together.
     parts = max(given.jobs, given.count // 1000)
     shares = [given.count * (n + 1) // parts - given.count * n // parts for n in range(parts)]
-    jobs = [(os.path.abspath(given.program), limits, given.seed * 1_000_003 + n, share, given.keep, names)
-            for n, share in enumerate(shares)]
     begun = time.monotonic()
     counts, wrong = collections.Counter(), []
-    with multiprocessing.Pool(given.jobs, maxtasksperchild=1) as pool:
+    # One folder for those of the jobs: it goes away also where they are ended from outside.
+    with tempfile.TemporaryDirectory(dir='/dev/shm' if os.path.isdir('/dev/shm') else None) as folder, \
+            multiprocessing.Pool(given.jobs, maxtasksperchild=1) as pool:
+        jobs = [(os.path.abspath(given.program), limits, given.seed * 1_000_003 + n, share, given.keep, names, folder)
+                for n, share in enumerate(shares)]
         for more, complaints in pool.imap_unordered(work, jobs):
             counts.update(more)
             wrong += complaints

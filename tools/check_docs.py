@@ -29,7 +29,7 @@ CODE = re.compile(r'`([^`\n]+)`')
 PATH = re.compile(r'(?<![\w./-])(?:%s)/[\w./+*-]*' % '|'.join(re.escape(f) for f in FOLDERS))
 CRATE_PATH = re.compile(r'(?<![\w./-])\w+/(?:src|specs|proofs|must-fail)/[\w./+*-]*')
 # A path with such a mark stands for several, or for one that a build makes.
-PLACEHOLDER = re.compile(r'\*|\bNAME\b|/out\b|[A-Z]{3,}\b')
+PLACEHOLDER = re.compile(r'\*|\bNAME\b|/out\b|[A-Z]{3,}\b(?!\.md)')
 
 
 class Differences:

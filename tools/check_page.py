@@ -89,8 +89,8 @@ def differences(page, results):
     """A line for each command whose output isn't that of the page."""
     for shown, lines in results:
         for place in range(max(len(lines), len(shown.lines))):
-            was, got = (each[place] if place < len(each) else "nothing" for each in (shown.lines, lines))
-            if was != got:
+            if shown.lines[place:place + 1] != lines[place:place + 1]:
+                was, got = (each[place] if place < len(each) else "nothing" for each in (shown.lines, lines))
                 yield f"line {shown.begin + place + 1}: {shown.command}\n    page: {was}\n    now:  {got}"
                 break
 
@@ -99,7 +99,8 @@ def filled(page, results):
     """The page with what its commands write."""
     lines = page.split("\n")
     for shown, written in reversed(results):
-        lines[shown.begin:shown.end] = [INDENT + line if line else INDENT.rstrip() for line in written]
+        # An empty line is indented too: without that it would end the block.
+        lines[shown.begin:shown.end] = [INDENT + line for line in written]
     return "\n".join(lines)
 
 

@@ -202,6 +202,8 @@ def main():
     if len(sys.argv) not in (2, 3):
         sys.exit(__doc__)
     program = os.path.abspath(sys.argv[1])
+    if not os.access(program, os.X_OK):
+        sys.exit('check_program.py: %s is no program' % program)
     check = Check(program)
     words_and_worlds(check)
     packages(check)

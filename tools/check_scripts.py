@@ -68,7 +68,7 @@ def pieces(text):
     paragraph). Empty lines within a block are its own."""
     found, block, begun = [], [], 0
     for number, line in enumerate(text.split("\n") + ["end"], 1):
-        if line.startswith("    ") and (block or found[-1][0] == "empty"):
+        if line.startswith("    ") and (block or not found or found[-1][0] == "empty"):
             begun = begun if block else number
             block.append(line[4:])
         elif block and not line:

@@ -1,8 +1,8 @@
 #!/usr/bin/env python3
 """Tests world.py, outcome.py, package.py and picture.py of tools/, and the examples, with the program where it is there.
 
-The examples are those of examples/, the tutorial, docs/SCRIPTS.md and docs/PACKAGES.md. The manual page is read by
-groff and by mandoc, where they are installed.
+Beside them the checks of tools/ and bench/ are given what they have to find. The examples are those of examples/, the
+tutorial, docs/SCRIPTS.md and docs/PACKAGES.md. The manual page is read by groff and by mandoc, where they are installed.
 
     tools/check_tools.py [PROGRAM]
 
@@ -24,6 +24,7 @@ import subprocess
 import sys
 import tempfile
 import unittest
+from unittest import mock
 
 import against_sqlite
 import check_docs
@@ -31,6 +32,7 @@ import check_page
 import check_scripts
 import outcome
 import package
+import package_cases
 import packages
 import picture
 import world
@@ -38,6 +40,10 @@ from world_tables import RESERVED
 
 HERE = os.path.dirname(os.path.abspath(__file__))
 ROOT = os.path.dirname(HERE)
+sys.path.append(os.path.join(ROOT, "bench"))
+import hostile                                                               # noqa: E402
+import refused                                                               # noqa: E402
+
 EXAMPLES = os.path.join(ROOT, "examples")
 TUTORIAL = os.path.join(EXAMPLES, "tutorial")
 PROGRAM = os.path.join(ROOT, "crates", "ldv", "out", "ldv")
@@ -193,6 +199,7 @@ class CsvFiles(InFolder):
         refused("t.csv line 2 (row 0 of t), column a: a text of 65537 bytes", "a\n" + "é" * 32768 + "x\n")
         self.assertEqual(len(self.table("a\n" + "é" * 32768 + "\n")["rows"][0][0]), 32768)
         refused("t.csv: byte 3 isn't utf-8", b"a\nx\xff\n")
+        refused("t.csv isn't utf-7: 'utf-8' codec can't encode", "a\n+2AA-\n", "--encoding", "utf-7")
         refused("t.csv line 3", 'a\n1\n"x" y\n')
         refused("is empty", "")
 
@@ -211,7 +218,8 @@ class CsvFiles(InFolder):
         path = self.put("my data.csv", "a\n1\n")
         self.refused("the table 'my data' isn't a name", "--csv", path, *ASK)
         self.refused("two tables have the name t", "--csv", f"t={path}", "--csv", f"t={path}", *ASK)
-        self.refused("256", *(word for n in range(257) for word in ("--csv", f"t{n}={path}")), *ASK)
+        self.refused("the table '\\udcff' isn't a name", "--csv", f"\udcff={path}", *ASK)
+        self.refused("257 tables; the limit is 256", *(word for n in range(257) for word in ("--csv", f"t{n}={path}")), *ASK)
 
 
 class ScriptsAndFiles(InFolder):
@@ -237,6 +245,13 @@ class ScriptsAndFiles(InFolder):
                 ("\nSELECT '" + "a" * 65536 + "'", "line 2: a statement of 65545 bytes"),
                 (b"\xff", "byte 0 isn't UTF-8")):
             self.refused(message, "--sql", self.put("q.sql", text))
+        for text in ("SELECT '\udcff' FROM t", "-- \udcff\nSELECT a FROM t"):
+            self.refused("--ask 2, ", "--ask", "SELECT a FROM t", "--ask", text)
+
+    def test_many_statements(self):
+        """Lines are counted for a message only: many statements take no time that grows with their square."""
+        with mock.patch("world_script.line_at", side_effect=AssertionError):
+            self.assertEqual(self.script("--a\nSELECT a FROM t;\n" * 3), '# a\nsql q "SELECT a FROM t"\n' * 3)
 
     def test_files(self):
         script, logo = self.put("go.ldv", "print 1\n"), self.put("logo", b"\x89PNG")
@@ -334,9 +349,34 @@ class Databases(InFolder):
                 ("a TEXT PRIMARY KEY); INSERT INTO t VALUES (NULL);", "NULL, but it is in the key"),
                 ("\"a b\" INT);", "column 1 'a b' isn't a name")):
             self.refused(message, *self.database("CREATE TABLE t (" + statements))
+        self.refused("there are t\n", *self.database("CREATE TABLE t (a INTEGER PRIMARY KEY AUTOINCREMENT);"),
+                     "--table", "sqlite_sequence")
         path = self.put("x.db", "no database, but long enough" * 40)
         self.refused("file is not a database", "--sqlite", path, *ASK)
         self.refused("No such file", "--sqlite", self.folder + "/none.db", *ASK)
+
+
+    def test_paths_and_names(self):
+        """A path of two slashes, and a table and columns in other quotes whose names are words of a note."""
+        words = self.database("CREATE TABLE t (a INT, [check] INT, `autoincrement` INT);")
+        words = words[:1] + ["/" + words[1]] + words[2:]
+        status, out, err = tool(world, *words, "-q")
+        self.assertEqual((status, err), (0, ""))
+        self.assertEqual(json.loads(out)["tables"]["t"]["columns"],
+                         [["a", "INT"], ["check", "INT"], ["autoincrement", "INT"]])
+
+    def test_write_ahead_log(self):
+        """Reading leaves the database as it was, with no file beside it, and takes away no log that was there."""
+        words = self.database("PRAGMA journal_mode = WAL; CREATE TABLE t (a INT); INSERT INTO t VALUES (1);")
+        before = read(words[1])
+        self.assertEqual(tool(world, *words, "-q")[0], 0)
+        self.assertEqual((os.listdir(self.folder), read(words[1])), (["shop.db"], before))
+        base = sqlite3.connect(words[1], isolation_level=None)
+        base.execute("INSERT INTO t VALUES (2)")
+        status, out, err = tool(world, *words, "-q")
+        self.assertEqual(json.loads(out)["tables"]["t"]["rows"], [[1], [2]], err)
+        self.assertEqual(len(os.listdir(self.folder)), 3)
+        base.close()
 
 
 FAMILY = (b"outcome 3 2\nprocess 0 240 8 2\ntotal 3\n\nchanged 1\nrefused 6 orders 2\nint -10\nnull\n"
@@ -633,6 +673,10 @@ class ScriptsPage(unittest.TestCase):
         self.assertEqual(printed.getvalue().count("\n"), 4)
 
 
+    def test_first_line(self):
+        self.assertEqual(check_scripts.pieces("    a\n"), [("block", 1, "a\n"), ("text", 3, "end")])
+
+
 class AgainstSqlite(unittest.TestCase):
     def test_maker(self):
         """A seed makes the same database and statements again, and SQLite takes them all."""
@@ -701,6 +745,20 @@ table t (k INT NOT NULL, g TEXT, v INT, key k): 2 rows, next row 5
                 status, out, _ = tool(package, *words, given=bytes_of)
                 self.assertIn("is no name", status)
                 self.assertEqual(os.listdir(self.folder), ["t.package"])
+
+    def test_reserved_names(self):
+        """A name that SQLite keeps for itself is refused, and no file is left."""
+        trace = [packages.started(), packages.ended()]
+        for names in (["sqlite_t"], ["a", "sqlite_t"]):
+            tables = [packages.table(name, [packages.column("k")], next=0) for name in names]
+            status, _, _ = tool(package, "--sqlite", os.path.join(self.folder, "t.db"),
+                                given=packages.encode(packages.package(tables=tables, trace=trace)))
+            self.assertEqual(status, "package: object name reserved for internal use: sqlite_t")
+            self.assertEqual(os.listdir(self.folder), ["t.package"])
+
+    def test_stored_cases(self):
+        """The stored cases are what package_cases.py writes."""
+        self.assertIsNone(package_cases.main(["--check"]))
 
     def test_damaged(self):
         bytes_of = read(self.path)
@@ -802,6 +860,8 @@ class Pictures(InFolder):
                 ("absent a", "a", "line 2: tested has no flag"),
                 ("asked 1", "asked 2", "line 8: no statement"),
                 ("waited 0.0", "waited 0.1", "line 11: there is no process 0.1"),
+                ("ended 3", f"ended {'9' * 5000}", "line 10: '999"),
+                ("asked 0", f"asked {'9' * 5000}", "line 6: no statement: '999"),
                 ("ended 0\n", "ended 0", "the last line doesn't end")):
             self.assertIn(old, TRACE)
             status, out, err = tool(picture, given=TRACE.replace(old, new, 1).encode())
@@ -888,6 +948,17 @@ class Pages(InFolder):
         self.assertIn(b"now:  more", tool(check_page, *words)[1])
         self.assertEqual(tool(check_page, "--program", program + "x", path)[0], 1)
 
+    def test_empty_lines(self):
+        """An empty line that a command writes is kept on the page, and a line that isn't written is missed."""
+        path = self.put("page.md", "    $ printf 'a\\n\\nb\\n'\n\ntext\n")
+        words = ["--program", self.program(), path]
+        for _ in range(2):
+            self.assertEqual(tool(check_page, "--fill", *words)[0], 0)
+            self.assertEqual(read(path), b"    $ printf 'a\\n\\nb\\n'\n    a\n    \n    b\n\ntext\n")
+            self.assertEqual(tool(check_page, *words)[0], 0)
+        self.put("page.md", "    $ true\n    nothing\n")
+        self.assertIn(b"1 commands, 1 differ", tool(check_page, *words)[1])
+
 
 class ManualPage(InFolder):
     def test_formatted(self):
@@ -922,6 +993,189 @@ docs/ldv.1:4: docs/COMMANDS.md has no status 2 ldv: use
         with contextlib.redirect_stdout(io.StringIO()) as printed:
             check_docs.check_manual(self.folder, check_docs.Differences())
         return printed.getvalue()
+
+
+class Documents(InFolder):
+    def test_paths(self):
+        """A path that isn't there is found, whatever its letters; one with a word for others is none."""
+        os.makedirs(os.path.join(self.folder, "docs"))
+        self.put("docs/HERE.md", "`docs/HERE.md`, `docs/NONE.md`, `docs/none`, `docs/PART/x.md`, `docs/*.md`\n")
+        with contextlib.redirect_stdout(io.StringIO()) as printed:
+            check_docs.check_paths(self.folder, "docs/HERE.md", check_docs.Differences())
+        self.assertEqual(printed.getvalue(), "docs/HERE.md:1: there is no docs/NONE.md\n"
+                                             "docs/HERE.md:1: there is no docs/none\n")
+
+
+# A program that asks for memory in each way, five times, and says so where it gets none.
+ASKER = """
+#include <stdio.h>
+#include <stdlib.h>
+int main(void) {
+    char *a = malloc(10), *b = a ? calloc(3, 4) : 0, *c = b ? realloc(a, 100) : 0;
+    void *d = 0;
+    if (!c || posix_memalign(&d, 64, 10) || !aligned_alloc(64, 64)) {
+        fputs("ldv: out of memory\\n", stderr);
+        return 11;
+    }
+    return 0;
+}
+"""
+
+
+class RefusedMemory(InFolder):
+    """bench/refused.py, with answers that are given to it."""
+
+    def setUp(self):
+        super().setUp()
+        rows = {"s": [packages.row(0, 1)], "t": [packages.row(3, 1), packages.row(5, 2)], "u": []}
+        tables = [packages.table(name, [packages.column("k")], rows=rows[name]) for name in rows]
+        trace = [packages.started(), packages.act("wrote", "f"), packages.act("opened append", "g"), packages.asked(),
+                 packages.ended()]
+        self.package = packages.encode(packages.package(steps=8, tables=tables, trace=trace))
+
+    def answered(self, number="3\n", other=None):
+        """What refused.py ends with and prints where each command has so many requests, perhaps with one other answer."""
+        def call(_, words, data, at=0, count=""):
+            with open(count or os.devnull, "w", encoding="ascii") as file:
+                file.write(number)
+            if at == 0:
+                return 0, self.package, b""
+            return other if at == 2 and other else (11, b"", b"ldv: out of memory\n")
+        path = self.put("any", "")
+        with mock.patch("refused.Program.call", call):
+            return tool(refused, path, path, "--jobs", "1")
+
+    def test_answers(self):
+        status, out, err = self.answered()
+        self.assertEqual((status, err), (0, ""))
+        for words in ("record --excluded", "inspect depends f", "inspect why t 3", "table t 8", "gen 2"):
+            self.assertIn(f"{words}: 3 requests, 0 done without, 0 answered otherwise\n", out.decode())
+        status, out, _ = self.answered(other=(0, self.package, b""))
+        self.assertEqual(status, 0)
+        self.assertIn("run: 3 requests, 1 done without, 0 answered otherwise\n", out.decode())
+        for other in ((0, b"", b""), (11, b"x", b"ldv: out of memory\n"), (None, b"", b"")):
+            status, out, _ = self.answered(other=other)
+            self.assertEqual(status, 1)
+            self.assertIn(f"request 2: status {other[0]}", out.decode())
+        self.assertIn("no request of memory", self.answered(number="0\n")[0])
+
+    def test_no_rows(self):
+        items = refused.items_of(package.Package(packages.encode(packages.package())))
+        self.assertEqual(list(items), [["inspect", "depends", "main"]])
+
+    @unittest.skipUnless(shutil.which("cc") and sys.platform == "linux", "there is no cc")
+    def test_shim(self):
+        """The request of a number is refused, and all are counted. A shim that isn't one is found."""
+        asker, shim = os.path.join(self.folder, "asker"), os.path.join(self.folder, "refuse.so")
+        self.assertEqual(command(["cc", "-fno-builtin", "-w", "-o", asker, self.put("asker.c", ASKER)])[0], 0)
+        self.assertEqual(command(["cc", "-shared", "-fPIC", "-Wall", "-Werror", "-o", shim,
+                                  os.path.join(ROOT, "bench", "refuse.c")])[0], 0)
+        program = refused.Program(asker, shim, self.folder)
+        self.assertEqual(program.requests([], b""), (5, b""))
+        for number in range(1, 6):
+            self.assertEqual(program.call([], b"", number), refused.REFUSED, number)
+        self.assertEqual(program.call([], b"", 6), (0, b"", b""))
+        program.shim = self.put("none.so", "")
+        with self.assertRaisesRegex(SystemExit, "was not taken in"):
+            program.requests([], b"")
+
+
+class FakeCalls:
+    """In place of the calls of hostile.py: each gets the same answer, and what is asked is kept."""
+
+    def __init__(self, answer, asked_here):
+        self.answer, self.asked = answer, asked_here
+
+    def call(self, words, data):
+        self.asked.append((words, data))
+        return self.answer if words[0] != "record" else (6, b"", b"ldv: not a world: shape\n")
+
+
+class HostileInputs(InFolder):
+    """bench/hostile.py, with answers that are given to it."""
+
+    def test_complaints(self):
+        line = b"ldv: a line\n"
+        for words, right, answer in (
+                (["run"], True, (0, b"x", b"")), (["run"], True, (6, b"", line)), (["run"], True, (11, b"", line)),
+                (["table", "order", "0"], False, (2, b"", line)), (["inspect", "rows"], True, (0, b"", b"")),
+                (["inspect", "depends", "q"], True, (0, b"", b"")), (["replay"], True, (9, b"", line))):
+            self.assertIsNone(hostile.complaint(words, right, answer), (words, answer))
+        for words, right, answer in (
+                (["run"], True, (2, b"", line)), (["run", "run"], False, (0, b"x", b"")),
+                (["run", "run"], False, (6, b"", line)), (["run"], True, (0, b"", b"")),
+                (["inspect", "files"], True, (0, b"", b"")), (["run"], True, (0, b"x", line)),
+                (["run"], True, (6, b"x", line)), (["run"], True, (6, b"", line + line)), (["run"], True, (6, b"", b"")),
+                (["run"], True, (-11, b"", b"")), (["run"], True, (8, b"", line)), (["run"], True, (None, b"", b""))):
+            self.assertIsNotNone(hostile.complaint(words, right, answer), (words, answer))
+
+    def test_other_values(self):
+        """A document whose parts are of other types has no cells and no scripts."""
+        for rows in (5, True, 2 ** 64, "ab", None, {"a": [1]}):
+            self.assertEqual(hostile.inner_places({"files": {}, "tables": {"t": {"rows": rows}}}), [])
+        self.assertEqual(hostile.inner_places({"files": {}, "tables": {"t": {"rows": [5, [1]]}}}), [([1], 0)])
+
+    def asked(self, answer):
+        """The calls of a few inputs where each but `record` gets this answer."""
+        asked_here, document = [], read(f"{EXAMPLES}/orders.json")
+        made = packages.encode(packages.package())
+        job = ("program", {"modes": [[], ["--excluded"]]}, 1, 200, self.folder, list(hostile.STATUSES), self.folder)
+        with mock.patch("hostile.Calls", lambda *_: FakeCalls(answer, asked_here)), \
+                mock.patch("hostile.replays", lambda *_: None), \
+                mock.patch("hostile.corpus", lambda: ([document], [document], [made], [made])):
+            hostile.work(job)
+        return asked_here
+
+    def test_same_inputs(self):
+        """The inputs don't depend on the answers."""
+        asked_here = self.asked((0, b"x", b""))
+        self.assertEqual(len(asked_here), 201)
+        self.assertEqual(asked_here, self.asked((6, b"", b"ldv: not a world: shape\n")))
+
+    def test_scripts(self):
+        """The scripts of both benches find their folder, and say where the program isn't there."""
+        program = os.path.join(self.folder, "none")
+        for name in ("hostile", "refused") if shutil.which("cc") else ("hostile",):
+            done = subprocess.run([f"bench/{name}.sh"], cwd=ROOT, stdout=subprocess.PIPE, stderr=subprocess.PIPE, check=False,
+                                  env={**os.environ, "CDPATH": ROOT, "LDV": program, "TMPDIR": self.folder})
+            self.assertEqual((done.returncode, done.stdout), (2, b""), done.stderr)
+            self.assertTrue(done.stderr.endswith(f" {program}\n".encode() if name == "refused" else b" is no program\n"))
+            self.assertEqual(os.listdir(self.folder), [])
+
+    def test_lines(self):
+        """Each instruction of the language is in the lines that scripts are given."""
+        chance = hostile.random.Random(1)
+        found = {(hostile.script_line(chance).split(" ") + [""])[0] for _ in range(2000)}
+        self.assertEqual(set(INSTRUCTIONS) - found, set())
+
+
+class Script(InFolder):
+    """The script ./ldv, in a checkout of its own and with another rt."""
+
+    def test_ended_build(self):
+        """A build that is ended from outside leaves nothing but its logs."""
+        for name in ("crates/ldv", "bin"):
+            os.makedirs(os.path.join(self.folder, name))
+        for name, text in (("crates.txt", "ldv:\n"), ("HANDLES", ""), ("bin/rt", "#!/bin/sh\nkill -TERM $PPID\n")):
+            self.put(name, text)
+        os.chmod(os.path.join(self.folder, "bin/rt"), 0o755)
+        script = shutil.copy(os.path.join(ROOT, "ldv"), self.folder)
+        path = os.path.join(self.folder, "bin") + os.pathsep + os.environ["PATH"]
+        done = subprocess.run([script, "run"], stdin=subprocess.DEVNULL, stdout=subprocess.PIPE, stderr=subprocess.PIPE,
+                              env={**os.environ, "PATH": path, "TMPDIR": self.put_folder("tmp")}, check=False)
+        self.assertEqual((done.returncode, done.stdout), (126, b""), done.stderr)
+        self.assertEqual(os.listdir(os.path.join(self.folder, "crates/ldv/out")), ["logs"])
+        self.assertEqual(os.listdir(os.path.join(self.folder, "tmp")), [])
+
+    def put_folder(self, name):
+        path = os.path.join(self.folder, name)
+        os.makedirs(path)
+        return path
+
+    def test_no_program(self):
+        status, out, err = command([os.path.join(HERE, "check_program.py"), self.folder + "/none"])
+        self.assertEqual((status, out), (1, b""))
+        self.assertIn(b"none is no program", err)
 
 
 class Program(InFolder):

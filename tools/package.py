@@ -249,11 +249,17 @@ def write_sqlite(package, path, reasons):
     if os.path.exists(path):
         raise OSError(f"{path} is there already")
     database = sqlite3.connect(path)
-    with database:
-        for table in package.tables:
-            database.execute(make_table(table, reasons))
-            marks = ", ".join("?" * len(columns_of(table, reasons)))
-            database.executemany(f"INSERT INTO {quoted(table['name'])} VALUES ({marks})", rows_of(table, reasons))
+    try:
+        with database:
+            for table in package.tables:
+                database.execute(make_table(table, reasons))
+                marks = ", ".join("?" * len(columns_of(table, reasons)))
+                database.executemany(f"INSERT INTO {quoted(table['name'])} VALUES ({marks})", rows_of(table, reasons))
+    except sqlite3.Error:
+        database.close()
+        if os.path.exists(path):
+            os.remove(path)
+        raise
     database.close()
 
 

@@ -30,9 +30,10 @@ FLAGGED = {"unspawned", "openedappend", "unopened", "tested"}
 # How the path of an event and its process are linked; `removed` and `openednew` look and change.
 FROM_PATH = {"started", "spawned", "unspawned", "openedread", "openednew", "unopened", "read", "removed", "tested"}
 TO_PATH = {"openedwrite", "openedappend", "openednew", "wrote", "removed"}
-NUMBER = re.compile(r"0|[1-9]\d*")
+# No number of a report has more digits than 64 bits have.
+NUMBER = re.compile(r"0|[1-9][0-9]{0,19}")
 NAME = re.compile(r"0(\.(0|[1-9]\d*))*")
-ASKED = re.compile(r"(\d+) tables (\d+) reads (\d+) made (\d+)")
+ASKED = re.compile(r"([0-9]{1,20}) tables (\d+) reads (\d+) made (\d+)")
 
 
 class Malformed(Exception):

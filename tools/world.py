@@ -118,7 +118,10 @@ def statement_texts(words):
             texts.append((read_file(path).decode("utf-8-sig"), path))
         except UnicodeDecodeError as fault:
             raise Refused(f"{path}: byte {fault.start} isn't UTF-8")
-    return texts + [(text, f"--ask {place}") for place, text in enumerate(words.ask, 1)]
+    for place, text in enumerate(words.ask, 1):
+        utf8_length(text, f"--ask {place}")
+        texts.append((text, f"--ask {place}"))
+    return texts
 
 
 def world_files(words):

@@ -17,20 +17,21 @@ def lines_of(text, name):
     lines, parts, begun, place = [], [], 0, 0
     while place < len(text):
         if not parts and text.startswith("--", place):
-            comment = text[place + 2:].split("\n", 1)[0]
-            lines.append(f"# {comment.strip()}".rstrip())
-            place += 2 + len(comment)
+            end = text.find("\n", place)
+            end = len(text) if end < 0 else end
+            lines.append(f"# {text[place + 2:end].strip()}".rstrip())
+            place = end
             continue
         match = TOKEN.match(text, place)
         check_token(match, text, place, name)
         if match.lastgroup == "end":
-            lines += asking(parts, f"{name} line {line_at(text, begun)}")
+            lines += asking(parts, text, begun, name)
             parts = []
         elif parts or match.lastgroup != "blank":
             begun = begun if parts else place
             parts.append(" " if match.lastgroup == "blank" else match.group())
         place = match.end()
-    return lines + asking(parts, f"{name} line {line_at(text, begun)}")
+    return lines + asking(parts, text, begun, name)
 
 
 def line_at(text, place):
@@ -51,12 +52,12 @@ def check_token(match, text, place, name):
     raise Refused(f"{name} line {line_at(text, place)}: {fault}")
 
 
-def asking(parts, at):
+def asking(parts, text, begun, name):
     """The line that asks a statement, where there is one."""
     statement = "".join(parts).rstrip(" ")
     length = len(statement.encode())
     if length > MAX_TEXT:
-        raise Refused(f"{at}: a statement of {length} bytes; the limit is {MAX_TEXT}")
+        raise Refused(f"{name} line {line_at(text, begun)}: a statement of {length} bytes; the limit is {MAX_TEXT}")
     return [f'sql q "{escaped(statement)}"'] if statement else []
 
 

@@ -2,6 +2,8 @@
 
 What has no equal in a world is noted by name. A value that has none is refused.
 """
+import contextlib
+import os
 import re
 import sqlite3
 
@@ -11,12 +13,37 @@ from world_tables import BadText, Column, Refused, Table, keep_columns, read_fil
 def read_database(path, only, settings, notes):
     """The tables of a database that aren't settled yet: all, or those that `only` names."""
     read_file(path, 0)
-    base = sqlite3.connect(f"file:{in_uri(path)}?mode=ro", uri=True)
+    log = os.path.realpath(path) + "-wal"
+    is_logged = os.path.exists(log)
+    try:
+        return tables_of(path, only, settings, notes)
+    except sqlite3.Error as fault:
+        raise Refused(f"{path}: {fault}")
+    finally:
+        if not is_logged and os.path.exists(log):
+            drop_log(path)
+
+
+def drop_log(path):
+    """Takes away the files of a write-ahead log that reading made: SQLite does it where it might write."""
+    try:
+        with contextlib.closing(connected(path, "rw")) as base:
+            base.execute("SELECT 1 FROM sqlite_master").fetchall()
+    except sqlite3.Error:
+        pass
+
+
+def connected(path, mode):
+    return sqlite3.connect(f"file:{in_uri(path)}?mode={mode}", uri=True)
+
+
+def tables_of(path, only, settings, notes):
+    base = connected(path, "ro")
     base.text_factory = decoded
     try:
         entries = base.execute("SELECT type, name, tbl_name, sql FROM sqlite_master ORDER BY rowid")
         entries = entries.fetchall()
-        there = [name for kind, name, _, _ in entries if kind == "table"]
+        there = [name for kind, name, _, _ in entries if kind == "table" and not name.startswith("sqlite_")]
         for name in only:
             if name not in there:
                 raise Refused(f"{path}: there is no table {name}; there are {', '.join(there) or 'none'}")
@@ -32,13 +59,13 @@ def read_database(path, only, settings, notes):
             elif kind == "trigger":
                 notes.append(f"the trigger {name} of {on} isn't carried: a change runs nothing else here")
         return found
-    except sqlite3.Error as fault:
-        raise Refused(f"{path}: {fault}")
     finally:
         base.close()
 
 
 def in_uri(path):
+    # What stands between the first two slashes and the next one would be a host.
+    path = "//" + path if path.startswith("/") else path
     return path.replace("%", "%25").replace("?", "%3f").replace("#", "%23")
 
 
@@ -125,7 +152,7 @@ def note_constraints(base, name, new, sql, notes):
             parts = base.execute(f"PRAGMA index_info({quoted(row[1])})")
             columns = ", ".join(str(part[2]) for part in parts)
             notes.append(f"{new}: UNIQUE ({columns}) isn't carried: a table has one key here")
-    words = re.sub(r"'[^']*'|\"[^\"]*\"|--[^\n]*|/\*.*?\*/", " ", sql, flags=re.DOTALL).upper()
+    words = re.sub(r"'[^']*'|\"[^\"]*\"|`[^`]*`|\[[^]]*\]|--[^\n]*|/\*.*?\*/", " ", sql, flags=re.DOTALL).upper()
     if re.search(r"\bCHECK\b", words):
         notes.append(f"{new}: CHECK isn't carried: nothing checks it here")
     if re.search(r"\bAUTOINCREMENT\b", words):

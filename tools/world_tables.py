@@ -74,7 +74,8 @@ def fold(name):
 def check_name(what, name):
     if name in RESERVED:
         raise Refused(f"{what} {name!r} is a reserved word; give --rename")
-    if len(name.encode()) > MAX_NAME:
+    # A word of the command line that isn't UTF-8 has half surrogate pairs.
+    if len(name.encode(errors="surrogatepass")) > MAX_NAME:
         raise Refused(f"{what} {name!r} has more than {MAX_NAME} bytes; give --rename")
     if NAME.match(name):
         return
@@ -318,8 +319,12 @@ def csv_records(path, delimiter, encoding):
     """The records of a CSV file that aren't blank lines, with the line on which each begins before them."""
     try:
         text = read_file(path).decode(encoding)
+        # Some encodings have half surrogate pairs, which UTF-8 hasn't.
+        text.encode()
     except UnicodeDecodeError as fault:
         raise Refused(f"{path}: byte {fault.start} isn't {encoding}; give --encoding, such as latin-1")
+    except UnicodeError as fault:
+        raise Refused(f"{path} isn't {encoding}: {fault}")
     except LookupError:
         raise Misused(f"--encoding {encoding}: there is no such encoding")
     csv.field_size_limit(2**31 - 1)

@@ -10,3 +10,4 @@ pub mod SameBytes
 pub mod Scanning
 pub mod SortedMaps
 pub mod Utf8Parts
+pub mod ValidFiles

@@ -30,6 +30,7 @@ pub mod Runnable
 pub mod Runs
 pub mod SpawnSame
 pub mod SpawnSteps
+pub mod StartScripts
 pub mod Starts
 pub mod StepSame
 pub mod Stepping

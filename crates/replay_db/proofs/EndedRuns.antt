@@ -1,19 +1,11 @@
 -- What a run over files and an engine says of the run of a world.
-use Rattle.std.proofs.Common.{◌≡◌, ℕ, ◌<◌, List, [], ◌∷◌, ◌++◌, length, refl, sym, ap, ◌∙◌, subst, Bool, true, append_assoc, arith}
-use Rattle.std.specs.Prelude.{Option, Some, None, is_some, option_map, option_and_then, slice_get}
-use Rattle.std.specs.List.{All, list_all}
-use Rattle.std.proofs.lemmas.Bool.{leb-true}
-use Rattle.std.proofs.lemmas.List.Elements.{All-nil, All-cons}
-use Rattle.ldv_value.proofs.Booleans.{and-parts, and-first, and-second}
+use Rattle.std.proofs.Common.{◌≡◌, ℕ, List, [], ◌++◌, sym, ap, ◌∙◌, Bool, true, append_assoc}
+use Rattle.std.specs.Prelude.{Some, slice_get}
+use Rattle.std.specs.List.{list_all}
+use Rattle.ldv_value.proofs.Booleans.{and-first, and-second}
 use Rattle.ldv_value.proofs.Lists.{list_all-weaker}
-use Rattle.ldv_value.proofs.Options.{is_some-true}
-use Rattle.ldv_value.specs.FileState.{FileState, IsFile, file_at, file_test, file_precedes, files_test, untouched}
-use Rattle.ldv_value.specs.Limits.{file_limit}
-use Rattle.ldv_value.specs.Sorted.{is_strictly_sorted}
-use Rattle.ldv_value.specs.declared.file.File.{File}
-use Rattle.script_parse.specs.Script.{script_of}
 use Rattle.script_parse.specs.declared.script.Instr.{Instr}
-use Rattle.proc_core.specs.Stands.{IsStartScript, Told}
+use Rattle.proc_core.specs.Stands.{Told}
 use Rattle.run_model.specs.declared.event.Event.{Event}
 use Rattle.run_model.specs.declared.outcome.Outcome.{Outcome}
 use Rattle.run_model.specs.declared.world.World.{World}
@@ -34,24 +26,7 @@ use Rattle.replay_db.specs.Runs.{Stops}
 use Rattle.replay_db.specs.declared.stop.EndStop.{EndStop}
 use Rattle.replay_db.specs.declared.stop.EndStop.TheVariants.{NotEnded, NoMemory}
 
--- ---- the files, the tables and the start words of a world that can be run
-
-file_is : (f : File) → file_test f ≡ true → IsFile f.path f.content
-file_is f met =
-    let parts = and-parts _ _ met in
-    (parts.0, leb-true (length f.content) file_limit parts.1)
-
-all_files : (files : List File) → list_all file_test files ≡ true → All (λ f. IsFile f.path f.content) files
-all_files [] met = All-nil (λ (f : File). IsFile f.path f.content)
-all_files (f ∷ files) met =
-    let parts = and-parts (file_test f) (list_all file_test files) met in
-    All-cons (λ (f : File). IsFile f.path f.content) f files (file_is f parts.0) (all_files files parts.1)
-
-pub files_are : (files : List File) → files_test files ≡ true → All (λ f. IsFile f.path f.content) files
-files_are files met = all_files files (and-first (list_all file_test files) (is_strictly_sorted file_precedes files) met)
-
-pub files_sorted : (files : List File) → files_test files ≡ true → is_strictly_sorted file_precedes files ≡ true
-files_sorted files met = and-second (list_all file_test files) (is_strictly_sorted file_precedes files) met
+-- ---- the tables of a world that can be run
 
 pub tables_database : (ts : List Table) → tables_test ts ≡ true → is_database ts ≡ true
 tables_database ts met = and-first (is_database ts) (list_all is_described ts) met
@@ -63,35 +38,6 @@ pub tables_distinct : (ts : List Table) → tables_test ts ≡ true → have_dis
 tables_distinct ts met =
     list_all-weaker is_described (λ t. are_distinct t.schema.columns) table_distinct ts
     (and-second (is_database ts) (list_all is_described ts) met)
-
--- the script of the file that the first of the words names
-abbrev first_script : List (List ℕ) → List File → Option (List Instr)
-first_script start files =
-    option_and_then (λ (file : File). script_of file.content) (option_and_then (λ word. file_at word files) (slice_get start 0))
-
-some_word : (start : List (List ℕ)) (files : List File) → is_some (first_script start files) ≡ true → 0 < length start
-some_word [] files some = absurd cc
-some_word (word ∷ words) files some = omega arith
-
-pub has_word : (w : World) → is_some (start_script w) ≡ true → 0 < length w.start
-has_word w some = some_word w.start w.files some
-
--- ---- the start
-
-script_in : (o : Option File) → option_and_then script_of (option_map (λ (f : File). f.content) o)
-    ≡ option_and_then (λ (f : File). script_of f.content) o
-script_in None = refl
-script_in (Some f) = refl
-
-starts_on : (start : List (List ℕ)) (files : List File) (script : List Instr) → first_script start files ≡ Some script
-    → IsStartScript start (untouched files) script
-starts_on [] files script is = absurd cc
-starts_on (word ∷ words) files script is = script_in (file_at word files) ∙ is
-
-pub start_script_is : (w : World) (script : List Instr) (tree : FileState) → tree ≡ untouched w.files
-    → start_script w ≡ Some script → IsStartScript w.start tree script
-start_script_is w script tree is starts =
-    subst (λ (s : FileState). IsStartScript w.start s script) (sym is) (starts_on w.start w.files script starts)
 
 -- ---- the end
 
@@ -124,7 +70,3 @@ module _ (n : ℕ) (w : World) (script : List Instr) (is : start_script w ≡ So
 pub outcome_stops : (n : ℕ) (w : World) (stop : EndStop) → HasNotEnded n w stop → Stops stop (outcome_within n w)
 outcome_stops n w NotEnded going = going_outcome n w going
 outcome_stops n w NoMemory going = tt
-
--- the script of a world that can be run
-pub has_script : (w : World) → is_some (start_script w) ≡ true → (script : List Instr) × (start_script w ≡ Some script)
-has_script w some = is_some-true (start_script w) some

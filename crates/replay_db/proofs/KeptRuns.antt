@@ -8,9 +8,8 @@ use Rattle.std.proofs.lemmas.List.{append-nil}
 use Rattle.ldv_value.proofs.Lists.{all-weaker}
 use Rattle.ldv_value.proofs.Options.{same-some}
 use Rattle.ldv_value.proofs.SameBytes.{bytes_eq-itself, bytes_eq-other, nat_eq-true}
-use Rattle.script_parse.specs.declared.script.Instr.TheVariants as instr
 use Rattle.sql_laws.proofs.ItemLists.{all_append}
-use Rattle.replay_db.specs.Types.{Value, Null, Int, Text, Instr, Reply, Entry, Event}
+use Rattle.replay_db.specs.Types.{Reply, Entry, Event}
 use Rattle.replay_db.specs.declared.recorder.Kept.{Kept}
 use Rattle.replay_db.specs.KeptReplies.{Keeping, keeping_base, with_answer, kept_of, logs_kept}
 use Rattle.replay_db.specs.KeptLaw.{nothing_kept, KeptLaw}
@@ -21,10 +20,10 @@ use Rattle.run_model.specs.Run.{first_pick, later_picks, chosen, move, run, step
 use Rattle.run_model.specs.RunLaw.{started}
 use Rattle.run_model.specs.Schedule.{choose}
 use Rattle.run_model.specs.State.{State, Stepped}
-use Rattle.run_model.specs.Step.{Ask, ask, entry_of, replied, quiet, asked_by, ask_by, ask_in, ask_at, took_of, told, asking}
-use Rattle.run_model.specs.StepBase.{operand_value, operand_values}
+use Rattle.run_model.specs.Step.{Ask, entry_of, replied, quiet, ask_in, ask_at, took_of, told, asking}
 use Rattle.run_model.specs.WorldRun.{logs_of}
 use Rattle.run_model.proofs.Equations.{run-zero, run-over, run-suc, steps-zero, steps-over, steps-suc, events-zero, events-over, events-suc}
+use Rattle.replay_db.proofs.Askers.{next_named}
 use Rattle.replay_db.proofs.KeptNames.{AskedKept, IsNamed, logs_same}
 use Rattle.replay_db.proofs.KeptSplits.{is_by, entries_kept}
 use Rattle.value_laws.proofs.ProcessNames.{Later, Grows, found_later, set_grows, name_of, names_set, place_of_name, Named, named_later}
@@ -234,23 +233,6 @@ module _ (kept : List Kept) (ps : List Process) (all : KeepsAll kept ps) (number
         (all-weaker (Known ps) (Known after) (known_later ps after grows) kept all.known)
         (record { number = number; process = q; there = there; named = sym by }, tt);
   }
-
--- ---- a question names the process that asks it
-
-ask_named : (cursor : List ℕ) (v : Value) (params : List Value) (p : Process) (a : Ask)
-    → ask cursor v params p ≡ Some a → a.question.process ≡ p.name
-ask_named cursor Null params p a is = cc
-ask_named cursor (Int n) params p a is = cc
-ask_named cursor (Text text) params p a is = ap (λ (b : Ask). b.question.process) (sym (same-some _ a is))
-
-asked_named : (i : Instr) (p : Process) (a : Ask) → asked_by i p ≡ Some a → a.question.process ≡ p.name
-asked_named (instr.Sql cursor text params) p a is =
-    ask_named cursor (operand_value p text) (operand_values p params) p a is
-asked_named other p a is = cc
-
-next_named : (i : Option Instr) (p : Process) (a : Ask) → ask_by i p ≡ Some a → a.question.process ≡ p.name
-next_named None p a is = cc
-next_named (Some i) p a is = asked_named i p a is
 
 -- ---- steps and runs
 

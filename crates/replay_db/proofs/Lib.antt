@@ -45,6 +45,7 @@ mod RunRows
 mod InitialRows
 mod LogEntries
 mod LogLaws
+mod Askers
 mod LogRuns
 mod QuietSteps
 mod RunSteps

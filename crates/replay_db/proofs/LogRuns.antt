@@ -10,47 +10,23 @@ use Rattle.std.proofs.lemmas.List.{append_assoc, append_cancel_left}
 use Rattle.ldv_value.proofs.Booleans.{and-from, false≢true}
 use Rattle.ldv_value.proofs.Options.{same-some}
 use Rattle.ldv_value.proofs.SameBytes.{bytes_eq-itself, nat_eq-true}
-use Rattle.script_parse.specs.declared.script.Instr.TheVariants as instr
 use Rattle.sql_model.specs.KeyOrder.{values_total}
 use Rattle.sql_model.specs.Keys.{same_values}
 use Rattle.sql_model.specs.Scope.{same_text}
-use Rattle.replay_db.specs.Types.{Value, Null, Int, Text, Instr, Reply, Entry}
+use Rattle.replay_db.specs.Types.{Reply, Entry}
 use Rattle.run_model.specs.Core.{Process, Core, is_over}
 use Rattle.run_model.specs.Database.{Question, Lists, Answer, Gives, Diverges, Base}
 use Rattle.run_model.specs.LogDatabase.{LogDatabase, entries_left, logs_after, no_lists, is_recorded, answer_from, log_base}
 use Rattle.run_model.specs.Run.{first_pick, later_picks, chosen, move, run}
 use Rattle.run_model.specs.Schedule.{choose}
 use Rattle.run_model.specs.State.{State, Stepped}
-use Rattle.run_model.specs.Step.{Ask, ask, entry_of, replied, quiet, asked_by, ask_by, ask_in, ask_at, took_of, took, kept, told, asking}
-use Rattle.run_model.specs.StepBase.{operand_value, operand_values}
+use Rattle.run_model.specs.Step.{Ask, entry_of, replied, quiet, ask_at, took_of, took, kept, told, asking}
 use Rattle.run_model.proofs.Equations.{run-zero, run-over, run-suc}
+use Rattle.replay_db.proofs.Askers.{asker}
 use Rattle.replay_db.proofs.LogEntries.{left_after, left_other}
 use Rattle.value_laws.proofs.ProcessNames.{Later, Grows, grows_itself, grows_trans, found_later, set_grows, names, names_set, Distinct, place_of_name, Named, named_later}
 use Rattle.value_laws.proofs.ProcessPlaces.{set_there, set_other}
 use Rattle.replay_db.proofs.QuietSteps.{entries_in, Quiets, quiet_quiets}
-
--- ---- who asks
-
--- a question names the process that asks it
-ask_named : (cursor : List ℕ) (v : Value) (params : List Value) (p : Process) (a : Ask)
-    → ask cursor v params p ≡ Some a → a.question.process ≡ p.name
-ask_named cursor Null params p a is = cc
-ask_named cursor (Int n) params p a is = cc
-ask_named cursor (Text text) params p a is = ap (λ (b : Ask). b.question.process) (sym (same-some _ a is))
-
-asked_named : (i : Instr) (p : Process) (a : Ask) → asked_by i p ≡ Some a → a.question.process ≡ p.name
-asked_named (instr.Sql cursor text params) p a is =
-    ask_named cursor (operand_value p text) (operand_values p params) p a is
-asked_named other p a is = cc
-
-next_named : (i : Option Instr) (p : Process) (a : Ask) → ask_by i p ≡ Some a → a.question.process ≡ p.name
-next_named None p a is = cc
-next_named (Some i) p a is = asked_named i p a is
-
-asker : (o : Option Process) (a : Ask) → ask_in o ≡ Some a
-    → (p : Process) × (o ≡ Some p) × (a.question.process ≡ p.name)
-asker None a is = absurd cc
-asker (Some p) a is = (p, refl, next_named (slice_get p.script p.place) p a is)
 
 -- ---- what a run leaves of the core
 

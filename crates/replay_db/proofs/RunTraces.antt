@@ -5,7 +5,7 @@ use Rattle.std.specs.List.{list_all}
 use Rattle.std.proofs.lemmas.Bool.{cases_Bool}
 use Rattle.ldv_value.proofs.Booleans.{and-parts}
 use Rattle.ldv_value.proofs.SameBytes.{bytes_eq-true}
-use Rattle.ldv_value.specs.FileState.{file_at, file_precedes, file_test, files_test}
+use Rattle.ldv_value.specs.FileState.{file_at, file_precedes, file_test}
 use Rattle.ldv_value.specs.Limits.{file_limit}
 use Rattle.ldv_value.specs.Names.{path_test}
 use Rattle.ldv_value.specs.Sorted.{is_strictly_sorted}
@@ -14,9 +14,9 @@ use Rattle.run_model.specs.Start.{start_script}
 use Rattle.run_model.specs.ValidTrace.{IsTrace}
 use Rattle.run_model.specs.WorldRun.{steps_by, events_by, events_within}
 use Rattle.slicer.specs.InitialRows.{ReadsInitialRows}
+use Rattle.run_model.proofs.StartScripts.{has_script}
 use Rattle.replay_db.specs.Runs.{CanRun}
 use Rattle.replay_db.specs.Types.{File, Instr, Event, World}
-use Rattle.replay_db.proofs.EndedRuns.{has_script}
 use Rattle.replay_db.proofs.InitialRows.{initial_rows_law}
 use Rattle.replay_db.proofs.TraceValid.{starts_run}
 

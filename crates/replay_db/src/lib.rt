@@ -55,6 +55,7 @@ mod record;
 mod recorder;
 mod replay;
 mod run;
+mod setting;
 mod soundness;
 mod stop;
 mod table;

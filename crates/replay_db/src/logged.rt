@@ -13,8 +13,8 @@ ghost use Rattle.replay_db.specs.Runs.{CanRun};
 ghost use Rattle.replay_db.specs.Types.{Instr};
 
 use crate::recorder::Recorder;
+use crate::setting::{Setting, setting_of};
 use crate::stop::EndStop;
-use file_tree::Tree;
 use proc_core::{Run, RunStop};
 use run_model::{Events, ListTracer, Logs, World};
 use sql_engine::Engine;
@@ -43,8 +43,7 @@ fn begin(alloc: Global, world: World) -> Result<Run<Recorder<Engine>, ListTracer
         files,
         tables,
     } = world;
-    let tree = Tree::of_files(alloc, files)?;
-    let engine = Engine::of_tables(alloc, tables)?;
+    let Setting { tree, engine } = setting_of(alloc, files, tables)?;
     let recorder = Recorder::over(alloc, engine);
     let begun = Run::start(&start, seed, tree, recorder, ListTracer::new(alloc))?;
     Ok(begun)

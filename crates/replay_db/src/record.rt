@@ -15,7 +15,7 @@ use crate::logged::{Logged, log_world};
 use crate::stop::EndStop;
 use crate::trace::{Traced, trace_world};
 use run_model::{Logs, Mode, Package, PackedTables, World};
-use slicer::{Sliced, slice};
+use slicer::{Sliced, slice, slice_files};
 use std::alloc::{AllocError, Global};
 use trace_graph::Graph;
 
@@ -55,8 +55,6 @@ fn package_of_run(alloc: Global, world: &World, budget: u32) -> Result<Package, 
 
 // What the run needed of the files of the world, and what was asked in it.
 fn pack_logs(alloc: Global, world: &World, logged: Logged) -> Result<Package, AllocError>
-    requires trace { IsTrace logged.events }
-    requires rows { ReadsInitialRows logged.events world.now.tables }
     ensures { IfOk result (λ p. p ≡ packed_logs world.now logged) }
 {
     let Logged {
@@ -64,8 +62,7 @@ fn pack_logs(alloc: Global, world: &World, logged: Logged) -> Result<Package, Al
         steps,
         logs,
     } = logged;
-    let graph = Graph::of_events(alloc, &events)?;
-    let Sliced { files, tables: _ } = slice(alloc, &events, &graph, world)?;
+    let files = slice_files(alloc, &events, world)?;
     Ok(Package {
         mode: Mode::Excluded,
         start: world.start.copy()?,

@@ -16,8 +16,8 @@ ghost use Rattle.replay_db.specs.Runs.{CanRun, RunsAs, Stops};
 ghost use Rattle.replay_db.specs.Types.{Instr};
 
 use crate::copy::copy_world;
+use crate::setting::{Setting, setting_of};
 use crate::stop::EndStop;
-use file_tree::Tree;
 use proc_core::{Run, RunStop};
 use run_model::{NullTracer, Outcome, Tracer, World};
 use sql_engine::Engine;
@@ -42,8 +42,7 @@ pub(crate) fn begin<T: Tracer>(
         files,
         tables,
     } = world;
-    let tree = Tree::of_files(alloc, files)?;
-    let engine = Engine::of_tables(alloc, tables)?;
+    let Setting { tree, engine } = setting_of(alloc, files, tables)?;
     let begun = Run::start(&start, seed, tree, engine, tracer)?;
     Ok(begun)
 }

@@ -6,6 +6,8 @@
 //!   its `specs/Slice.antt`), each row with the first statement that needs it and its rule;
 //! - the rows are exactly those whose first version is in the graph, and to which no edge from a statement leads.
 //!
+//! `slice_files` gives the files alone, of any events.
+//!
 //! Files come from the events, rows from the graph, and the events only give each row its reason. The rows that
 //! wait for one are bits, so that all reads of a row but the first cost the test of a bit. The time is linear in
 //! the graph, the events and the world, but for the search of a table by its name and of a row that is needed by
@@ -21,4 +23,4 @@ mod reasons;
 mod row_set;
 mod tables;
 
-pub use needed::{Sliced, slice};
+pub use needed::{Sliced, slice, slice_files};

@@ -44,3 +44,11 @@ pub fn slice(
     let tables = needed_tables(alloc, events.items(), graph, world.tables.items())?;
     Ok(Sliced { files, tables })
 }
+
+/// The files that events need of the world that they began in, as in its slice. `AllocError` means out of
+/// memory only.
+pub fn slice_files(alloc: Global, events: &Events, world: &World) -> Result<PackedFiles, AllocError>
+    ensures { IfOk result (λ files. files ≡ files_needed events.now world.now.files) }
+{
+    needed_files(alloc, events.items(), world.files.items())
+}

@@ -1,4 +1,3 @@
-pub mod Built
 pub mod Changes
 pub mod Codes
 pub mod Columns

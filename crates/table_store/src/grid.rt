@@ -18,6 +18,7 @@ use crate::bits::Bits;
 use crate::cell::Cell;
 use crate::column::Column;
 use crate::columns::{cell_at, compare_cells, copy_cells, empty_columns, reserve_cells, set_cells};
+use crate::grow::reserve_eighth;
 use crate::push::push_rows;
 use lanes::and_into;
 use ldv_value::{Cmp, Places, Values};
@@ -167,8 +168,8 @@ impl Grid {
         ensures err { OnErr result (self.new ≡ self.old) }
     {
         let more = rows.len();
-        self.numbers.reserve(more)?;
-        self.since.reserve(more)?;
+        reserve_eighth(&mut self.numbers, more)?;
+        reserve_eighth(&mut self.since, more)?;
         self.standing.reserve(more)?;
         reserve_cells(&mut self.columns, more)?;
         self.next = push_rows(

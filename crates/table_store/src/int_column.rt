@@ -7,6 +7,7 @@ ghost use Rattle.lanes.specs.Sets.{member};
 ghost use Rattle.lanes.specs.Selection.{passes};
 
 use crate::bits::Bits;
+use crate::grow::reserve_eighth;
 use lanes::{minus_into, select_i64};
 use ldv_value::Cmp;
 use std::alloc::{AllocError, Global};
@@ -59,7 +60,7 @@ impl IntColumn {
         ensures items { self.new.items ≡ self.old.items }
         ensures room { OnOk result (more ≤ self.new.spare) }
     {
-        self.values.reserve(more)?;
+        reserve_eighth(&mut self.values, more)?;
         self.nulls.reserve(more)?;
         Ok(())
     }

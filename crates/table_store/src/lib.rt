@@ -39,6 +39,7 @@ mod clash;
 mod column;
 mod columns;
 mod grid;
+mod grow;
 mod index;
 mod insert;
 mod int_column;

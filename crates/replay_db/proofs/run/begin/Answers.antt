@@ -3,30 +3,20 @@ use Rattle.proc_core.specs.Running.{Stands}
 use Rattle.run_model.specs.RunLaw.{started}
 use Rattle.run_model.specs.SqlDatabase.{SqlDatabase}
 use Rattle.sql_engine.specs.Asking.{database}
-use Rattle.replay_db.proofs.EndedRuns.{files_are, files_sorted, tables_database, tables_distinct, has_script, has_word, start_script_is}
+use Rattle.run_model.proofs.StartScripts.{has_script, has_word}
+use Rattle.proc_core.proofs.StartScripts.{start_script_is}
 use Rattle.replay_db.proofs.run.begin.Goals as goal
-
-pub of_files-requires : goal.of_files-requires
-of_files-requires g c = files_are c.args.world.files c.requires.files
-
-pub of_tables-requires-clause-database : goal.of_tables-requires-clause-database
-of_tables-requires-clause-database g c = tables_database c.args.world.tables c.requires.tables
-
-pub of_tables-requires-clause-distinct : goal.of_tables-requires-clause-distinct
-of_tables-requires-clause-distinct g c = tables_distinct c.args.world.tables c.requires.tables
 
 pub start-requires-clause-words : goal.start-requires-clause-words
 start-requires-clause-words g c = has_word c.args.world c.requires.script
 
 pub start-requires-clause-script : goal.start-requires-clause-script
 start-requires-clause-script g c =
-    let sorted = c.in_ok-tree.ensures.sorted (files_sorted c.args.world.files c.requires.files) in
     let script = has_script c.args.world c.requires.script in
-    (script.0, start_script_is c.args.world script.0 c.in_ok-tree.tree sorted script.1)
+    (script.0, start_script_is c.args.world script.0 c.in_ok-tree.field-0.tree c.in_ok-tree.ensures.tree script.1)
 
 pub returns-clause-state : goal.returns-clause-state
 returns-clause-state g c = λ script is.
-    let sorted = c.in_ok-tree.ensures.sorted (files_sorted c.args.world.files c.requires.files) in
     subst (λ (db : SqlDatabase). Stands c.in_ok-begun.begun.machine (database c.in_ok-begun.begun.db) (started c.args.world.start c.args.world.seed c.args.world.files script db))
-    c.in_ok-engine.ensures.database
-    (c.in_ok-begun.ensures.state script c.args.world.files sorted (start_script_is c.args.world script c.in_ok-tree.tree sorted is))
+    c.in_ok-tree.ensures.database
+    (c.in_ok-begun.ensures.state script c.args.world.files c.in_ok-tree.ensures.tree (start_script_is c.args.world script c.in_ok-tree.field-0.tree c.in_ok-tree.ensures.tree is))

@@ -2,7 +2,8 @@ use Rattle.std.proofs.Common.{[]}
 use Rattle.run_model.specs.Run.{run}
 use Rattle.run_model.specs.SqlDatabase.{sql_base}
 use Rattle.run_model.specs.Start.{start_state}
-use Rattle.replay_db.proofs.EndedRuns.{has_script, yields}
+use Rattle.run_model.proofs.StartScripts.{has_script}
+use Rattle.replay_db.proofs.EndedRuns.{yields}
 use Rattle.replay_db.proofs.run.outcome_of_run.Goals as goal
 
 pub returns : goal.returns

@@ -1,13 +1,15 @@
 use Rattle.std.proofs.Common.{[]}
 use Rattle.run_model.specs.LogDatabase.{log_base}
 use Rattle.run_model.specs.LogRun.{log_start}
+use Rattle.run_model.specs.Package.{own_world}
 use Rattle.run_model.specs.Run.{run}
-use Rattle.replay_log.proofs.Replaying.{has_script, has_ended_so, has_stopped_so}
+use Rattle.run_model.proofs.StartScripts.{has_script}
+use Rattle.replay_log.proofs.Replaying.{has_ended_so, has_stopped_so}
 use Rattle.replay_log.proofs.replay.replay_owned.Goals as goal
 
 pub returns-in-Ok-outcome : goal.returns-in-Ok-outcome
 returns-in-Ok-outcome c =
-    let script = has_script c.args.«package» c.requires.can_replay.script in
+    let script = has_script (own_world c.args.«package») c.requires.can_replay.script in
     let start = log_start c.args.«package» script.0 in
     let begun = c.in-Ok.ensures.state script.0 script.1 in
     let stands = c.in-Ok-to_end.ensures.state start begun in
@@ -17,7 +19,7 @@ returns-in-Ok-outcome c =
 
 pub returns-in-Err-to_end : goal.returns-in-Err-to_end
 returns-in-Err-to_end c =
-    let script = has_script c.args.«package» c.requires.can_replay.script in
+    let script = has_script (own_world c.args.«package») c.requires.can_replay.script in
     let start = log_start c.args.«package» script.0 in
     let begun = c.in-Ok.ensures.state script.0 script.1 in
     has_stopped_so c.args.budget c.args.«package» script.0 script.1 (c.in-Err-to_end.ensures.never_stuck start begun) c.in-Err-to_end.stop

@@ -8,12 +8,12 @@ returns-in_err-reserve_cells-clause-err c =
     let a = c.self.inside in
     let made = c.reserve_cells.ensures in
     let new = c.reserve_cells.new.columns.items in
-    let slots : slots_of c.reserve.new.self.items c.reserve-2.new.self.items c.reserve-3.new.self.items new ≡ c.args.self.now.slots =
-    (λ j. slots_of (c.reserve.ensures.items j) (c.reserve-2.ensures.items j) (c.reserve-3.ensures.items j) new)
+    let slots : slots_of c.reserve_eighth.new.list.items c.reserve_eighth-2.new.list.items c.reserve.new.self.items new ≡ c.args.self.now.slots =
+    (λ j. slots_of (c.reserve_eighth.ensures.items j) (c.reserve_eighth-2.ensures.items j) (c.reserve.ensures.items j) new)
     ∙ slots_same a.columns.items [] new a.numbers.items a.since.items a.standing.items made.count made.cells
     ∙ ap (λ (r : Rows). r.slots) c.self.view_is in
     let kinds : kinds_of new ≡ c.args.self.now.kinds = same_kinds a.columns.items [] new made.count made.kinds ∙ ap (λ (r : Rows). r.kinds) c.self.view_is in
-    let whole : record { slots = slots_of c.reserve.new.self.items c.reserve-2.new.self.items c.reserve-3.new.self.items new; kinds = kinds_of new; next = a.next } ≡ c.args.self.now =
+    let whole : record { slots = slots_of c.reserve_eighth.new.list.items c.reserve_eighth-2.new.list.items c.reserve.new.self.items new; kinds = kinds_of new; next = a.next } ≡ c.args.self.now =
     λ j. record { slots = slots j; kinds = kinds j; next = (ap (λ (r : Rows). r.next) c.self.view_is) j } in
     search (rules, whole)
 
@@ -29,7 +29,7 @@ returns-clause-ok c =
     let wide = c.reserve_cells.new.columns.items in
     let slots = c.push_rows.ensures.slots
     ∙ ap (λ (l : List Slot). l ++ map (new_slot c.args.since) c.args.rows)
-    ((λ j. slots_of (c.reserve.ensures.items j) (c.reserve-2.ensures.items j) (c.reserve-3.ensures.items j) wide)
+    ((λ j. slots_of (c.reserve_eighth.ensures.items j) (c.reserve_eighth-2.ensures.items j) (c.reserve.ensures.items j) wide)
     ∙ slots_same a.columns.items [] wide a.numbers.items a.since.items a.standing.items made.count made.cells
     ∙ ap (λ (r : Rows). r.slots) c.self.view_is) in
     let kinds = c.push_rows.ensures.kinds ∙ same_kinds a.columns.items [] wide made.count made.kinds ∙ ap (λ (r : Rows). r.kinds) c.self.view_is in
