@@ -19,7 +19,7 @@ room_later : (more : ℕ) (ps : List Named) → HaveRoom (1 + more) ps → HaveR
 room_later more ps room k d below = let here : HasRoom (1 + more) (slice_index_or ps k d) = room k d below in omega (arith, here)
 
 -- the room of a process that is there
-room_at : (more : ℕ) (ps : List Named) (number : ℕ) (p : Named) → slice_get ps number ≡ Some p → HaveRoom more ps → HasRoom more p
+pub room_at : (more : ℕ) (ps : List Named) (number : ℕ) (p : Named) → slice_get ps number ≡ Some p → HaveRoom more ps → HasRoom more p
 room_at more ps number p is room = elim ((slice_get_cases ps number).1) [
   | inl there ↦ subst (HasRoom more) (get_or_from_slice_get ps number p p is) (room number p there.1)
   | inr past ↦ let none : slice_get ps number ≡ None = past.1 in cc

@@ -1,1 +1,2 @@
 pub mod ChildLaws
+pub mod PlaceLaws

@@ -1,6 +1,8 @@
 pub mod Types
+pub mod Named
 pub mod ProcessNames
 pub mod ChildRoom
+pub mod ProcessPlaces
 pub mod RowReports
 pub mod FileReports
 pub mod TraceReports

@@ -12,7 +12,7 @@ ghost use Rattle.run_model.specs.OutcomeText.{line};
 ghost use Rattle.inspect.specs.Stopping.{Stops};
 
 use crate::append::append_numbered;
-use crate::names::{Named, append_process, processes_of};
+use crate::names::{Processes, append_process, processes_of};
 use crate::stop::InspectStop;
 use ldv_value::{Bytes, Utf8};
 use reach::depends;
@@ -51,11 +51,11 @@ fn report_at(
     let nodes = depends(alloc, graph, place, time)?;
     let processes = processes_of(alloc, events.items())?;
     let mut text = Bytes::new(alloc);
-    append_nodes(&mut text, processes.as_slice(), nodes.items())?;
+    append_nodes(&mut text, &processes, nodes.items())?;
     Ok(text)
 }
 
-fn append_nodes(to: &mut Bytes, processes: &[Named], nodes: &[Node]) -> Result<(), AllocError>
+fn append_nodes(to: &mut Bytes, processes: &Processes, nodes: &[Node]) -> Result<(), AllocError>
     ensures { OnOk result (to.new ≡ to.old ++ flat_map (node_line processes.now) nodes.now) }
 {
     for node in nodes {
@@ -64,7 +64,7 @@ fn append_nodes(to: &mut Bytes, processes: &[Named], nodes: &[Node]) -> Result<(
     Ok(())
 }
 
-fn append_node(to: &mut Bytes, processes: &[Named], node: &Node) -> Result<(), AllocError>
+fn append_node(to: &mut Bytes, processes: &Processes, node: &Node) -> Result<(), AllocError>
     ensures { OnOk result (to.new ≡ to.old ++ node_line processes.now node.now) }
 {
     match node {
@@ -84,7 +84,11 @@ fn append_path(to: &mut Bytes, path: &Utf8) -> Result<(), AllocError>
     to.extend(b"\n")
 }
 
-fn append_process_line(to: &mut Bytes, processes: &[Named], process: u32) -> Result<(), AllocError>
+fn append_process_line(
+    to: &mut Bytes,
+    processes: &Processes,
+    process: u32,
+) -> Result<(), AllocError>
     ensures { OnOk result (to.new ≡ to.old ++ line (codes "process " ++ name_in processes.now process)) }
 {
     to.extend(b"process ")?;

@@ -10,7 +10,8 @@
 //! - `depends_text` lists what the content of a path came from (`specs/DependsReports.antt`), by the graph of
 //!   the events.
 //!
-//! Time and memory are linear in the package and the report. No clause says so.
+//! Memory is linear in the package and the report, since the name of a process is made only where a report has
+//! it. So is time, but for the sorting in `depends_text`. No clause says so.
 #![tactic(auto)]
 
 mod append;

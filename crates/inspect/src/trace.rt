@@ -7,7 +7,7 @@ ghost use Rattle.inspect.specs.TraceReports.{act_text, asked_text, event_line, f
 ghost use Rattle.inspect.specs.TraceReports.{path_act, trace_report, waited_text};
 
 use crate::append::append_numbered;
-use crate::names::{Named, append_process, processes_of};
+use crate::names::{Processes, append_process, processes_of};
 use ldv_value::{Bytes, Utf8, append_number};
 use run_model::{Act, Event, Package};
 use std::alloc::{AllocError, Global};
@@ -20,11 +20,11 @@ pub fn trace_text(alloc: Global, package: &Package) -> Result<Bytes, AllocError>
 {
     let processes = processes_of(alloc, package.events.items())?;
     let mut text = Bytes::new(alloc);
-    append_events(&mut text, processes.as_slice(), package.events.items())?;
+    append_events(&mut text, &processes, package.events.items())?;
     Ok(text)
 }
 
-fn append_events(to: &mut Bytes, processes: &[Named], events: &[Event]) -> Result<(), AllocError>
+fn append_events(to: &mut Bytes, processes: &Processes, events: &[Event]) -> Result<(), AllocError>
     ensures { OnOk result (to.new ≡ to.old ++ flat_map (event_line processes.now) events.now) }
 {
     for event in events {
@@ -33,7 +33,7 @@ fn append_events(to: &mut Bytes, processes: &[Named], events: &[Event]) -> Resul
     Ok(())
 }
 
-fn append_event(to: &mut Bytes, processes: &[Named], event: &Event) -> Result<(), AllocError>
+fn append_event(to: &mut Bytes, processes: &Processes, event: &Event) -> Result<(), AllocError>
     ensures { OnOk result (to.new ≡ to.old ++ event_line processes.now event.now) }
 {
     append_number(event.step as u64, to)?;
@@ -44,7 +44,7 @@ fn append_event(to: &mut Bytes, processes: &[Named], event: &Event) -> Result<()
     to.extend(b"\n")
 }
 
-fn append_act(to: &mut Bytes, processes: &[Named], act: &Act) -> Result<(), AllocError>
+fn append_act(to: &mut Bytes, processes: &Processes, act: &Act) -> Result<(), AllocError>
     ensures { OnOk result (to.new ≡ to.old ++ act_text processes.now act.now) }
 {
     match act {
@@ -102,7 +102,7 @@ fn append_flag(to: &mut Bytes, found: bool) -> Result<(), AllocError>
     }
 }
 
-fn append_waited(to: &mut Bytes, processes: &[Named], child: u32) -> Result<(), AllocError>
+fn append_waited(to: &mut Bytes, processes: &Processes, child: u32) -> Result<(), AllocError>
     ensures { OnOk result (to.new ≡ to.old ++ waited_text processes.now child) }
 {
     to.extend(b"waited ")?;

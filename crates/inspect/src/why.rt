@@ -8,7 +8,7 @@ ghost use Rattle.inspect.specs.WhyReports.{asked_in, asks, reason_line, reason_o
 ghost use Rattle.inspect.specs.WhyReports.{row_numbered, table_named, why_report};
 
 use crate::append::{append_numbered, append_rule};
-use crate::names::{Named, append_process, processes_of};
+use crate::names::{Processes, append_process, processes_of};
 use crate::stop::InspectStop;
 use ldv_value::Bytes;
 use run_model::{Act, Event, Package, PackedRow, PackedTable};
@@ -62,7 +62,7 @@ fn reason_of(alloc: Global, events: &[Event], row: &PackedRow) -> Result<Bytes, 
         None => {}
         Some(event) => {
             let processes = processes_of(alloc, events)?;
-            append_reason(&mut text, processes.as_slice(), row, event)?;
+            append_reason(&mut text, &processes, row, event)?;
         }
     }
     Ok(text)
@@ -104,7 +104,7 @@ fn asks(act: &Act, statement: u32) -> bool
 
 fn append_reason(
     to: &mut Bytes,
-    processes: &[Named],
+    processes: &Processes,
     row: &PackedRow,
     event: &Event,
 ) -> Result<(), AllocError>

@@ -1,14 +1,24 @@
-//! From the input to a package.
+//! From the input to a world or a package.
 
-ghost use Rattle.std.specs.Prelude.{IfOk};
+ghost use Rattle.std.specs.Prelude.{◌≡◌, Ok, IfOk, IfErr};
 ghost use Rattle.package_layout.specs.ReadResult.{ReadsAs};
 ghost use Rattle.package_layout.specs.Valid.{Valid, reading};
 ghost use Rattle.package_layout.specs.Whole.{IsTyped};
+ghost use Rattle.world_json.specs.Reading.{world_reading, IsFaultOf};
 
 use ldv_value::Bytes;
 use package_layout::{PackageStop, read_package};
-use run_model::Package;
+use run_model::{Package, World};
 use std::alloc::Global;
+use world_json::{WorldStop, world_of};
+
+/// The world that the input is a document of. The input isn't kept.
+pub(crate) fn read_document(alloc: Global, input: Bytes) -> Result<World, WorldStop>
+    ensures world { IfOk result (λ world. world_reading input ≡ Ok world) }
+    ensures fault { IfErr result (IsFaultOf (world_reading input)) }
+{
+    world_of(alloc, input.as_slice())
+}
 
 /// The package that the input is. The input isn't kept.
 pub(crate) fn read_input(alloc: Global, input: Bytes) -> Result<Package, PackageStop>

@@ -9,6 +9,7 @@ ghost use Rattle.ldv_top.specs.Headline.{Recorded};
 ghost use Rattle.ldv_top.specs.declared.exit.Exit.{Exit};
 
 use crate::headline::headline_law;
+use crate::reading::read_document;
 use crate::response::Response;
 use crate::typed::see_types;
 use ldv_value::Bytes;
@@ -16,7 +17,7 @@ use package_layout::{SpellStop, spell};
 use replay_db::{EndStop, record_world};
 use run_model::{Mode, Package, World};
 use std::alloc::{AllocError, Global};
-use world_json::{WorldStop, world_of};
+use world_json::WorldStop;
 
 #[tactic(auto, using(crate::proofs::RecordLaws::spelling_ends))]
 fn spelling_response(alloc: Global, package: &Package) -> Result<Response, AllocError>
@@ -47,21 +48,21 @@ fn recorded_response(
 }
 
 /// The response of `record` to an input.
-pub fn record_response(
+pub(crate) fn record_response(
     alloc: Global,
     mode: Mode,
     budget: u32,
-    input: &Bytes,
+    input: Bytes,
 ) -> Result<Response, AllocError>
-    requires short { length input.now ≤ input_limit }
+    requires short { length input ≤ input_limit }
     requires bounded { budget ≤ max_steps }
-    ensures due { IfOk result (λ response. response_due response ≡ due_record mode budget input.now) }
+    ensures due { IfOk result (λ response. response_due response ≡ due_record mode budget input) }
     // Bytes to write are the package of the document's world.
-    ensures recorded { OnOk result ((due_record mode budget input.now).exit ≡ Exit.Done
-        → Recorded mode budget input.now (due_record mode budget input.now).bytes) }
+    ensures recorded { OnOk result ((due_record mode budget input).exit ≡ Exit.Done
+        → Recorded mode budget input (due_record mode budget input).bytes) }
 {
     headline_law();
-    match world_of(alloc, input.as_slice()) {
+    match read_document(alloc, input) {
         Ok(world) => {
             see_types(&world);
             recorded_response(alloc, mode, budget, world)

@@ -8,9 +8,10 @@ ghost use Rattle.replay_db.specs.Runs.{CanRun};
 ghost use Rattle.replay_log.specs.Replays.{CanReplay, Replays};
 ghost use Rattle.ldv_top.specs.Due.{response_due, due_world, due_log, replayed_package, due_replay};
 
+use crate::reading::read_input;
 use crate::response::{Response, ended_response};
 use ldv_value::Bytes;
-use package_layout::{PackageStop, read_package};
+use package_layout::PackageStop;
 use proc_core::RunStop;
 use replay_db::replay_included;
 use replay_log::{can_replay_law, replay_owned};
@@ -66,13 +67,17 @@ fn replay_package(alloc: Global, budget: u32, package: Package) -> Result<Respon
 }
 
 /// The response of `replay` to an input.
-pub fn replay_response(alloc: Global, budget: u32, input: &Bytes) -> Result<Response, AllocError>
-    requires short { length input.now ≤ input_limit }
+pub(crate) fn replay_response(
+    alloc: Global,
+    budget: u32,
+    input: Bytes,
+) -> Result<Response, AllocError>
+    requires short { length input ≤ input_limit }
     requires bounded { budget ≤ max_steps }
-    ensures { IfOk result (λ response. response_due response ≡ due_replay budget input.now) }
+    ensures { IfOk result (λ response. response_due response ≡ due_replay budget input) }
 {
     can_replay_law();
-    match read_package(alloc, input.as_slice()) {
+    match read_input(alloc, input) {
         Ok(package) => replay_package(alloc, budget, package),
         Err(PackageStop::Damaged(kind)) => Ok(Response::Damaged(kind)),
         Err(PackageStop::NoMemory) => Err(AllocError),

@@ -8,12 +8,13 @@ ghost use Rattle.replay_db.specs.Runs.{CanRun, Stops};
 ghost use Rattle.replay_db.specs.Types.{World};
 ghost use Rattle.ldv_top.specs.Due.{response_due, due_world, due_run};
 
+use crate::reading::read_document;
 use ldv_value::Bytes;
 use package_layout::DamageKind;
 use replay_db::{EndStop, run_owned};
 use run_model::{Outcome, ProcName, World, outcome_text};
 use std::alloc::{AllocError, Global};
-use world_json::{WorldFault, WorldStop, world_of};
+use world_json::{WorldFault, WorldStop};
 
 /// The response of a command, before anything is written: the bytes to write, or another exit.
 #[derive(Drop)]
@@ -62,12 +63,12 @@ fn world_response(alloc: Global, budget: u32, world: World) -> Result<Response, 
 }
 
 /// The response of `run` to an input.
-pub fn run_response(alloc: Global, budget: u32, input: &Bytes) -> Result<Response, AllocError>
-    requires short { length input.now ≤ input_limit }
+pub(crate) fn run_response(alloc: Global, budget: u32, input: Bytes) -> Result<Response, AllocError>
+    requires short { length input ≤ input_limit }
     requires bounded { budget ≤ max_steps }
-    ensures { IfOk result (λ response. response_due response ≡ due_run budget input.now) }
+    ensures { IfOk result (λ response. response_due response ≡ due_run budget input) }
 {
-    match world_of(alloc, input.as_slice()) {
+    match read_document(alloc, input) {
         Ok(world) => world_response(alloc, budget, world),
         Err(WorldStop::Fault(fault)) => Ok(Response::NotWorld(fault)),
         Err(WorldStop::NoMemory) => Err(AllocError),

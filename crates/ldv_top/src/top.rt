@@ -65,9 +65,9 @@ fn respond(alloc: Global, command: Command, input: Bytes) -> Result<Response, Al
         → Recorded mode budget input (due_record mode budget input).bytes) }
 {
     match command {
-        Command::Run { budget } => run_response(alloc, budget, &input),
-        Command::Record { mode, budget } => record_response(alloc, mode, budget, &input),
-        Command::Replay { budget } => replay_response(alloc, budget, &input),
+        Command::Run { budget } => run_response(alloc, budget, input),
+        Command::Record { mode, budget } => record_response(alloc, mode, budget, input),
+        Command::Replay { budget } => replay_response(alloc, budget, input),
         Command::Audit { budget } => audit_response(alloc, budget, &input),
         Command::Table { name, step, budget } => {
             table_response(alloc, name.as_str(), step, budget, input)
@@ -152,8 +152,8 @@ fn run_command<S: Source, K: Sink>(
 /// The program without its streams: what the words ask for, from a source to a sink.
 ///
 /// The words are judged first, and where they are no command nothing is read. All bytes are made before
-/// the first is written. `NoMemory` comes only where memory is out. What holds for each exit is `Ends` of
-/// `specs/Ends.antt`.
+/// the first is written. `NoMemory` says that memory ran out, and no clause says when it comes. What holds for
+/// each exit is `Ends` of `specs/Ends.antt`.
 pub fn ldv<S: Source, K: Sink>(
     alloc: Global,
     words: &[String],

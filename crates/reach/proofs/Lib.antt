@@ -9,4 +9,6 @@ pub mod KeyLaws
 pub mod FoundLaws
 pub mod PassLaws
 pub mod SameLaws
+pub mod OrderLaws
+pub mod DependsLaws
 pub mod TrailLaws

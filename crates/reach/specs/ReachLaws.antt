@@ -1,9 +1,11 @@
--- What the intervals of a graph keep of the links that it was made of.
-use Rattle.std.specs.Prelude.{◌≡◌, ℕ, ◌≤◌, List, [], ◌∷◌, Contains}
+-- What the intervals of a graph keep of the links that it was made of, and that paths and passes over the edges
+-- give the same nodes.
+use Rattle.std.specs.Prelude.{◌≡◌, ℕ, ◌<◌, ◌≤◌, List, [], ◌∷◌, length, Contains, IsTrue}
 use Rattle.trace_graph.specs.Links.{Link}
-use Rattle.trace_graph.specs.Graph.{place_in, graph_by}
+use Rattle.trace_graph.specs.Graph.{Parts, place_in, graph_by, are_between}
 use Rattle.reach.specs.Types.{Node}
-use Rattle.reach.specs.Reach.{Leads}
+use Rattle.reach.specs.Reach.{Leads, AreSources}
+use Rattle.reach.specs.Depends.{depends_of}
 
 -- the link is one of those of a graph, comes from a node, and isn't before a time
 pub record Follows (links : List Link) (node : Node) (earliest : ℕ) (l : Link) : Type 0 where
@@ -24,3 +26,9 @@ TrailsLaw = (links : List Link) (source target : Node) (time : ℕ) (l : Link) (
     → IsTrail links target time source 0 (l ∷ trail)
     → Leads (graph_by links).edges (place_in (graph_by links).nodes target) time
     (place_in (graph_by links).nodes source)
+
+-- in every graph, the nodes that passes over the edges find are those from which a path leads to the node by the
+-- time
+abbrev pub DependsLaw : Type 0
+DependsLaw = (graph : Parts) (node time : ℕ) → IsTrue (are_between (length graph.nodes) graph.edges)
+    → node < length graph.nodes → AreSources graph node time (depends_of graph node time)

@@ -24,6 +24,8 @@ mod packages;
 #[cfg(test)]
 mod recorded;
 #[cfg(test)]
+mod replays;
+#[cfg(test)]
 mod replies;
 #[cfg(test)]
 mod runs;

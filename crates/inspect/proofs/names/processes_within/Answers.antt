@@ -11,10 +11,10 @@ loop-event-preserved c =
     let all : List Event = c.args.events.now in
     let i : ℕ = c.loop-event.event-index in
     let e : Event = c.event-item.result in
-    let ps : List Named = c.loop-event.processes.items in
+    let ps : List Named = c.loop-event.processes in
     let rest : List Event = drop (i + 1) all in
     let split : drop i all ≡ e ∷ rest = drop_item all i e c.loop-event-test.true c.event-item.is in
-    let made : c.add_event.new.processes.items ≡ named_after ps e = c.in_ok-add_event.ensures in
+    let made : c.in_ok-processes-2.processes ≡ named_after ps e = c.in_ok-processes-2.ensures in
     record {
       named = ap (λ (qs : List Named). named_with qs rest) made ∙ sym (ap (named_with ps) split) ∙ c.loop-event.invariant.named;
       room = subst (HaveRoom (all_births rest)) (sym made)

@@ -5,6 +5,6 @@ use Rattle.inspect.proofs.names.processes_within.Given as goal
 
 abbrev pub invariant-loop-event : goal.invariant-loop-event
 invariant-loop-event l = record {
-  named : named_with l.processes.items (drop l.event-index l.events) ≡ processes_of l.events;
-  room : HaveRoom (all_births (drop l.event-index l.events)) l.processes.items;
+  named : named_with l.processes (drop l.event-index l.events) ≡ processes_of l.events;
+  room : HaveRoom (all_births (drop l.event-index l.events)) l.processes;
 }
