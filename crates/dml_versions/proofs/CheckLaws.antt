@@ -13,7 +13,8 @@ use Rattle.sql_model.specs.Refusals.{is_missing, insert_names, insert_lacks_colu
 use Rattle.sql_model.specs.Scope.{InScope, is_table, table_at, catalog_of, schema_at, columns_of, has_column, own_scope, resolves}
 use Rattle.sql_model.specs.Tables.{is_valid_table, are_distinct, table_precedes}
 use Rattle.ldv_value.specs.Sorted.{is_strictly_sorted}
-use Rattle.dml_versions.specs.Changing.{IsCheckedOver, AreWellFormed}
+use Rattle.dml_versions.specs.Changing.{IsCheckedOver}
+use Rattle.sql_model.specs.Tables.{AreWellFormed}
 use Rattle.dml_versions.specs.Making.{ArePlain}
 use Rattle.dml_versions.specs.Types.{Catalog, Checked, ColumnName, Expr, SqlRefusal, Statement, TheQuery, TheInsert, TheUpdate, TheDelete, Insert, Update, Schema, Table}
 

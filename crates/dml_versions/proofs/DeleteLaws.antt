@@ -23,7 +23,8 @@ use Rattle.dml_versions.proofs.MatchedChange.{matched-change}
 use Rattle.dml_versions.proofs.NumberLaws.{AreSorted, removed-some, numbers-sorted, some-sorted, numbers-in}
 use Rattle.dml_versions.proofs.TableLaws.{table-now, scope-is}
 use Rattle.dml_versions.proofs.VersionLaws.{updates-dropped, versions-changed}
-use Rattle.dml_versions.specs.Changing.{IsWhole, IsStoreAfter, AreWellFormed, matched_change}
+use Rattle.dml_versions.specs.Changing.{IsWhole, IsStoreAfter, matched_change}
+use Rattle.sql_model.specs.Tables.{AreWellFormed}
 use Rattle.dml_versions.specs.Finding.{scope_in, test_in, found_row}
 use Rattle.dml_versions.specs.Needing.{number_found}
 use Rattle.dml_versions.specs.Types.{Statement, TheDelete, Delete, Table, TableRow, StoreHistory, TableHistory}

@@ -26,7 +26,8 @@ use Rattle.dml_versions.proofs.MatchLaws.{same-changed}
 use Rattle.dml_versions.proofs.RefuseLaws.{stop_by, not-refused, not-full, refused-change, refused-after}
 use Rattle.dml_versions.proofs.TableLaws.{table-now, history-name, schema-now}
 use Rattle.dml_versions.proofs.VersionLaws.{updates-added, versions-changed}
-use Rattle.dml_versions.specs.Changing.{IsWhole, IsStoreAfter, AreWellFormed, inserted_change, refused_change}
+use Rattle.dml_versions.specs.Changing.{IsWhole, IsStoreAfter, inserted_change, refused_change}
+use Rattle.sql_model.specs.Tables.{AreWellFormed}
 use Rattle.dml_versions.specs.Needing.{made_new}
 use Rattle.dml_versions.specs.Types.{Statement, TheInsert, Insert, Changed, Column, Expr, Value, Table, StoreHistory, TableHistory}
 use Rattle.dml_versions.specs.Versions.{versions_now}

@@ -31,7 +31,8 @@ use Rattle.dml_versions.proofs.RefuseLaws.{stop_by, not-refused, refused-change,
 use Rattle.dml_versions.proofs.StandingLaws.{Stands}
 use Rattle.dml_versions.proofs.TableLaws.{table-now, scope-is, history-name, schema-now}
 use Rattle.dml_versions.proofs.VersionLaws.{updates-rewritten, versions-changed}
-use Rattle.dml_versions.specs.Changing.{IsWhole, IsStoreAfter, AreWellFormed, matched_change, refused_change}
+use Rattle.dml_versions.specs.Changing.{IsWhole, IsStoreAfter, matched_change, refused_change}
+use Rattle.sql_model.specs.Tables.{AreWellFormed}
 use Rattle.dml_versions.specs.Finding.{scope_in, test_in, found_row, row_of}
 use Rattle.dml_versions.specs.Needing.{need_found}
 use Rattle.dml_versions.specs.Types.{Statement, TheUpdate, Update, Column, Table, TableRow, StoreHistory, TableHistory}

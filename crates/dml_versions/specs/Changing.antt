@@ -1,12 +1,10 @@
 -- What INSERT, UPDATE and DELETE return over a store, and what they make of it.
 use Rattle.std.specs.Prelude.{◌≡◌, ℕ, ◌≤◌, List, [], map, length, Bool, true, false, IsTrue, Option, Some, None, Ok}
-use Rattle.sql_laws.specs.DatabaseLaw.{have_distinct_columns}
 use Rattle.sql_model.specs.Changes.{numbered, new_values, updated_row}
 use Rattle.sql_model.specs.Needs.{need_of, made_by, updated_rows, versions_after, read_of}
 use Rattle.sql_model.specs.Places.{checked_of}
 use Rattle.sql_model.specs.Scope.{catalog_of}
 use Rattle.sql_model.specs.Statements.{reply_of, after}
-use Rattle.sql_model.specs.Tables.{is_database}
 use Rattle.table_store.specs.Histories.{tables_now, history_at, AreKeptBefore}
 use Rattle.table_store.specs.declared.stop.StoreStop.{StoreStop}
 use Rattle.table_store.specs.declared.stop.StoreStop.TheVariants as stop
@@ -43,11 +41,6 @@ IsDelete (TheDelete delete) = Unit {0}
 -- a check against the tables gave the statement with its places
 abbrev pub IsCheckedOver : List Table → Checked → Type 0
 IsCheckedOver db checked = checked_of checked.statement (catalog_of db) ≡ Ok checked
-
--- the tables are a database, and none has two columns of one name
-pub record AreWellFormed (db : List Table) : Type 0 where
-  pub database : is_database db ≡ true
-  pub distinct : have_distinct_columns db ≡ true
 
 -- the reply of a statement and, where they are kept, the versions that it makes and the rows that it needs at
 -- their versions

@@ -1,7 +1,8 @@
 //! DELETE.
 
 ghost use Rattle.std.specs.Prelude.{◌≡◌, ◌<◌, IfOk, OnOk, OnErr};
-ghost use Rattle.dml_versions.specs.Changing.{IsDelete, IsCheckedOver, AreWellFormed, IsChange, IsStoreAfter};
+ghost use Rattle.dml_versions.specs.Changing.{IsDelete, IsCheckedOver, IsChange, IsStoreAfter};
+ghost use Rattle.sql_model.specs.Tables.{AreWellFormed};
 ghost use Rattle.dml_versions.specs.Changing.{AreFound};
 ghost use Rattle.dml_versions.specs.Types.{TheDelete};
 ghost use Rattle.table_store.specs.Histories.{tables_now};

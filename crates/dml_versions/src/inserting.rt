@@ -1,7 +1,8 @@
 //! INSERT.
 
 ghost use Rattle.std.specs.Prelude.{◌≡◌, ◌<◌, IfOk, OnOk, OnErr};
-ghost use Rattle.dml_versions.specs.Changing.{IsInsert, IsCheckedOver, AreWellFormed, IsChange, IsStoreAfter};
+ghost use Rattle.dml_versions.specs.Changing.{IsInsert, IsCheckedOver, IsChange, IsStoreAfter};
+ghost use Rattle.sql_model.specs.Tables.{AreWellFormed};
 ghost use Rattle.dml_versions.specs.Changing.{AreNewRows};
 ghost use Rattle.dml_versions.specs.Types.{TheInsert};
 ghost use Rattle.table_store.specs.Histories.{tables_now};

@@ -1,7 +1,8 @@
 //! UPDATE.
 
 ghost use Rattle.std.specs.Prelude.{◌≡◌, ◌<◌, IfOk, OnOk, OnErr};
-ghost use Rattle.dml_versions.specs.Changing.{IsUpdate, IsCheckedOver, AreWellFormed, IsChange, IsStoreAfter};
+ghost use Rattle.dml_versions.specs.Changing.{IsUpdate, IsCheckedOver, IsChange, IsStoreAfter};
+ghost use Rattle.sql_model.specs.Tables.{AreWellFormed};
 ghost use Rattle.dml_versions.specs.Changing.{ArePrepared};
 ghost use Rattle.dml_versions.specs.Types.{TheUpdate};
 ghost use Rattle.table_store.specs.Histories.{tables_now};

@@ -1,7 +1,7 @@
 //! An engine that is asked statement by statement.
 
 ghost use Rattle.std.specs.Prelude.{◌≡◌, IfOk, true};
-ghost use Rattle.sql_laws.specs.DatabaseLaw.{have_distinct_columns};
+ghost use Rattle.sql_model.specs.Tables.{have_distinct_columns};
 ghost use Rattle.sql_model.specs.Tables.{is_database};
 
 use crate::validity::{are_tables, have_distinct_columns};

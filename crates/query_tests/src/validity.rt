@@ -3,7 +3,7 @@
 ghost use Rattle.std.specs.Prelude.{◌≡◌, ◌&&◌, ◌∷◌, [], IfOk, IsTrue, nat_le, nat_lt, true};
 ghost use Rattle.std.specs.List.{list_all};
 ghost use Rattle.ldv_value.specs.Limits.{max_next};
-ghost use Rattle.sql_laws.specs.DatabaseLaw.{have_distinct_columns};
+ghost use Rattle.sql_model.specs.Tables.{have_distinct_columns};
 ghost use Rattle.sql_model.specs.Tables.{are_distinct, is_database, is_row, is_valid_table, numbers_test};
 ghost use Rattle.sql_model.specs.Tables.{table_precedes};
 

@@ -17,7 +17,7 @@ use Rattle.run_model.specs.SqlDatabase.{SqlDatabase, sql_base}
 use Rattle.run_model.specs.Start.{start_script, start_state}
 use Rattle.run_model.specs.State.{State}
 use Rattle.run_model.specs.WorldRun.{core_after, ends_in, ends_within, outcome_in, outcome_within, steps_in, steps_by, events_in, events_within}
-use Rattle.sql_laws.specs.DatabaseLaw.{have_distinct_columns}
+use Rattle.sql_model.specs.Tables.{have_distinct_columns}
 use Rattle.sql_model.specs.Tables.{are_distinct, is_database, is_described, tables_test}
 use Rattle.sql_model.specs.declared.table.Table.{Table}
 use Rattle.replay_db.proofs.BudgetLaw.{going_outcome}

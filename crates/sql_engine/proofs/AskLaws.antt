@@ -6,7 +6,8 @@ use Rattle.std.proofs.lemmas.Bool.{cases_Bool}
 use Rattle.std.proofs.lemmas.List.{map-append}
 use Rattle.core_parts.specs.Checking.{IsQuery}
 use Rattle.dml_versions.proofs.CheckLaws.{accepted}
-use Rattle.dml_versions.specs.Changing.{AreWellFormed, IsChange, IsCheckedOver, IsStoreAfter}
+use Rattle.dml_versions.specs.Changing.{IsChange, IsCheckedOver, IsStoreAfter}
+use Rattle.sql_model.specs.Tables.{AreWellFormed}
 use Rattle.dml_versions.specs.Versions.{versions_now, updates_of, updates_in}
 use Rattle.dml_versions.specs.declared.change.Change.{Change}
 use Rattle.query_eval.specs.Stored.{table_names}
@@ -23,7 +24,7 @@ use Rattle.sql_engine.specs.Types.{Catalog, Checked, H, L, Member, Need, Query, 
 use Rattle.sql_engine.specs.declared.answered.Answered.{Answered}
 use Rattle.sql_engine.specs.declared.done.Done.{Done}
 use Rattle.sql_laws.proofs.DatabaseLaws.{database_law}
-use Rattle.sql_laws.specs.DatabaseLaw.{have_distinct_columns}
+use Rattle.sql_model.specs.Tables.{have_distinct_columns}
 use Rattle.sql_model.proofs.Equations.{reply_is, need_is, made_is, updated_is, after_is}
 use Rattle.sql_model.specs.Changes.{or_else, change_refusal}
 use Rattle.sql_model.specs.Needs.{Versions, NeededRow, need_of, needs_by, sorted_needs, needed_by, hidden_rows, sums_up, asked_tables, is_named, table_name, made_unless, updated_unless, versions_after, read_of}

@@ -2,7 +2,8 @@
 
 ghost use Rattle.std.specs.Prelude.{◌≡◌, ◌<◌, ◌≤◌, Some, Ok, filter, IfOk, OnOk, OnErr, IsTrue};
 ghost use Rattle.core_parts.specs.Checking.{IsQuery};
-ghost use Rattle.dml_versions.specs.Changing.{AreWellFormed, IsCheckedOver};
+ghost use Rattle.dml_versions.specs.Changing.{IsCheckedOver};
+ghost use Rattle.sql_model.specs.Tables.{AreWellFormed};
 ghost use Rattle.sql_engine.specs.Asking.{IsDone, IsTold, done_of};
 ghost use Rattle.sql_engine.specs.Listing.{names_table};
 ghost use Rattle.sql_model.specs.Scope.{catalog_of};

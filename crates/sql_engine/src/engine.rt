@@ -4,7 +4,7 @@ ghost use Rattle.std.specs.Prelude.{◌≡◌, IfOk, true};
 ghost use Rattle.run_model.specs.SqlDatabase.{SqlDatabase, unchanged, sql_base};
 ghost use Rattle.run_model.specs.Database.{asked_event};
 ghost use Rattle.sql_engine.specs.Asking.{database, lists_in};
-ghost use Rattle.sql_laws.specs.DatabaseLaw.{have_distinct_columns};
+ghost use Rattle.sql_model.specs.Tables.{have_distinct_columns};
 ghost use Rattle.sql_model.specs.Tables.{is_database};
 
 use crate::asking::asked;
@@ -24,7 +24,7 @@ pub struct Engine {
 }
 
 impl Model for Engine {
-    ghost use Rattle.dml_versions.specs.Changing.{AreWellFormed};
+    ghost use Rattle.sql_model.specs.Tables.{AreWellFormed};
     ghost use Rattle.table_store.specs.Histories.{StoreHistory, tables_now};
 
     ghost Value = { StoreHistory };

@@ -6,7 +6,8 @@ use Rattle.ldv_value.proofs.Booleans.{and-parts, and-from, or-parts}
 use Rattle.ldv_value.proofs.Lists.{found-all, list_all-weaker, sorted-map}
 use Rattle.ldv_value.proofs.Options.{none-some}
 use Rattle.ldv_value.specs.Sorted.{text_precedes, is_strictly_sorted}
-use Rattle.sql_laws.specs.DatabaseLaw.{have_distinct_columns, DatabaseLaw, TablesLaw}
+use Rattle.sql_laws.specs.DatabaseLaw.{DatabaseLaw, TablesLaw}
+use Rattle.sql_model.specs.Tables.{have_distinct_columns}
 use Rattle.sql_laws.specs.Types.{Catalog, SqlRefusal, Syntax, Statement, TheQuery, TheInsert, TheUpdate, TheDelete, Column, Schema, Table}
 use Rattle.sql_laws.proofs.ChangedTables.{check-parts, else-parts, changed-valid}
 use Rattle.sql_laws.proofs.TableNames.{change_named, all-changed, map-changed}

@@ -1,14 +1,9 @@
 -- The law of databases: a statement leaves a database a database.
-use Rattle.std.specs.Prelude.{◌≡◌, List, Bool, true, Option}
-use Rattle.std.specs.List.{list_all}
+use Rattle.std.specs.Prelude.{◌≡◌, List, true, Option}
 use Rattle.sql_model.specs.Scope.{catalog_of}
 use Rattle.sql_model.specs.Statements.{after}
-use Rattle.sql_model.specs.Tables.{are_distinct, is_database, tables_test}
+use Rattle.sql_model.specs.Tables.{have_distinct_columns, is_database, tables_test}
 use Rattle.sql_laws.specs.Types.{Statement, Table}
-
--- no table has two columns of one name
-abbrev pub have_distinct_columns : List Table → Bool
-have_distinct_columns db = list_all (λ table. are_distinct table.schema.columns) db
 
 -- the tables after a statement are a database, and have the names and the schemas that they had
 pub record LeavesDatabase (statement : Option Statement) (db : List Table) : Type 0 where

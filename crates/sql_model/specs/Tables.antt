@@ -2,7 +2,7 @@
 --
 -- Documents and packages have tables in types of their own. So each test is over columns, places, values and
 -- numbers, and over rows by what gives their number.
-use Rattle.std.specs.Prelude.{ℕ, List, length, map, zip, ◌==◌, Bool, true, false, not, ◌&&◌, nat_eq, nat_lt}
+use Rattle.std.specs.Prelude.{◌≡◌, ℕ, List, length, map, zip, ◌==◌, Bool, true, false, not, ◌&&◌, nat_eq, nat_lt}
 use Rattle.std.specs.Prelude.{nat_le, Option, Some, None, slice_get}
 use Rattle.std.specs.List.{list_all, position_or_len}
 use Rattle.ldv_value.specs.Limits.{max_columns, max_next, text_limit}
@@ -111,6 +111,15 @@ table_precedes a b = text_precedes a.name b.name
 -- valid tables, strictly increasing by name
 abbrev pub is_database : List Table → Bool
 is_database tables = list_all is_valid_table tables && is_strictly_sorted table_precedes tables
+
+-- no table has two columns of one name
+abbrev pub have_distinct_columns : List Table → Bool
+have_distinct_columns tables = list_all (λ table. are_distinct table.schema.columns) tables
+
+-- the tables are a database, and none has two columns of one name
+pub record AreWellFormed (tables : List Table) : Type 0 where
+  pub database : is_database tables ≡ true
+  pub distinct : have_distinct_columns tables ≡ true
 
 -- a table has a name and a schema by the rules
 abbrev pub is_described : Table → Bool
