@@ -1,7 +1,9 @@
 pub mod Equations
+pub mod Fronts
 pub mod NeverStuck
 pub mod OwnFiles
 pub mod Settled
 pub mod StartScripts
+pub mod StepActs
 pub mod StepKeeps
 pub mod Undiverged
