@@ -1,7 +1,9 @@
 pub mod Equations
+pub mod KeyPlaces
 pub mod NeverStuck
 pub mod OwnFiles
 pub mod Settled
 pub mod StartScripts
 pub mod StepKeeps
 pub mod Undiverged
+pub mod ValidWorlds
