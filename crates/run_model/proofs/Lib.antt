@@ -1,5 +1,6 @@
 pub mod Equations
 pub mod Fronts
+pub mod KeyPlaces
 pub mod NeverStuck
 pub mod OwnFiles
 pub mod Settled
@@ -7,3 +8,4 @@ pub mod StartScripts
 pub mod StepActs
 pub mod StepKeeps
 pub mod Undiverged
+pub mod ValidWorlds

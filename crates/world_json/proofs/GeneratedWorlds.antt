@@ -1,15 +1,20 @@
--- The world that the generator makes meets the rules: its first file is a script, and no two rows of a table have
--- the same key.
-use Rattle.std.proofs.Common.{◌≡◌, ℕ, zero, suc, ◌+◌, ◌<◌, ◌≤◌, pos, List, [], ◌∷◌, ◌++◌, length, map, refl, ap, cond, Bool, true, false, not, ◌&&◌, IsTrue, nat_le, nat_lt, arith}
+-- The world that the generator makes is valid: its first file is a script, and no two rows of a table have the
+-- same key.
+use Rattle.std.proofs.Common.{◌≡◌, ℕ, zero, suc, ◌+◌, ◌*◌, ◌%◌, ◌^◌, ◌<◌, ◌≤◌, pos, List, [], ◌∷◌, ◌++◌, length, map, refl, sym, ap, subst, cond, Bool, true, false, not, ◌&&◌, IsTrue, nat_le, nat_lt, arith}
 use Rattle.std.specs.Prelude.{codes, int_lt}
 use Rattle.std.specs.Char.{encode_utf8}
 use Rattle.std.specs.Fmt.{decimal}
-use Rattle.std.specs.List.{list_all, list_any, range_with_len}
+use Rattle.std.specs.List.{list_all, list_any, range_with_len, AllByRecursion}
 use Rattle.std.specs.Ordering.{is_eq, ordering_then}
-use Rattle.std.specs.Str.{chars, is_utf8}
+use Rattle.std.specs.Str.{chars, is_utf8, IsUtf8}
+use Rattle.std.specs.Int.{w64}
+use Rattle.std.specs.Int.RustNames.{FitsSigned}
 use Rattle.std.specs.declared.cmp.Ordering.TheVariants.{Less, Equal, Greater}
 use Rattle.std.proofs.lemmas.Bool.{le-leb, lt-ltb}
-use Rattle.std.proofs.lemmas.Fmt.{length-decimal-le}
+use Rattle.std.proofs.lemmas.Fmt.{length-decimal-le, IsAscii-decimal}
+use Rattle.std.proofs.lemmas.Int.{fits_signed_from_abs}
+use Rattle.std.proofs.lemmas.Str.{IsUtf8-append, IsUtf8-from_ascii, IsUtf8-from_is_utf8}
+use Rattle.std.proofs.Math.Nat.{mod-lt}
 use Rattle.ldv_value.proofs.Booleans.{and-from, or-from}
 use Rattle.ldv_value.specs.Limits.{text_limit}
 use Rattle.ldv_value.specs.Sorted.{is_strictly_sorted}
@@ -17,12 +22,14 @@ use Rattle.ldv_value.specs.declared.value.Value.{Value}
 use Rattle.sql_model.specs.Keys.{repeats, same_values, values_at}
 use Rattle.sql_model.specs.SqlNames.{sql_name_test}
 use Rattle.sql_model.specs.Tables.{schema_test, is_row, is_short, numbers_test, are_keys_unique}
+use Rattle.run_model.specs.TypedPackage.{IsU32, TypedRow}
+use Rattle.run_model.specs.declared.world.World.{World}
 use Rattle.run_model.specs.ValidPackage.{start_rule, files_rule, packed_table_precedes, rows_rule, table_rule, tables_rule, script_rule}
 use Rattle.run_model.specs.declared.package.PackedFile.{PackedFile}
 use Rattle.run_model.specs.declared.package.PackedRow.{PackedRow}
 use Rattle.run_model.specs.declared.package.PackedTable.{PackedTable}
-use Rattle.package_layout.specs.Room.{row_room, table_room}
-use Rattle.replay_db.specs.Worlds.{all_of_file, all_of_row, all_of_table, world_rules}
+use Rattle.run_model.specs.ValidWorld.{all_of_file, all_of_row, all_of_table, TypedWorld, world_rules, ValidWorld, CanRun}
+use Rattle.run_model.proofs.ValidWorlds.{valid_runs}
 use Rattle.world_json.specs.Generated.{customer_row, customers, generated, keyed_by_first, order_columns, order_row, order_values, orders, script_file}
 
 -- ---- the script
@@ -154,17 +161,68 @@ tables_met n =
     (and-from (table_rule (packed n)) true (orders_met n) refl))
     refl
 
-room_met : (n : ℕ) → list_all table_room (tables n) ≡ true
-room_met n =
-    and-from (table_room (all_of_table customers)) (list_all table_room (packed n ∷ [])) refl
-    (and-from (table_room (packed n)) true (each (row_room 3) (λ i. refl) 0 n) refl)
-
 -- ---- the world
 
-pub generated_met : (n : ℕ) → IsTrue (world_rules (generated n))
+generated_met : (n : ℕ) → IsTrue (world_rules (generated n))
 generated_met n =
-    and-from (start_rule start && files_rule files && tables_rule (tables n) && list_all table_room (tables n)) (script_rule start files)
-    (and-from (start_rule start && files_rule files && tables_rule (tables n)) (list_all table_room (tables n))
+    and-from (start_rule start && files_rule files && tables_rule (tables n)) (script_rule start files)
     (and-from (start_rule start && files_rule files) (tables_rule (tables n)) (and-from (start_rule start) (files_rule files) start_met files_met) (tables_met n))
-    (room_met n))
     script_met
+
+-- ---- its numbers and texts
+
+whole_typed : (i : ℕ) → i < 2 ^ 32 → FitsSigned w64 (pos i)
+whole_typed i small = fits_signed_from_abs w64 (pos i) (omega arith)
+
+number_typed : (i : ℕ) → i < 2 ^ 32 → IsU32 i × (IsU32 0)
+number_typed i small = let none : 0 < 2 ^ 32 = omega arith in (small, none)
+
+rest_small : (i m : ℕ) → m < 2 ^ 32 → 0 < m → i % m < 2 ^ 32
+rest_small i m small some = omega (arith, mod-lt i {m = m} some)
+
+order_typed : (i : ℕ) → i < 2 ^ 32 → TypedRow (all_of_row (order_row i))
+order_typed i small =
+    let number = number_typed i small in
+    (number.0, (number.1, (whole_typed i small, (whole_typed (i % 10) (rest_small i 10 (omega arith) (omega arith)),
+    (whole_typed (7 * i % 100) (rest_small (7 * i) 100 (omega arith) (omega arith)), tt)))))
+
+orders_typed : (s k : ℕ) → s + k < 2 ^ 32 → AllByRecursion TypedRow (rows_from s k)
+orders_typed s zero few = tt
+orders_typed s (suc k) few = (order_typed s (omega (arith, few)), orders_typed (s + 1) k (omega (arith, few)))
+
+-- by its bytes, of a text that is written out
+word_typed : (word : List ℕ) → is_utf8 word ≡ true → IsUtf8 word
+word_typed word is = IsUtf8-from_is_utf8 word is
+
+name_typed : (i : ℕ) → i < 2 ^ 32 → IsUtf8 (codes "c" ++ decimal i)
+unfolding is_utf8 chars encode_utf8
+name_typed i small =
+    IsUtf8-append (codes "c") (decimal i) (word_typed (codes "c") refl) (IsUtf8-from_ascii (decimal i) (IsAscii-decimal i (omega (arith, small))))
+
+customer_typed : (i : ℕ) → i < 2 ^ 32 → TypedRow (all_of_row (customer_row i))
+customer_typed i small =
+    let number = number_typed i small in
+    (number.0, (number.1, (whole_typed i small, (name_typed i small, tt))))
+
+customers_typed : (s k : ℕ) → s + k < 2 ^ 32 → AllByRecursion TypedRow (customers_from s k)
+customers_typed s zero few = tt
+customers_typed s (suc k) few = (customer_typed s (omega (arith, few)), customers_typed (s + 1) k (omega (arith, few)))
+
+generated_typed : (n : ℕ) → n < 2 ^ 32 → TypedWorld (generated n)
+unfolding is_utf8 chars encode_utf8
+generated_typed n small =
+    let none : 0 < 2 ^ 64 = omega arith in
+    let one : 1 < 2 ^ 32 = omega arith in
+    let ten : 10 < 2 ^ 32 = omega arith in
+    let main : IsUtf8 (codes "main") = word_typed (codes "main") refl in
+    let id : IsUtf8 (codes "id") = word_typed (codes "id") refl in
+    ((main, tt), (none, (one, ((main, tt),
+    (((word_typed (codes "customers") refl, ((id, (word_typed (codes "name") refl, tt)), (ten, customers_typed 0 10 (omega arith)))),
+    ((word_typed (codes "orders") refl, ((id, (word_typed (codes "customer") refl, (word_typed (codes "amount") refl, tt))), (small, orders_typed 0 n (omega (arith, small))))), tt)),
+    (tt, tt))))))
+
+pub generated_valid : (n : ℕ) (w : World) → w ≡ generated n → n < 2 ^ 32 → ValidWorld w
+generated_valid n w is small = subst ValidWorld (sym is) (record { typed = generated_typed n small; ruled = generated_met n })
+
+pub generated_runs : (n : ℕ) (w : World) → w ≡ generated n → n < 2 ^ 32 → CanRun w
+generated_runs n w is small = valid_runs w (generated_valid n w is small)

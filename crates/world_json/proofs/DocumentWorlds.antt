@@ -1,17 +1,16 @@
--- The world of a document meets the rules of worlds, and its tables are a database: documents, packages and
--- databases cite the same tests of tables.
-use Rattle.std.proofs.Common.{◌≡◌, ℕ, suc, ◌+◌, ◌<◌, ◌≤◌, List, [], ◌∷◌, length, map, find, zip, Option, Some, None, is_some, Ok, refl, sym, ap, ◌∙◌, subst, Bool, true, false, not, ◌&&◌, ◌==◌, IsTrue, nat_le, nat_lt, bytes_eq, slice_get, arith, inl, inr}
+-- The world of a document meets the rules of worlds: documents and packages cite the same tests of tables.
+use Rattle.std.proofs.Common.{◌≡◌, ℕ, suc, ◌+◌, ◌≤◌, List, [], ◌∷◌, length, map, find, zip, Option, Some, None, is_some, Result, Ok, Err, IfOk, refl, sym, ap, ◌∙◌, subst, Bool, true, false, not, ◌&&◌, ◌==◌, IsTrue, nat_le, nat_lt, bytes_eq, slice_get, arith, inl, inr}
 use Rattle.std.specs.List.{list_all, list_any, position_or_len, AllByRecursion}
 use Rattle.std.specs.Prelude.{nat_eq}
-use Rattle.std.proofs.lemmas.Bool.{cases_Bool, lt-ltb, ltb-true, leb-true}
+use Rattle.std.proofs.lemmas.Bool.{cases_Bool, lt-ltb, leb-true}
 use Rattle.std.proofs.lemmas.Bool.Decides.{nat_tests, Decides-eqb}
 use Rattle.std.proofs.lemmas.List.Folds.{find_at}
 use Rattle.std.proofs.lemmas.Option.{slice_get_within}
 use Rattle.std.proofs.lemmas.Slice.Eq.{bytes_eq-Decides}
-use Rattle.ldv_value.proofs.Booleans.{and-parts, and-from, and-first, and-second, or-parts, or-from, not-true, true≢false}
+use Rattle.ldv_value.proofs.Booleans.{and-parts, and-from, and-first, or-parts, or-from, not-true, true≢false}
 use Rattle.ldv_value.proofs.Lists.{list_all-map, list_all-weaker, length-map, sorted-under}
 use Rattle.ldv_value.specs.FileState.{file_at}
-use Rattle.ldv_value.specs.Limits.{file_limit, max_files, max_tables, max_columns, max_start_words}
+use Rattle.ldv_value.specs.Limits.{file_limit, max_files, max_tables, max_start_words}
 use Rattle.ldv_value.specs.Names.{path_test}
 use Rattle.ldv_value.specs.declared.file.File.{File}
 use Rattle.ldv_value.specs.declared.value.Value.{Value}
@@ -20,36 +19,24 @@ use Rattle.script_parse.specs.declared.script.Instr.{Instr}
 use Rattle.sql_model.proofs.ValidTables.{fits-from}
 use Rattle.sql_model.specs.Keys.{repeats}
 use Rattle.sql_model.specs.Scope.{same_text, is_column, has_column}
-use Rattle.sql_model.specs.Tables.{places_named, key_places_test, schema_test, has_kind, allows, is_row, is_short, each_value, numbers_test, are_keys_unique, table_precedes, tables_test}
+use Rattle.sql_model.specs.Tables.{places_named, key_places_test, schema_test, has_kind, allows, is_row, is_short, each_value, numbers_test, are_keys_unique, table_precedes}
 use Rattle.sql_model.specs.declared.table.Column.{Column}
 use Rattle.sql_model.specs.declared.table.Table.{Table}
 use Rattle.run_model.specs.ValidPackage.{packed_file_precedes, packed_table_precedes, start_rule, file_rule, files_rule, rows_rule, table_rule, tables_rule, is_script_file, script_rule}
 use Rattle.run_model.specs.declared.package.PackedRow.{PackedRow}
 use Rattle.run_model.specs.declared.package.PackedTable.{PackedTable}
 use Rattle.run_model.specs.declared.world.World.{World}
-use Rattle.package_layout.specs.Room.{key_room, row_room, table_room}
-use Rattle.replay_db.proofs.KeyPlaces.{found, key_within}
-use Rattle.replay_db.proofs.WorldRules.{next_within, ruled_tables}
-use Rattle.replay_db.proofs.WorldsThatRun.{ruled_runs}
-use Rattle.replay_db.specs.Runs.{CanRun}
-use Rattle.replay_db.specs.Worlds.{all_of_file, all_of_row, all_of_table, world_rules}
+use Rattle.run_model.proofs.KeyPlaces.{found}
+use Rattle.run_model.specs.ValidWorld.{all_of_file, all_of_row, all_of_table, TypedWorld, world_rules, ValidWorld, CanRun}
+use Rattle.run_model.proofs.ValidWorlds.{valid_runs}
 use Rattle.world_json.proofs.ReadDocuments.{IsWide, IsDocument, world_read}
 use Rattle.world_json.proofs.Readings.{IsWorldOf}
 use Rattle.world_json.specs.Faults as faults
 use Rattle.world_json.specs.Faults.{each_row_value, key_places}
+use Rattle.world_json.specs.declared.document.Document.{Document}
+use Rattle.world_json.specs.declared.document.Draft.{Draft}
+use Rattle.world_json.specs.declared.fault.WorldStop.{WorldStop}
 use Rattle.world_json.specs.Reading.{numbered_from, table_as, world_as, script_fault, start_fault_of, world_reading}
-
--- ---- the types of documents and of their tables, which have no name outside `world_json`
-
--- the type of what a test takes
-abbrev Takes : {A B : Type 0} → (A → B) → Type 0
-Takes {A} test = A
-
-abbrev Document : Type 0
-Document = Takes faults.is_named
-
-abbrev Draft : Type 0
-Draft = Takes faults.is_table_named
 
 -- ---- lists
 
@@ -114,25 +101,6 @@ module _ (columns : List Column) where
       and-from (list_all (λ p. nat_lt p (length columns)) places) (not (repeats nat_eq places)) all
       (ap not (none_twice key parts.0 (not-true (repeats same_text key) parts.1)))
 
--- ---- a table by the rules has room in the format
-
-key_room_met : (columns : List Column) (key : List ℕ) → length columns ≤ max_columns → key_places_test columns key ≡ true → key_room key ≡ true
-key_room_met columns key few met =
-    let parts = and-parts (list_all (λ p. nat_lt p (length columns)) key) (not (repeats nat_eq key)) met in
-    let count : length key ≤ length columns = key_within columns key met in
-    and-from (nat_lt (length key) 256) (list_all (λ p. nat_lt p 256) key) (lt-ltb (length key) 256 (omega arith))
-    (list_all-weaker (λ p. nat_lt p (length columns)) (λ p. nat_lt p 256) (λ p below. let less : p < length columns = ltb-true p (length columns) below in lt-ltb p 256 (omega arith)) key parts.0)
-
-room_met : (t : PackedTable) → table_rule t ≡ true → table_room t ≡ true
-room_met t met =
-    let columns : List Column = t.schema.columns in
-    let parts = and-parts _ _ (and-first _ _ met) in
-    let schema = and-parts _ _ (and-first _ _ (and-second _ _ parts.0)) in
-    let few : length columns ≤ max_columns = leb-true _ _ (and-second _ _ (and-first _ _ schema.0)) in
-    let wide : list_all (row_room (length columns)) t.rows ≡ true =
-    list_all-weaker (λ (r : PackedRow). is_row columns r.values) (row_room (length columns)) (λ r fits. and-first _ _ fits) t.rows (and-second _ _ (and-first _ _ parts.1)) in
-    and-from _ _ (lt-ltb (length columns) 256 (omega arith)) (and-from _ _ (key_room_met columns t.schema.key few schema.1) wide)
-
 -- ---- rows
 
 -- what the rows of a table are in a package that has all of them
@@ -188,18 +156,16 @@ table_met draft named limits typed filled keyed wide =
     at_zero : (count next : ℕ) → nat_le count next ≡ true → 0 + count ≤ next
     at_zero count next fits = let less : count ≤ next = leb-true count next fits in omega arith
 
--- and the next number of each has four bytes
 tables_met : (drafts : List Draft) → list_all faults.is_table_named drafts ≡ true → list_all faults.is_table_within drafts ≡ true → list_all (each_row_value has_kind) drafts ≡ true → list_all (each_row_value allows) drafts ≡ true → list_all faults.is_table_keyed drafts ≡ true → AllByRecursion IsWide drafts
-    → (list_all table_rule (map all_of_table (map table_as drafts)) ≡ true) × (list_all next_within (map table_as drafts) ≡ true)
-tables_met [] named limits typed filled keyed wide = (refl, refl)
+    → list_all table_rule (map all_of_table (map table_as drafts)) ≡ true
+tables_met [] named limits typed filled keyed wide = refl
 tables_met (draft ∷ drafts) named limits typed filled keyed wide =
     let n = and-parts _ _ named in
     let l = and-parts _ _ limits in
     let t = and-parts _ _ typed in
     let f = and-parts _ _ filled in
     let k = and-parts _ _ keyed in
-    let rest = tables_met drafts n.1 l.1 t.1 f.1 k.1 wide.1 in
-    (and-from _ _ (table_met draft n.0 l.0 t.0 f.0 k.0 wide.0) rest.0, and-from _ _ (and-second _ _ (and-second _ _ l.0)) rest.1)
+    and-from _ _ (table_met draft n.0 l.0 t.0 f.0 k.0 wide.0) (tables_met drafts n.1 l.1 t.1 f.1 k.1 wide.1)
 
 -- ---- start words, files and the script
 
@@ -236,7 +202,7 @@ script_met doc (word ∷ words) none small = script_found word doc.files none sm
 
 -- ---- the document
 
-document_met : (doc : Document) (w : World) → IsWorldOf doc w → IsDocument doc → IsTrue (world_rules (world_as doc)) × (list_all next_within (world_as doc).tables ≡ true)
+document_met : (doc : Document) (w : World) → IsWorldOf doc w → IsDocument doc → IsTrue (world_rules (world_as doc))
 document_met doc w passes form =
     let named = and-parts _ _ passes.named in
     let names = and-parts _ _ named.0 in
@@ -252,26 +218,24 @@ document_met doc w passes form =
     let count : length (map all_of_table tables) ≡ length doc.tables = length-map tables all_of_table ∙ length-map doc.tables table_as in
     let tables_are : tables_rule (map all_of_table tables) ≡ true =
     and-from _ _ (ap (λ (n : ℕ). nat_le n max_tables) count ∙ parts.1)
-    (and-from _ _ each.0 (sorted-under packed_table_precedes all_of_table tables ∙ sorted-under table_precedes table_as doc.tables ∙ form.tables)) in
-    let rooms : list_all table_room (map all_of_table tables) ≡ true = list_all-weaker table_rule table_room room_met (map all_of_table tables) each.0 in
-    (and-from _ _ (and-from _ _ (and-from _ _ (and-from _ _ (start_met doc.start named.1 bounds.1) files_are) tables_are) rooms) (script_met doc doc.start passes.started small.1), each.1)
+    (and-from _ _ each (sorted-under packed_table_precedes all_of_table tables ∙ sorted-under table_precedes table_as doc.tables ∙ form.tables)) in
+    and-from _ _ (and-from _ _ (and-from _ _ (start_met doc.start named.1 bounds.1) files_are) tables_are) (script_met doc doc.start passes.started small.1)
 
-abbrev IsMet : World → Type 0
-IsMet w = IsTrue (world_rules w) × (list_all next_within w.tables ≡ true)
-
-world_met : (bytes : List ℕ) (w : World) → world_reading bytes ≡ Ok w → IsMet w
-world_met bytes w is =
+document_rules : (bytes : List ℕ) (w : World) → world_reading bytes ≡ Ok w → IsTrue (world_rules w)
+document_rules bytes w is =
     let read = world_read bytes w is in
-    subst IsMet read.1.world_is (document_met read.0 w read.1 read.2)
+    subst (λ (w : World). IsTrue (world_rules w)) read.1.world_is (document_met read.0 w read.1 read.2)
 
--- the world of a document can be packed
-pub document_world : (bytes : List ℕ) (w : World) → world_reading bytes ≡ Ok w → IsTrue (world_rules w)
-document_world bytes w is = (world_met bytes w is).0
+document_valid : (bytes : List ℕ) (w : World) → world_reading bytes ≡ Ok w → TypedWorld w → ValidWorld w
+document_valid bytes w is typed = record { typed = typed; ruled = document_rules bytes w is }
 
--- its tables are a database
-pub document_tables : (bytes : List ℕ) (w : World) → world_reading bytes ≡ Ok w → tables_test w.tables ≡ true
-document_tables bytes w is = let met = world_met bytes w is in ruled_tables w met.0 met.1
+-- what a reading of the bytes gives is valid, where it is typed
+pub read_valid : (bytes : List ℕ) (r : Result World WorldStop) → IfOk r (λ w. world_reading bytes ≡ Ok w) → IfOk r (λ w. TypedWorld w)
+    → IfOk r (λ w. ValidWorld w)
+read_valid bytes (Ok w) is typed = document_valid bytes w is typed
+read_valid bytes (Err stop) is typed = tt
 
--- and it can be run
-pub document_runs : (bytes : List ℕ) (w : World) → world_reading bytes ≡ Ok w → CanRun w
-document_runs bytes w is = ruled_runs w (document_world bytes w is) (document_tables bytes w is)
+pub read_runs : (bytes : List ℕ) (r : Result World WorldStop) → IfOk r (λ w. world_reading bytes ≡ Ok w) → IfOk r (λ w. TypedWorld w)
+    → IfOk r (λ w. CanRun w)
+read_runs bytes (Ok w) is typed = valid_runs w (document_valid bytes w is typed)
+read_runs bytes (Err stop) is typed = tt
