@@ -32,14 +32,17 @@
 mod apply;
 mod bits;
 mod cell;
+mod cell_test;
 mod chains;
 mod change;
+mod chosen;
 mod claim;
 mod clash;
 mod column;
 mod columns;
 mod grid;
 mod grow;
+mod high_keys;
 mod index;
 mod insert;
 mod int_column;
@@ -54,6 +57,7 @@ mod store;
 mod table;
 
 pub use cell::Cell;
+pub use cell_test::{CellTest, ColumnTest};
 pub use stop::StoreStop;
 pub use store::Store;
 pub use table::TableStore;

@@ -7,8 +7,8 @@ use Rattle.ldv_value.proofs.Booleans.{and-parts, and-from}
 use Rattle.ldv_value.proofs.Lists.{list_all-append, list_all-weaker, list_all-filter, sorted-map}
 use Rattle.ldv_value.specs.Limits.{max_next}
 use Rattle.ldv_value.specs.Sorted.{is_strictly_sorted}
-use Rattle.sql_laws.specs.Types.{Value, TableRow}
-use Rattle.sql_laws.proofs.SortedLists.{sorted-all, sorted-from, sorted-tail, sorted-filter}
+use Rattle.sql_model.specs.Types.{Value, TableRow}
+use Rattle.sql_model.proofs.SortedLists.{sorted-all, sorted-from, sorted-tail, sorted-filter}
 use Rattle.sql_model.specs.Changes.{numbered}
 use Rattle.sql_model.specs.Tables.{numbers_test}
 

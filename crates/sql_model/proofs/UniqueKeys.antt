@@ -8,7 +8,7 @@ use Rattle.ldv_value.proofs.Booleans.{and-false, or-from, or-parts}
 use Rattle.ldv_value.proofs.Cases.{cases-bool}
 use Rattle.ldv_value.proofs.Lists.{find-append}
 use Rattle.ldv_value.proofs.Options.{none-some}
-use Rattle.sql_laws.specs.Types.{Value, TableRow}
+use Rattle.sql_model.specs.Types.{Value, TableRow}
 use Rattle.sql_model.specs.Changes.{KeyClash, shares_key, clash_or, clash_after, clash_by}
 use Rattle.sql_model.specs.Keys.{same_values, repeats, values_at}
 use Rattle.sql_model.specs.Tables.{are_keys_unique}
