@@ -35,5 +35,3 @@ chosen_is tests slot = by (row_now slot) where
   by : (now : Option TableRow) → (is_some now && list_all (λ test. option_map_or (passes_column test) now false) tests) ≡ option_map_or (passes_columns tests) now false
   by None = refl
   by (Some row) = all_is row tests
-
-pub ruleset chosen_rules = (chosen_is)

@@ -118,7 +118,7 @@ fn claim_one(
             later: None,
             key: key.values,
         }),
-        None => match put_number(index, high, key, next as u64 + count as u64) {
+        None => match put_number(index, high, key, next as u128 + count as u128) {
             Ok(()) => Ok(()),
             Err(_refused) => Err(StoreStop::NoMemory),
         },
@@ -130,9 +130,10 @@ fn put_number(
     index: &mut Index,
     high: &mut HighKeys,
     key: RowKey,
-    number: u64,
+    number: u128,
 ) -> Result<(), AllocError>
-    requires { number < 2 ^ 32 → (q : RowKey) → high_in high.old q ≡ None }
+    requires small { number < 2 ^ 64 + 2 ^ 32 }
+    requires low { number < 2 ^ 32 → (q : RowKey) → high_in high.old q ≡ None }
     ensures ok { OnOk result ((q : RowKey) → high_or (held_in index.new q) (high_in high.new q)
         ≡ cond (is_at (key_order key) q) (Some number)
         (high_or (held_in index.old q) (high_in high.old q))) }
@@ -148,13 +149,14 @@ fn put_number(
 }
 
 // Puts a number that is too high for a row under a key, by what it is above 2^32.
-fn put_high(high: &mut HighKeys, key: RowKey, number: u64) -> Result<(), AllocError>
-    requires { 2 ^ 32 ≤ number }
+fn put_high(high: &mut HighKeys, key: RowKey, number: u128) -> Result<(), AllocError>
+    requires from { 2 ^ 32 ≤ number }
+    requires small { number < 2 ^ 64 + 2 ^ 32 }
     ensures ok { OnOk result ((q : RowKey) → high_in high.new q
         ≡ cond (is_at (key_order key) q) (Some (number - 2 ^ 32)) (high_in high.old q)) }
     ensures err { OnErr result ((q : RowKey) → high_in high.new q ≡ high_in high.old q) }
 {
-    high.put(key, number - 4_294_967_296)
+    high.put(key, (number - 4_294_967_296) as u64)
 }
 
 // The number under a key, also where it is too high for a row.
