@@ -2,7 +2,8 @@
 """Writes the cases of packages: for each rule of a valid package some that break this rule only, each with a right
 digest, beside some that come as close and are valid. packages.py makes the bytes.
 
-    python3 tools/package_cases.py                writes packages.json and traces.json into crates/conformance/data
+    python3 tools/package_cases.py                writes packages.json, traces.json and needs.json into
+                                                  crates/conformance/data
     python3 tools/package_cases.py --check        fails where one of them isn't what this script would write
     python3 tools/package_cases.py --list         each rule with the names of its cases
     python3 tools/package_cases.py --large DIR    writes the packages that are too long to be stored, each as a file in
@@ -16,6 +17,7 @@ import os
 import sys
 
 from packages import *      # the parts of packages, by which the cases below are described
+from need_cases import need_cases
 from trace_cases import TRACES, trace_case
 
 HERE = os.path.dirname(os.path.abspath(__file__))
@@ -765,7 +767,8 @@ def replayed(rules):
 
 def stored():
     """The text of each file, by its name."""
-    return {'packages.json': replayed(RULES), 'traces.json': lines([trace_case(*given) for given in TRACES])}
+    return {'packages.json': replayed(RULES), 'traces.json': lines([trace_case(*given) for given in TRACES]),
+            'needs.json': lines(list(need_cases(1)))}
 
 
 def differing():

@@ -2,7 +2,8 @@
 """Packages of one version as packages of the other. packages.py says what both are; nothing is taken from the program.
 
     python3 tools/package_versions.py 2 <in >out         spells the package on standard input in this version
-    python3 tools/package_versions.py --cases FILE..     in files of cases, spells each output that is a package in version 2
+    python3 tools/package_versions.py --cases FILE..     in files of cases, a line each, spells each output that is a package in
+                                                         version 2
     python3 tools/package_versions.py --migrated         writes crates/conformance/data/migrate.json: valid packages of
                                                          both versions, and the one that `migrate` makes of each
 
@@ -138,14 +139,16 @@ def member_of(all):
     return {'hex': all.hex()}
 
 
-def converted(cases):
-    """The cases, each output that is a package of version 1 in version 2."""
-    for c in cases:
-        output = bytes_of(c['output'])
-        if output.startswith(MAGIC[1]):
-            yield {**c, 'output': member_of(in_version(2, output))}
-        else:
-            yield c
+def converted(line):
+    """A line of a file of cases, its output in version 2 where it is a package of version 1."""
+    if not line.startswith('{'):
+        return line
+    case = json.loads(line.rstrip(','))
+    output = bytes_of(case['output'])
+    if not output.startswith(MAGIC[1]):
+        return line
+    case['output'] = member_of(in_version(2, output))
+    return json.dumps(case, ensure_ascii=line.isascii()) + (',' if line.endswith(',') else '')
 
 
 def migration(name, given, output):
@@ -178,8 +181,9 @@ def main(words):
     elif len(words) > 1 and words[0] == '--cases':
         for path in words[1:]:
             with open(path) as there:
-                cases = json.load(there)
-            rewrite(path, list(converted(cases)))
+                text = there.read()
+            with open(path, 'w') as out:
+                out.write('\n'.join(map(converted, text.split('\n'))))
     else:
         return __doc__
     return None

@@ -31,7 +31,17 @@ VERSIONS = traced(
 LATER = act('wrote', 'a', 6, 2), act('read', 'a', 5, 1)
 EARLIER = act('wrote', 'a', 4, 2), act('read', 'a', 5, 1)
 
+# A path that is written before another one is read, one that is removed, and one that is copied to a new one.
+READ_LATER = traced(act('opened write', 'g', 1), act('wrote', 'g', 2), act('opened read', 'f', 3), act('read', 'f', 4),
+                    ended(5))
+REMOVED = traced(act('removed', 'f', 1), ended(2))
+COPIED = traced(act('opened read', 'f', 1), act('opened new', 'g', 2), act('read', 'f', 3), act('wrote', 'g', 3), ended(4))
+
 TRACES = [
+    ('a path written before another is read', READ_LATER, 'g', lines_of('path main, process 0')),
+    ('a path that nothing writes', READ_LATER, 'f', ''),
+    ('a path found and changed in one step', REMOVED, 'f', lines_of('path f, path main, process 0')),
+    ('a path that is a copy', COPIED, 'g', lines_of('path f, path g, path main, process 0')),
     ('a row at version 2 comes from version 1', VERSIONS, 'f', lines_of(
         'path c, path main, process 0, process 0.0, process 0.2, row t 7 0, row t 7 1, row t 7 2, ask 0, ask 1, ask 2, ask 3,'
         'ask 4, ask 5, reply 0, reply 1, reply 2, reply 3, reply 4, reply 5')),
