@@ -1,0 +1,121 @@
+"""Tables of CSV files."""
+from __future__ import annotations
+
+import csv
+import io
+import os
+import re
+from array import array
+from typing import List, Optional, Sequence, Tuple
+
+from .errors import Misused, Refused
+from .progress import Progress
+from .values import plain_count
+from .world_settings import Settings
+from .world_tables import Column, Table, keep_columns
+
+MARKS = ((b"\xef\xbb\xbf", "utf-8-sig"), (b"\xff\xfe\x00\x00", "utf-32"), (b"\x00\x00\xfe\xff", "utf-32"),
+         (b"\xff\xfe", "utf-16"), (b"\xfe\xff", "utf-16"))
+OTHERS = ((b"PK\x03\x04", "a workbook, as Excel writes it: save it as CSV"),
+          (b"\xd0\xcf\x11\xe0", "a workbook of an old Excel: save it as CSV"),
+          (b"SQLite format 3\0", "an SQLite database: give --sqlite"),
+          (b"PAR1", "a Parquet file: docs/DUMPS.md says how it becomes CSV"),
+          (b"\x1f\x8b", "compressed: unpack it first"))
+MANY = 100_000
+
+
+def named_file(word: str) -> Tuple[Optional[str], str]:
+    """The NAME, where there is one, and the FILE of the word [NAME=]FILE."""
+    name, equals, path = word.partition("=")
+    return (name, path) if equals and not os.path.exists(word) else (None, word)
+
+
+def read_file(path: str, size: int = -1) -> bytes:
+    try:
+        with open(path, "rb") as file:
+            return file.read(size)
+    except OSError as fault:
+        raise Refused(f"{path}: {fault.strerror}") from None
+
+
+def read_csv(word: str, settings: Settings, delimiter: str, encoding: str, hints: List[str],
+             progress: Progress) -> Table:
+    """The table of a CSV file, not settled yet."""
+    given, path = named_file(word)
+    name = given or os.path.splitext(os.path.basename(path))[0]
+    name = settings.new_name(name, name)
+    lines, records = csv_records(path, text_of(path, encoding), delimiter, progress)
+    if not records:
+        raise Refused(f"{path} is empty; its first line has to name the columns")
+    header = records.pop(0)
+    check_header(path, header, delimiter)
+    for line, row in zip(lines[1:], records):
+        if len(row) != len(header):
+            raise Refused(f"{path} line {line}: {plain_count(len(row), 'cell')}, but the header has {len(header)}")
+    lines, records = without_blank(path, lines, records, settings, hints)
+    columns = [Column(settings.new_name(f"{name}.{cell}", cell, f"{name}.#{place}"), cell)
+               for place, cell in enumerate(header, 1)]
+    for column, cells in zip(columns, zip(*records)):
+        column.cells = list(cells)
+    return Table(name, keep_columns(name, columns, settings), len(records), from_text=True,
+                 row_name=lambda row: f"{path} line {lines[row + 1]} (row {row} of {name})")
+
+
+def check_header(path: str, header: Sequence[str], delimiter: str) -> None:
+    if len(header) == 1 and delimiter not in ";\t" and re.search("[;\t|]", header[0]):
+        raise Refused(f"{path}: the first line has one name, {header[0]!r}; give --delimiter ';' or tab")
+
+
+def without_blank(path: str, lines: "array[int]", records: List[List[str]], settings: Settings,
+                  hints: List[str]) -> Tuple["array[int]", List[List[str]]]:
+    """Without the lines that have only delimiters, where --skip-blank says so; else they are named."""
+    blank = [place for place, row in enumerate(records) if len(row) > 1 and not any(row)]
+    if not blank:
+        return lines, records
+    if not settings.skips_blank:
+        rest = f" and {len(blank) - 3} more" if len(blank) > 3 else ""
+        hints.append(f"{path}: line {', '.join(str(lines[place + 1]) for place in blank[:3])}{rest} has delimiters alone, "
+                     "and is a row of NULL; --skip-blank leaves it out")
+        return lines, records
+    left = set(blank)
+    kept = [place for place in range(len(records)) if place not in left]
+    return array("L", [lines[0]] + [lines[place + 1] for place in kept]), [records[place] for place in kept]
+
+
+def text_of(path: str, encoding: str) -> str:
+    """The text of a CSV file, whose byte order mark says more than the encoding that is given."""
+    data = read_file(path)
+    for start, what in OTHERS:
+        if data.startswith(start):
+            raise Refused(f"{path} is no CSV file, but {what}")
+    encoding = next((name for mark, name in MARKS if data.startswith(mark)), encoding)
+    try:
+        text = data.decode(encoding)
+        # Some encodings have half surrogate pairs, which UTF-8 hasn't.
+        text.encode()
+    except UnicodeDecodeError as fault:
+        raise Refused(f"{path}: byte {fault.start} isn't {encoding}; give --encoding, such as cp1252 (of Windows) "
+                      "or latin-1") from None
+    except UnicodeError as fault:
+        raise Refused(f"{path} isn't {encoding}: {fault}") from None
+    except LookupError:
+        raise Misused(f"--encoding {encoding}: there is no such encoding") from None
+    return text.lstrip("\ufeff")
+
+
+def csv_records(path: str, text: str, delimiter: str, progress: Progress) -> Tuple["array[int]", List[List[str]]]:
+    """The records of a CSV file that aren't blank lines, with the line on which each begins before them."""
+    csv.field_size_limit(2**31 - 1)
+    reader = csv.reader(io.StringIO(text, newline=""), delimiter=delimiter, strict=True)
+    lines, records, line = array("L"), [], 1
+    try:
+        for record in reader:
+            if record:
+                lines.append(line)
+                records.append(record)
+                if len(records) % MANY == 0:
+                    progress.tell(f"{path}: {len(records):,} rows are read")
+            line = reader.line_num + 1
+    except csv.Error as fault:
+        raise Refused(f"{path} line {line}: {fault}") from None
+    return lines, records
