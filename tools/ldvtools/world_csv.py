@@ -3,10 +3,10 @@ from __future__ import annotations
 
 import csv
 import io
+import itertools
 import os
 import re
-from array import array
-from typing import List, Optional, Sequence, Tuple
+from typing import Any, List, Optional, Sequence, Tuple
 
 from .errors import Misused, Refused
 from .progress import Progress
@@ -44,21 +44,29 @@ def read_csv(word: str, settings: Settings, delimiter: str, encoding: str, hints
     given, path = named_file(word)
     name = given or os.path.splitext(os.path.basename(path))[0]
     name = settings.new_name(name, name)
-    lines, records = csv_records(path, text_of(path, encoding), delimiter, progress)
+    lines = Lines(path, text_of(path, encoding), delimiter)
+    records = records_of(lines, progress)
     if not records:
         raise Refused(f"{path} is empty; its first line has to name the columns")
     header = records.pop(0)
     check_header(path, header, delimiter)
-    for line, row in zip(lines[1:], records):
+    for place, row in enumerate(records, 1) if set(map(len, records)) - {len(header)} else ():
         if len(row) != len(header):
-            raise Refused(f"{path} line {line}: {plain_count(len(row), 'cell')}, but the header has {len(header)}")
-    lines, records = without_blank(path, lines, records, settings, hints)
+            raise Refused(f"{path} line {lines.of(place)}: {plain_count(len(row), 'cell')}, but the header has "
+                          f"{len(header)}")
+    kept: Sequence[int] = range(len(records))
+    blank = blank_places(records)
+    if blank and settings.skips_blank:
+        kept = sorted(set(kept) - set(blank))
+        records = [records[place] for place in kept]
+    elif blank:
+        hints.append(hint_of_blank(lines, blank))
     columns = [Column(settings.new_name(f"{name}.{cell}", cell, f"{name}.#{place}"), cell)
                for place, cell in enumerate(header, 1)]
     for column, cells in zip(columns, zip(*records)):
         column.cells = list(cells)
     return Table(name, keep_columns(name, columns, settings), len(records), from_text=True,
-                 row_name=lambda row: f"{path} line {lines[row + 1]} (row {row} of {name})")
+                 row_name=lambda row: f"{path} line {lines.of(kept[row] + 1)} (row {row} of {name})")
 
 
 def check_header(path: str, header: Sequence[str], delimiter: str) -> None:
@@ -66,20 +74,18 @@ def check_header(path: str, header: Sequence[str], delimiter: str) -> None:
         raise Refused(f"{path}: the first line has one name, {header[0]!r}; give --delimiter ';' or tab")
 
 
-def without_blank(path: str, lines: "array[int]", records: List[List[str]], settings: Settings,
-                  hints: List[str]) -> Tuple["array[int]", List[List[str]]]:
-    """Without the lines that have only delimiters, where --skip-blank says so; else they are named."""
-    blank = [place for place, row in enumerate(records) if len(row) > 1 and not any(row)]
-    if not blank:
-        return lines, records
-    if not settings.skips_blank:
-        rest = f" and {len(blank) - 3} more" if len(blank) > 3 else ""
-        hints.append(f"{path}: line {', '.join(str(lines[place + 1]) for place in blank[:3])}{rest} has delimiters alone, "
-                     "and is a row of NULL; --skip-blank leaves it out")
-        return lines, records
-    left = set(blank)
-    kept = [place for place in range(len(records)) if place not in left]
-    return array("L", [lines[0]] + [lines[place + 1] for place in kept]), [records[place] for place in kept]
+def blank_places(records: List[List[str]]) -> List[int]:
+    """The records that have delimiters alone."""
+    width = len(records[0]) if records else 0
+    if width < 2 or not records.count([""] * width):
+        return []
+    return [place for place, row in enumerate(records) if not any(row)]
+
+
+def hint_of_blank(lines: Lines, blank: Sequence[int]) -> str:
+    shown = ", ".join(str(lines.of(place + 1)) for place in blank[:3])
+    rest = f" and {len(blank) - 3} more" if len(blank) > 3 else ""
+    return (f"{lines.path}: line {shown}{rest} has delimiters alone, and is a row of NULL; --skip-blank leaves it out")
 
 
 def text_of(path: str, encoding: str) -> str:
@@ -103,19 +109,41 @@ def text_of(path: str, encoding: str) -> str:
     return text.lstrip("\ufeff")
 
 
-def csv_records(path: str, text: str, delimiter: str, progress: Progress) -> Tuple["array[int]", List[List[str]]]:
-    """The records of a CSV file that aren't blank lines, with the line on which each begins before them."""
-    csv.field_size_limit(2**31 - 1)
-    reader = csv.reader(io.StringIO(text, newline=""), delimiter=delimiter, strict=True)
-    lines, records, line = array("L"), [], 1
+class Lines:
+    """The line on which each record begins, counted only where a message wants it."""
+
+    def __init__(self, path: str, text: str, delimiter: str) -> None:
+        self.path, self.text, self.delimiter = path, text, delimiter
+        self.found: List[int] = []
+
+    def reader(self) -> Any:
+        csv.field_size_limit(2**31 - 1)
+        return csv.reader(io.StringIO(self.text, newline=""), delimiter=self.delimiter, strict=True)
+
+    def of(self, place: int) -> int:
+        if not self.found:
+            self.count()
+        return self.found[place]
+
+    def count(self) -> None:
+        reader, line = self.reader(), 1
+        try:
+            for record in reader:
+                if record:
+                    self.found.append(line)
+                line = reader.line_num + 1
+        except csv.Error as fault:
+            raise Refused(f"{self.path} line {line}: {fault}") from None
+
+
+def records_of(lines: Lines, progress: Progress) -> List[List[str]]:
+    """The records that aren't blank lines."""
+    reader = lines.reader()
+    records: List[List[str]] = []
     try:
-        for record in reader:
-            if record:
-                lines.append(line)
-                records.append(record)
-                if len(records) % MANY == 0:
-                    progress.tell(f"{path}: {len(records):,} rows are read")
-            line = reader.line_num + 1
-    except csv.Error as fault:
-        raise Refused(f"{path} line {line}: {fault}") from None
-    return lines, records
+        while chunk := list(itertools.islice(reader, MANY)):
+            records += chunk
+            progress.tell(f"{lines.path}: {len(records):,} rows are read")
+    except csv.Error:
+        lines.count()
+    return [record for record in records if record] if [] in records else records

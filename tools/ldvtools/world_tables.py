@@ -19,6 +19,7 @@ from .world_settings import Settings, fold
 WHOLE = re.compile(r"[+-]?[0-9]+\Z")
 DECIMAL = re.compile(r"([+-]?)(?=\.?[0-9])([0-9]*)(?:\.([0-9]*))?\Z")
 MAX_SCALE = 18
+SAMPLE = 1000
 # Written in C where that is built.
 spelled_text: Callable[[str], str] = getattr(json.encoder, "encode_basestring")
 # A cell as it was read: NULL, a number, a text, or what has no equal in a world.
@@ -154,14 +155,17 @@ def text_value(value: Cell) -> str:
 
 def canonical_numbers(cells: Sequence[Optional[str]]) -> Optional[List[Optional[int]]]:
     """The numbers of texts that are each written in the only way that loses nothing as a number, or None."""
+    texts = [cell for cell in cells if cell is not None]
     try:
-        numbers = [None if cell is None else int(cell) for cell in cells]
+        numbers = list(map(int, texts))
     except ValueError:
         return None
-    if any(cell is not None and str(number) != cell for number, cell in zip(numbers, cells)):
+    if not numbers or list(map(str, numbers)) != texts or min(numbers) < MIN_INT or max(numbers) > MAX_INT:
         return None
-    there = [number for number in numbers if number is not None]
-    return numbers if there and MIN_INT <= min(there) and max(there) <= MAX_INT else None
+    if len(numbers) == len(cells):
+        return list(numbers)
+    following = iter(numbers)
+    return [None if cell is None else next(following) for cell in cells]
 
 
 def decimals_of(value: Cell, settings: Settings) -> Optional[int]:
@@ -180,6 +184,9 @@ def scale_needed(column: Column, settings: Settings) -> Optional[int]:
 def hint_of_text(table: Table, column: Column, settings: Settings, hints: List[str]) -> None:
     """Says that a column of a CSV file is TEXT where most of its cells are numbers."""
     there = [(row, cell) for row, cell in enumerate(column.cells) if cell is not None]
+    # A column of names needn't be looked at to its end.
+    if not any(decimals_of(cell, settings) is not None for _, cell in there[:SAMPLE]):
+        return
     decimals = [decimals_of(cell, settings) for _, cell in there]
     numbers = [each for each in decimals if each is not None]
     if 2 * len(numbers) < len(there) or not there:
@@ -232,7 +239,7 @@ def fitting(table: Table, column: Column, value: Cell, is_given: bool, settings:
 
 def fill_column(table: Table, column: Column, is_given: bool, settings: Settings) -> None:
     """Brings the cells of a column to its kind."""
-    if is_filled(column):
+    if is_filled(column) or is_scaled(column, settings):
         return
     for row, value in enumerate(column.cells):
         try:
@@ -248,8 +255,22 @@ def is_filled(column: Column) -> bool:
         return False
     types.discard(type(None))
     if column.kind == "TEXT":
-        return types <= {str} and max((len(cell) for cell in column.cells if cell is not None), default=0) * 4 <= MAX_TEXT
+        return types <= {str} and max(map(len, filter(None, column.cells)), default=0) * 4 <= MAX_TEXT
     return types <= {int}
+
+
+def is_scaled(column: Column, settings: Settings) -> bool:
+    """Whether all cells were short decimals in plain digits, and are brought to their whole numbers by that."""
+    if column.scale is None or column.not_null or settings.decimal != "." or set(map(type, column.cells)) - {str, type(None)}:
+        return False
+    scale = column.scale
+    match = re.compile(rf"-?[0-9]{{1,{MAX_SCALE - scale or 1}}}(?:\.[0-9]{{0,{scale}}})?\Z").match
+    texts = [cell for cell in column.cells if cell is not None]
+    if scale >= MAX_SCALE or not all(map(match, texts)):
+        return False
+    numbers = iter([int(whole + part.ljust(scale, "0")) for whole, _, part in (text.partition(".") for text in texts)])
+    column.cells = [None if cell is None else next(numbers) for cell in column.cells]
+    return True
 
 
 # ---- tables
@@ -306,7 +327,7 @@ def settle_kind(table: Table, column: Column, settings: Settings) -> bool:
 
 def check_scales(table: Table, settings: Settings) -> None:
     """All columns with REAL values that need --scale, at once."""
-    needed = [(row, column, value) for column in table.columns if column.scale is None
+    needed = [(row, column, value) for column in table.columns if column.scale is None and not table.from_text
               for row, value in first_float(column)]
     if not needed:
         return
@@ -337,14 +358,14 @@ def settle_cells(table: Table, column: Column, is_given: bool, settings: Setting
     elif column.kind is None:
         column.kind = kind_of_values(table, column)
     fill_column(table, column, is_given, settings)
-    if column.scale is not None and sum(abs(cell) for cell in column.cells if cell is not None) > MAX_INT:
+    if column.scale is not None and sum(map(abs, filter(None, column.cells))) > MAX_INT:
         hints.append(f"{table.full_name(column)}: the sum of its rows may leave 64 bits at --scale {column.scale}, and "
                      "SUM is NULL there")
 
 
 def check_key(table: Table) -> None:
     keys = [column.cells for name in table.key for column in table.columns if column.name == name]
-    if not keys or len(set(zip(*keys))) == table.count:
+    if not keys or len(set(keys[0] if len(keys) == 1 else zip(*keys))) == table.count:
         return
     seen: Dict[Tuple[Cell, ...], int] = {}
     for row, key in enumerate(zip(*keys)):
@@ -364,8 +385,8 @@ def rows_json(columns: Sequence[Column]) -> List[str]:
     """The rows of a settled table, each as JSON."""
     spelled: List[Sequence[str]] = []
     for column in columns:
-        if column.kind == "INT":
-            spelled.append(["null" if cell is None else str(cell) for cell in column.cells])
-        else:
-            spelled.append(["null" if cell is None else spelled_text(cell) for cell in column.cells])
+        spell: Callable[[Cell], str] = str if column.kind == "INT" else spelled_text
+        has_null = None in column.cells
+        spelled.append(["null" if cell is None else spell(cell) for cell in column.cells] if has_null
+                       else list(map(spell, column.cells)))
     return ["[" + row + "]" for row in map(",".join, zip(*spelled))]
