@@ -188,7 +188,7 @@ def cause_of(question: Question, schemas: Optional[Schemas]) -> Tuple[str, int]:
     return (f"refused with code {reply.code}: {found.cause}", found.at) if found else (reply_title(reply), 0)
 
 
-def run_lines(world: World, schemas: Schemas, outcome_data: bytes) -> List[str]:
+def run_lines(world: World, schemas: Optional[Schemas], outcome_data: bytes) -> List[str]:
     """Each refused statement and each misuse of a run, with its cause."""
     outcome = read_outcome(outcome_data)
     machine = Machine(world, answers_of({process.name: process.replies for process in outcome.processes}))
@@ -224,7 +224,7 @@ def finding_lines(findings: Sequence[Finding]) -> List[str]:
     return [line for finding in findings for line in [finding.text, *finding.excerpt()]]
 
 
-def statement_lines(text: str, schemas: Schemas) -> List[str]:
+def statement_lines(text: str, schemas: Optional[Schemas]) -> List[str]:
     """What is wrong with one statement, whose parameters aren't known."""
     count = text.count("?")
     result = judge(text, [UNKNOWN] * count, schemas)

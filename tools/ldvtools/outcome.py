@@ -28,7 +28,7 @@ import sys
 from typing import Dict, List, Optional, Sequence, Tuple
 
 from .errors import Malformed, Misused, command
-from .language import MISUSES
+from .language import KEYED_REFUSALS, MISUSES
 from .outcomes import Outcome, read_outcome
 from .packages import read_package
 from .rerun import Question, questions_of
@@ -117,7 +117,7 @@ def csv_text(reply: Reply, null: str, names: Optional[List[str]] = None) -> str:
         return (csv_line(names, null) if names else "") + "".join(csv_line(row, null) for row in reply.rows)
     if reply.kind == "changed":
         return csv_line(["changed", reply.changed], null)
-    key: Row = [reply.table, *reply.key] if reply.table else []
+    key: Row = [reply.table, *reply.key] if reply.code in KEYED_REFUSALS else []
     return csv_line(["refused", reply.code, *key], null)
 
 

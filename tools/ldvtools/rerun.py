@@ -12,7 +12,7 @@ from .errors import Malformed
 from .language import MAX_FILE, MAX_INT, MAX_PATH, MAX_PROCESSES, MAX_TEXT, MIN_INT
 from .outcomes import Outcome
 from .scripts import NUMBER, BadLine, Instruction, Operand, Script, number_of, read_script
-from .values import Reply, Row, Value
+from .values import Reply, Row, Value, plain_count
 
 KIND, RANGE, LENGTH, PATH, UTF8 = 240, 241, 242, 243, 244
 MAX_STEPS = 10_000_000
@@ -400,7 +400,7 @@ def differences(machine: Machine, outcome: Outcome) -> Iterator[str]:
     """How a run differs from an outcome."""
     made = {process.name: process for process in machine.processes}
     if set(made) != {process.name for process in outcome.processes}:
-        yield f"the run has {len(made)} processes, and the outcome {len(outcome.processes)}"
+        yield f"the run has {plain_count(len(made), 'process', 'processes')}, and the outcome {len(outcome.processes)}"
         return
     for process in outcome.processes:
         own = made[process.name]

@@ -167,7 +167,7 @@ class Line:
     def name(self, what: str) -> str:
         token = self.take(what)
         if not is_name(token):
-            self.fail(f"{what}: {why_no_name(token)}")
+            self.fail(f"{what}: {why_no_name(token)}{glued(token)}")
         return token
 
     def exact(self, *words: str) -> str:

@@ -5,7 +5,7 @@ import json
 import re
 from typing import List, NamedTuple, Optional, Sequence, Tuple, Union
 
-from .language import REFUSALS
+from .language import KEYED_REFUSALS, REFUSALS
 
 Value = Union[None, int, str]
 Row = List[Value]
@@ -86,13 +86,13 @@ def reply_title(reply: Reply) -> str:
         return plain_count(len(reply.rows), "row")
     if reply.kind == "changed":
         return f"{plain_count(reply.changed, 'row')} changed"
-    where = f" (table {reply.table}, key {', '.join(cell(value) for value in reply.key)})" if reply.table else ""
+    where = f" (table {escaped(reply.table)}, key {', '.join(cell(value) for value in reply.key)})" if reply.code in KEYED_REFUSALS else ""
     return f"refused with code {reply.code}: {REFUSALS[reply.code]}{where}"
 
 
-def plain_count(number: int, what: str) -> str:
+def plain_count(number: int, what: str, many: Optional[str] = None) -> str:
     """A number without separators, with its noun."""
-    return f"{number} {what}" if number == 1 else f"{number} {what}s"
+    return f"{number} {what}" if number == 1 else f"{number} {many or what + 's'}"
 
 
 # ---- CSV

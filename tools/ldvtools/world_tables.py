@@ -381,11 +381,14 @@ def keep_columns(table_name: str, columns: Sequence[Column], settings: Settings)
     return [column for column in columns if not settings.is_left_out(f"{table_name}.{column.name}")]
 
 
+SPELLERS: Dict[str, Callable[[Cell], str]] = {"INT": str, "TEXT": spelled_text}
+
+
 def rows_json(columns: Sequence[Column]) -> List[str]:
     """The rows of a settled table, each as JSON."""
     spelled: List[Sequence[str]] = []
     for column in columns:
-        spell: Callable[[Cell], str] = str if column.kind == "INT" else spelled_text
+        spell = SPELLERS[column.kind or "TEXT"]
         has_null = None in column.cells
         spelled.append(["null" if cell is None else spell(cell) for cell in column.cells] if has_null
                        else list(map(spell, column.cells)))

@@ -2,7 +2,7 @@
 from __future__ import annotations
 
 import json
-from typing import Any, Dict, List, Mapping, NamedTuple, Tuple
+from typing import Any, Dict, List, Mapping, NamedTuple, Optional, Tuple
 
 from .errors import Malformed
 from .packages import Package
@@ -11,10 +11,10 @@ from .sql_check import Schemas
 
 
 class Document(NamedTuple):
-    """The start words, the seed, the files, and the columns of each table."""
+    """The start words, the seed, the files, and the columns of each table where these are known."""
 
     world: World
-    schemas: Schemas
+    schemas: Optional[Schemas]
 
 
 def read_world(data: bytes) -> Document:
@@ -46,4 +46,7 @@ def world_of_package(package: Package) -> Document:
     files = {path: content or b"" for path, content in package.files}
     if not package.start or package.start[0] not in files:
         raise Malformed("the first start word is no file")
-    return Document(World(package.start, package.seed, files), {table.name: table.columns for table in package.tables})
+    world = World(package.start, package.seed, files)
+    if package.mode == "excluded":
+        return Document(world, None)
+    return Document(world, {table.name: table.columns for table in package.tables})

@@ -3,7 +3,8 @@ import os
 
 from ldvtools import outcome
 
-from .support import TOOLS, InFolder, command, read, tool
+from .support import EXAMPLES, TOOLS, InFolder, command, read, tool
+from .test_page import orders
 
 
 FAMILY = (b"outcome 3 2\nprocess 0 240 8 2\ntotal 3\n\nchanged 1\nrefused 6 orders 2\nint -10\nnull\n"
@@ -122,3 +123,27 @@ file bb was removed
         self.assertEqual((shown[0], shown[1][:10]), (0, b"process 0 "))
         none = command([os.path.join(TOOLS, "outcome.py"), path + "x"])
         self.assertEqual((none[0], none[1]), (1, b""))
+
+    def test_strict(self):
+        """A refused statement and misuse are a status of their own, on demand."""
+        self.assertEqual(tool(outcome, "--strict", given=FAMILY)[0], 1)
+        self.assertEqual(tool(outcome, "--strict", "--csv", given=FAMILY)[0], 1)
+        good = b"outcome 1 0\nprocess 0 3 0 1\n\nchanged 0\n"
+        self.assertEqual(tool(outcome, "--strict", given=good)[0], 0)
+        self.assertNotIn(b"refused", tool(outcome, given=good)[1])
+        many = b"outcome 2 0\nprocess 0 241 0 2\n\nrefused 2\nrefused 3\nprocess 0.0 242 0 0\n\n"
+        self.assertTrue(tool(outcome, given=many)[1].endswith(b"\n2 of 2 statements were refused\n2 processes ended by misuse\n"))
+
+    def test_statements(self):
+        """With its world or its package each reply has its statement and its columns' names."""
+        path = f"{EXAMPLES}/orders.outcome"
+        for words in (["--world", f"{EXAMPLES}/orders.json"], ["--package", self.put("p", orders())],
+                      ["--package", self.put("q", orders(2))]):
+            status, out, err = tool(outcome, *words, path)
+            self.assertEqual((status, err), (0, ""))
+            self.assertIn(b"  > INSERT INTO orders VALUES (?, ?, ?, 1)\n  > with 10, 2, pen\n", out)
+            self.assertIn(b"    name | 2\n    -----+---\n    Ada  | 14\n", out)
+        status, out, _ = tool(outcome, "--csv", "--process", "0.0", "--reply", "1", "--world", f"{EXAMPLES}/orders.json", path)
+        self.assertEqual((status, out), (0, b"name,2\nAda,14\n"))
+        self.assertIn("isn't of this world", tool(outcome, "--world", f"{EXAMPLES}/hello.json", path)[2])
+        self.assertIn("isn't JSON", tool(outcome, "--world", path, path)[2])

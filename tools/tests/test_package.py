@@ -1,4 +1,6 @@
 """package.py, over packages that packages.py spells and over those of the cases."""
+import hashlib
+import json
 import os
 import sqlite3
 
@@ -6,8 +8,12 @@ import package_cases
 import packages
 
 from ldvtools import package
+from ldvtools.errors import Malformed
+from ldvtools.packages import read_any, read_package
 
+from . import version2
 from .support import InFolder, read, tool
+from .test_check import cases
 
 
 class Packages(InFolder):
@@ -89,3 +95,123 @@ table t (k INT NOT NULL, g TEXT, v INT, key k): 2 rows, next row 5
             status, out, err = tool(package, given=given)
             self.assertEqual((status, out), (1, b""))
             self.assertIn(said, err)
+
+    def test_cases(self):
+        """Each package that the program reads is read, of whatever version, and spelled again to the same bytes."""
+        versions = set()
+        for words, data, status, output, _ in cases():
+            for each in ([data] if words[:1] in (["replay"], ["inspect"], ["table"]) and status in (0, 7, 9, 10) else []) + (
+                    [output] if words[:1] == ["record"] and status == 0 else []):
+                if each[:8] == b"LDVJOIN1":
+                    continue
+                found = read_package(each)
+                versions.add(found.version)
+                found.process_names()
+                again = read_package(version2.spelled(found))
+                self.assertEqual(list(again.events), list(found.events))
+                self.assertEqual((again.files, again.tables, again.logs), (found.files, found.tables, found.logs))
+                if found.version == 2:
+                    self.assertEqual(version2.spelled(found), each)
+        self.assertTrue(versions)
+
+    def test_rows_report(self):
+        """The rows of each package are those that `inspect rows` of the cases names."""
+        count = 0
+        for words, data, status, output, _ in cases():
+            if words == ["inspect", "rows"] and status == 0:
+                lines = "".join(f"{table.name} {row.number} {row.statement} {row.rule}\n"
+                                for table in read_package(data).tables for row in table.rows)
+                self.assertEqual(lines.encode(), output)
+                count += 1
+        self.assertGreater(count, 10)
+
+    def test_runs(self):
+        """A run of equal events stands for all of them; what can't be one is refused."""
+        event = "00000001 00000000 08 00000001 66"
+        body = ("4c44565041434b32 01 0001 000000046d61696e 0000000000000000 00000063 00000001 000000046d61696e 01 00000000"
+                "0000 00000000 00000002 00000000 00000000 00 000000046d61696e 00000001 00000000" + event)
+        for count, stride, said in (("00000003", "00000002", None), ("00000000", "00000000", "a run of 0"),
+                                    ("00000001", "00000001", "a run of 1"), ("01312d01", "00000001", "20000002 events")):
+            data = bytes.fromhex(body + count + stride)
+            data += hashlib.sha256(data).digest()
+            if said:
+                with self.assertRaisesRegex(Malformed, said):
+                    read_package(data)
+            else:
+                self.assertEqual([each.step for each in read_package(data).events], [0, 1, 3, 5])
+                self.assertIn(b"99 steps, 4 events", tool(package, given=data)[1])
+
+    def test_joined(self):
+        """A joined package is shown with both of its runs, and each of them as a package."""
+        first = read_package(read(self.path))
+        second = first._replace(start=["main", "x"], tables=[first.tables[0]._replace(rows=first.tables[0].rows[:1])])
+        path = self.put("j", version2.joined(first, second))
+        status, out, err = tool(package, path)
+        self.assertEqual((status, err), (0, ""))
+        self.assertIn(b"joined, 2 files, 1 table, 2 rows\nrun 1: included, start main, seed 0", out)
+        self.assertEqual(tool(package, "--run", "1", path)[1], tool(package, self.path)[1])
+        self.assertIn(b"1 row, next row 5", tool(package, "--run", "2", path)[1])
+        self.assertIn("--run 1 or --run 2", tool(package, "--csv", self.folder, path)[2])
+        self.assertIn("isn't a joined package", tool(package, "--run", "1", self.path)[2])
+        self.assertIn(b"run 2", tool(package, "--sizes", path)[1])
+        self.assertEqual(read_any(read(path)).run(2).tables, second.tables)
+
+    def test_statement(self):
+        """The rows that a statement needed, with the rule in words."""
+        tables = [packages.table("t", [packages.column("k"), packages.column("g", "TEXT")], next=5,
+                                 rows=[packages.row(0, 1, "a"), packages.row(2, 3, "b", rule="H")])]
+        trace = [packages.started(), packages.asked(0), packages.asked(
+            1, 3, tables=["t"], reads=[packages.group("t", packages.read(0), packages.read(2, 1, "H"), packages.read(9))],
+            made=[packages.group("t", packages.made(2))]), packages.ended(4)]
+        data = packages.encode(packages.package(steps=4, tables=tables, trace=trace))
+        self.assertEqual(tool(package, "--statement", "1", given=data), (0, b"""\
+statement 1: process 0 at step 3, tables t
+it needed 3 rows of t:
+  row | version | rule | k | g
+  ----+---------+------+---+--
+    0 |       0 | L    | 1 | a
+    2 |       1 | H    | 3 | b
+    9 |       0 | L
+rule L: the row is in the lineage of a row of the reply, or was matched by an UPDATE or DELETE
+rule H: the row is in the lineage of a group that HAVING rejected, or of a row that LIMIT cut where rows stand for several
+it made 1 version of rows of t
+""", ""))
+        self.assertIn(b"it needed no row", tool(package, "--statement", "0", given=data)[1])
+        self.assertEqual(tool(package, "--statement", "2", given=data),
+                         (1, b"", "package.py: there is no statement 2; the run asked 2, counted from 0\n"))
+
+    def test_files(self):
+        """Files go into a new folder, and none leads out of it."""
+        files = [packages.file("a/b", b"\xff"), packages.file("main", "x"), packages.file("seen")]
+        data = packages.encode(packages.package(files=files))
+        folder = os.path.join(self.folder, "new")
+        status, out, err = tool(package, "--files", folder, given=data)
+        self.assertEqual((status, err), (0, ""))
+        self.assertIn(b"seen was only present", out)
+        self.assertEqual((read(f"{folder}/a/b"), read(f"{folder}/main")), (b"\xff", b"x"))
+        self.assertIn("isn't an empty folder", tool(package, "--files", folder, given=data)[2])
+        self.assertEqual(tool(package, "--file", "a/b", given=data), (0, b"\xff", ""))
+        self.assertIn("there are a/b, main", tool(package, "--file", "seen", given=data)[2])
+        for path in ("../x", "/x", "a/../../x", "a//x", ".", "a/"):
+            data = packages.encode(packages.package(files=[packages.file(path, "x")], start=[path]))
+            status, _, err = tool(package, "--files", os.path.join(self.folder, "other"), given=data)
+            self.assertEqual(status, 1)
+            self.assertIn("leads out of a folder", err)
+        self.assertFalse(os.path.exists(os.path.join(self.folder, "other")))
+        data = packages.encode(packages.package(files=[packages.file("a", "x"), packages.file("a/b", "x")], start=["a"]))
+        self.assertIn("needs a folder", tool(package, "--files", os.path.join(self.folder, "third"), given=data)[2])
+
+    def test_world(self):
+        """A world of the packed rows, as it was or with another question."""
+        status, out, err = tool(package, "--world", self.path)
+        self.assertEqual((status, err), (0, "package.py: note: t: its rows get the numbers 0 to 1\n"))
+        made = json.loads(out)
+        self.assertEqual(made["start"], ["main"])
+        self.assertEqual(made["files"], {"main": "", "seen": ""})
+        self.assertEqual(made["tables"], {"t": {"columns": [["k", "INT NOT NULL"], ["g", "TEXT"], ["v", "INT"]], "key": ["k"],
+                                                "rows": [[1, 'a "x", y', None], [3, "", -5]], "next": 5}})
+        made = json.loads(tool(package, "--world", "--ask", "SELECT k FROM t", self.path)[1])
+        self.assertEqual(made["files"], {"main": 'sql q "SELECT k FROM t"\n'})
+        data = packages.encode(packages.package(mode=2))
+        self.assertIn("so that it makes no world", tool(package, "--world", given=data)[2])
+        self.assertEqual(tool(package, "--ask", "x")[0], 2)

@@ -63,6 +63,67 @@ class CsvFiles(InFolder):
         self.assertEqual(self.table("\ufeffa\r\n1\r\n")["rows"], [[1]])
         self.assertEqual(self.table('a,b\n"x\ny",1\n')["rows"], [["x\ny", 1]])
 
+    def test_excel(self):
+        """What Excel writes: a mark, a decimal comma, lines of delimiters alone, headers twice, and workbooks."""
+        table = self.table("\ufeffa;b\r\n1;2,5\r\n;\r\n3;-0,25\r\n", "--delimiter", ";", "--decimal", ",", "--scale", "t.b=2")
+        self.assertEqual(table["rows"], [[1, 250], [None, None], [3, -25]])
+        path = self.put("t.csv", "a;b\n1;2\n;\n;\n;\n;\n")
+        status, out, err = tool(world, "--csv", path, "--delimiter", ";", *ASK)
+        self.assertIn("t.csv: line 3, 4, 5 and 1 more has delimiters alone, and is a row of NULL; --skip-blank", err)
+        table = self.table("a;b\n1;2\n;\n3;x\n", "--delimiter", ";", "--skip-blank")
+        self.assertEqual(table["rows"], [[1, "2"], [3, "x"]])
+        self.csv_refused("t.csv line 4 (row 1 of t), column b: 'x'", "a;b\n1;2\n;\n3;x\n", "--delimiter", ";", "--skip-blank",
+                         "--kind", "t.b=INT")
+        table = self.table("a,a,\n1,2,3\n", "--rename", "t.#2=b", "--rename", "t.#3=c")
+        self.assertEqual(table["columns"], [["a", "INT"], ["b", "INT"], ["c", "INT"]])
+        self.csv_refused("two columns have the name a; --rename \"t.#2=NAME\" renames the column 2", "a,a\n1,2\n")
+        self.csv_refused('isn\'t a name: a letter a to z or _, then such letters, digits and _; give --rename "t.#2=NAME"', "a,\n1,2\n")
+        for encoding in ("utf-16", "utf-32"):
+            self.assertEqual(self.table("a\nø\n".encode(encoding))["rows"], [["ø"]])
+        self.csv_refused("give --encoding, such as cp1252", b"a\n\x80\n")
+        self.assertEqual(self.table(b"a\n\x80\n", "--encoding", "cp1252")["rows"], [["€"]])
+        self.csv_refused("is no CSV file, but a workbook", b"PK\x03\x04...")
+        self.csv_refused("is no CSV file, but an SQLite database: give --sqlite", b"SQLite format 3\0...")
+
+    def test_rounding(self):
+        table = self.table("a\n0.125\n0.375\n-0.125\n2.5\n1\n", "--scale", "t.a=2", "--round")
+        self.assertEqual(table["rows"], [[12], [38], [-12], [250], [100]])
+        path = self.put("t.csv", "a\n90000000000000000.5\n90000000000000000\n")
+        err = tool(world, "--csv", path, *ASK, "--scale", "t.a=1")[2]
+        self.assertNotIn("may leave 64 bits", err)
+        path = self.put("t.csv", "a\n900000000000000000.5\n900000000000000000\n")
+        err = tool(world, "--csv", path, *ASK, "--scale", "t.a=1")[2]
+        self.assertIn("t.a: the sum of its rows may leave 64 bits at --scale 1, and SUM is NULL there", err)
+        err = tool(world, "--csv", self.put("t.csv", "a,b\n1.5,x\n2.25,y\n"), *ASK)[2]
+        self.assertIn("t.a is TEXT, since", err)
+        self.assertIn("--scale t.a=2 carries it as whole numbers", err)
+
+    def test_shuffle(self):
+        """The same rows in an order that says nothing, and the same order for a seed."""
+        text = "a\n" + "".join(f"{n}\n" for n in range(50))
+        first = self.table(text, "--shuffle", "7")["rows"]
+        self.assertEqual(first, self.table(text, "--shuffle", "7")["rows"])
+        self.assertNotEqual(first, self.table(text, "--shuffle", "8")["rows"])
+        self.assertEqual(sorted(first), self.table(text)["rows"])
+
+    def test_output(self):
+        """A failure leaves the old file, and a quiet call says nothing but that."""
+        path, old = self.put("t.csv", "a\n1\n"), self.put("w.json", "old")
+        self.refused("the key names b", "--csv", path, *ASK, "--key", "t=b", "-o", old)
+        self.assertEqual(read(old), b"old")
+        self.assertEqual(tool(world, "--csv", path, "--ask", "SELECT x FROM t", "-q", "-o", old), (0, b"", ""))
+        self.assertEqual(json.loads(read(old))["tables"]["t"]["rows"], [[1]])
+        self.assertEqual(sorted(os.listdir(self.folder)), ["t.csv", "w.json"])
+        self.refused("No such file", "--csv", path, *ASK, "-o", os.path.join(self.folder, "none", "w.json"))
+        self.assertEqual(tool(world, "--csv", path, *ASK, "-q", "-o", "/dev/null")[0], 0)
+
+    def test_progress(self):
+        """What takes long says so."""
+        path = self.put("t.csv", "a\n1\n")
+        with mock.patch("ldvtools.progress.SECONDS", 0.0):
+            self.assertIn("world.py: t: 1 rows are settled\n", tool(world, "--csv", path, *ASK)[2])
+            self.assertEqual(tool(world, "--csv", path, *ASK, "-q")[2], "")
+
     def test_decimals(self):
         table = self.table("a\n3.4\n-0.05\n7\n.5\n+1.250\n\n-.5\n", "--scale", "t.a=2")
         self.assertEqual(table["columns"], [["a", "INT"]])
@@ -224,7 +285,7 @@ class Databases(InFolder):
     def test_values(self):
         words = self.database("CREATE TABLE t (a REAL);"
                               "INSERT INTO t VALUES (2.5), (3), (NULL), (-0.1), (1e2);")
-        self.refused("row 0 of t, column a: the REAL value 2.5 has no equal here; --scale t.a=", *words)
+        self.refused("row 0 of t, column a: the REAL value 2.5 has no equal here; --scale t.a=1 carries", *words)
         status, out, err = tool(world, *words, "--scale", "t.a=1")
         self.assertEqual(json.loads(out)["tables"]["t"]["rows"], [[25], [30], [None], [-1], [1000]], err)
         for statements, message in (
@@ -242,6 +303,13 @@ class Databases(InFolder):
         self.refused("file is not a database", "--sqlite", path, *ASK)
         self.refused("No such file", "--sqlite", self.folder + "/none.db", *ASK)
 
+    def test_real_columns(self):
+        """All columns that need --scale are named at once, each with the decimals that it needs."""
+        words = self.database("CREATE TABLE t (a REAL, b INT, c REAL, d REAL);"
+                              "INSERT INTO t VALUES (1.5, 1, 0.125, 1e-30), (2, 2, 1.5, 1);")
+        self.refused("--scale t.a=1 --scale t.c=3 --scale t.d=18 --round carries what t has of them", *words)
+        status, out, err = tool(world, *words, "--scale", "t.a=1", "--scale", "t.c=3", "--scale", "t.d=2", "--round")
+        self.assertEqual(json.loads(out)["tables"]["t"]["rows"], [[15, 1, 125, 0], [20, 2, 1500, 100]], err)
 
     def test_paths_and_names(self):
         """A path of two slashes, and a table and columns in other quotes whose names are words of a note."""
