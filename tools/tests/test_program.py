@@ -4,6 +4,7 @@ import glob
 import io
 import json
 import os
+import pty
 import re
 import shlex
 import shutil
@@ -21,28 +22,138 @@ from . import support
 from .support import ASK, EXAMPLES, LIBRARY, ROOT, TOOLS, TUTORIAL, WEATHER, InFolder, command, ldv, make_database, read, tool
 
 
+# In place of rt: it "builds" a program that says how often it was built, by its words or what it does without input.
+RT = """#!/bin/sh
+echo x >> "$RT_CALLS"
+mkdir -p crates/ldv/out
+cat > crates/ldv/out/ldv <<'END'
+#!/bin/sh
+case $1 in
+    run) cat > /dev/null; echo 'ldv: not a world: not json' >&2; exit 6 ;;
+    version) cat ../ldv.version 2>/dev/null; echo built ;;
+    *) echo 'ldv: usage' >&2; exit 2 ;;
+esac
+END
+chmod +x crates/ldv/out/ldv
+echo 'rt: ldv proved'
+echo '1 passed, 0 failed'
+"""
+
+
 class Script(InFolder):
     """The script ./ldv, in a checkout of its own and with another rt."""
 
-    def test_ended_build(self):
-        """A build that is ended from outside leaves nothing but its logs."""
-        for name in ("crates/ldv", "bin"):
-            os.makedirs(os.path.join(self.folder, name))
-        for name, text in (("crates.txt", "ldv:\n"), ("HANDLES", ""), ("bin/rt", "#!/bin/sh\nkill -TERM $PPID\n")):
+    def setUp(self):
+        super().setUp()
+        self.root = self.put_folder("checkout")
+        for name in ("crates/ldv/src", "crates/other/src"):
+            self.put_folder("checkout/" + name)
+        self.put_folder("bin")
+        self.put_folder("tmp")
+        for name, text in (("checkout/crates.txt", "ldv:\nother:\n"), ("checkout/HANDLES", "none\n"), ("bin/rt", RT),
+                           ("checkout/crates/ldv/src/main.rt", "one\n"), ("checkout/crates/other/src/lib.rt", "one\n")):
             self.put(name, text)
         os.chmod(os.path.join(self.folder, "bin/rt"), 0o755)
-        script = shutil.copy(os.path.join(ROOT, "ldv"), self.folder)
-        path = os.path.join(self.folder, "bin") + os.pathsep + os.environ["PATH"]
-        done = subprocess.run([script, "run"], stdin=subprocess.DEVNULL, stdout=subprocess.PIPE, stderr=subprocess.PIPE,
-                              env={**os.environ, "PATH": path, "TMPDIR": self.put_folder("tmp")}, check=False)
-        self.assertEqual((done.returncode, done.stdout), (126, b""), done.stderr)
-        self.assertEqual(os.listdir(os.path.join(self.folder, "crates/ldv/out")), ["logs"])
-        self.assertEqual(os.listdir(os.path.join(self.folder, "tmp")), [])
+        shutil.copy(os.path.join(ROOT, "ldv"), self.root)
+        self.env = {**os.environ, "PATH": os.path.join(self.folder, "bin") + os.pathsep + os.environ["PATH"],
+                    "TMPDIR": os.path.join(self.folder, "tmp"), "XDG_CACHE_HOME": os.path.join(self.folder, "cache"),
+                    "RT_CALLS": os.path.join(self.folder, "calls")}
 
     def put_folder(self, name):
         path = os.path.join(self.folder, name)
         os.makedirs(path)
         return path
+
+    def run_script(self, *words, root=None, cwd=None):
+        done = subprocess.run([os.path.join(root or self.root, "ldv"), *words], stdin=subprocess.DEVNULL, stdout=subprocess.PIPE,
+                              stderr=subprocess.PIPE, env=self.env, check=False, cwd=cwd)
+        return done.returncode, done.stdout, done.stderr.decode()
+
+    def builds(self):
+        return len(read(self.env["RT_CALLS"]).split()) if os.path.exists(self.env["RT_CALLS"]) else 0
+
+    def test_ended_build(self):
+        """A build that is ended from outside leaves nothing but its logs."""
+        self.put("bin/rt", "#!/bin/sh\nkill -TERM $PPID\n")
+        status, out, err = self.run_script("run")
+        self.assertEqual((status, out), (126, b""), err)
+        self.assertEqual(os.listdir(os.path.join(self.root, "crates/ldv/out")), ["logs"])
+        self.assertEqual(os.listdir(self.env["TMPDIR"]), [])
+
+    def test_built_once(self):
+        """A source that is changed is built, and one that has the same content again isn't; nor is one of no matter."""
+        status, out, err = self.run_script("version")
+        self.assertEqual((status, out, self.builds()), (0, b"built\n", 1), err)
+        self.assertIn("ldv: proving the program first: 1 crates", err)
+        self.assertEqual(self.run_script("version"), (0, b"built\n", ""))
+        self.assertEqual(self.run_script("run")[0], 6)
+        self.put("checkout/crates/ldv/src/main.rt", "one\n")
+        self.put("checkout/crates/other/src/lib.rt", "two\n")
+        self.assertEqual((self.run_script("version"), self.builds()), ((0, b"built\n", ""), 1))
+        self.put("checkout/crates/ldv/src/main.rt", "two\n")
+        self.run_script("version")
+        self.assertEqual(self.builds(), 2)
+        self.put("checkout/crates/ldv/src/more.rt", "")
+        self.run_script("version")
+        self.assertEqual(self.builds(), 3)
+        os.remove(os.path.join(self.root, "crates/ldv/src/more.rt"))
+        self.run_script("version")
+        self.assertEqual(self.builds(), 4)
+        self.assertEqual(os.listdir(self.env["TMPDIR"]), [])
+
+    def test_copies(self):
+        """A copy of a built checkout has its program, and so has one that was only cloned, by another name or link too."""
+        self.run_script("version")
+        copy = shutil.copytree(self.root, os.path.join(self.folder, "copy"))
+        clone = shutil.copytree(self.root, os.path.join(self.folder, "clone"), ignore=shutil.ignore_patterns("out"))
+        link = os.path.join(self.folder, "link")
+        os.symlink("copy/ldv", link)
+        for root in (copy, clone):
+            for _ in range(2):
+                self.assertEqual((self.run_script("version", root=root), self.builds()), ((0, b"built\n", ""), 1))
+        done = subprocess.run(["./link", "version"], cwd=self.folder, env=self.env, stdout=subprocess.PIPE, check=False)
+        self.assertEqual((done.returncode, done.stdout, self.builds()), (0, b"built\n", 1))
+        self.assertEqual(self.run_script("version", root="copy", cwd=self.folder), (0, b"built\n", ""))
+        self.assertEqual(len(os.listdir(os.path.join(self.env["XDG_CACHE_HOME"], "ldv"))), 1)
+
+    def test_read_only(self):
+        """Where nothing can be written this is said before anything else."""
+        out = os.path.join(self.root, "crates/ldv/out")
+        self.put("checkout/crates/ldv/out", "in the way")
+        status, _, err = self.run_script("version")
+        self.assertEqual((status, err.count("\n"), self.builds()), (126, 1, 0))
+        self.assertIn(f"{out} can't be written", err)
+
+    def test_no_rt(self):
+        os.remove(os.path.join(self.folder, "bin/rt"))
+        self.env["PATH"] = os.path.join(self.folder, "bin") + ":/usr/bin:/bin"
+        status, _, err = self.run_script("version")
+        self.assertEqual((status, err), (127, "ldv: the program must be proved and compiled first, and there is no rt to do it\n"))
+
+    def on_terminal(self, *words):
+        """What is written to a terminal that is standard error."""
+        main, other = pty.openpty()
+        subprocess.run([os.path.join(self.root, "ldv"), *words], stdin=subprocess.DEVNULL, stdout=subprocess.DEVNULL, stderr=other,
+                       env=self.env, check=False, cwd=self.folder)
+        os.close(other)
+        shown = b""
+        try:
+            while data := os.read(main, 4096):
+                shown += data
+        except OSError:
+            pass
+        os.close(main)
+        return shown.decode().replace("\r\n", "\n")
+
+    def test_terminal(self):
+        """On a terminal wrong words get a second line, and a file's name another one."""
+        self.run_script("version")
+        self.assertEqual(self.on_terminal("walk"), "ldv: usage\nldv: the words are in the manual page: man -l "
+                                                   f"{self.root}/docs/ldv.1\n")
+        self.put("world.json", "")
+        self.assertEqual(self.on_terminal("walk", "world.json"), "ldv: usage\nldv: world.json is a file, and the input comes "
+                                                                 "from standard input: ldv .. < world.json\n")
+        self.assertEqual(self.run_script("walk"), (2, b"", "ldv: usage\n"))
 
     def test_no_program(self):
         status, out, err = command([os.path.join(TOOLS, "check_program.py"), self.folder + "/none"])
