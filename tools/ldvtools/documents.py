@@ -2,6 +2,9 @@
 from __future__ import annotations
 
 import json
+import os
+import sys
+import tempfile
 from typing import Iterable, Mapping, Optional, Sequence, Tuple
 
 from .errors import Refused
@@ -54,3 +57,33 @@ def document(start: Sequence[str], seed: int, files: Mapping[str, bytes], tables
     if len(data) > MAX_DOCUMENT:
         raise Refused(f"the document has {len(data)} bytes; the limit is {MAX_DOCUMENT}")
     return data
+
+
+def write_file(data: bytes, path: Optional[str]) -> None:
+    """Writes a file whole or not at all: one that was there stays where something fails."""
+    try:
+        if not path:
+            sys.stdout.buffer.write(data)
+            sys.stdout.buffer.flush()
+        elif os.path.exists(path) and not os.path.isfile(path):
+            with open(path, "wb") as file:
+                file.write(data)
+        else:
+            replace_file(data, path)
+    except OSError as fault:
+        raise Refused(f"{path or 'standard output'}: {fault.strerror}") from None
+
+
+def replace_file(data: bytes, path: str) -> None:
+    path = os.path.realpath(path)
+    handle, new = tempfile.mkstemp(dir=os.path.dirname(path), prefix=os.path.basename(path) + ".")
+    try:
+        with os.fdopen(handle, "wb") as file:
+            file.write(data)
+        mask = os.umask(0)
+        os.umask(mask)
+        os.chmod(new, os.stat(path).st_mode & 0o777 if os.path.exists(path) else 0o666 & ~mask)
+        os.replace(new, path)
+    except OSError:
+        os.remove(new)
+        raise

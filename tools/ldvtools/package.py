@@ -29,7 +29,7 @@ import sqlite3
 import sys
 from typing import Dict, Iterator, List, Optional, Sequence, Tuple, Union
 
-from .documents import as_json, document, table_json
+from .documents import as_json, document, table_json, write_file
 from .errors import Refused, command
 from .language import RULE_TEXTS
 from .outcome import read_input, write_out
@@ -267,13 +267,14 @@ def given_words(words: Optional[Sequence[str]]) -> argparse.Namespace:
     what.add_argument("--sizes", action="store_true", help="how many bytes each section has")
     parser.add_argument("--ask", metavar="STATEMENT", action="append", default=[],
                         help="with --world: a statement for its script, which asks these only")
+    parser.add_argument("-o", "--output", metavar="FILE", help="with --world: the document (default: standard output)")
     parser.add_argument("--reasons", action="store_true", help="with --csv or --sqlite: why each row is there")
     parser.add_argument("--run", type=int, choices=(1, 2), help="of a joined package: which of its runs")
     given = parser.parse_args(words)
     if given.reasons and not (given.csv or given.sqlite):
         parser.error("--reasons goes with --csv or --sqlite")
-    if given.ask and not given.world:
-        parser.error("--ask goes with --world")
+    if (given.ask or given.output) and not given.world:
+        parser.error("--ask and -o go with --world")
     return given
 
 
@@ -295,7 +296,7 @@ def show(data: bytes, given: argparse.Namespace) -> None:
         world, notes = world_of(package, given.ask)
         for note in notes:
             print(f"package.py: note: {note}", file=sys.stderr)
-        write_out(world.decode())
+        write_file(world, given.output)
     else:
         write_out("".join(line + "\n" for line in summary(package)))
 

@@ -27,12 +27,12 @@ import subprocess
 import sys
 from typing import List, Optional, Sequence, Tuple
 
+from .documents import write_file
 from .errors import Misused, Refused, command
-from .outcome import read_input, write_out
+from .outcome import read_input
 from .outcomes import Outcome, read_outcome
 from .packages import Package, read_package
 from .page_data import Json, page_json
-from .world import write_document
 
 TEMPLATE = """<!DOCTYPE html>
 <html lang="en">
@@ -130,10 +130,7 @@ def work(words: Optional[Sequence[str]]) -> int:
         outcome, verdict = asked_program(given.ldv, data, package, given.run, budget)
     name = given.name or (os.path.basename(given.package) if given.package else "a package")
     text = page_text(page_json(package, name, len(data), outcome, verdict))
-    if given.output:
-        write_document(text.encode(), given.output)
-    else:
-        write_out(text)
+    write_file(text.encode(), given.output)
     return 0
 
 

@@ -481,7 +481,8 @@ class Parser:
         return Delete(self.table(), self.where())
 
     def statement(self) -> Statement:
-        readers: Dict[str, Callable[[], Statement]] = {"select": self.query, "insert": self.insert, "update": self.update, "delete": self.delete}
+        readers: Dict[str, Callable[[], Statement]] = {
+            "select": self.query, "insert": self.insert, "update": self.update, "delete": self.delete}
         if not self.is_word(*readers):
             self.fail("SELECT, INSERT, UPDATE or DELETE")
         found = readers[self.next().text]()

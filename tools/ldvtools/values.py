@@ -86,7 +86,9 @@ def reply_title(reply: Reply) -> str:
         return plain_count(len(reply.rows), "row")
     if reply.kind == "changed":
         return f"{plain_count(reply.changed, 'row')} changed"
-    where = f" (table {escaped(reply.table)}, key {', '.join(cell(value) for value in reply.key)})" if reply.code in KEYED_REFUSALS else ""
+    where = ""
+    if reply.code in KEYED_REFUSALS:
+        where = f" (table {escaped(reply.table)}, key {', '.join(cell(value) for value in reply.key)})"
     return f"refused with code {reply.code}: {REFUSALS[reply.code]}{where}"
 
 

@@ -28,11 +28,10 @@ import gc
 import os
 import random
 import sys
-import tempfile
 from typing import Dict, List, Optional, Sequence, Tuple
 
 from .check import findings_of
-from .documents import document, table_json
+from .documents import document, table_json, write_file
 from .errors import Misused, Refused, command
 from .language import MAX_FILE, MAX_FILES, MAX_PATH, MAX_START_WORDS, MAX_TABLES, MAX_TEXT
 from .progress import Progress
@@ -148,36 +147,6 @@ def table_of(table: Table) -> Tuple[str, str]:
     return table.name, table_json(columns, table.key, rows_json(table.columns))
 
 
-def write_document(data: bytes, path: Optional[str]) -> None:
-    """Writes a file whole or not at all: one that was there stays where something fails."""
-    try:
-        if not path:
-            sys.stdout.buffer.write(data)
-            sys.stdout.buffer.flush()
-        elif os.path.exists(path) and not os.path.isfile(path):
-            with open(path, "wb") as file:
-                file.write(data)
-        else:
-            replace_file(data, path)
-    except OSError as fault:
-        raise Refused(f"{path or 'standard output'}: {fault.strerror}") from None
-
-
-def replace_file(data: bytes, path: str) -> None:
-    path = os.path.realpath(path)
-    handle, new = tempfile.mkstemp(dir=os.path.dirname(path), prefix=os.path.basename(path) + ".")
-    try:
-        with os.fdopen(handle, "wb") as file:
-            file.write(data)
-        mask = os.umask(0)
-        os.umask(mask)
-        os.chmod(new, os.stat(path).st_mode & 0o777 if os.path.exists(path) else 0o666 & ~mask)
-        os.replace(new, path)
-    except OSError:
-        os.remove(new)
-        raise
-
-
 def summary(table: Table) -> str:
     """What became of a table, in one line."""
     columns = ", ".join(
@@ -218,6 +187,8 @@ def read_words(given: Optional[Sequence[str]]) -> argparse.Namespace:
                         help="the rows of each table in another order, which says nothing of the order that they had")
     parser.add_argument("--lower", action="store_true", help="names in lower case")
     parser.add_argument("--delimiter", default=",", help="of CSV files: one character, or tab (default ,)")
+    parser.add_argument("--tsv", action="store_true", help="the CSV files are as COPY of PostgreSQL and --batch of MySQL write "
+                        "them: tabs between cells, no quotes, \\t, \\n and \\\\ as escapes, \\N for NULL")
     parser.add_argument("--encoding", default="utf-8", help="of CSV files without a byte order mark (default utf-8)")
     parser.add_argument("-o", "--output", metavar="FILE", help="the document (default: standard output)")
     parser.add_argument("-q", "--quiet", action="store_true", help="say nothing but why it is refused")
@@ -270,7 +241,7 @@ def work(given: Optional[Sequence[str]]) -> int:
     if (notes or warnings) and words.strict:
         raise Refused("a world hasn't all that the database has, or a script has a line that fails (--strict): "
                       + (notes + warnings)[0])
-    write_document(data, words.output)
+    write_file(data, words.output)
     if not words.quiet:
         for line in warnings + hints + [summary(table) for table in tables]:
             print(f"world.py: {line}", file=sys.stderr)

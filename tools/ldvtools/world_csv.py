@@ -12,7 +12,7 @@ from .errors import Misused, Refused
 from .progress import Progress
 from .values import plain_count
 from .world_settings import Settings
-from .world_tables import Column, Table, keep_columns
+from .world_tables import NO_VALUE, Column, Table, keep_columns
 
 MARKS = ((b"\xef\xbb\xbf", "utf-8-sig"), (b"\xff\xfe\x00\x00", "utf-32"), (b"\x00\x00\xfe\xff", "utf-32"),
          (b"\xff\xfe", "utf-16"), (b"\xfe\xff", "utf-16"))
@@ -44,7 +44,7 @@ def read_csv(word: str, settings: Settings, delimiter: str, encoding: str, hints
     given, path = named_file(word)
     name = given or os.path.splitext(os.path.basename(path))[0]
     name = settings.new_name(name, name)
-    lines = Lines(path, text_of(path, encoding), delimiter)
+    lines = Lines(path, text_of(path, encoding), "\t" if settings.is_tsv else delimiter, settings.is_tsv)
     records = records_of(lines, progress)
     if not records:
         raise Refused(f"{path} is empty; its first line has to name the columns")
@@ -112,13 +112,14 @@ def text_of(path: str, encoding: str) -> str:
 class Lines:
     """The line on which each record begins, counted only where a message wants it."""
 
-    def __init__(self, path: str, text: str, delimiter: str) -> None:
-        self.path, self.text, self.delimiter = path, text, delimiter
+    def __init__(self, path: str, text: str, delimiter: str, is_tsv: bool) -> None:
+        self.path, self.text, self.delimiter, self.is_tsv = path, text, delimiter, is_tsv
         self.found: List[int] = []
 
     def reader(self) -> Any:
         csv.field_size_limit(2**31 - 1)
-        return csv.reader(io.StringIO(self.text, newline=""), delimiter=self.delimiter, strict=True)
+        quoting = csv.QUOTE_NONE if self.is_tsv else csv.QUOTE_MINIMAL
+        return csv.reader(io.StringIO(self.text, newline=""), delimiter=self.delimiter, quoting=quoting, strict=True)
 
     def of(self, place: int) -> int:
         if not self.found:
@@ -146,4 +147,17 @@ def records_of(lines: Lines, progress: Progress) -> List[List[str]]:
             progress.tell(f"{lines.path}: {len(records):,} rows are read")
     except csv.Error:
         lines.count()
-    return [record for record in records if record] if [] in records else records
+    records = [record for record in records if record] if [] in records else records
+    if lines.is_tsv and "\\" in lines.text:
+        return [[unescaped(cell) for cell in record] for record in records]
+    return records
+
+
+ESCAPES = {"t": "\t", "n": "\n", "r": "\r", "b": "\b", "f": "\f", "v": "\v", "0": "\0", "\\": "\\"}
+
+
+def unescaped(cell: str) -> str:
+    """A cell of a file without quotes. What stands for NULL stays as it is."""
+    if "\\" not in cell or cell == NO_VALUE:
+        return cell
+    return re.sub(r"(?s)\\(.)", lambda found: ESCAPES.get(found[1], found[1]), cell)

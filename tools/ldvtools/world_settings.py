@@ -32,6 +32,8 @@ class Settings:
         self.decimal: str = words.decimal
         self.rounds: bool = words.round
         self.skips_blank: bool = words.skip_blank
+        # As PostgreSQL's COPY and MySQL's --batch write tables: no quotes, and escapes by backslash.
+        self.is_tsv: bool = words.tsv
         for (option, name), value in self.values.items():
             self.check(option, name, value)
 

@@ -26,6 +26,10 @@ spelled_text: Callable[[str], str] = getattr(json.encoder, "encode_basestring")
 Cell = Any
 
 
+# What stands for NULL in files without quotes.
+NO_VALUE = "\\N"
+
+
 class BadText:
     """A text of a database whose bytes aren't UTF-8."""
 
@@ -320,7 +324,8 @@ def settle_kind(table: Table, column: Column, settings: Settings) -> bool:
         column.kind, column.scale = "INT", int(scale)
     column.not_null = column.not_null or column.name in table.key
     if table.from_text:
-        words = settings.nulls | (set() if settings.take("--empty", name) == "text" else {""})
+        is_text = (settings.take("--empty", name) or ("text" if settings.is_tsv else "null")) == "text"
+        words = settings.nulls | (set() if is_text else {""}) | ({NO_VALUE} if settings.is_tsv else set())
         column.cells = [None if cell in words else cell for cell in column.cells]
     return kind is not None
 

@@ -31,7 +31,8 @@ class Browser:
             os.dup2(answers, 4)
 
         words = [program(), "--headless", "--no-sandbox", "--disable-gpu", "--disable-dev-shm-usage", "--no-first-run",
-                 "--remote-debugging-pipe", f"--user-data-dir={self.folder.name}", f"--window-size={width},{height}", "about:blank"]
+                 "--remote-debugging-pipe", f"--user-data-dir={self.folder.name}",
+                 f"--window-size={width},{height}", "about:blank"]
         self.process = subprocess.Popen(words, stdin=subprocess.DEVNULL, stdout=subprocess.DEVNULL, stderr=subprocess.DEVNULL,
                                         preexec_fn=place, close_fds=False)
         os.close(to_read)
@@ -83,8 +84,9 @@ class Browser:
 
     def click(self, selector):
         """A click of the mouse in the middle of an element."""
-        spot = self.value(f"(() => {{ const e = document.querySelector({json.dumps(selector)}); e.scrollIntoView({{block: 'center'}});"
-                          " const r = e.getBoundingClientRect(); return [r.x + r.width / 2, r.y + r.height / 2]; })()")
+        spot = self.value(f"(() => {{ const e = document.querySelector({json.dumps(selector)});"
+                          " e.scrollIntoView({block: 'center'}); const r = e.getBoundingClientRect();"
+                          " return [r.x + r.width / 2, r.y + r.height / 2]; })()")
         for kind in ("mousePressed", "mouseReleased"):
             self.send("Input.dispatchMouseEvent", type=kind, x=spot[0], y=spot[1], button="left", clickCount=1)
 

@@ -79,7 +79,8 @@ class AgainstCases(InFolder):
         """An outcome of another world is found."""
         document = read_world(b'{"start":["m"],"files":{"m":"print 1\\nsql q \\"SELECT 1 FROM t\\"\\n"}}')
         for text in ("outcome 1 0\nprocess 0 0 2 0\n1\n\n", "outcome 1 0\nprocess 0 0 2 1\n2\n\nrefused 2\n",
-                     "outcome 1 0\nprocess 0 1 2 1\n1\n\nrefused 2\n", "outcome 2 0\nprocess 0 0 2 1\n1\n\nrefused 2\nprocess 0.0 0 0 0\n\n",
+                     "outcome 1 0\nprocess 0 1 2 1\n1\n\nrefused 2\n",
+                     "outcome 2 0\nprocess 0 0 2 1\n1\n\nrefused 2\nprocess 0.0 0 0 0\n\n",
                      "outcome 1 1\nprocess 0 0 2 1\n1\n\nrefused 2\nfile 1 0\na\n\n"):
             with self.assertRaises(Malformed):
                 questions_of(document.world, read_outcome(text.encode()))
@@ -182,7 +183,8 @@ class Command(InFolder):
         status, out, err = tool(check, path)
         self.assertEqual((status, err), (1, ""))
         self.assertEqual(out.decode(), """\
-main line 1: the statement will be refused with code 3: there is no column kk (columns: k, g); did you mean k?; a text would be 'kk'
+main line 1: the statement will be refused with code 3: there is no column kk (columns: k, g); did you mean k?; a text would \
+be 'kk'
     SELECT kk FROM t
            ^
 main line 3: the statement will be refused with code 2: there is no table tt (tables: t); did you mean t?

@@ -1,6 +1,7 @@
 """The checks of documents, with what they have to find."""
 import contextlib
 import io
+import json
 import os
 import shutil
 import unittest
@@ -9,7 +10,10 @@ import check_docs
 import check_page
 import check_scripts
 
+from ldvtools.sql_check import judge
+
 from .support import ROOT, InFolder, command, read, tool
+from .test_examples import asked, in_sqlite, reply_text
 
 
 INSTRUCTIONS = """let cut goto if print exit open readline write copy close remove exists spawn wait sql fetch count
@@ -104,6 +108,38 @@ class Pages(InFolder):
             self.assertEqual(tool(check_page, *words)[0], 0)
         self.put("page.md", "    $ true\n    nothing\n")
         self.assertIn(b"1 commands, 1 differ", tool(check_page, *words)[1])
+
+
+class StatementTables(InFolder):
+    """The tutorial's table of what to write in place of what the dialect leaves out."""
+
+    def asked(self, data):
+        """The outcome of a world whose script asks statements, by SQLite."""
+        made = json.loads(data)
+        base = in_sqlite(made["tables"])
+        replies = [reply_text(base.execute(text).fetchall()) for text, _ in asked(made["files"]["main"])]
+        return f"outcome 1 0\nprocess 0 0 0 {len(replies)}\n\n{''.join(replies)}".encode()
+
+    def test_tutorial(self):
+        """Each statement has its reply in SQLite too, and is one of the dialect."""
+        page = read(check_page.TUTORIAL).decode()
+        (files, rows), = check_page.statement_tables(page)
+        self.assertEqual(len(files), 2)
+        self.assertGreater(len(rows), 15)
+        self.assertEqual(list(check_page.table_differences(page, self.asked)), [])
+        made = json.loads(check_page.asked_world(files, [text for _, texts, _ in rows for text in texts]))
+        schemas = {name: [tuple(column) for column in table["columns"]] for name, table in made["tables"].items()}
+        for number, texts, _ in rows:
+            for text in texts:
+                self.assertEqual(judge(text, [], schemas)[::2], (None, []), number)
+
+    def test_wrong_reply(self):
+        """A reply that is another one is found."""
+        page = read(check_page.TUTORIAL).decode()
+        wrong = page.replace("| (60, 3) |", "| (60, 4) |", 1)
+        self.assertNotEqual(page, wrong)
+        found, = check_page.table_differences(wrong, self.asked)
+        self.assertIn("page: (60, 4)\n    now:  (60, 3)", found)
 
 
 class ManualPage(InFolder):

@@ -128,13 +128,14 @@ class Script(InFolder):
         os.remove(os.path.join(self.folder, "bin/rt"))
         self.env["PATH"] = os.path.join(self.folder, "bin") + ":/usr/bin:/bin"
         status, _, err = self.run_script("version")
-        self.assertEqual((status, err), (127, "ldv: the program must be proved and compiled first, and there is no rt to do it\n"))
+        self.assertEqual((status, err), (
+            127, "ldv: the program must be proved and compiled first, and there is no rt to do it\n"))
 
     def on_terminal(self, *words):
         """What is written to a terminal that is standard error."""
         main, other = pty.openpty()
-        subprocess.run([os.path.join(self.root, "ldv"), *words], stdin=subprocess.DEVNULL, stdout=subprocess.DEVNULL, stderr=other,
-                       env=self.env, check=False, cwd=self.folder)
+        subprocess.run([os.path.join(self.root, "ldv"), *words], stdin=subprocess.DEVNULL, stdout=subprocess.DEVNULL,
+                       stderr=other, env=self.env, check=False, cwd=self.folder)
         os.close(other)
         shown = b""
         try:
@@ -212,7 +213,7 @@ class Program(InFolder):
         lines = re.findall(r"(?m)^\.Dl (.*)$", page)
         for block in re.findall(r"(?s)\n\.Bd .*?\n(.*?)\n\.Ed", page):
             lines += block.split("\n")
-        self.assertEqual(len(lines), 19)
+        self.assertEqual(len(lines), 20)
         path = self.folder + os.pathsep + os.environ["PATH"]
         for line in lines:
             done = subprocess.run(["sh", "-c", line], cwd=self.folder, stdout=subprocess.PIPE, stderr=subprocess.PIPE,

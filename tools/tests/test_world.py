@@ -77,13 +77,21 @@ class CsvFiles(InFolder):
         table = self.table("a,a,\n1,2,3\n", "--rename", "t.#2=b", "--rename", "t.#3=c")
         self.assertEqual(table["columns"], [["a", "INT"], ["b", "INT"], ["c", "INT"]])
         self.csv_refused("two columns have the name a; --rename \"t.#2=NAME\" renames the column 2", "a,a\n1,2\n")
-        self.csv_refused('isn\'t a name: a letter a to z or _, then such letters, digits and _; give --rename "t.#2=NAME"', "a,\n1,2\n")
+        self.csv_refused('isn\'t a name: a letter a to z or _, then such letters, digits and _; '
+                         'give --rename "t.#2=NAME"', "a,\n1,2\n")
         for encoding in ("utf-16", "utf-32"):
             self.assertEqual(self.table("a\nø\n".encode(encoding))["rows"], [["ø"]])
         self.csv_refused("give --encoding, such as cp1252", b"a\n\x80\n")
         self.assertEqual(self.table(b"a\n\x80\n", "--encoding", "cp1252")["rows"], [["€"]])
         self.csv_refused("is no CSV file, but a workbook", b"PK\x03\x04...")
         self.csv_refused("is no CSV file, but an SQLite database: give --sqlite", b"SQLite format 3\0...")
+
+    def test_dumps(self):
+        """Tables as COPY of PostgreSQL and --batch of MySQL write them."""
+        text = 'a\tb\tc\n1\tsays "hi"\t\\N\n2\t\tx\\ty\\nz\\\\n\n3\t"open\tNULL\n'
+        table = self.table(text, "--tsv", "--null", "NULL")
+        self.assertEqual(table["columns"], [["a", "INT"], ["b", "TEXT"], ["c", "TEXT"]])
+        self.assertEqual(table["rows"], [[1, 'says "hi"', None], [2, "", "x\ty\nz\\n"], [3, '"open', None]])
 
     def test_rounding(self):
         table = self.table("a\n0.125\n0.375\n-0.125\n2.5\n1\n", "--scale", "t.a=2", "--round")

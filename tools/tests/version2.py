@@ -58,7 +58,8 @@ def entry(each):
 
 
 def log(each):
-    return listed(2, [int(part) for part in each.process.split(".")], lambda part: number(4, part)) + listed(4, each.entries, entry)
+    name = listed(2, [int(part) for part in each.process.split(".")], lambda part: number(4, part))
+    return name + listed(4, each.entries, entry)
 
 
 def fields(event):
