@@ -7,6 +7,7 @@ one.
 from __future__ import annotations
 
 import hashlib
+import struct
 from typing import Callable, Dict, Iterator, List, Mapping, NamedTuple, Optional, Tuple, TypeVar, Union
 
 from .errors import Malformed
@@ -18,6 +19,8 @@ VERSIONS = {b"LDVPACK1": 1, b"LDVPACK2": 2}
 JOINED = b"LDVJOIN1"
 MAGIC_LENGTH = 8
 DIGEST_LENGTH = 32
+# A row number or a step, a statement, a version or a process, and a rule or an act; a version; an i64.
+ROW, VERSION, INT = struct.Struct(">IIB"), struct.Struct(">II"), struct.Struct(">q")
 T = TypeVar("T")
 
 
@@ -206,6 +209,19 @@ class Reader:
     def number(self, width: int) -> int:
         return int.from_bytes(self.take(width), "big")
 
+    def unpack(self, form: struct.Struct) -> Tuple[int, ...]:
+        """Several numbers at once."""
+        self.place += form.size
+        if self.place > len(self.data):
+            self.place -= form.size
+            self.take(form.size)
+        return form.unpack_from(self.data, self.place - form.size)
+
+    def rule(self, number: int) -> str:
+        if number not in RULES:
+            raise Malformed(f"byte {self.place - 1}: {number} is none of {sorted(RULES)}")
+        return RULES[number]
+
     def among(self, names: Mapping[int, T]) -> T:
         number = self.number(1)
         if number not in names:
@@ -230,10 +246,14 @@ class Reader:
         return [item() for _ in range(self.number(width))]
 
     def value(self) -> Value:
-        kind = self.among({0: "null", 1: "int", 2: "text"})
-        if kind == "null":
+        kind = self.number(1)
+        if kind == 0:
             return None
-        return int.from_bytes(self.take(8), "big", signed=True) if kind == "int" else self.text()
+        if kind == 1:
+            return self.unpack(INT)[0]
+        if kind != 2:
+            raise Malformed(f"byte {self.place - 1}: {kind} is no kind of a value")
+        return self.text()
 
     def section(self, name: str, read: Callable[[], T], since: Optional[int] = None) -> T:
         """What is read, with its bytes under a name."""
@@ -277,9 +297,10 @@ class Reader:
         return PackedTable(name, columns, key, foreign, following, rows)
 
     def row(self, width: int, has_reasons: bool) -> PackedRow:
-        number = self.number(4)
-        statement, rule = (self.number(4), self.among(RULES)) if has_reasons else (0, "")
-        return PackedRow(number, statement, rule, [self.value() for _ in range(width)])
+        if not has_reasons:
+            return PackedRow(self.number(4), 0, "", [self.value() for _ in range(width)])
+        number, statement, rule = self.unpack(ROW)
+        return PackedRow(number, statement, self.rule(rule), [self.value() for _ in range(width)])
 
     def reply(self) -> Reply:
         kind = self.among({1: "rows", 2: "changed", 3: "refused"})
@@ -306,13 +327,14 @@ class Reader:
                      self.list(2, lambda: (self.text(), self.list(4, self.made))))
 
     def need(self) -> Need:
-        return Need(self.number(4), self.number(4), self.among(RULES))
+        row, version, rule = self.unpack(ROW)
+        return Need(row, version, self.rule(rule))
 
     def made(self) -> Made:
-        return Made(self.number(4), self.number(4))
+        return Made(*self.unpack(VERSION))
 
     def event(self) -> Event:
-        step, process, number = self.number(4), self.number(4), self.number(1)
+        step, process, number = self.unpack(ROW)
         if number >= len(ACTS):
             raise Malformed(f"byte {self.place - 1}: {number} is no act")
         act = ACTS[number]

@@ -285,10 +285,14 @@ function showTable() {
   if (!table) return;
   const rows = onlyNeeded.checked ? table.rows.filter(row => (needsOf.get(table.name + " " + row[0]) || []).some(
     ([number]) => number === chosen)) : table.rows;
+  const list = paged(["row", ...table.columns.map(([name, kind]) => [name, el("div", {class: "soft"}, kind)]), "needed by"], rows,
+    row => tableRow(table.name, row));
+  const needed = chosen === null ? [] : D.statements[chosen].needs.filter(([name]) => name === table.name).flatMap(need => need[1]);
+  const numbers = new Set(needed.map(need => need[0])), first = rows.findIndex(row => numbers.has(row[0]));
+  if (first > 0) list.to(first);
   put(tablePanel, [el("p", {}, el("b", {id: "packed"}, `${table.rows.length.toLocaleString("en")} of ` +
     `${counted(table.next, "row")} packed`), ", key ", table.key.join(", ") || "none", table.foreign.map(text => "; " + text)),
-    paged(["row", ...table.columns.map(([name, kind]) => [name, el("div", {class: "soft"}, kind)]), "needed by"], rows,
-      row => tableRow(table.name, row)),
+    list,
     el("button", {onclick: () => save(table.name + ".csv", csv([table.columns.map(column => column[0]),
       ...table.rows.map(row => row.slice(3))]))}, "save as CSV")]);
 }
