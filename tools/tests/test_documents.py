@@ -51,7 +51,6 @@ class ScriptsPage(unittest.TestCase):
             self.assertEqual(check_scripts.check(page, lambda given: (7, b"", b"ldv: not ended after 1000000 steps\n")), (1, 1))
         self.assertEqual(printed.getvalue().count("\n"), 4)
 
-
     def test_first_line(self):
         self.assertEqual(check_scripts.pieces("    a\n"), [("block", 1, "a\n"), ("text", 3, "end")])
 
@@ -163,7 +162,7 @@ class ManualPage(InFolder):
             self.put(name, text)
         self.assertEqual(self.differences(), "")
         self.put(check_docs.MANUAL, manual.replace("why", "how").replace("usage", "use") + ".It Cm record Fl -excluded\n")
-        self.assertEqual(self.differences(), f"""\
+        self.assertEqual(self.differences(), """\
 docs/ldv.1:2: docs/COMMANDS.md has no command inspect how TABLE ROW
 docs/COMMANDS.md:4: docs/ldv.1 has no command inspect why TABLE ROW
 docs/ldv.1:6: docs/COMMANDS.md has no command record --excluded

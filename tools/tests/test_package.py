@@ -81,7 +81,7 @@ table t (k INT NOT NULL, g TEXT, v INT, key k): 2 rows, next row 5
         for names in (["sqlite_t"], ["a", "sqlite_t"]):
             tables = [packages.table(name, [packages.column("k")], next=0) for name in names]
             status, _, err = tool(package, "--sqlite", os.path.join(self.folder, "t.db"),
-                                given=packages.encode(packages.package(tables=tables, trace=trace)))
+                                  given=packages.encode(packages.package(tables=tables, trace=trace)))
             self.assertEqual((status, err), (1, "package.py: object name reserved for internal use: sqlite_t\n"))
             self.assertEqual(os.listdir(self.folder), ["t.package"])
 

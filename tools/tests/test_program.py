@@ -17,8 +17,9 @@ import check_scripts
 
 from ldvtools import outcome, package, world
 from ldvtools.language import RESERVED
+from ldvtools.outcomes import read_outcome
 
-from . import support
+from . import random_worlds, support
 from .support import ASK, EXAMPLES, LIBRARY, ROOT, TOOLS, TUTORIAL, WEATHER, InFolder, command, ldv, make_database, read, tool
 
 
@@ -100,6 +101,27 @@ class Script(InFolder):
         self.run_script("version")
         self.assertEqual(self.builds(), 4)
         self.assertEqual(os.listdir(self.env["TMPDIR"]), [])
+
+    def test_other_program(self):
+        """A program that something else put in its place isn't taken for the one of these sources."""
+        self.run_script("version")
+        program = self.put("checkout/crates/ldv/out/ldv", "#!/bin/sh\necho other\n")
+        for _ in range(2):
+            self.assertEqual(self.run_script("version"), (0, b"built\n", ""))
+        shutil.rmtree(self.env["XDG_CACHE_HOME"])
+        os.remove(program)
+        self.put("checkout/crates/ldv/out/ldv", "#!/bin/sh\necho other\n")
+        os.chmod(program, 0o755)
+        self.assertEqual((self.run_script("version")[1], self.builds()), (b"built\n", 2))
+
+    def test_changed_meanwhile(self):
+        """A source that is changed during the build is built by the next call."""
+        source = os.path.join(self.root, "crates/ldv/src/main.rt")
+        self.put("bin/rt", RT + f"[ -e {self.folder}/changed ] || echo two > {source}\ntouch {self.folder}/changed\n"
+                 "echo '1 passed, 0 failed'\n")
+        for builds in (1, 2, 2):
+            self.run_script("version")
+            self.assertEqual(self.builds(), builds)
 
     def test_copies(self):
         """A copy of a built checkout has its program, and so has one that was only cloned, by another name or link too."""
@@ -235,6 +257,21 @@ class Program(InFolder):
         with contextlib.redirect_stdout(io.StringIO()) as printed:
             status = against_sqlite.main(words)
         self.assertEqual(status, 0, printed.getvalue())
+
+    def test_findings(self):
+        """On random worlds check.py finds a bad line, and a statement that is refused by a code from 1 to 4, exactly where the
+        program does."""
+        seen = set()
+        for seed in range(1, 9):
+            document, flags, codes = random_worlds.Worlds(seed).world(200, 60)
+            status, out, err = ldv(["run"], document)
+            self.assertEqual((status, err), (0, b""), seed)
+            first = read_outcome(out).processes[0]
+            self.assertEqual([int(line) for line in first.printed.split()], flags, seed)
+            given = [reply.code if reply.code <= 4 else 0 for reply in first.replies]
+            self.assertEqual(given, codes, seed)
+            seen |= {*codes}
+        self.assertEqual(seen, {0, 1, 2, 3, 4})
 
     def test_rows_by_hand(self):
         path = self.put("t.csv", 'id,name\n2,"Ada, x"\n1,\n-3,Bo\n')
