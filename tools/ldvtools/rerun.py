@@ -5,6 +5,7 @@ asked. docs/SCRIPTS.md has the language.
 """
 from __future__ import annotations
 
+import bisect
 import json
 from typing import Callable, Dict, Iterator, List, Mapping, NamedTuple, Optional, Sequence, Set, Tuple
 
@@ -60,8 +61,8 @@ class Cursor:
 class Process:
     """A process: what its names mean, where it stands, and what became of it."""
 
-    def __init__(self, name: str, script: Script, arguments: Sequence[Value]) -> None:
-        self.name, self.script, self.place = name, script, 0
+    def __init__(self, number: int, name: str, script: Script, arguments: Sequence[Value]) -> None:
+        self.number, self.name, self.script, self.place = number, name, script, 0
         self.variables: Dict[str, Value] = {f"arg{place}": value for place, value in enumerate(arguments, 1)}
         self.variables["argc"] = len(arguments)
         self.files: Dict[str, OpenFile] = {}
@@ -90,12 +91,11 @@ class Process:
         instructions = self.script.instructions
         return instructions[self.place] if self.place < len(instructions) else None
 
-    def is_runnable(self) -> bool:
-        if self.status is not None:
-            return False
+    def awaited(self) -> Optional["Process"]:
+        """The child that has to end before this process takes its next step."""
         here = self.next()
         child = self.children.get(here.names[1]) if here is not None and here.word == "wait" else None
-        return child is None or child.status is not None
+        return child if child is not None and child.status is None else None
 
 
 def show(value: Value) -> str:
@@ -128,7 +128,10 @@ class Machine:
         self.answer, self.random, self.step, self.last = answer, world.seed, 0, -1
         self.is_fair = world.seed == 0
         self.questions: List[Question] = []
-        self.processes = [Process("0", self.script_at(world.start[0]), world.start[1:])]
+        self.processes = [Process(0, "0", self.script_at(world.start[0]), world.start[1:])]
+        # The numbers of the processes that can take a step, rising, and of those that wait, by the child.
+        self.runnable: List[int] = [0]
+        self.waiting: Dict[int, int] = {}
         self.scripts: Dict[bytes, Optional[Script]] = {}
 
     def script_at(self, path: str) -> Script:
@@ -139,23 +142,33 @@ class Machine:
 
     # ---- the scheduler
 
-    def turn(self) -> Optional[int]:
-        """The place of the process that takes the next step."""
-        runnable = [place for place, process in enumerate(self.processes) if process.is_runnable()]
-        if not runnable:
-            return None
+    def turn(self) -> int:
+        """The number of the process that takes the next step."""
         if self.is_fair:
-            return next((place for place in runnable if place > self.last), runnable[0])
+            place = bisect.bisect_right(self.runnable, self.last)
+            return self.runnable[place if place < len(self.runnable) else 0]
         self.random = (self.random * 6364136223846793005 + 1442695040888963407) % 2**64
-        return runnable[(self.random >> 33) % len(runnable)]
+        return self.runnable[(self.random >> 33) % len(self.runnable)]
 
     def run(self, budget: int = MAX_STEPS) -> None:
-        while (place := self.turn()) is not None:
+        while self.runnable:
             if self.step == budget:
                 raise Malformed(f"the run isn't ended after {budget} steps")
             self.step += 1
-            self.last = place
-            self.move(self.processes[place])
+            self.last = self.turn()
+            self.move(self.processes[self.last])
+            self.settle(self.processes[self.last])
+
+    def settle(self, process: Process) -> None:
+        """Sees whether a process that took a step can take another one, and who waited for it."""
+        child = process.awaited() if process.status is None else None
+        if process.status is None and child is None:
+            return
+        del self.runnable[bisect.bisect_left(self.runnable, process.number)]
+        if child is not None:
+            self.waiting[child.number] = process.number
+        elif process.number in self.waiting:
+            bisect.insort(self.runnable, self.waiting.pop(process.number))
 
     def move(self, process: Process) -> None:
         here = process.next()
@@ -306,10 +319,12 @@ class Machine:
         script = self.parsed(bytes(self.files[path])) if path in self.files else None
         if script is None or len(self.processes) >= MAX_PROCESSES:
             return True
-        child = Process(f"{process.name}.{process.made}", script, [process.value(each) for each in here.operands[1:]])
+        arguments = [process.value(each) for each in here.operands[1:]]
+        child = Process(len(self.processes), f"{process.name}.{process.made}", script, arguments)
         process.made += 1
         process.children[here.names[0]] = child
         self.processes.append(child)
+        self.runnable.append(child.number)
         return False
 
     def parsed(self, data: bytes) -> Optional[Script]:

@@ -190,7 +190,7 @@ be 'kk'
 main line 3: the statement will be refused with code 2: there is no table tt (tables: t); did you mean t?
     SELECT * FROM tt
                   ^
-main line 5: fetch takes 1 column of a reply of 2: misuse, which ends the process with 240
+main line 5: fetch takes 1 column of a reply of 2: with the first row that is misuse, which ends the process with 240
 child line 1: bad: 'prin' is no instruction; perhaps print v v*
 """)
         self.assertEqual(tool(check, "--statement", "SELECT k FROM t WHERE k = ?", path), (0, b"", ""))
