@@ -15,6 +15,7 @@ Statuses: 0 nothing found; 1 something found, or the input is no world document;
 from __future__ import annotations
 
 import argparse
+import collections
 import sys
 from typing import Dict, Iterator, List, Mapping, NamedTuple, Optional, Sequence, Set, Tuple
 
@@ -127,20 +128,16 @@ def width_findings(path: str, script: Script, schemas: Optional[Schemas]) -> Ite
 def children_of(script: Script, files: Mapping[str, bytes]) -> List[str]:
     """The paths of scripts that a script may start."""
     known = operands_known(script)
-    paths: List[str] = []
-    for each in script.instructions:
-        if each.word != "spawn":
-            continue
-        path = text_of(each.operands[0], known)
-        paths += [path] if path is not None else [name for name in files if name.endswith(SCRIPT_ENDINGS)]
-    return [path for path in paths if path in files]
+    spawned = {text_of(each.operands[0], known): None for each in script.instructions if each.word == "spawn"}
+    paths = [path for path in spawned if path is not None and path in files]
+    return paths + [name for name in files if name.endswith(SCRIPT_ENDINGS)] if None in spawned else paths
 
 
 def scripts_of(files: Mapping[str, bytes], start: str) -> Iterator[Tuple[str, Optional[Script], Optional[BadLine]]]:
     """The start script and all that may be started, each with its script or its first bad line."""
-    due, seen = [start], {start}
+    due, seen = collections.deque([start]), {start}
     while due:
-        path = due.pop(0)
+        path = due.popleft()
         try:
             script = read_script(files[path])
         except BadLine as fault:

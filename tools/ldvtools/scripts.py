@@ -9,6 +9,8 @@ from .language import MAX_INT, MAX_NAME, MAX_OPERANDS, MAX_TEXT, MIN_INT, NAME
 from .values import Value
 
 NO_NAMES = ("null", "else", "int")
+# How many labels are looked through for one that is meant.
+MANY = 1000
 COMPARES = ("=", "<>", "<", "<=", ">", ">=")
 MODES = ("r", "w", "a", "n")
 FORMS = {
@@ -366,7 +368,7 @@ class Reading:
         for each in self.instructions:
             if each.label and each.label not in self.labels:
                 if self.bad is None or each.line < self.bad.line:
-                    near = difflib.get_close_matches(each.label, self.labels, 1)
+                    near = difflib.get_close_matches(each.label, list(self.labels)[:MANY], 1)
                     self.bad = BadLine(each.line, f"no line is the label {each.label}:"
                                        + (f"; perhaps {near[0]} is meant" if near else ""))
                 return
