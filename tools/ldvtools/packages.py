@@ -11,7 +11,7 @@ import struct
 from typing import Callable, Dict, Iterator, List, Mapping, NamedTuple, Optional, Tuple, TypeVar, Union
 
 from .errors import Malformed
-from .language import (ACTS, ASKED, ENDED, KEYED_REFUSALS, KINDS, MAX_EVENTS, MODES, NAME, REFUSALS, RULES, SPAWNED,
+from .language import (ACTS, ASKED, ENDED, KEYED_REFUSALS, KINDS, MAX_EVENTS, MAX_PROCESSES, MODES, NAME, REFUSALS, RULES, SPAWNED,
                        WAITED)
 from .values import Reply, Row, Value, changed_reply, refused_reply, rows_reply
 
@@ -144,6 +144,9 @@ class Package(NamedTuple):
     def process_names(self) -> List[str]:
         """The names of the processes in the order in which they were made."""
         names, children = ["0"], [0]
+        made = 1 + sum(run.times for run in self.runs if run.first.act == SPAWNED)
+        if made > MAX_PROCESSES:
+            raise Malformed(f"{made} processes; the limit is {MAX_PROCESSES}")
         for run in self.runs:
             for _ in range(run.times if run.first.act == SPAWNED else 0):
                 parent = run.first.process

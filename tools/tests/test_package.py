@@ -7,7 +7,7 @@ import sqlite3
 import package_cases
 import packages
 
-from ldvtools import package
+from ldvtools import package, page_data
 from ldvtools.errors import Malformed
 from ldvtools.packages import read_any, read_package
 
@@ -140,6 +140,21 @@ table t (k INT NOT NULL, g TEXT, v INT, key k): 2 rows, next row 5
             else:
                 self.assertEqual([each.step for each in read_package(data).events], [0, 1, 3, 5])
                 self.assertIn(b"99 steps, 4 events", tool(package, given=data)[1])
+
+    def test_many_events(self):
+        """A few bytes that stand for twenty million events, or for too many processes, take no time."""
+        head = ("4c44565041434b32 01 0001 000000046d61696e 0000000000000000 00989680 00000001 000000046d61696e 01 00000000"
+                "0000 00000000 00000002 00000000 00000000 00 000000046d61696e 00000001 00000000")
+        for act, said in (("08", None), ("01", "20000001 processes; the limit is 65535")):
+            data = bytes.fromhex(head + "00000001 00000000" + act + "00000001 66" + "01312d00" + "00000000")
+            found = read_package(data + hashlib.sha256(data).digest())
+            self.assertEqual(found.event_count(), 20_000_001)
+            if said:
+                with self.assertRaisesRegex(Malformed, said):
+                    found.process_names()
+            else:
+                self.assertEqual(found.process_names(), ["0"])
+                self.assertLess(len(json.dumps(page_data.page_json(found, "p", len(data), None, None))), 20_000)
 
     def test_joined(self):
         """A joined package is shown with both of its runs, and each of them as a package."""
