@@ -11,7 +11,7 @@ from typing import Any, List, Optional, Sequence, Tuple
 from .errors import Misused, Refused
 from .progress import Progress
 from .values import plain_count
-from .world_settings import Settings
+from .world_settings import Settings, tidy_name, tidy_names
 from .world_tables import NO_VALUE, Column, Table, keep_columns
 
 MARKS = ((b"\xef\xbb\xbf", "utf-8-sig"), (b"\xff\xfe\x00\x00", "utf-32"), (b"\x00\x00\xfe\xff", "utf-32"),
@@ -43,7 +43,7 @@ def read_csv(word: str, settings: Settings, delimiter: str, encoding: str, hints
     """The table of a CSV file, not settled yet."""
     given, path = named_file(word)
     name = given or os.path.splitext(os.path.basename(path))[0]
-    name = settings.new_name(name, name)
+    name = settings.new_name(name, tidy_name(name) if settings.tidy and not given else name)
     lines = Lines(path, text_of(path, encoding), "\t" if settings.is_tsv else delimiter, settings.is_tsv)
     records = records_of(lines, progress)
     if not records:
@@ -61,8 +61,9 @@ def read_csv(word: str, settings: Settings, delimiter: str, encoding: str, hints
         records = [records[place] for place in kept]
     elif blank:
         hints.append(hint_of_blank(lines, blank))
-    columns = [Column(settings.new_name(f"{name}.{cell}", cell, f"{name}.#{place}"), cell)
-               for place, cell in enumerate(header, 1)]
+    plain = tidy_names(header) if settings.tidy else header
+    columns = [Column(settings.new_name(f"{name}.{cell}", own, f"{name}.#{place}"), cell)
+               for place, (cell, own) in enumerate(zip(header, plain), 1)]
     for column, cells in zip(columns, zip(*records)):
         column.cells = list(cells)
     return Table(name, keep_columns(name, columns, settings), len(records), from_text=True,

@@ -3,14 +3,32 @@ from __future__ import annotations
 
 import argparse
 import re
-from typing import Dict, Optional, Set, Tuple
+import unicodedata
+from typing import Dict, List, Optional, Sequence, Set, Tuple
 
 from .errors import Misused
-from .language import KINDS
+from .language import KINDS, MAX_NAME, RESERVED
 
 
 def fold(name: str) -> str:
     return "".join(chr(ord(c) + 32) if "A" <= c <= "Z" else c for c in name)
+
+
+def tidy_name(text: str) -> str:
+    """A name that is as near to a text as a name may be."""
+    plain = unicodedata.normalize("NFKD", text.replace("ß", "ss").replace("æ", "ae").replace("ø", "o")).encode("ascii", "ignore")
+    name = re.sub(r"[^a-z0-9_]+", "_", fold(plain.decode()).strip()).strip("_") or "column"
+    name = ("_" + name if name[0].isdigit() else name)[:MAX_NAME - 5]
+    return name + "_" if name in RESERVED else name
+
+
+def tidy_names(texts: Sequence[str]) -> List[str]:
+    """Names for the columns of a table; one that is there already has its place behind it."""
+    found: List[str] = []
+    for place, text in enumerate(texts, 1):
+        name = tidy_name(text)
+        found.append(name if name not in found else f"{name}_{place}")
+    return found
 
 
 class Settings:
@@ -29,6 +47,7 @@ class Settings:
         self.unused: Set[Tuple[str, str]] = set(self.values)
         self.nulls = set(words.null)
         self.lower: bool = words.lower
+        self.tidy: bool = words.tidy
         self.decimal: str = words.decimal
         self.rounds: bool = words.round
         self.skips_blank: bool = words.skip_blank
@@ -61,7 +80,7 @@ class Settings:
     def new_name(self, old: str, name: str, place: str = "") -> str:
         """The name in the world of what is read as `name`, which --rename calls `old`, or calls by its place."""
         by_place = self.take("--rename", place) if place else None
-        return by_place or self.take("--rename", old) or (fold(name) if self.lower else name)
+        return by_place or self.take("--rename", old) or (fold(name) if self.lower or self.tidy else name)
 
     def check_used(self) -> None:
         for option, name in sorted(self.unused):

@@ -12,7 +12,7 @@ from typing import Any, Dict, List, Optional, Sequence, Set, Tuple, Union
 
 from .errors import Refused
 from .world_csv import read_file
-from .world_settings import Settings
+from .world_settings import Settings, tidy_name, tidy_names
 from .world_tables import BadText, Column, Table, keep_columns
 
 # A column of PRAGMA table_xinfo: place, name, declared type, NOT NULL, default, place in the key from 1, hidden.
@@ -100,11 +100,12 @@ def read_table(base: sqlite3.Connection, name: str, sql: str, settings: Settings
     if re.match(r"\s*create\s+virtual\b", sql, re.IGNORECASE):
         notes.append(f"the virtual table {name} isn't carried")
         return []
-    new = settings.new_name(name, name)
+    new = settings.new_name(name, tidy_name(name) if settings.tidy else name)
     shape: List[Shape] = [row for row in base.execute(f"PRAGMA table_xinfo({quoted(name)})") if row[6] != 1]
     columns = []
-    for _, old, declared, not_null, _, _, _ in shape:
-        own = settings.new_name(f"{new}.{old}", old)
+    plain = tidy_names([row[1] for row in shape]) if settings.tidy else [row[1] for row in shape]
+    for (_, old, declared, not_null, _, _, _), tidied in zip(shape, plain):
+        own = settings.new_name(f"{new}.{old}", tidied)
         columns.append(Column(own, old, kind_of_type(declared), bool(not_null), declared))
     key = [columns[place].name for _, place in sorted((row[5], row[0]) for row in shape if row[5])]
     chosen = ", ".join(quoted(row[1]) for row in shape)

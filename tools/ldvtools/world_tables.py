@@ -13,7 +13,7 @@ from typing import Any, Callable, Dict, Iterator, List, Optional, Sequence, Tupl
 from .errors import Refused, Unfit
 from .language import MAX_COLUMNS, MAX_INT, MAX_NAME, MAX_ROWS, MAX_TEXT, MIN_INT, NAME, RESERVED
 from .values import plain_count
-from .world_settings import Settings, fold
+from .world_settings import Settings, fold, tidy_names
 
 # A whole number; a decimal number.
 WHOLE = re.compile(r"[+-]?[0-9]+\Z")
@@ -188,6 +188,7 @@ def scale_needed(column: Column, settings: Settings) -> Optional[int]:
 def hint_of_text(table: Table, column: Column, settings: Settings, hints: List[str]) -> None:
     """Says that a column of a CSV file is TEXT where most of its cells are numbers."""
     there = [(row, cell) for row, cell in enumerate(column.cells) if cell is not None]
+    hint_of_form(table, column, [cell for _, cell in there], hints)
     # A column of names needn't be looked at to its end.
     if not any(decimals_of(cell, settings) is not None for _, cell in there[:SAMPLE]):
         return
@@ -203,6 +204,24 @@ def hint_of_text(table: Table, column: Column, settings: Settings, hints: List[s
     else:
         how = "--null, --kind or --scale say otherwise"
     hints.append(f"{name} is TEXT, since {table.row_name(row)} has {shown(first)}; {how}")
+
+
+COMMA = re.compile(r"[+-]?[0-9]*,([0-9]+)\Z")
+DAY_FIRST = re.compile(r"[0-9]{1,2}([./-])[0-9]{1,2}\1[0-9]{2,4}\Z")
+
+
+def hint_of_form(table: Table, column: Column, cells: Sequence[str], hints: List[str]) -> None:
+    """Says that a column looks like decimals with a comma, or like dates that don't compare as dates."""
+    name = table.full_name(column)
+    sample = cells[:SAMPLE]
+    decimals = [COMMA.match(cell) for cell in sample]
+    if any(decimals) and all(found or WHOLE.match(cell) for cell, found in zip(sample, decimals)):
+        scale = max(len(found[1]) for found in decimals if found)
+        hints.append(f"{name} is TEXT, and looks like decimals with a comma; --decimal , --scale {name}={scale} carries it as "
+                     "whole numbers")
+    elif sample and all(DAY_FIRST.match(cell) for cell in sample):
+        hints.append(f"{name} is TEXT, and looks like dates such as {shown(sample[0])}: these don't compare as dates; from the "
+                     "year down, as 2019-01-31, they do")
 
 
 def is_canonical(text: str) -> bool:
@@ -299,6 +318,7 @@ def settle(table: Table, settings: Settings, hints: List[str]) -> None:
 
 def check_columns(table: Table) -> None:
     names = [column.name for column in table.columns]
+    check_many(table, names)
     for place, name in enumerate(names):
         by_place = f"{table.name}.#{place + 1}" if table.from_text else ""
         check_name(f"{table.name}: column {place + 1}", name, by_place)
@@ -311,6 +331,19 @@ def check_columns(table: Table) -> None:
                           f"there are {', '.join(names)}")
         if name in table.key[:place]:
             raise Refused(f"{table.name}: the key names {name} twice")
+
+
+def check_many(table: Table, names: Sequence[str]) -> None:
+    """Where several columns have no name, all of them at once."""
+    bad = [place for place, name in enumerate(names)
+           if not NAME.match(name) or name in RESERVED or name in names[:place]]
+    if len(bad) < 2 or not table.from_text or all(NAME.match(fold(names[place])) for place in bad):
+        return
+    tidied = tidy_names([column.old for column in table.columns])
+    words = " ".join(f'--rename "{table.name}.#{place + 1}={tidied[place]}"' for place in bad[:8])
+    shown_names = ", ".join(f"{place + 1} {names[place]!r}" for place in bad[:8])
+    raise Refused(f"{table.name}: {len(bad)} columns need another name, column {shown_names}{', ..' if len(bad) > 8 else ''}: a "
+                  f"letter a to z or _, then such letters, digits and _, no reserved word, and none twice; give --tidy, or {words}")
 
 
 def settle_kind(table: Table, column: Column, settings: Settings) -> bool:

@@ -93,6 +93,26 @@ class CsvFiles(InFolder):
         self.assertEqual(table["columns"], [["a", "INT"], ["b", "TEXT"], ["c", "TEXT"]])
         self.assertEqual(table["rows"], [[1, 'says "hi"', None], [2, "", "x\ty\nz\\n"], [3, '"open', None]])
 
+    def test_tidy(self):
+        """Headers that aren't names are named at once, and made names on demand."""
+        text = "Pat.Nr;Größe (cm);Dose;Dose;order;;2nd\n1;2;3;4;5;6;7\n"
+        self.csv_refused('t: 6 columns need another name, column 1 \'pat.nr\', 2 \'größe (cm)\', 4 \'dose\', 5 \'order\', 6 \'\', 7 '
+                         '\'2nd\': ', text, "--delimiter", ";", "--lower")
+        self.csv_refused('give --tidy, or --rename "t.#1=pat_nr" --rename "t.#2=grosse_cm" --rename "t.#4=dose_4" --rename '
+                         '"t.#5=order_" --rename "t.#6=column" --rename "t.#7=_2nd"', text, "--delimiter", ";", "--lower")
+        table = self.table(text, "--delimiter", ";", "--tidy", "--rename", "t.#6=note")
+        self.assertEqual([name for name, _ in table["columns"]],
+                         ["pat_nr", "grosse_cm", "dose", "dose_4", "order_", "note", "_2nd"])
+        path = self.put("My data.csv", "a\n1\n")
+        self.assertEqual(list(json.loads(tool(world, "--csv", path, "--tidy", *ASK)[1])["tables"]), ["my_data"])
+
+    def test_hints(self):
+        """What looks like decimals with a comma, or like dates that don't compare, is said."""
+        err = tool(world, "--csv", self.put("t.csv", 'a;b;c\n1,75;01.02.2024;x\n2;3.2.2024;y\n'), "--delimiter", ";", *ASK)[2]
+        self.assertIn("t.a is TEXT, and looks like decimals with a comma; --decimal , --scale t.a=2", err)
+        self.assertIn("t.b is TEXT, and looks like dates such as '01.02.2024'", err)
+        self.assertEqual(err.count("looks like"), 2)
+
     def test_rounding(self):
         table = self.table("a\n0.125\n0.375\n-0.125\n2.5\n1\n", "--scale", "t.a=2", "--round")
         self.assertEqual(table["rows"], [[12], [38], [-12], [250], [100]])
