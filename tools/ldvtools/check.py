@@ -121,8 +121,9 @@ def width_findings(path: str, script: Script, schemas: Optional[Schemas]) -> Ite
     for each in script.instructions:
         width = widths.get(each.names[0], set()) if each.word == "fetch" else set()
         if len(width) == 1 and None not in width and len(each.names) - 1 not in width:
-            yield Finding(path, each.line, -1, f"fetch takes {plain_count(len(each.names) - 1, 'column')} of a reply of "
-                                               f"{width.pop()}: with the first row that is misuse, which ends the process with 240")
+            taken = plain_count(len(each.names) - 1, "column")
+            yield Finding(path, each.line, -1, f"fetch takes {taken} of a reply of {width.pop()}: with the first row that is "
+                                               "misuse, which ends the process with 240")
 
 
 def children_of(script: Script, files: Mapping[str, bytes]) -> List[str]:
