@@ -39,8 +39,9 @@ import sys
 HERE = os.path.dirname(os.path.abspath(__file__))
 ROOT = os.path.dirname(HERE)
 sys.path.insert(0, HERE)
-from outcome import Malformed, read_outcome                                  # noqa: E402
-from world_script import escaped                                             # noqa: E402
+from ldvtools.errors import Malformed                                        # noqa: E402
+from ldvtools.outcomes import read_outcome                                   # noqa: E402
+from ldvtools.scripts_of_statements import escaped                           # noqa: E402
 
 TEXTS = ["", "a", "b", "A", "ab", "a'b", "é", "z z", "10", "9", "null", "\\n\"", "two\nlines\t?"]
 COMPARISONS = ["=", "<>", "!=", "<", "<=", ">", ">="]
@@ -370,7 +371,7 @@ def replies_of(program, world):
     if done.returncode != 0:
         raise Malformed(f"status {done.returncode}: {done.stderr.decode(errors='replace').strip()}")
     processes, _paths = read_outcome(done.stdout)
-    return processes[0].replies
+    return [reply.brief() for reply in processes[0].replies]
 
 
 # ---- SQLite

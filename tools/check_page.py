@@ -3,7 +3,7 @@
 
     tools/check_page.py [--program PROGRAM] [--fill] [PAGE ..]
 
-A page is a document with indented blocks such as this one, by default docs/PACKAGES.md:
+A page is a document with indented blocks such as this one, by default docs/PACKAGES.md and docs/TUTORIAL.md:
 
     $ ./ldv record < examples/orders.json > orders.package
     $ ./ldv inspect why orders 0 < orders.package
@@ -14,6 +14,10 @@ the next command or the end of the block are what it writes to standard output a
 CR too. A block without such a line is no matter of this program. The commands of a page are run in order by `sh`,
 in a folder of their own that has `ldv`, `tools` and `examples` of this checkout, so that it is as at its top.
 
+A table whose head has the cells `Write` and `Reply` has statements in the one and what is replied in the other, each
+reply in brackets row by row, several ones with `;` between them. They are asked of the tables of the CSV files that are
+named before the table.
+
 --program names another program than crates/ldv/out/ldv to be called as ./ldv. --fill writes what the commands
 write into the page, in place of what it shows.
 
@@ -21,13 +25,22 @@ Statuses: 0 no difference, or filled; 1 a difference, or a program that isn't th
 """
 import argparse
 import os
+import re
 import subprocess
 import sys
 import tempfile
 
 HERE = os.path.dirname(os.path.abspath(__file__))
 ROOT = os.path.dirname(HERE)
+sys.path.insert(0, HERE)
+from ldvtools import world                                                   # noqa: E402
+from ldvtools.outcomes import read_outcome                                   # noqa: E402
+from ldvtools.values import cell, reply_title                                # noqa: E402
+
 PAGE = os.path.join(ROOT, "docs", "PACKAGES.md")
+TUTORIAL = os.path.join(ROOT, "docs", "TUTORIAL.md")
+STATEMENT = re.compile(r"`((?:SELECT|INSERT|UPDATE|DELETE) [^`]+)`")
+DATA = re.compile(r"`(examples/[\w./]+\.csv)`")
 PROGRAM = os.path.join(ROOT, "crates", "ldv", "out", "ldv")
 INDENT = "    "
 PROMPT = INDENT + "$ "
@@ -104,6 +117,65 @@ def filled(page, results):
     return "\n".join(lines)
 
 
+# ---- tables of statements
+
+def statement_tables(page):
+    """The tables of statements: the CSV files that they are asked of, and each row as its line, statements and reply."""
+    found, files, write, reply = [], [], None, None
+    for number, line in enumerate(page.split("\n"), 1):
+        if not line.startswith("|"):
+            files = DATA.findall(line) or files
+            write = None
+            continue
+        cells = [part.strip() for part in re.split(r"(?<!\\)\|", line.strip().strip("|"))]
+        if "Write" in cells and "Reply" in cells:
+            write, reply = cells.index("Write"), cells.index("Reply")
+            found.append((files, []))
+        elif write is not None and not set(line) <= set("|-: "):
+            found[-1][1].append((number, STATEMENT.findall(cells[write]), cells[reply]))
+    return [table for table in found if table[1]]
+
+
+def shown_reply(reply):
+    """A reply as a table of statements has it."""
+    if reply.kind != "rows":
+        return reply_title(reply)
+    return ", ".join("(" + ", ".join(cell(value) for value in row) + ")" for row in reply.rows) or "no row"
+
+
+def asked_world(files, statements):
+    """A world of the files of a table that asks its statements."""
+    words = ["--no-check", "--quiet"]
+    for path in files:
+        words += ["--csv", os.path.join(ROOT, path)]
+    for statement in statements:
+        words += ["--ask", statement]
+    with tempfile.TemporaryDirectory() as folder:
+        made = os.path.join(folder, "world")
+        if world.main(words + ["-o", made]) != 0:
+            raise SystemExit("check_page.py: no world of the statements of a table")
+        with open(made, "rb") as file:
+            return file.read()
+
+
+def table_differences(page, call):
+    """A line for each row of a table of statements whose reply isn't the one that comes. `call` runs a world."""
+    for files, rows in statement_tables(page):
+        asked = [statement for _, statements, _ in rows for statement in statements]
+        replies = iter(read_outcome(call(asked_world(files, asked))).processes[0].replies)
+        for number, statements, said in rows:
+            given = "; ".join(shown_reply(next(replies)) for _ in statements)
+            if given != said:
+                yield f"line {number}: {' '.join(statements)}\n    page: {said}\n    now:  {given}"
+
+
+def running(program):
+    """What a program writes for a world."""
+    def call(data):
+        return subprocess.run([program, "run"], input=data, stdout=subprocess.PIPE, check=True).stdout
+    return call
+
+
 def check(path, program, fill):
     """Whether the page is as its commands say, or was made so."""
     with open(path, encoding="utf-8") as file:
@@ -115,17 +187,18 @@ def check(path, program, fill):
             file.write(filled(page, results))
         print(f"{name}: {len(results)} commands, filled")
         return True
-    found = list(differences(page, results))
+    found = list(differences(page, results)) + list(table_differences(page, running(program)))
     for each in found:
         print(f"{name}, {each}")
-    print(f"{name}: {len(results)} commands, {len(found)} differ")
-    return bool(results) and not found
+    statements = sum(len(rows) for _, rows in statement_tables(page))
+    print(f"{name}: {len(results)} commands" + (f", {statements} statements" if statements else "") + f", {len(found)} differ")
+    return bool(results or statements) and not found
 
 
 def main(words=None):
     parser = argparse.ArgumentParser(prog="check_page.py", description=__doc__,
                                      formatter_class=argparse.RawDescriptionHelpFormatter)
-    parser.add_argument("pages", nargs="*", default=[PAGE], metavar="PAGE")
+    parser.add_argument("pages", nargs="*", default=[PAGE, TUTORIAL], metavar="PAGE")
     parser.add_argument("--program", default=PROGRAM)
     parser.add_argument("--fill", action="store_true")
     given = parser.parse_args(words)

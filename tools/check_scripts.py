@@ -37,8 +37,9 @@ import tempfile
 HERE = os.path.dirname(os.path.abspath(__file__))
 ROOT = os.path.dirname(HERE)
 sys.path.insert(0, HERE)
-import world                                                                 # noqa: E402
-from outcome import Malformed, read_outcome                                  # noqa: E402
+from ldvtools import world                                                   # noqa: E402
+from ldvtools.errors import Malformed                                        # noqa: E402
+from ldvtools.outcomes import read_outcome                                   # noqa: E402
 
 PAGE = os.path.join(ROOT, "docs", "SCRIPTS.md")
 FILE = re.compile(r"With the (?:file|script) `([^`]+)`(, in hex)?:")

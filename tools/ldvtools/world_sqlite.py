@@ -2,15 +2,24 @@
 
 What has no equal in a world is noted by name. A value that has none is refused.
 """
+from __future__ import annotations
+
 import contextlib
 import os
 import re
 import sqlite3
+from typing import Any, Dict, List, Optional, Sequence, Set, Tuple, Union
 
-from world_tables import BadText, Column, Refused, Table, keep_columns, read_file
+from .errors import Refused
+from .world_csv import read_file
+from .world_settings import Settings, tidy_name, tidy_names
+from .world_tables import BadText, Column, Table, keep_columns
+
+# A column of PRAGMA table_xinfo: place, name, declared type, NOT NULL, default, place in the key from 1, hidden.
+Shape = Tuple[int, str, str, int, Any, int, int]
 
 
-def read_database(path, only, settings, notes):
+def read_database(path: str, only: Sequence[str], settings: Settings, notes: List[str]) -> List[Table]:
     """The tables of a database that aren't settled yet: all, or those that `only` names."""
     read_file(path, 0)
     log = os.path.realpath(path) + "-wal"
@@ -24,7 +33,7 @@ def read_database(path, only, settings, notes):
             drop_log(path)
 
 
-def drop_log(path):
+def drop_log(path: str) -> None:
     """Takes away the files of a write-ahead log that reading made: SQLite does it where it might write."""
     try:
         with contextlib.closing(connected(path, "rw")) as base:
@@ -33,22 +42,21 @@ def drop_log(path):
         pass
 
 
-def connected(path, mode):
+def connected(path: str, mode: str) -> sqlite3.Connection:
     return sqlite3.connect(f"file:{in_uri(path)}?mode={mode}", uri=True)
 
 
-def tables_of(path, only, settings, notes):
+def tables_of(path: str, only: Sequence[str], settings: Settings, notes: List[str]) -> List[Table]:
     base = connected(path, "ro")
     base.text_factory = decoded
     try:
-        entries = base.execute("SELECT type, name, tbl_name, sql FROM sqlite_master ORDER BY rowid")
-        entries = entries.fetchall()
+        entries = base.execute("SELECT type, name, tbl_name, sql FROM sqlite_master ORDER BY rowid").fetchall()
         there = [name for kind, name, _, _ in entries if kind == "table" and not name.startswith("sqlite_")]
         for name in only:
             if name not in there:
                 raise Refused(f"{path}: there is no table {name}; there are {', '.join(there) or 'none'}")
         hidden = shadow_tables(base)
-        found = []
+        found: List[Table] = []
         for kind, name, on, sql in entries:
             if only and on not in only or settings.is_left_out(name):
                 continue
@@ -63,24 +71,24 @@ def tables_of(path, only, settings, notes):
         base.close()
 
 
-def in_uri(path):
+def in_uri(path: str) -> str:
     # What stands between the first two slashes and the next one would be a host.
     path = "//" + path if path.startswith("/") else path
     return path.replace("%", "%25").replace("?", "%3f").replace("#", "%23")
 
 
-def decoded(data):
+def decoded(data: bytes) -> Union[str, BadText]:
     try:
         return data.decode()
     except UnicodeDecodeError:
         return BadText()
 
 
-def quoted(name):
+def quoted(name: str) -> str:
     return '"' + name.replace('"', '""') + '"'
 
 
-def shadow_tables(base):
+def shadow_tables(base: sqlite3.Connection) -> Set[str]:
     """The tables in which virtual tables keep their data. SQLite before 3.37 doesn't report them."""
     try:
         return {row[1] for row in base.execute("PRAGMA table_list") if row[2] == "shadow"}
@@ -88,28 +96,30 @@ def shadow_tables(base):
         return set()
 
 
-def read_table(base, name, sql, settings, notes):
+def read_table(base: sqlite3.Connection, name: str, sql: str, settings: Settings, notes: List[str]) -> List[Table]:
     if re.match(r"\s*create\s+virtual\b", sql, re.IGNORECASE):
         notes.append(f"the virtual table {name} isn't carried")
         return []
-    new = settings.new_name(name, name)
-    # Each is: place, name, declared type, NOT NULL, default, place in the key from 1, hidden.
-    shape = [row for row in base.execute(f"PRAGMA table_xinfo({quoted(name)})") if row[6] != 1]
+    new = settings.new_name(name, tidy_name(name) if settings.tidy else name)
+    shape: List[Shape] = [row for row in base.execute(f"PRAGMA table_xinfo({quoted(name)})") if row[6] != 1]
     columns = []
-    for _, old, declared, not_null, _, _, _ in shape:
-        column = settings.new_name(f"{new}.{old}", old)
-        columns.append(Column(column, old, kind_of_type(declared), bool(not_null), declared))
+    plain = tidy_names([row[1] for row in shape]) if settings.tidy else [row[1] for row in shape]
+    for (_, old, declared, not_null, _, _, _), tidied in zip(shape, plain):
+        own = settings.new_name(f"{new}.{old}", tidied)
+        columns.append(Column(own, old, kind_of_type(declared), bool(not_null), declared))
     key = [columns[place].name for _, place in sorted((row[5], row[0]) for row in shape if row[5])]
     chosen = ", ".join(quoted(row[1]) for row in shape)
     order = row_order(base, name, shape)
     rows = base.execute(f"SELECT {chosen} FROM {quoted(name)} ORDER BY {order}").fetchall()
-    table = Table(new, *keep_columns(new, columns, rows, settings), key=key)
+    for place, column in enumerate(columns):
+        column.cells = [row[place] for row in rows]
+    table = Table(new, keep_columns(new, columns, settings), len(rows), key=key)
     note_columns(new, [row for row in shape if row[1] in {column.old for column in table.columns}], notes)
     note_constraints(base, name, new, sql, notes)
     return [table]
 
 
-def kind_of_type(declared):
+def kind_of_type(declared: str) -> Optional[str]:
     """The kind of a declared type, by SQLite's rules for types; None where the values decide."""
     declared = declared.upper()
     if "INT" in declared:
@@ -117,7 +127,7 @@ def kind_of_type(declared):
     return "TEXT" if any(word in declared for word in ("CHAR", "CLOB", "TEXT")) else None
 
 
-def row_order(base, name, shape):
+def row_order(base: sqlite3.Connection, name: str, shape: Sequence[Shape]) -> str:
     """By rowid; by the key in a table that has no rowid."""
     taken = {row[1].lower() for row in shape}
     for word in ("rowid", "_rowid_", "oid"):
@@ -131,7 +141,7 @@ def row_order(base, name, shape):
     return ", ".join(quoted(column) for _, column in keys) or "1"
 
 
-def note_columns(table_name, shape, notes):
+def note_columns(table_name: str, shape: Sequence[Shape], notes: List[str]) -> None:
     for _, name, _, _, default, _, hidden in shape:
         if default is not None:
             notes.append(f"{table_name}.{name}: DEFAULT {default} isn't carried: "
@@ -140,13 +150,12 @@ def note_columns(table_name, shape, notes):
             notes.append(f"{table_name}.{name} is GENERATED: its values are carried, its rule isn't")
 
 
-def note_constraints(base, name, new, sql, notes):
-    keys = {}
+def note_constraints(base: sqlite3.Connection, name: str, new: str, sql: str, notes: List[str]) -> None:
+    keys: Dict[int, Tuple[str, List[str]]] = {}
     for row in base.execute(f"PRAGMA foreign_key_list({quoted(name)})"):
         keys.setdefault(row[0], (row[2], []))[1].append(row[3])
-    for _, (parent, columns) in sorted(keys.items()):
-        columns = ", ".join(columns)
-        notes.append(f"{new}: the foreign key ({columns}) to {parent} isn't carried: nothing checks it here")
+    for _, (parent, names) in sorted(keys.items()):
+        notes.append(f"{new}: the foreign key ({', '.join(names)}) to {parent} isn't carried: nothing checks it here")
     for row in base.execute(f"PRAGMA index_list({quoted(name)})").fetchall():
         if row[2] and row[3] != "pk":
             parts = base.execute(f"PRAGMA index_info({quoted(row[1])})")
@@ -161,7 +170,7 @@ def note_constraints(base, name, new, sql, notes):
         notes.append(f"{new}: COLLATE {collation} isn't carried: texts compare by their bytes here")
 
 
-def note_types(table, notes):
+def note_types(table: Table, notes: List[str]) -> None:
     """Notes the declared types of a settled table that have no equal here."""
     for column in table.columns:
         if kind_of_type(column.declared) is None and column.scale is None:

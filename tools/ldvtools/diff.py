@@ -1,0 +1,244 @@
+"""Compares two outcomes, or two packages: processes, statements, replies, files and rows.
+
+    tools/diff.py before.outcome after.outcome
+    tools/diff.py monday.package tuesday.package
+    tools/diff.py --world world.json before.outcome after.outcome     with the statements of the first one's world
+    tools/diff.py --all ..                                            each line that differs, and not 20 of each part
+
+A line begins with - where it is of the first alone, and with + where it is of the second alone. Replies are compared by
+process and number. Rows of a reply that are the same in another order are said to be so. Of packages the rows of a table
+are compared by their numbers, and statements by what they needed; of recorded replies, by text, parameters and reply.
+
+Statuses: 0 no difference; 1 a difference; 2 wrong words, or the two can't be read or compared.
+"""
+from __future__ import annotations
+
+import argparse
+import collections
+import difflib
+import sys
+from typing import Dict, Iterator, List, Optional, Sequence, Tuple
+
+from .errors import Malformed, Misused, Refused, said
+from .language import ASKED
+from .outcome import Asked, asked_in, read_input, write_out
+from .outcomes import Outcome, read_outcome
+from .packages import Asked as AskedEvent, Package, PackedTable, read_package
+from .values import Reply, Row, cell, escaped, plain_count, reply_title
+from .worlds import read_world
+
+SHOWN = 20
+
+
+def cut(lines: Sequence[str], limit: int) -> Iterator[str]:
+    """Lines, indented, up to a limit."""
+    for line in lines[:limit]:
+        yield "  " + line
+    if len(lines) > limit:
+        yield f"  .. and {plain_count(len(lines) - limit, 'line')} more (--all shows all)"
+
+
+def text_differences(before: str, after: str, limit: int) -> Iterator[str]:
+    """The lines that differ, and the places at which they stand."""
+    lines = list(difflib.unified_diff(before.split("\n"), after.split("\n"), n=0, lineterm=""))[2:]
+    yield from cut([escaped(line) for line in lines], limit)
+
+
+def file_differences(path: str, before: Optional[bytes], after: Optional[bytes], limit: int) -> Iterator[str]:
+    name = escaped(path)
+    if before is None or after is None:
+        what = {True: "has content", False: "has none"}
+        yield f"file {name}: the first {what[before is not None]}, the second {what[after is not None]}"
+        return
+    yield f"file {name}: {plain_count(len(before), 'byte')}, and {plain_count(len(after), 'byte')}"
+    try:
+        yield from text_differences(before.decode(), after.decode(), limit)
+    except UnicodeDecodeError:
+        place = next((place for place, pair in enumerate(zip(before, after)) if pair[0] != pair[1]),
+                     min(len(before), len(after)))
+        yield f"  the first difference is at byte {place}"
+
+
+def files_differences(before: Dict[str, Optional[bytes]], after: Dict[str, Optional[bytes]], limit: int) -> Iterator[str]:
+    for path in sorted({*before, *after}, key=lambda path: path.encode()):
+        if path not in after:
+            yield f"- file {escaped(path)}"
+        elif path not in before:
+            yield f"+ file {escaped(path)}"
+        elif before[path] != after[path]:
+            yield from file_differences(path, before[path], after[path], limit)
+
+
+# ---- rows and replies
+
+def row_line(row: Row) -> str:
+    return " | ".join(cell(value) for value in row)
+
+
+def rows_differences(before: Sequence[Row], after: Sequence[Row], limit: int) -> Iterator[str]:
+    """The rows that one has oftener than the other."""
+    left, right = (collections.Counter([tuple(row) for row in rows]) for rows in (before, after))
+    gone, come = left - right, right - left
+    if not gone and not come:
+        yield "  the same rows in another order"
+    yield from cut([f"{sign} {row_line(list(row))}" for sign, rows in (("-", gone), ("+", come)) for row in rows.elements()],
+                   limit)
+
+
+def reply_differences(name: str, before: Reply, after: Reply, limit: int) -> Iterator[str]:
+    if before == after:
+        return
+    yield f"{name}: {reply_title(before)}, and {reply_title(after)}"
+    if before.kind == after.kind == "rows":
+        yield from rows_differences(before.rows, after.rows, limit)
+
+
+# ---- outcomes
+
+def outcome_differences(before: Outcome, after: Outcome, asked: Asked, limit: int) -> Iterator[str]:
+    left, right = ({process.name: process for process in each.processes} for each in (before, after))
+    for name in [*left, *(name for name in right if name not in left)]:
+        if name not in right:
+            yield f"- process {name}"
+            continue
+        if name not in left:
+            yield f"+ process {name}"
+            continue
+        one, other = left[name], right[name]
+        if one.status != other.status:
+            yield f"process {name}: status {one.status}, and {other.status}"
+        if one.printed != other.printed:
+            yield f"process {name} prints something else"
+            yield from text_differences(one.printed, other.printed, limit)
+        yield from replies_differences(name, one.replies, other.replies, asked, limit)
+    yield from files_differences(dict(before.touched), dict(after.touched), limit)
+
+
+def replies_differences(name: str, before: List[Reply], after: List[Reply], asked: Asked, limit: int) -> Iterator[str]:
+    if len(before) != len(after):
+        yield f"process {name} asked {plain_count(len(before), 'statement')}, and {len(after)}"
+    for place, (one, other) in enumerate(zip(before, after)):
+        found = asked.get((name, place))
+        title = f"process {name} reply {place + 1}" + (f" ({escaped(found[0].text)})" if found else "")
+        yield from reply_differences(title, one, other, limit)
+
+
+# ---- packages
+
+def table_differences(before: PackedTable, after: PackedTable, limit: int) -> Iterator[str]:
+    if before[1:5] != after[1:5]:
+        yield f"table {before.name}: other columns, keys or next row"
+    left, right = ({row.number: row.values for row in table.rows} for table in (before, after))
+    lines = []
+    for number in sorted({*left, *right}):
+        if left.get(number) != right.get(number):
+            lines += [f"- row {number}: {row_line(left[number])}"] if number in left else []
+            lines += [f"+ row {number}: {row_line(right[number])}"] if number in right else []
+    if lines:
+        yield f"table {before.name}: {plain_count(len(before.rows), 'packed row')}, and {len(after.rows)}"
+        yield from cut(lines, limit)
+
+
+def asked_of(package: Package) -> Dict[Tuple[str, int], AskedEvent]:
+    """The statements of a trace, by process and number."""
+    names, found = package.process_names(), {}
+    places: Dict[str, int] = {}
+    for run in package.runs:
+        if run.first.act == ASKED and run.first.asked is not None:
+            name = names[run.first.process]
+            found[name, places.get(name, 0)] = run.first.asked
+            places[name] = places.get(name, 0) + 1
+    return found
+
+
+def need_lines(asked: AskedEvent) -> List[str]:
+    return [f"{table} {need.row} version {need.version} rule {need.rule}" for table, needs in asked.reads for need in needs]
+
+
+def statement_differences(before: Package, after: Package, limit: int) -> Iterator[str]:
+    left, right = asked_of(before), asked_of(after)
+    for key in [*left, *(key for key in right if key not in left)]:
+        title = f"process {key[0]} statement {key[1] + 1}"
+        if key not in right or key not in left:
+            yield f"{'-' if key in left else '+'} {title}"
+            continue
+        one, other = set(need_lines(left[key])), set(need_lines(right[key]))
+        if one != other:
+            yield f"{title}: needs {plain_count(len(one), 'row')}, and {len(other)}"
+            yield from cut([f"- {line}" for line in sorted(one - other)] + [f"+ {line}" for line in sorted(other - one)], limit)
+
+
+def log_differences(before: Package, after: Package, limit: int) -> Iterator[str]:
+    left, right = ({log.process: log.entries for log in package.logs} for package in (before, after))
+    for name in [name for name in left if name in right]:
+        for place, (one, other) in enumerate(zip(left[name], right[name])):
+            title = f"process {name} statement {place + 1}"
+            if one[:2] != other[:2]:
+                yield f"{title} is another one"
+                for sign, each in (("-", one), ("+", other)):
+                    yield f"  {sign} {escaped(each.text)}" + (f" with {row_line(each.params)}" if each.params else "")
+            yield from reply_differences(title, one.reply, other.reply, limit)
+
+
+def package_differences(before: Package, after: Package, limit: int) -> Iterator[str]:
+    for what in ("mode", "start", "seed", "steps"):
+        one, other = getattr(before, what), getattr(after, what)
+        if one != other:
+            yield f"{what}: {one}, and {other}"
+    yield from files_differences(dict(before.files), dict(after.files), limit)
+    left, right = ({table.name: table for table in package.tables} for package in (before, after))
+    for name in sorted({*left, *right}):
+        if name in left and name in right:
+            yield from table_differences(left[name], right[name], limit)
+        else:
+            yield f"{'-' if name in left else '+'} table {name}"
+    yield from statement_differences(before, after, limit)
+    yield from log_differences(before, after, limit)
+    if list(before.runs) != list(after.runs) and before.version == after.version:
+        yield f"the traces differ: {plain_count(before.event_count(), 'event')}, and {after.event_count()}"
+
+
+# ---- the command
+
+def given_words(words: Optional[Sequence[str]]) -> argparse.Namespace:
+    parser = argparse.ArgumentParser(prog="diff.py", description=__doc__,
+                                     formatter_class=argparse.RawDescriptionHelpFormatter)
+    parser.add_argument("first")
+    parser.add_argument("second")
+    parser.add_argument("--world", metavar="FILE", help="the world of the first outcome: names the statements")
+    parser.add_argument("--run", type=int, choices=(1, 2), help="of joined packages: which of their runs")
+    parser.add_argument("--all", action="store_true", help="show all lines that differ")
+    return parser.parse_args(words)
+
+
+def compared(given: argparse.Namespace) -> Iterator[str]:
+    first, second = (read_input(path) for path in (given.first, given.second))
+    limit = sys.maxsize if given.all else SHOWN
+    are_packages = [data.startswith(b"LDV") for data in (first, second)]
+    if are_packages[0] != are_packages[1]:
+        raise Misused("one is a package and the other isn't: replay the package, and compare its outcome")
+    if are_packages[0]:
+        if given.world:
+            raise Misused("--world goes with outcomes")
+        return package_differences(read_package(first, given.run), read_package(second, given.run), limit)
+    before = read_outcome(first)
+    asked = asked_in(read_world(read_input(given.world)), before) if given.world else {}
+    return outcome_differences(before, read_outcome(second), asked, limit)
+
+
+def main(words: Optional[Sequence[str]] = None) -> int:
+    given = given_words(words)
+    try:
+        lines = list(compared(given))
+    except (Malformed, Misused, Refused) as fault:
+        print(f"diff.py: {fault}", file=sys.stderr)
+        return 2
+    except OSError as fault:
+        print(f"diff.py: {said(fault)}", file=sys.stderr)
+        return 2
+    write_out("".join(line + "\n" for line in lines))
+    return 1 if lines else 0
+
+
+if __name__ == "__main__":
+    sys.exit(main())

@@ -1,0 +1,48 @@
+"""What goes wrong in the tools, and how a command says it."""
+from __future__ import annotations
+
+import sys
+from typing import Callable, Optional, Sequence
+
+
+class Malformed(Exception):
+    """An input doesn't have the form of what it should be. The text says what is wrong and where."""
+
+
+class Refused(Exception):
+    """What was given can't be made into what was asked for. The text says why and where."""
+
+
+class Unfit(Exception):
+    """A cell doesn't fit its column. The text says why."""
+
+
+class Misused(Exception):
+    """The words of the command line are wrong."""
+
+
+def said(fault: OSError) -> str:
+    """An error of the system in one line."""
+    if fault.strerror is None:
+        return str(fault)
+    return f"{fault.filename or 'standard output'}: {fault.strerror}"
+
+
+def command(name: str, work: Callable[[Optional[Sequence[str]]], int],
+            words: Optional[Sequence[str]], expected: str) -> int:
+    """The status of a command: of its work, or 1 or 2 where that fails, with one line on standard error.
+
+    `expected` says what a malformed input should have been.
+    """
+    try:
+        return work(words)
+    except Malformed as fault:
+        print(f"{name}: no {expected}: {fault}", file=sys.stderr)
+    except Refused as fault:
+        print(f"{name}: {fault}", file=sys.stderr)
+    except OSError as fault:
+        print(f"{name}: {said(fault)}", file=sys.stderr)
+    except Misused as fault:
+        print(f"{name}: {fault} ({name} --help says more)", file=sys.stderr)
+        return 2
+    return 1

@@ -1,0 +1,324 @@
+"""Shows what a package holds, or gives its parts to ordinary tools.
+
+    ./ldv record < world.json | tools/package.py
+    tools/package.py world.package                        what is in it
+    tools/package.py --statement 2 world.package          the rows that a statement needed
+    tools/package.py --files FOLDER world.package         its files, in a new folder
+    tools/package.py --world world.package > new.json     a world of its files and rows, to be changed and run again
+    tools/package.py --world --ask "SELECT .." ..         the same, whose script asks this and nothing else
+    tools/package.py --csv FOLDER world.package           a file for each table: FOLDER/orders.csv
+    tools/package.py --sqlite FILE world.package          a new SQLite database of the tables
+    tools/package.py --reasons ..                         with --csv or --sqlite: three columns before the others of
+                                                          each row, its number, the statement that needed it first,
+                                                          and the rule why
+    tools/package.py --sizes world.package                how many bytes each section has
+    tools/package.py --run 2 ..                           of a joined package, the second of its runs
+
+docs/FORMATS.md has the format. Both versions, both kinds and joined packages are read. The digest is compared, and the
+rest is read as far as it is needed here: that a package is valid is what `ldv replay` says. In CSV, NULL is an empty
+field and the empty text is "". In the world of --world the rows of a table are numbered anew, from 0.
+
+Statuses: 0 shown; 1 the input is no package, it hasn't what was asked for, or a file can't be read or written; 2 wrong
+words.
+"""
+from __future__ import annotations
+
+import argparse
+import os
+import sqlite3
+import sys
+from typing import Dict, Iterator, List, Optional, Sequence, Tuple, Union
+
+from .documents import as_json, document, table_json, write_file
+from .errors import Refused, command
+from .language import RULE_TEXTS
+from .outcome import read_input, write_out
+from .packages import Asked, Joined, Package, PackedTable, read_any, read_package
+from .scripts_of_statements import script_of
+from .values import Row, Value, cell, counted, csv_line, escaped, reply_title, table_lines
+
+REASON_COLUMNS = ["ldv_row", "ldv_statement", "ldv_rule"]
+
+
+# ---- what is shown
+
+def summary(package: Package) -> Iterator[str]:
+    """The lines that say what is in a package."""
+    yield (f"{package.mode}, start {escaped(' '.join(package.start))}, seed {package.seed}, "
+           f"{counted(package.steps, 'step')}, {counted(package.event_count(), 'event')}")
+    for path, content in package.files:
+        yield f"file {escaped(path)}: " + ("present" if content is None else counted(len(content), "byte"))
+    for table in package.tables:
+        columns = ", ".join(f"{name} {kind}" for name, kind in table.columns)
+        key = f", key {', '.join(table.key)}" if table.key else ""
+        foreign = "".join(f", ({', '.join(each.columns)}) refers to {each.parent}" for each in table.foreign)
+        yield (f"table {table.name} ({columns}{key}{foreign}): {counted(len(table.rows), 'row')}, next row "
+               f"{table.next}")
+    for log in package.logs:
+        yield f"log of process {log.process}: {counted(len(log.entries), 'statement')}"
+
+
+def joined_summary(joined: Joined) -> Iterator[str]:
+    yield (f"joined, {counted(len(joined.files), 'file')}, {counted(len(joined.tables), 'table')}, "
+           f"{counted(sum(len(table.rows) for table in joined.tables), 'row')}")
+    for number in (1, 2):
+        for line in summary(joined.run(number)):
+            yield f"run {number}: {line}"
+
+
+def size_lines(package: Union[Package, Joined]) -> Iterator[str]:
+    for name, size in package.sizes.items():
+        yield f"{name:<12} {size:>12}"
+    yield f"{'all':<12} {sum(package.sizes.values()):>12}"
+    if isinstance(package, Package):
+        needed = package.row_bytes + package.sizes["trace"] + package.sizes["logs"]
+        yield f"{'rows, trace, logs':<12} {needed:>7}"
+
+
+def asked_events(package: Package) -> Iterator[Tuple[int, int, Asked]]:
+    """The step, the process and the statement of each statement of the trace."""
+    for run in package.runs:
+        if run.first.asked is not None:
+            yield run.first.step, run.first.process, run.first.asked
+
+
+def statement_lines(package: Package, number: int) -> Iterator[str]:
+    """What the package says of a statement, from 0: who asked it, and the rows that it needed."""
+    places: Dict[int, int] = {}
+    names = package.process_names()
+    for step, process, asked in asked_events(package):
+        place = places.get(process, 0)
+        places[process] = place + 1
+        if asked.statement == number:
+            yield f"statement {number}: process {names[process]} at step {step}, tables {', '.join(asked.tables) or 'none'}"
+            yield from logged_lines(package, names[process], place)
+            yield from need_lines(package, asked)
+            for table, made in asked.made:
+                yield f"it made {counted(len(made), 'version')} of rows of {table}"
+            return
+    raise Refused(f"there is no statement {number}; the run asked {sum(places.values())}, counted from 0")
+
+
+def logged_lines(package: Package, process: str, place: int) -> Iterator[str]:
+    for log in package.logs:
+        if log.process == process and place < len(log.entries):
+            entry = log.entries[place]
+            yield f"> {escaped(entry.text)}"
+            if entry.params:
+                yield "> with " + ", ".join(cell(value) for value in entry.params)
+            yield f"reply: {reply_title(entry.reply)}"
+
+
+def need_lines(package: Package, asked: Asked) -> Iterator[str]:
+    """The rows that a statement needed, as far as they are packed, with their values at the start of the run."""
+    if not asked.reads:
+        yield "it needed no row"
+    for name, needs in asked.reads:
+        yield f"it needed {counted(len(needs), 'row')} of {name}:"
+        table = package.table(name)
+        packed = {row.number: row.values for row in table.rows} if table else {}
+        rows: List[Row] = []
+        for need in needs:
+            rows.append([need.row, need.version, need.rule, *packed.get(need.row, [])])
+        yield from table_lines(rows, ["row", "version", "rule", *(table.names() if table and packed else [])])
+    for rule in sorted({need.rule for _, needs in asked.reads for need in needs}, key="LHKPC".index):
+        yield f"rule {rule}: the row {RULE_TEXTS[rule]}"
+
+
+# ---- tables for other tools
+
+def columns_of(table: PackedTable, reasons: bool) -> List[str]:
+    return (REASON_COLUMNS if reasons else []) + table.names()
+
+
+def rows_of(table: PackedTable, reasons: bool) -> Iterator[List[Value]]:
+    for row in table.rows:
+        why: Row = [row.number, row.statement, row.rule] if reasons else []
+        yield why + row.values
+
+
+def write_csv(package: Package, folder: str, reasons: bool) -> None:
+    os.makedirs(folder, exist_ok=True)
+    for table in package.tables:
+        with open(os.path.join(folder, table.name + ".csv"), "w", encoding="utf-8", newline="") as file:
+            file.write(csv_line(columns_of(table, reasons), end="\r\n"))
+            for row in rows_of(table, reasons):
+                file.write(csv_line(row, end="\r\n"))
+
+
+def quoted(name: str) -> str:
+    return '"' + name + '"'
+
+
+def make_table(table: PackedTable, reasons: bool) -> str:
+    kinds = (["INTEGER", "INTEGER", "TEXT"] if reasons else []) + [
+        kind.replace("INT", "INTEGER") for _, kind in table.columns]
+    parts = [f"{quoted(name)} {kind}" for name, kind in zip(columns_of(table, reasons), kinds)]
+    if table.key:
+        parts.append(f"PRIMARY KEY ({', '.join(map(quoted, table.key))})")
+    return f"CREATE TABLE {quoted(table.name)} ({', '.join(parts)})"
+
+
+def write_sqlite(package: Package, path: str, reasons: bool) -> None:
+    if os.path.exists(path):
+        raise Refused(f"{path} is there already")
+    database = sqlite3.connect(path)
+    try:
+        with database:
+            for table in package.tables:
+                database.execute(make_table(table, reasons))
+                marks = ", ".join("?" * len(columns_of(table, reasons)))
+                database.executemany(f"INSERT INTO {quoted(table.name)} VALUES ({marks})", rows_of(table, reasons))
+    except sqlite3.Error as fault:
+        database.close()
+        if os.path.exists(path):
+            os.remove(path)
+        raise Refused(str(fault)) from None
+    database.close()
+
+
+# ---- files
+
+def place_in(folder: str, path: str) -> str:
+    """Where a file of the package goes, which is within the folder."""
+    parts = path.split("/")
+    if any(part in ("", ".", "..") for part in parts):
+        raise Refused(f"the file {path!r} can't be written: its path leads out of a folder; --file {path!r} writes it")
+    return os.path.join(folder, *parts)
+
+
+def write_files(package: Package, folder: str) -> None:
+    """The files with content, into a folder that is new or empty."""
+    if os.path.exists(folder) and (not os.path.isdir(folder) or os.listdir(folder)):
+        raise Refused(f"{folder} is there already, and isn't an empty folder")
+    wholes = [(place_in(folder, path), content) for path, content in package.files if content is not None]
+    for place, content in wholes:
+        try:
+            os.makedirs(os.path.dirname(place), exist_ok=True)
+        except (FileExistsError, NotADirectoryError):
+            raise Refused(f"{place} can't be written: a file is where it needs a folder") from None
+        with open(place, "wb") as file:
+            file.write(content)
+        print(f"{place}: {counted(len(content), 'byte')}")
+    for path, found in package.files:
+        if found is None:
+            print(f"{escaped(path)} was only present, and isn't written")
+
+
+def file_of(package: Package, path: str) -> bytes:
+    content = dict(package.files).get(path)
+    if content is None:
+        raise Refused(f"there is no content of a file {path}; there are "
+                      + (", ".join(escaped(name) for name, content in package.files if content is not None) or "none"))
+    return content
+
+
+# ---- a world
+
+def has_parents(table: PackedTable, package: Package) -> bool:
+    """Whether each row's references have a parent among the packed rows, as a world document asks."""
+    for foreign in table.foreign:
+        parent = package.table(foreign.parent)
+        places = [table.names().index(name) for name in foreign.columns]
+        keys = set()
+        if parent is not None:
+            own = [parent.names().index(name) for name in parent.key]
+            keys = {tuple(row.values[place] for place in own) for row in parent.rows}
+        for row in table.rows:
+            reference = tuple(row.values[place] for place in places)
+            if None not in reference and reference not in keys:
+                return False
+    return True
+
+
+def world_of(package: Package, asks: Sequence[str]) -> Tuple[bytes, List[str]]:
+    """A world document of the package's files and rows, and what is otherwise in it."""
+    if package.mode == "excluded":
+        raise Refused("it has recorded replies and no rows, so that it makes no world")
+    notes, tables = [], []
+    for table in package.tables:
+        foreign = [(each.columns, each.parent) for each in table.foreign]
+        if foreign and not has_parents(table, package):
+            notes.append(f"{table.name}: its foreign keys are left out, since parents of its rows aren't packed")
+            foreign = []
+        if [row.number for row in table.rows] != list(range(len(table.rows))):
+            notes.append(f"{table.name}: its rows get the numbers 0 to {len(table.rows) - 1}")
+        rows = [as_json(row.values) for row in table.rows]
+        tables.append((table.name, table_json(table.columns, table.key, rows, table.next, foreign)))
+    if asks:
+        script = script_of([(text, f"--ask {place}") for place, text in enumerate(asks, 1)])
+        return document(["main"], 0, {"main": script}, tables), notes
+    return document(package.start, package.seed, {path: content or b"" for path, content in package.files}, tables), notes
+
+
+# ---- the command
+
+def given_words(words: Optional[Sequence[str]]) -> argparse.Namespace:
+    parser = argparse.ArgumentParser(prog="package.py", description=__doc__,
+                                     formatter_class=argparse.RawDescriptionHelpFormatter)
+    parser.add_argument("package", nargs="?", help="the package; standard input where it isn't given")
+    what = parser.add_mutually_exclusive_group()
+    what.add_argument("--csv", metavar="FOLDER", help="a CSV file for each table")
+    what.add_argument("--sqlite", metavar="FILE", help="a new SQLite database of the tables")
+    what.add_argument("--files", metavar="FOLDER", help="the files, in a new folder")
+    what.add_argument("--file", metavar="PATH", help="the bytes of one file, to standard output")
+    what.add_argument("--statement", metavar="N", type=int, help="the rows that the statement N needed, from 0")
+    what.add_argument("--world", action="store_true", help="a world document of its files and rows")
+    what.add_argument("--sizes", action="store_true", help="how many bytes each section has")
+    parser.add_argument("--ask", metavar="STATEMENT", action="append", default=[],
+                        help="with --world: a statement for its script, which asks these only")
+    parser.add_argument("-o", "--output", metavar="FILE", help="with --world: the document (default: standard output)")
+    parser.add_argument("--reasons", action="store_true", help="with --csv or --sqlite: why each row is there")
+    parser.add_argument("--run", type=int, choices=(1, 2), help="of a joined package: which of its runs")
+    given = parser.parse_args(words)
+    if given.reasons and not (given.csv or given.sqlite):
+        parser.error("--reasons goes with --csv or --sqlite")
+    if (given.ask or given.output) and not given.world:
+        parser.error("--ask and -o go with --world")
+    return given
+
+
+def show(data: bytes, given: argparse.Namespace) -> None:
+    """Writes what the words ask for, of a package of one run."""
+    package = read_package(data, given.run)
+    if given.csv:
+        write_csv(package, given.csv, given.reasons)
+    elif given.sqlite:
+        write_sqlite(package, given.sqlite, given.reasons)
+    elif given.files:
+        write_files(package, given.files)
+    elif given.file:
+        sys.stdout.buffer.write(file_of(package, given.file))
+        sys.stdout.buffer.flush()
+    elif given.statement is not None:
+        write_out("".join(line + "\n" for line in statement_lines(package, given.statement)))
+    elif given.world:
+        world, notes = world_of(package, given.ask)
+        for note in notes:
+            print(f"package.py: note: {note}", file=sys.stderr)
+        write_file(world, given.output)
+    else:
+        write_out("".join(line + "\n" for line in summary(package)))
+
+
+def work(words: Optional[Sequence[str]]) -> int:
+    given = given_words(words)
+    data = read_input(given.package)
+    if given.sizes:
+        write_out("".join(line + "\n" for line in size_lines(read_any(data))))
+        return 0
+    asks_part = given.csv or given.sqlite or given.files or given.file or given.statement is not None or given.world
+    found = read_any(data) if not asks_part and given.run is None else None
+    if isinstance(found, Joined):
+        write_out("".join(line + "\n" for line in joined_summary(found)))
+    else:
+        show(data, given)
+    return 0
+
+
+def main(words: Optional[Sequence[str]] = None) -> int:
+    return command("package.py", work, words, "package")
+
+
+if __name__ == "__main__":
+    sys.exit(main())

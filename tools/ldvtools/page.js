@@ -1,0 +1,521 @@
+
+"use strict";
+// The page of a package. All text comes by textContent; nothing of the data is taken for HTML.
+const D = JSON.parse(document.getElementById("data").textContent);
+const ROWS = 100, SHOWN = 20000, SVG = "http://www.w3.org/2000/svg", LAST = 10000000, DRAWN = 150;
+const RULES = "LHKPC";
+
+// ---- elements
+
+function el(name, given, ...children) {
+  const made = document.createElement(name);
+  for (const [key, value] of Object.entries(given || {})) {
+    if (key.startsWith("on")) made.addEventListener(key.slice(2), value);
+    else if (value !== null && value !== undefined && value !== false) made.setAttribute(key, value === true ? "" : value);
+  }
+  put(made, children);
+  return made;
+}
+
+function put(target, children) {
+  for (const child of children.flat(Infinity)) {
+    if (child === null || child === undefined || child === false) continue;
+    target.append(child instanceof Node ? child : document.createTextNode(String(child)));
+  }
+}
+
+function svg(name, given, ...children) {
+  const made = document.createElementNS(SVG, name);
+  for (const [key, value] of Object.entries(given || {})) {
+    if (key.startsWith("on")) made.addEventListener(key.slice(2), value);
+    else made.setAttribute(key, value);
+  }
+  put(made, children);
+  return made;
+}
+
+const counted = (n, one, many) => n.toLocaleString("en") + " " + (n === 1 ? one : many || one + "s");
+const section = (id, title, ...children) => el("section", {id}, el("h2", {}, title), children);
+const digits = value => value !== null && typeof value === "object" ? value.i : value;
+
+function cell(value) {
+  if (value === null) return el("td", {class: "null"}, "NULL");
+  if (typeof value === "string") return el("td", {}, value === "" ? el("span", {class: "soft"}, "(empty)") : value);
+  return el("td", {class: "number"}, String(digits(value)));
+}
+
+// A list in pages of so many rows, each made when it is shown.
+function paged(heads, rows, make, perPage = ROWS) {
+  const body = el("tbody"), place = el("span", {class: "soft"}), holder = el("div");
+  let page = 0;
+  const pages = () => Math.max(1, Math.ceil(rows.length / perPage));
+  const step = (by, text) => el("button", {onclick: () => { page = Math.min(pages() - 1, Math.max(0, page + by)); show(); }}, text);
+  const back = step(-1, "‹"), on = step(1, "›");
+  const goto = el("input", {type: "number", min: 1, size: 6, title: "page", onchange: event => {
+    page = Math.min(pages() - 1, Math.max(0, Number(event.target.value) - 1 || 0)); show(); }});
+  const bar = el("div", {class: "bar pager"}, back, place, on, goto);
+  function show() {
+    body.replaceChildren(...rows.slice(page * perPage, (page + 1) * perPage).map(make));
+    place.textContent = `${(page * perPage + 1).toLocaleString("en")} to ${Math.min(rows.length, (page + 1) * perPage).toLocaleString("en")} of ${rows.length.toLocaleString("en")}`;
+    back.disabled = page === 0;
+    on.disabled = page >= pages() - 1;
+    goto.value = page + 1;
+    bar.hidden = rows.length <= perPage;
+  }
+  put(holder, [bar, el("div", {class: "wide"}, el("table", {}, el("thead", {}, el("tr", {}, heads.map(head =>
+    el("th", {}, head)))), body))]);
+  show();
+  holder.use = found => { rows = found; page = 0; show(); };
+  holder.refresh = show;
+  holder.to = index => { page = Math.floor(index / perPage); show(); };
+  return holder;
+}
+
+// ---- saving
+
+function save(name, part) {
+  const link = el("a", {href: URL.createObjectURL(new Blob([part])), download: name.split("/").pop() || "file"});
+  link.click();
+  setTimeout(() => URL.revokeObjectURL(link.href), 10000);
+}
+
+function bytes(content) {
+  return content.text !== undefined ? content.text : Uint8Array.from(atob(content.base64), c => c.charCodeAt(0));
+}
+
+function field(value) {
+  if (value === null) return "";
+  const text = String(digits(value));
+  return typeof value === "string" && (text === "" || /[",\r\n]/.test(text)) ? '"' + text.replaceAll('"', '""') + '"' : text;
+}
+
+const csv = rows => rows.map(row => row.map(field).join(",") + "\r\n").join("");
+
+function contentOf(path, content) {
+  if (content === null) return null;
+  const text = content.text !== undefined ? content.text : hex(content.base64);
+  const shown = el("pre", {}, text.slice(0, SHOWN));
+  return el("details", {}, el("summary", {}, "content"), shown,
+    text.length > SHOWN && el("button", {onclick: event => { shown.textContent = text; event.target.remove(); }},
+      `show all ${counted(text.length, "character")}`),
+    el("button", {onclick: () => save(path, bytes(content))}, "save"));
+}
+
+function hex(base64) {
+  return [...atob(base64.slice(0, 8000))].map(c => c.charCodeAt(0).toString(16).padStart(2, "0")).join(" ") +
+    (base64.length > 8000 ? " .." : "");
+}
+
+// ---- what it is
+
+function verdictBadge() {
+  if (!D.verdict) return el("span", {class: "badge"}, "not audited");
+  return el("span", {class: "badge " + (D.verdict === "sound" ? "good" : "bad"), id: "verdict"}, "audit: " + D.verdict);
+}
+
+function head() {
+  const fact = (name, value) => el("span", {}, name + " ", el("b", {}, String(value)));
+  const known = D.replies > 0 || D.replayed;
+  return el("header", {}, el("h1", {}, D.name), el("div", {class: "facts"},
+    fact("kind", D.kind === "included" ? "with the needed rows" : "with recorded replies"),
+    fact("format version", D.version), fact("bytes", D.size.toLocaleString("en")),
+    fact("start", D.start.join(" ")), fact("seed", D.seed),
+    fact("steps", D.steps.toLocaleString("en")), fact("events", D.events.toLocaleString("en")),
+    fact("statements", D.statements.length.toLocaleString("en"))),
+    el("div", {class: "facts"}, fact("SHA-256", D.digest)),
+    verdictBadge(),
+    D.refused > 0 && el("span", {class: "badge bad", id: "refused"},
+      `${D.refused} of ${counted(D.replies, "statement")} ${D.refused === 1 ? "was" : "were"} refused`),
+    D.misused > 0 && el("span", {class: "badge bad", id: "misused"},
+      `${counted(D.misused, "process", "processes")} ended by misuse`),
+    !known && D.statements.length > 0 && el("span", {class: "badge"},
+      "not replayed: the page has no replies (page.py --ldv ./ldv makes one that has)"));
+}
+
+// ---- the outcome
+
+function processCard(process) {
+  const status = process.status === null ? "unknown" : process.status;
+  const isBad = process.misuse || process.status !== 0;
+  return el("div", {"data-process": process.name}, el("h3", {}, "process " + process.name), el("div", {class: "facts"},
+    el("span", {}, "script ", el("b", {}, process.script)),
+    el("span", {}, `steps ${process.first} to ${process.last}`),
+    el("span", {class: isBad ? "red" : ""}, `status ${status}` + (process.misuse ? `: ${process.misuse}` : "")),
+    process.statements !== null && el("span", {}, counted(process.statements, "statement"))),
+    process.printed ? el("pre", {}, process.printed.slice(0, SHOWN)) :
+      process.printed === "" && el("div", {class: "soft"}, "it printed nothing"));
+}
+
+function wayOf(way) {
+  const [process, told, first, last] = way;
+  return `process ${process} ${told}, step ${first}` + (last !== first ? ` to ${last}` : "");
+}
+
+function touchedRow(file) {
+  const size = file.content ? counted(file.content.size, "byte") : file.known ? "removed" : "not replayed";
+  return el("tr", {"data-file": file.path}, el("td", {}, el("a", {href: "#came", onclick: () => choosePath(file.path)},
+    file.path)), el("td", {}, size), el("td", {}, file.by.map(way => el("div", {}, wayOf(way)))),
+    el("td", {}, contentOf(file.path, file.content)));
+}
+
+function outcomeSection() {
+  const cards = el("div");
+  const note = !D.replayed && el("p", {class: "soft"}, "What the processes printed and what the files became is in the " +
+    "replay: page.py --ldv ./ldv replays the package for the page.");
+  let shown = 0;
+  const more = el("button", {onclick: () => add()}, "more processes");
+  function add() {
+    put(cards, D.processes.slice(shown, shown + 20).map(processCard));
+    shown += 20;
+    more.hidden = shown >= D.processes.length;
+  }
+  add();
+  return section("outcome", "Outcome", note, cards, more, el("h3", {}, "Files that it wrote or removed"),
+    D.touched.length ? paged(["file", "", "by", ""], D.touched, touchedRow) : el("p", {class: "soft"}, "none"));
+}
+
+// ---- statements
+
+let chosen = null;
+const needsOf = new Map();   // "table row" -> [[statement, rule], ..]
+D.statements.forEach((statement, number) => statement.needs.forEach(([table, rows]) => rows.forEach(([row, , rule]) => {
+  const name = table + " " + row;
+  if (!needsOf.has(name)) needsOf.set(name, []);
+  needsOf.get(name).push([number, rule]);
+})));
+const packed = new Map(D.tables.map(table => [table.name, new Map(table.rows.map((row, place) => [row[0], place]))]));
+
+function statementRow(number) {
+  const statement = D.statements[number];
+  const isRefused = statement.reply && statement.reply.kind === "refused";
+  const count = statement.needs.reduce((sum, [, rows]) => sum + rows.length, 0);
+  return el("tr", {"data-statement": number, class: number === chosen ? "chosen" : "", onclick: () => choose(number)},
+    el("td", {class: "number"}, number), el("td", {}, statement.process), el("td", {class: "number"}, statement.step),
+    el("td", {}, statement.text === null ? el("span", {class: "soft"}, "tables: " + (statement.tables.join(", ") || "none"))
+      : el("code", {}, statement.text.slice(0, 300))),
+    el("td", {class: isRefused ? "red" : ""}, statement.reply ? statement.reply.title : ""),
+    el("td", {class: "number"}, count));
+}
+
+function replyOf(statement) {
+  if (!statement.reply) return null;
+  const rows = statement.reply.rows;
+  const title = el("h3", {class: statement.reply.kind === "refused" ? "red" : ""}, "Reply: " + statement.reply.title);
+  if (!rows.length) return title;
+  const width = Math.max(...rows.slice(0, 1000).map(row => row.length));
+  const names = Array.from({length: width}, (_, place) => statement.columns[place] || String(place + 1));
+  return [title, paged(names, rows, row => el("tr", {}, row.map(cell)), 50),
+    el("button", {onclick: () => save("reply.csv", csv([names, ...rows]))}, "save as CSV")];
+}
+
+function needTable(name, rows) {
+  const table = D.tables.find(each => each.name === name);
+  const heads = ["row", "version", "rule", ...(table ? table.columns.map(column => column[0]) : [])];
+  return [el("h3", {}, `It needed ${counted(rows.length, "row")} of ${name}`), paged(heads, rows, ([row, version, rule]) => {
+    const place = packed.get(name) && packed.get(name).get(row);
+    const values = place === undefined ? [] : table.rows[place].slice(3);
+    return el("tr", {class: "needed", "data-need": `${name} ${row} ${rule}`}, el("td", {class: "number"}, row),
+      el("td", {class: "number"}, version), el("td", {title: D.rules[rule]}, rule), values.map(cell),
+      place === undefined && el("td", {class: "soft", colspan: 9}, "not packed: the run made it"));
+  }, 25)];
+}
+
+function detail(number) {
+  const statement = D.statements[number];
+  const rules = [...new Set(statement.needs.flatMap(([, rows]) => rows.map(row => row[2])))];
+  rules.sort((a, b) => RULES.indexOf(a) - RULES.indexOf(b));
+  return [el("h3", {id: "detail"}, `Statement ${number}, which process ${statement.process} asked at step ${statement.step}`),
+    statement.text !== null && el("pre", {}, statement.text),
+    statement.params.length > 0 && el("p", {}, "with ", el("code", {}, statement.params.join(", "))),
+    replyOf(statement),
+    statement.needs.map(([name, rows]) => needTable(name, rows)),
+    !statement.needs.length && el("p", {class: "soft"}, "It needed no row."),
+    statement.made.map(([name, rows]) => el("p", {}, `It made ${counted(rows.length, "version")} of rows of ${name}.`)),
+    el("ul", {}, rules.map(rule => el("li", {"data-rule": rule}, el("b", {}, rule), ": the row " + D.rules[rule])))];
+}
+
+const statementPanel = el("div");
+let statementList = null, onlyNeeded = null;
+
+function choose(number) {
+  chosen = chosen === number ? null : number;
+  statementList.refresh();
+  statementPanel.replaceChildren();
+  if (chosen !== null) put(statementPanel, detail(chosen));
+  onlyNeeded.disabled = chosen === null;
+  if (chosen === null) onlyNeeded.checked = false;
+  if (chosen !== null && D.statements[chosen].needs.length) shownTable = D.statements[chosen].needs[0][0];
+  showTable();
+}
+
+function statementSection() {
+  const numbers = D.statements.map((_, number) => number);
+  statementList = paged(["", "process", "step", "statement", "reply", "rows needed"], numbers, statementRow, 50);
+  const refused = numbers.filter(n => D.statements[n].reply && D.statements[n].reply.kind === "refused");
+  const only = el("input", {type: "checkbox", onchange: event => statementList.use(event.target.checked ? refused : numbers)});
+  return section("statements", "Statements", el("p", {class: "soft"},
+    "A click on a statement shows its reply and marks the rows that it needed."),
+    refused.length > 0 && el("label", {class: "bar"}, only, "refused ones alone"), statementList, statementPanel);
+}
+
+// ---- tables
+
+let shownTable = D.tables.length ? D.tables[0].name : null;
+const tablePanel = el("div"), tableTabs = el("div", {class: "bar"});
+
+function neededBy(name, row) {
+  const found = needsOf.get(name + " " + row) || [];
+  return found.slice(0, 12).map(([number, rule], place) => [place ? ", " : "", el(place ? "span" : "b", {
+    title: `statement ${number}: the row ${D.rules[rule]}`}, `${number} ${rule}`)]).concat(
+    found.length > 12 ? ` and ${found.length - 12} more` : "");
+}
+
+function tableRow(name, row) {
+  const needs = needsOf.get(name + " " + row[0]) || [];
+  const isNeeded = chosen !== null && needs.some(([number]) => number === chosen);
+  return el("tr", {class: isNeeded ? "needed" : "", "data-row": `${name} ${row[0]}`}, el("td", {class: "number soft"}, row[0]),
+    row.slice(3).map(cell), el("td", {}, neededBy(name, row[0])));
+}
+
+function showTable() {
+  tableTabs.replaceChildren(...D.tables.map(table => el("button", {class: table.name === shownTable ? "on" : "",
+    "data-table": table.name, onclick: () => { shownTable = table.name; showTable(); }}, table.name)));
+  tablePanel.replaceChildren();
+  const table = D.tables.find(each => each.name === shownTable);
+  if (!table) return;
+  const rows = onlyNeeded.checked ? table.rows.filter(row => (needsOf.get(table.name + " " + row[0]) || []).some(
+    ([number]) => number === chosen)) : table.rows;
+  const list = paged(["row", ...table.columns.map(([name, kind]) => [name, el("div", {class: "soft"}, kind)]), "needed by"], rows,
+    row => tableRow(table.name, row));
+  const needed = chosen === null ? [] : D.statements[chosen].needs.filter(([name]) => name === table.name).flatMap(need => need[1]);
+  const numbers = new Set(needed.map(need => need[0])), first = rows.findIndex(row => numbers.has(row[0]));
+  if (first > 0) list.to(first);
+  put(tablePanel, [el("p", {}, el("b", {id: "packed"}, `${table.rows.length.toLocaleString("en")} of ` +
+    `${counted(table.next, "row")} packed`), ", key ", table.key.join(", ") || "none", table.foreign.map(text => "; " + text)),
+    list,
+    el("button", {onclick: () => save(table.name + ".csv", csv([table.columns.map(column => column[0]),
+      ...table.rows.map(row => row.slice(3))]))}, "save as CSV")]);
+}
+
+function tableSection() {
+  onlyNeeded = el("input", {type: "checkbox", disabled: true, onchange: () => showTable()});
+  const made = section("tables", "Tables", D.tables.length ? [tableTabs, el("label", {class: "bar"}, onlyNeeded,
+    "only rows that the chosen statement needed"), tablePanel] : el("p", {class: "soft"}, D.kind === "excluded" ?
+    "A package of recorded replies has no tables." : "The run asked no table."));
+  showTable();
+  return made;
+}
+
+// ---- over time
+
+function timeSection() {
+  const {columns, steps, lanes} = D.marks, left = 190, height = 22, limit = 120;
+  const shown = lanes.slice(0, limit), width = left + columns + 20;
+  const x = step => left + step * columns / (steps + 1);
+  const picture = svg("svg", {width, height: shown.length * height + 40, id: "time", role: "img"});
+  shown.forEach(([kind, name, marks], place) => {
+    const y = 20 + place * height;
+    put(picture, [svg("text", {x: 0, y: y + 4, "data-lane": `${kind} ${name}`},
+      kind === "process" ? "process " + name : name.length > 26 ? name.slice(0, 25) + "…" : name),
+      svg("line", {class: "lane", x1: left, x2: left + columns, y1: y, y2: y})]);
+    const life = kind === "process" && D.processes.find(process => process.name === name);
+    if (life) put(picture, [svg("line", {class: "life", x1: x(life.first), x2: x(life.last) + 1, y1: y, y2: y})]);
+    for (const [what, found] of Object.entries(marks)) {
+      put(picture, [svg("path", {class: "m-" + what, "stroke-width": 1.6, d: found.map(column =>
+        `M${left + column + .5} ${y - (what === "ask" || what === "change" ? 8 : 5)}v${what === "ask" || what === "change" ? 16 : 10}`).join("")})]);
+    }
+  });
+  const bottom = shown.length * height + 30;
+  put(picture, [0, .25, .5, .75, 1].map(part => svg("text", {x: x(part * steps) - 6, y: bottom},
+    Math.round(part * steps).toLocaleString("en"))));
+  const key = (color, text) => { const mark = el("i"); mark.style.background = color; return [mark, text]; };
+  return section("time", "Processes and files over steps", el("p", {class: "soft key"}, key("#b9cbe6", "a process is there"),
+    key("#1f5fa8", "an act"), key("#c77700", "a statement"), key("#7d9a66", "a file is read or looked for"),
+    key("#b3261e", "a file is changed")), el("div", {class: "wide"}, picture),
+    lanes.length > limit && el("p", {class: "soft"}, `${lanes.length - limit} more processes and files aren't drawn.`));
+}
+
+// ---- what an output came from
+
+const camePanel = el("div");
+let cameSelect = null;
+
+// The nodes from which a way of edges leads to a node, each edge at a time that isn't before the one before it.
+function cameFrom(target) {
+  const into = new Map();
+  D.graph.edges.forEach((edge, place) => { if (!into.has(edge[1])) into.set(edge[1], []); into.get(edge[1]).push(place); });
+  const found = new Map(), due = [];
+  const look = (node, time) => (into.get(node) || []).forEach(place => {
+    const [source, , first, last] = D.graph.edges[place], latest = Math.min(last, time);
+    if (latest >= first && !found.has(source)) push(due, [latest, source]);
+  });
+  look(target, LAST);
+  while (due.length) {
+    const [time, node] = pop(due);
+    if (!found.has(node)) { found.set(node, time); look(node, time); }
+  }
+  return found;
+}
+
+function push(heap, item) {
+  let at = heap.push(item) - 1;
+  while (at > 0 && heap[(at - 1) >> 1][0] < heap[at][0]) {
+    const up = (at - 1) >> 1;
+    [heap[up], heap[at]] = [heap[at], heap[up]];
+    at = up;
+  }
+}
+
+function pop(heap) {
+  const top = heap[0], last = heap.pop();
+  if (!heap.length) return top;
+  heap[0] = last;
+  for (let at = 0; ;) {
+    const left = 2 * at + 1, right = left + 1;
+    let most = at;
+    if (left < heap.length && heap[left][0] > heap[most][0]) most = left;
+    if (right < heap.length && heap[right][0] > heap[most][0]) most = right;
+    if (most === at) return top;
+    [heap[most], heap[at]] = [heap[at], heap[most]];
+    at = most;
+  }
+}
+
+const KINDS = ["path", "process", "row", "ask", "reply"];
+function nodeOrder(a, b) {
+  const one = D.graph.nodes[a], other = D.graph.nodes[b];
+  return KINDS.indexOf(one[0]) - KINDS.indexOf(other[0]) || (one[0] === "row" ? (one[1] < other[1] ? -1 : one[1] > other[1] ?
+    1 : one[2] - other[2] || one[3] - other[3]) : one[0] === "path" || one[0] === "process" ? a - b : one[1] - other[1]);
+}
+
+function choosePath(path) {
+  cameSelect.value = path;
+  showCame();
+}
+
+function showCame() {
+  camePanel.replaceChildren();
+  const target = D.graph.nodes.findIndex(node => node[0] === "path" && node[1] === cameSelect.value);
+  if (target < 0) return;
+  const found = cameFrom(target), places = [...found.keys()].sort(nodeOrder);
+  if (!places.length) { put(camePanel, [el("p", {id: "came-none"}, "It came from nothing: the run never wrote it.")]); return; }
+  const count = kind => places.filter(place => D.graph.nodes[place][0] === kind).length;
+  put(camePanel, [el("p", {id: "came-count"}, `${counted(count("path"), "file")}, ${counted(count("process"), "process", "processes")}, ` +
+    `${counted(count("row"), "row")} and ${counted(count("ask"), "statement")} can have had a part in it.`),
+    drawnGraph(target, found),
+    el("details", {}, el("summary", {}, "as a list"), el("ul", {class: "columns"}, places.slice(0, 5000).map(place =>
+      el("li", {"data-node": D.graph.nodes[place].join(" ")}, D.graph.nodes[place].join(" ")))))]);
+}
+
+// Statements stand for their replies, and rows are drawn together by table and by the statement that needed them first.
+function groupOf(place) {
+  const node = D.graph.nodes[place];
+  if (node[0] === "reply") return "ask " + node[1];
+  if (node[0] !== "row") return node.join(" ");
+  const needs = needsOf.get(node[1] + " " + node[2]);
+  return `row ${node[1]} ${needs ? needs[0][0] : "made"}`;
+}
+
+function drawnGraph(target, found) {
+  const groups = new Map(), edges = new Map(), shown = new Set([...found.keys(), target]);
+  for (const place of shown) {
+    const name = groupOf(place);
+    if (!groups.has(name)) groups.set(name, {kind: name.split(" ")[0], places: [], time: Infinity});
+    groups.get(name).places.push(place);
+  }
+  for (const [source, end, first, last] of D.graph.edges) {
+    if (!shown.has(source) || !shown.has(end)) continue;
+    const from = groupOf(source), to = groupOf(end), time = end === target ? LAST : found.get(end);
+    for (const name of [from, to]) groups.get(name).time = Math.min(groups.get(name).time, first);
+    if (from !== to && first <= time) {
+      const known = edges.get(from + "\n" + to);
+      edges.set(from + "\n" + to, {from, to, first: Math.min(first, known ? known.first : first), last: Math.max(last, known ? known.last : last)});
+    }
+  }
+  if (groups.size > DRAWN) return el("p", {class: "soft"}, `It would be a picture of ${groups.size} boxes; the list has all.`);
+  return layout(groups, edges, groupOf(target));
+}
+
+const LANES = ["path", "process", "ask", "row"];
+function layout(groups, edges, target) {
+  const boxWidth = 150, gap = 34, high = 40, laneHigh = 110;
+  const ordered = [...groups.entries()].sort((a, b) => a[1].time - b[1].time || LANES.indexOf(a[1].kind) - LANES.indexOf(b[1].kind));
+  const next = {}, spots = new Map();
+  let column = 0;
+  for (const [name, group] of ordered) {
+    column = Math.max(column, next[group.kind] || 0);
+    spots.set(name, {x: 10 + column * (boxWidth + gap), y: 10 + LANES.indexOf(group.kind) * laneHigh});
+    next[group.kind] = column + 1;
+    if (group.kind === "path" || group.kind === "row") column = Math.max(0, column);
+  }
+  const width = 20 + (Math.max(...[...spots.values()].map(spot => spot.x)) + boxWidth);
+  const picture = svg("svg", {width, height: 4 * laneHigh - 30, id: "graph", role: "img"}, svg("defs", {}, svg("marker", {id: "tip",
+    viewBox: "0 0 8 8", refX: 7, refY: 4, markerWidth: 7, markerHeight: 7, orient: "auto"}, svg("path", {d: "M0 0L8 4L0 8z",
+    fill: "#7c8995"}))));
+  for (const edge of edges.values()) put(picture, [drawnEdge(edge, spots, boxWidth, high)]);
+  for (const [name, group] of groups) put(picture, [drawnBox(name, group, spots.get(name), boxWidth, high, target)]);
+  return el("div", {class: "wide"}, picture);
+}
+
+function drawnEdge({from, to, first, last}, spots, boxWidth, high) {
+  const a = spots.get(from), b = spots.get(to), isDown = b.y > a.y, isLevel = a.y === b.y;
+  const x1 = a.x + boxWidth / 2 + (isLevel ? 0 : 8), x2 = b.x + boxWidth / 2 - (isLevel ? 0 : 8);
+  const y1 = isLevel ? a.y : isDown ? a.y + high : a.y, y2 = isLevel ? b.y : isDown ? b.y : b.y + high;
+  const bend = isLevel ? -38 : 0, middle = (y1 + y2) / 2;
+  const d = isLevel ? `M${x1} ${y1}C${x1} ${y1 + bend} ${x2} ${y2 + bend} ${x2} ${y2}` :
+    `M${x1} ${y1}C${x1} ${middle} ${x2} ${middle} ${x2} ${y2}`;
+  return svg("path", {class: "edge", d, "marker-end": "url(#tip)"}, svg("title", {}, `${from} to ${to}: step ${first}` + (last > first ? ` to ${last}` : "")));
+}
+
+function drawnBox(name, group, {x, y}, boxWidth, high, target) {
+  const [kind, ...rest] = name.split(" ");
+  const numbers = group.places.map(place => D.graph.nodes[place][2]).sort((a, b) => a - b);
+  const lines = kind === "path" ? [name.slice(5)] : kind === "row" ? [rest[0], "row " + [...new Set(numbers)].slice(0, 6).join(", ") +
+    (numbers.length > 6 ? " .." : "")] : kind === "ask" ? ["statement " + rest[0]] : ["process " + rest[0]];
+  const click = kind === "path" ? () => choosePath(lines[0]) : kind === "ask" ? () => { if (chosen !== Number(rest[0])) choose(Number(rest[0]));
+    location.hash = "statements"; } : null;
+  const fit = text => text.length > 22 ? text.slice(0, 21) + "…" : text;
+  const box = svg("g", {class: `node ${kind}${name === target ? " target" : ""}`, "data-box": name},
+    svg("rect", {x, y, width: boxWidth, height: high, rx: kind === "path" ? 18 : kind === "ask" ? 9 : 2}),
+    lines.map((line, place) => svg("text", {x: x + boxWidth / 2, y: y + high / 2 + 4 + (place - (lines.length - 1) / 2) * 15,
+      "text-anchor": "middle"}, fit(line))), svg("title", {}, lines.join(": ")));
+  if (click) box.addEventListener("click", click);
+  return box;
+}
+
+function cameSection() {
+  cameSelect = el("select", {id: "came-path", onchange: showCame});
+  if (!D.graph.nodes) return section("came", "What a file came from", el("p", {class: "soft"},
+    `The trace has ${counted(D.graph.edges, "edge")}, and a page shows up to ${D.graph.limit}: ldv inspect depends answers it.`));
+  const paths = D.graph.nodes.filter(node => node[0] === "path").map(node => node[1]);
+  const wrote = new Set(D.touched.map(file => file.path));
+  put(cameSelect, paths.sort((a, b) => wrote.has(b) - wrote.has(a)).map(path => el("option", {value: path},
+    path + (wrote.has(path) ? " (written)" : ""))));
+  showCame();
+  return section("came", "What a file came from", el("p", {class: "soft"}, "All that can have had a part in what the file is " +
+    "at the end. A click on a file in the picture asks for that one, a click on a statement shows it."),
+    el("label", {class: "bar"}, "file", cameSelect), camePanel);
+}
+
+// ---- files
+
+function fileSection() {
+  return section("files", "Files of the package", paged(["file", "", ""], D.files, file => el("tr", {},
+    el("td", {}, file.path), el("td", {}, file.content === null ? "only present" : counted(file.content.size, "byte")),
+    el("td", {}, contentOf(file.path, file.content)))));
+}
+
+// ---- the page
+
+function page() {
+  const titles = {outcome: "Outcome", statements: "Statements", tables: "Tables", time: "Over steps", came: "What a file came from",
+    files: "Files"};
+  onlyNeeded = el("input", {type: "checkbox"});
+  const sections = [outcomeSection(), statementSection(), tableSection(), timeSection(), null, fileSection()];
+  sections[4] = cameSection();
+  put(document.body, [head(), el("nav", {}, Object.entries(titles).map(([id, title]) => el("a", {href: "#" + id}, title))),
+    el("main", {}, sections)]);
+}
+
+page();
+document.body.dataset.ready = "yes";

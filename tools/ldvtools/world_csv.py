@@ -1,0 +1,164 @@
+"""Tables of CSV files."""
+from __future__ import annotations
+
+import csv
+import io
+import itertools
+import os
+import re
+from typing import Any, List, Optional, Sequence, Tuple
+
+from .errors import Misused, Refused
+from .progress import Progress
+from .values import plain_count
+from .world_settings import Settings, tidy_name, tidy_names
+from .world_tables import NO_VALUE, Column, Table, keep_columns
+
+MARKS = ((b"\xef\xbb\xbf", "utf-8-sig"), (b"\xff\xfe\x00\x00", "utf-32"), (b"\x00\x00\xfe\xff", "utf-32"),
+         (b"\xff\xfe", "utf-16"), (b"\xfe\xff", "utf-16"))
+OTHERS = ((b"PK\x03\x04", "a workbook, as Excel writes it: save it as CSV"),
+          (b"\xd0\xcf\x11\xe0", "a workbook of an old Excel: save it as CSV"),
+          (b"SQLite format 3\0", "an SQLite database: give --sqlite"),
+          (b"PAR1", "a Parquet file: docs/DUMPS.md says how it becomes CSV"),
+          (b"\x1f\x8b", "compressed: unpack it first"))
+MANY = 100_000
+
+
+def named_file(word: str) -> Tuple[Optional[str], str]:
+    """The NAME, where there is one, and the FILE of the word [NAME=]FILE."""
+    name, equals, path = word.partition("=")
+    return (name, path) if equals and not os.path.exists(word) else (None, word)
+
+
+def read_file(path: str, size: int = -1) -> bytes:
+    try:
+        with open(path, "rb") as file:
+            return file.read(size)
+    except OSError as fault:
+        raise Refused(f"{path}: {fault.strerror}") from None
+
+
+def read_csv(word: str, settings: Settings, delimiter: str, encoding: str, hints: List[str],
+             progress: Progress) -> Table:
+    """The table of a CSV file, not settled yet."""
+    given, path = named_file(word)
+    name = given or os.path.splitext(os.path.basename(path))[0]
+    name = settings.new_name(name, tidy_name(name) if settings.tidy and not given else name)
+    lines = Lines(path, text_of(path, encoding), "\t" if settings.is_tsv else delimiter, settings.is_tsv)
+    records = records_of(lines, progress)
+    if not records:
+        raise Refused(f"{path} is empty; its first line has to name the columns")
+    header = records.pop(0)
+    check_header(path, header, delimiter)
+    for place, row in enumerate(records, 1) if set(map(len, records)) - {len(header)} else ():
+        if len(row) != len(header):
+            raise Refused(f"{path} line {lines.of(place)}: {plain_count(len(row), 'cell')}, but the header has "
+                          f"{len(header)}")
+    kept: Sequence[int] = range(len(records))
+    blank = blank_places(records)
+    if blank and settings.skips_blank:
+        kept = sorted(set(kept) - set(blank))
+        records = [records[place] for place in kept]
+    elif blank:
+        hints.append(hint_of_blank(lines, blank))
+    plain = tidy_names(header) if settings.tidy else header
+    columns = [Column(settings.new_name(f"{name}.{cell}", own, f"{name}.#{place}"), cell)
+               for place, (cell, own) in enumerate(zip(header, plain), 1)]
+    for column, cells in zip(columns, zip(*records)):
+        column.cells = list(cells)
+    return Table(name, keep_columns(name, columns, settings), len(records), from_text=True,
+                 row_name=lambda row: f"{path} line {lines.of(kept[row] + 1)} (row {row} of {name})")
+
+
+def check_header(path: str, header: Sequence[str], delimiter: str) -> None:
+    if len(header) == 1 and delimiter not in ";\t" and re.search("[;\t|]", header[0]):
+        raise Refused(f"{path}: the first line has one name, {header[0]!r}; give --delimiter ';' or tab")
+
+
+def blank_places(records: List[List[str]]) -> List[int]:
+    """The records that have delimiters alone."""
+    width = len(records[0]) if records else 0
+    if width < 2 or not records.count([""] * width):
+        return []
+    return [place for place, row in enumerate(records) if not any(row)]
+
+
+def hint_of_blank(lines: Lines, blank: Sequence[int]) -> str:
+    shown = ", ".join(str(lines.of(place + 1)) for place in blank[:3])
+    rest = f" and {len(blank) - 3} more" if len(blank) > 3 else ""
+    return (f"{lines.path}: line {shown}{rest} has delimiters alone, and is a row of NULL; --skip-blank leaves it out")
+
+
+def text_of(path: str, encoding: str) -> str:
+    """The text of a CSV file, whose byte order mark says more than the encoding that is given."""
+    data = read_file(path)
+    for start, what in OTHERS:
+        if data.startswith(start):
+            raise Refused(f"{path} is no CSV file, but {what}")
+    encoding = next((name for mark, name in MARKS if data.startswith(mark)), encoding)
+    try:
+        text = data.decode(encoding)
+        # Some encodings have half surrogate pairs, which UTF-8 hasn't.
+        text.encode()
+    except UnicodeDecodeError as fault:
+        raise Refused(f"{path}: byte {fault.start} isn't {encoding}; give --encoding, such as cp1252 (of Windows) "
+                      "or latin-1") from None
+    except UnicodeError as fault:
+        raise Refused(f"{path} isn't {encoding}: {fault}") from None
+    except LookupError:
+        raise Misused(f"--encoding {encoding}: there is no such encoding") from None
+    return text.lstrip("\ufeff")
+
+
+class Lines:
+    """The line on which each record begins, counted only where a message wants it."""
+
+    def __init__(self, path: str, text: str, delimiter: str, is_tsv: bool) -> None:
+        self.path, self.text, self.delimiter, self.is_tsv = path, text, delimiter, is_tsv
+        self.found: List[int] = []
+
+    def reader(self) -> Any:
+        csv.field_size_limit(2**31 - 1)
+        quoting = csv.QUOTE_NONE if self.is_tsv else csv.QUOTE_MINIMAL
+        return csv.reader(io.StringIO(self.text, newline=""), delimiter=self.delimiter, quoting=quoting, strict=True)
+
+    def of(self, place: int) -> int:
+        if not self.found:
+            self.count()
+        return self.found[place]
+
+    def count(self) -> None:
+        reader, line = self.reader(), 1
+        try:
+            for record in reader:
+                if record:
+                    self.found.append(line)
+                line = reader.line_num + 1
+        except csv.Error as fault:
+            raise Refused(f"{self.path} line {line}: {fault}") from None
+
+
+def records_of(lines: Lines, progress: Progress) -> List[List[str]]:
+    """The records that aren't blank lines."""
+    reader = lines.reader()
+    records: List[List[str]] = []
+    try:
+        while chunk := list(itertools.islice(reader, MANY)):
+            records += chunk
+            progress.tell(f"{lines.path}: {len(records):,} rows are read")
+    except csv.Error:
+        lines.count()
+    records = [record for record in records if record] if [] in records else records
+    if lines.is_tsv and "\\" in lines.text:
+        return [[unescaped(cell) for cell in record] for record in records]
+    return records
+
+
+ESCAPES = {"t": "\t", "n": "\n", "r": "\r", "b": "\b", "f": "\f", "v": "\v", "0": "\0", "\\": "\\"}
+
+
+def unescaped(cell: str) -> str:
+    """A cell of a file without quotes. What stands for NULL stays as it is."""
+    if "\\" not in cell or cell == NO_VALUE:
+        return cell
+    return re.sub(r"(?s)\\(.)", lambda found: ESCAPES.get(found[1], found[1]), cell)

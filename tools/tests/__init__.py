@@ -1,0 +1,1 @@
+"""Tests of the tools; tools/check_tools.py runs them."""

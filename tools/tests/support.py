@@ -1,0 +1,92 @@
+"""What the tests of the tools share."""
+import contextlib
+import io
+import json
+import os
+import sqlite3
+import subprocess
+import sys
+import tempfile
+import unittest
+
+from ldvtools import world
+
+HERE = os.path.dirname(os.path.abspath(__file__))
+TOOLS = os.path.dirname(HERE)
+ROOT = os.path.dirname(TOOLS)
+EXAMPLES = os.path.join(ROOT, "examples")
+TUTORIAL = os.path.join(EXAMPLES, "tutorial")
+PROGRAM = os.path.join(ROOT, "crates", "ldv", "out", "ldv")
+ASK = ["--ask", "SELECT * FROM t"]
+# The words of docs/TUTORIAL.md for its two worlds.
+WEATHER = ["--csv", f"{TUTORIAL}/weather.csv", "--lower", "--key", "weather=id", "--rename",
+           "weather.Celsius=tenths", "--scale", "weather.tenths=1", "--sql", f"{TUTORIAL}/weather.sql"]
+LIBRARY = ["--rename", "members.fee=cents", "--scale", "members.cents=2",
+           "--sql", f"{TUTORIAL}/questions.sql"]
+
+
+def read(path):
+    with open(path, "rb") as file:
+        return file.read()
+
+
+def tool(module, *words, given=b""):
+    """What a tool ends with and writes to standard output and to standard error, in this process."""
+    out, err, before = io.TextIOWrapper(io.BytesIO(), "utf-8"), io.StringIO(), sys.stdin
+    sys.stdin = io.TextIOWrapper(io.BytesIO(given), "utf-8")
+    try:
+        with contextlib.redirect_stdout(out), contextlib.redirect_stderr(err):
+            status = module.main(list(words))
+    except SystemExit as end:
+        status = end.code
+    finally:
+        sys.stdin = before
+    out.flush()
+    return status, out.buffer.getvalue(), err.getvalue()
+
+
+def command(words, given=b""):
+    """What a program ends with and writes to standard output and to standard error."""
+    done = subprocess.run(words, input=given, stdout=subprocess.PIPE, stderr=subprocess.PIPE)
+    return done.returncode, done.stdout, done.stderr
+
+
+def ldv(words, given):
+    return command([PROGRAM, *words], given)
+
+
+def make_database(path, statements):
+    base = sqlite3.connect(path)
+    base.executescript(statements)
+    base.commit()
+    base.close()
+
+
+class InFolder(unittest.TestCase):
+    """A test with a folder of its own."""
+
+    def setUp(self):
+        folder = tempfile.TemporaryDirectory()
+        self.addCleanup(folder.cleanup)
+        self.folder = folder.name
+
+    def put(self, name, content):
+        path = os.path.join(self.folder, name)
+        with open(path, "wb") as file:
+            file.write(content if isinstance(content, bytes) else content.encode())
+        return path
+
+    def table(self, content, *words):
+        """The table t of a CSV file, as the document has it."""
+        status, out, err = tool(world, "--csv", self.put("t.csv", content), *ASK, *words)
+        self.assertEqual(status, 0, err)
+        return json.loads(out)["tables"]["t"]
+
+    def refused(self, message, *words, status=1):
+        """A call of world.py that is refused, writes nothing and says why."""
+        got, out, err = tool(world, *words)
+        self.assertEqual((got, out), (status, b""), err)
+        self.assertIn(message, err)
+
+    def csv_refused(self, message, content, *words):
+        self.refused(message, "--csv", self.put("t.csv", content), *ASK, *words)

@@ -1,0 +1,160 @@
+"""bench/refused.py and bench/hostile.py, with answers that are given to them."""
+import os
+import shutil
+import subprocess
+import sys
+import unittest
+from unittest import mock
+
+import package
+import packages
+
+from .support import EXAMPLES, ROOT, InFolder, command, read, tool
+from .test_documents import INSTRUCTIONS
+
+sys.path.append(os.path.join(ROOT, "bench"))
+import hostile                                                               # noqa: E402
+import refused                                                               # noqa: E402
+
+
+# A program that asks for memory in each way, five times, and says so where it gets none.
+ASKER = """
+#include <stdio.h>
+#include <stdlib.h>
+int main(void) {
+    char *a = malloc(10), *b = a ? calloc(3, 4) : 0, *c = b ? realloc(a, 100) : 0;
+    void *d = 0;
+    if (!c || posix_memalign(&d, 64, 10) || !aligned_alloc(64, 64)) {
+        fputs("ldv: out of memory\\n", stderr);
+        return 11;
+    }
+    return 0;
+}
+"""
+
+
+class RefusedMemory(InFolder):
+    """bench/refused.py, with answers that are given to it."""
+
+    def setUp(self):
+        super().setUp()
+        rows = {"s": [packages.row(0, 1)], "t": [packages.row(3, 1), packages.row(5, 2)], "u": []}
+        tables = [packages.table(name, [packages.column("k")], rows=rows[name]) for name in rows]
+        trace = [packages.started(), packages.act("wrote", "f"), packages.act("opened append", "g"), packages.asked(),
+                 packages.ended()]
+        self.package = packages.encode(packages.package(steps=8, tables=tables, trace=trace))
+
+    def answered(self, number="3\n", other=None):
+        """What refused.py ends with and prints where each command has so many requests, perhaps with one other answer."""
+        def call(_, words, data, at=0, count=""):
+            with open(count or os.devnull, "w", encoding="ascii") as file:
+                file.write(number)
+            if at == 0:
+                return 0, self.package, b""
+            return other if at == 2 and other else (11, b"", b"ldv: out of memory\n")
+        path = self.put("any", "")
+        with mock.patch("refused.Program.call", call):
+            return tool(refused, path, path, "--jobs", "1")
+
+    def test_answers(self):
+        status, out, err = self.answered()
+        self.assertEqual((status, err), (0, ""))
+        for words in ("record --excluded", "inspect depends f", "inspect why t 3", "table t 8", "gen 2"):
+            self.assertIn(f"{words}: 3 requests, 0 done without, 0 answered otherwise\n", out.decode())
+        status, out, _ = self.answered(other=(0, self.package, b""))
+        self.assertEqual(status, 0)
+        self.assertIn("run: 3 requests, 1 done without, 0 answered otherwise\n", out.decode())
+        for other in ((0, b"", b""), (11, b"x", b"ldv: out of memory\n"), (None, b"", b"")):
+            status, out, _ = self.answered(other=other)
+            self.assertEqual(status, 1)
+            self.assertIn(f"request 2: status {other[0]}", out.decode())
+        self.assertIn("no request of memory", self.answered(number="0\n")[0])
+
+    def test_no_rows(self):
+        items = refused.items_of(package.Package(packages.encode(packages.package())))
+        self.assertEqual(list(items), [["inspect", "depends", "main"]])
+
+    @unittest.skipUnless(shutil.which("cc") and sys.platform == "linux", "there is no cc")
+    def test_shim(self):
+        """The request of a number is refused, and all are counted. A shim that isn't one is found."""
+        asker, shim = os.path.join(self.folder, "asker"), os.path.join(self.folder, "refuse.so")
+        self.assertEqual(command(["cc", "-fno-builtin", "-w", "-o", asker, self.put("asker.c", ASKER)])[0], 0)
+        self.assertEqual(command(["cc", "-shared", "-fPIC", "-Wall", "-Werror", "-o", shim,
+                                  os.path.join(ROOT, "bench", "refuse.c")])[0], 0)
+        program = refused.Program(asker, shim, self.folder)
+        self.assertEqual(program.requests([], b""), (5, b""))
+        for number in range(1, 6):
+            self.assertEqual(program.call([], b"", number), refused.REFUSED, number)
+        self.assertEqual(program.call([], b"", 6), (0, b"", b""))
+        program.shim = self.put("none.so", "")
+        with self.assertRaisesRegex(SystemExit, "was not taken in"):
+            program.requests([], b"")
+
+
+class FakeCalls:
+    """In place of the calls of hostile.py: each gets the same answer, and what is asked is kept."""
+
+    def __init__(self, answer, asked_here):
+        self.answer, self.asked = answer, asked_here
+
+    def call(self, words, data):
+        self.asked.append((words, data))
+        return self.answer if words[0] != "record" else (6, b"", b"ldv: not a world: shape\n")
+
+
+class HostileInputs(InFolder):
+    """bench/hostile.py, with answers that are given to it."""
+
+    def test_complaints(self):
+        line = b"ldv: a line\n"
+        for words, right, answer in (
+                (["run"], True, (0, b"x", b"")), (["run"], True, (6, b"", line)), (["run"], True, (11, b"", line)),
+                (["table", "order", "0"], False, (2, b"", line)), (["inspect", "rows"], True, (0, b"", b"")),
+                (["inspect", "depends", "q"], True, (0, b"", b"")), (["replay"], True, (9, b"", line))):
+            self.assertIsNone(hostile.complaint(words, right, answer), (words, answer))
+        for words, right, answer in (
+                (["run"], True, (2, b"", line)), (["run", "run"], False, (0, b"x", b"")),
+                (["run", "run"], False, (6, b"", line)), (["run"], True, (0, b"", b"")),
+                (["inspect", "files"], True, (0, b"", b"")), (["run"], True, (0, b"x", line)),
+                (["run"], True, (6, b"x", line)), (["run"], True, (6, b"", line + line)), (["run"], True, (6, b"", b"")),
+                (["run"], True, (-11, b"", b"")), (["run"], True, (8, b"", line)), (["run"], True, (None, b"", b""))):
+            self.assertIsNotNone(hostile.complaint(words, right, answer), (words, answer))
+
+    def test_other_values(self):
+        """A document whose parts are of other types has no cells and no scripts."""
+        for rows in (5, True, 2 ** 64, "ab", None, {"a": [1]}):
+            self.assertEqual(hostile.inner_places({"files": {}, "tables": {"t": {"rows": rows}}}), [])
+        self.assertEqual(hostile.inner_places({"files": {}, "tables": {"t": {"rows": [5, [1]]}}}), [([1], 0)])
+
+    def asked(self, answer):
+        """The calls of a few inputs where each but `record` gets this answer."""
+        asked_here, document = [], read(f"{EXAMPLES}/orders.json")
+        made = packages.encode(packages.package())
+        job = ("program", {"modes": [[], ["--excluded"]]}, 1, 200, self.folder, list(hostile.STATUSES), self.folder)
+        with mock.patch("hostile.Calls", lambda *_: FakeCalls(answer, asked_here)), \
+                mock.patch("hostile.replays", lambda *_: None), \
+                mock.patch("hostile.corpus", lambda: ([document], [document], [made], [made])):
+            hostile.work(job)
+        return asked_here
+
+    def test_same_inputs(self):
+        """The inputs don't depend on the answers."""
+        asked_here = self.asked((0, b"x", b""))
+        self.assertEqual(len(asked_here), 201)
+        self.assertEqual(asked_here, self.asked((6, b"", b"ldv: not a world: shape\n")))
+
+    def test_scripts(self):
+        """The scripts of both benches find their folder, and say where the program isn't there."""
+        program = os.path.join(self.folder, "none")
+        for name in ("hostile", "refused") if shutil.which("cc") else ("hostile",):
+            done = subprocess.run([f"bench/{name}.sh"], cwd=ROOT, stdout=subprocess.PIPE, stderr=subprocess.PIPE, check=False,
+                                  env={**os.environ, "CDPATH": ROOT, "LDV": program, "TMPDIR": self.folder})
+            self.assertEqual((done.returncode, done.stdout), (2, b""), done.stderr)
+            self.assertTrue(done.stderr.endswith(f" {program}\n".encode() if name == "refused" else b" is no program\n"))
+            self.assertEqual(os.listdir(self.folder), [])
+
+    def test_lines(self):
+        """Each instruction of the language is in the lines that scripts are given."""
+        chance = hostile.random.Random(1)
+        found = {(hostile.script_line(chance).split(" ") + [""])[0] for _ in range(2000)}
+        self.assertEqual(set(INSTRUCTIONS) - found, set())

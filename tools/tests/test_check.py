@@ -1,0 +1,237 @@
+"""check.py: bad lines and refused statements, against the program's answers in the cases."""
+import glob
+import json
+import os
+import re
+
+from ldvtools import check, outcome, world
+from ldvtools.errors import Malformed
+from ldvtools.outcomes import read_outcome
+from ldvtools.packages import read_package
+from ldvtools.rerun import questions_of
+from ldvtools.scripts import FORMS, BadLine, read_script
+from ldvtools.sql_check import UNKNOWN, judge
+from ldvtools.worlds import read_world, world_of_package
+
+from .support import ASK, ROOT, InFolder, tool
+
+SCHEMAS = {"t": [("k", "INT NOT NULL"), ("g", "TEXT"), ("v", "INT")], "u": [("k", "INT"), ("w", "TEXT NOT NULL")]}
+BAD_LINE = re.compile(r"ldv: not a world: bad script line (\d+)\n")
+
+
+def bytes_of(text):
+    return bytes.fromhex(text["hex"]) if isinstance(text, dict) else text.encode("utf-8", "surrogatepass")
+
+
+def cases():
+    """The cases of the program: the words, the input, the status, the output and the line."""
+    for path in sorted(glob.glob(os.path.join(ROOT, "crates/conformance/data/*.json"))):
+        with open(path, encoding="utf-8") as file:
+            for case in json.load(file):
+                yield case["words"], bytes_of(case["input"]), case["status"], bytes_of(case["output"]), case["error"]
+
+
+class AgainstCases(InFolder):
+    def test_bad_lines(self):
+        """A line is bad exactly where the program says so."""
+        bad = good = 0
+        for words, data, status, _, error in cases():
+            found = BAD_LINE.fullmatch(error)
+            if words[:1] not in (["run"], ["record"]) or status != 0 and not found:
+                continue
+            made = json.loads(data)
+            script = bytes_of(made["files"][made["start"][0]])
+            try:
+                read_script(script)
+                self.assertIsNone(found, script)
+                good += 1
+            except BadLine as fault:
+                self.assertEqual(fault.line, int(found[1]) if found else 0, script)
+                bad += 1
+        self.assertTrue(bad > 20 and good > 200, (bad, good))
+
+    def test_codes(self):
+        """A statement is refused by a code from 1 to 4 exactly where the reply says so, and has as many columns."""
+        codes = {0: 0, 1: 0, 2: 0, 3: 0, 4: 0}
+        for words, data, status, output, _ in cases():
+            if status != 0 or words != ["run"]:
+                continue
+            document = read_world(data)
+            for question in questions_of(document.world, read_outcome(output)):
+                judged = judge(question.text, question.params, document.schemas)
+                code = question.reply.code if question.reply.code <= 4 else 0
+                self.assertEqual(judged.finding.code if judged.finding else 0, code, (question, judged))
+                codes[code] += 1
+                for row in question.reply.rows[:1]:
+                    self.assertEqual(len(row), len(judged.names), question)
+        self.assertTrue(all(count >= 5 for count in codes.values()), codes)
+
+    def test_replays(self):
+        """The scripts of each package lead to the outcome of its replay, whatever its kind and version."""
+        count = 0
+        for words, data, status, output, _ in cases():
+            if words == ["replay"] and status == 0:
+                questions_of(world_of_package(read_package(data)).world, read_outcome(output))
+                count += 1
+        self.assertGreater(count, 50)
+
+    def test_other_outcomes(self):
+        """An outcome of another world is found."""
+        document = read_world(b'{"start":["m"],"files":{"m":"print 1\\nsql q \\"SELECT 1 FROM t\\"\\n"}}')
+        for text in ("outcome 1 0\nprocess 0 0 2 0\n1\n\n", "outcome 1 0\nprocess 0 0 2 1\n2\n\nrefused 2\n",
+                     "outcome 1 0\nprocess 0 1 2 1\n1\n\nrefused 2\n",
+                     "outcome 2 0\nprocess 0 0 2 1\n1\n\nrefused 2\nprocess 0.0 0 0 0\n\n",
+                     "outcome 1 1\nprocess 0 0 2 1\n1\n\nrefused 2\nfile 1 0\na\n\n"):
+            with self.assertRaises(Malformed):
+                questions_of(document.world, read_outcome(text.encode()))
+
+
+class Hints(InFolder):
+    """What it says is wrong, and what to write instead."""
+
+    def test_statements(self):
+        for text, code, said in (
+                ("SELECT AVG(v) FROM t", 1, "ask SUM(x) and COUNT(x)"),
+                ("SELECT * FROM t WHERE k IN (1, 2)", 1, "write x = 1 OR x = 2"),
+                ("SELECT * FROM t WHERE k NOT IN (1, 2)", 1, "SELECT DISTINCT taken off"),
+                ("SELECT * FROM t WHERE k BETWEEN 1 AND 2", 1, "write x >= 1 AND x <= 5"),
+                ("SELECT * FROM t WHERE g LIKE 'a%'", 1, "x >= 'ab' AND x < 'ac'"),
+                ("SELECT CASE WHEN k = 1 THEN 2 END FROM t", 1, "UNION ALL"),
+                ("SELECT COALESCE(v, 0) FROM t", 1, "x IS NOT NULL"),
+                ("SELECT * FROM t WHERE k = (SELECT MAX(k) FROM u)", 1, "no subqueries"),
+                ("SELECT * FROM t LIMIT 3 OFFSET 2", 1, "pass over the first ones"),
+                ("SELECT * FROM t WHERE k == 1", 1, "equal is one ="),
+                ("SELECT * FROM t LEFT OUTER JOIN u ON t.k = u.k", 1, "outer join"),
+                ("SELECT * FROM t NATURAL JOIN u", 1, "JOIN .. ON"),
+                ("SELECT k AS count FROM t", 1, "count is a reserved word"),
+                ("SELECT k n FROM t", 1, "AS n"),
+                ("SELECT 1", 1, "each SELECT has FROM"),
+                ("SELECT k / 2 FROM t", 1, "no division"),
+                ("SELECT * FROM t WHERE g = \"a\"", 1, "a text stands in '"),
+                ("SELECT * FROM t -- all", 1, "no comments"),
+                ("SELECT * FROM t WHERE v = 1.5", 1, "no decimals"),
+                ("SELECT COUNT(DISTINCT g) FROM t", 1, "SELECT DISTINCT and count"),
+                ("INSERT INTO t SELECT * FROM u", 1, "takes VALUES"),
+                ("DELETE FROM t; DELETE FROM u", 1, "an instruction of its own"),
+                ("SELECT k FROM t ORDER BY t.k", 1, "name it with AS"),
+                ("SELECT k FROM t LIMIT 1 UNION SELECT k FROM u", 1, "at the end of the whole query"),
+                ("CREATE TABLE x (a INT)", 1, "tables come with the world"),
+                ("SELECT * FROM tt", 2, "did you mean t?"),
+                ("SELECT * FROM t, t", 2, "two sources have the name t"),
+                ("SELECT vv FROM t", 3, "did you mean v?"),
+                ("SELECT k FROM t, u", 3, "write t.k"),
+                ("SELECT k FROM t WHERE g = pen", 3, "a text would be 'pen'"),
+                ("SELECT k, g FROM t GROUP BY g", 3, "k stands outside aggregates"),
+                ("SELECT k FROM t ORDER BY v", 3, "no answer column is named v"),
+                ("SELECT * FROM t WHERE v = '3'", 4, "= compares v, a number, with a text"),
+                ("SELECT SUM(g) FROM t", 4, "SUM of g, a text"),
+                ("SELECT COUNT(*) FROM t JOIN u ON t.k = u.k", 4, "SUM(x * 0 + 1)"),
+                ("INSERT INTO t VALUES (1, 'a')", 4, "2 values for 3 columns (k, g, v)"),
+                ("UPDATE t SET v = 'a'", 4, "v is INT")):
+            found = judge(text, [], SCHEMAS).finding
+            self.assertEqual(found and found.code, code, text)
+            self.assertIn(said, found.cause, text)
+        self.assertIsNone(judge("SELECT k FROM t WHERE k = ? LIMIT ?", [UNKNOWN, UNKNOWN], SCHEMAS).finding)
+        self.assertEqual(judge("SELECT k, v + 1, g AS x FROM t", [], SCHEMAS).names, ["k", None, "x"])
+        self.assertEqual(judge("SELECT * FROM u, t", [], SCHEMAS).names, ["k", "w", "k", "g", "v"])
+
+    def test_joins(self):
+        """Words of other dialects that are names here are found before JOIN."""
+        for word in ("LEFT", "right", "Full", "CROSS", "NATURAL", "OUTER"):
+            judged = judge(f"SELECT 1 FROM t {word} JOIN u ON 1 = 1", [], SCHEMAS)
+            self.assertIsNone(judged.finding)
+            self.assertIn("this is an inner join", judged.warnings[0])
+        self.assertEqual(judge("SELECT 1 FROM t AS left JOIN u ON 1 = 1", [], SCHEMAS).warnings, [])
+
+    def test_deep_texts(self):
+        """A text of many parentheses or minuses has no reading, and needs no deep stack."""
+        for text in ("(" * 30000, "NOT " * 10000, "- " * 30000):
+            self.assertEqual(judge(f"SELECT k FROM t WHERE {text}", [], SCHEMAS).finding.code, 1)
+        for depth, code in ((63, None), (64, 1)):
+            found = judge("SELECT " + "(" * depth + "k" + ")" * depth + " FROM t", [], SCHEMAS).finding
+            self.assertEqual(found and found.code, code, depth)
+
+    def test_lines(self):
+        for line, said in (
+                ("prin 1", "perhaps print v v*"), ("x = 1", "let x = v"), ("let x=1", "blanks stand between"),
+                ("let x = 1.5", "no decimals"), ("let x = 'a'", 'a text stands in "'), ('print "a', 'closing "'),
+                ('print "\\q"', "\\q in a text"), ("goto nowhere", "no line is the label nowhere"),
+                ("open f x \"p\" else e", "r or w or a or n"), ("readline a b", "else is missing"),
+                ("Let x = 1", "perhaps let x = v"), ("cut x x 1", "the two variables are one"),
+                ("let x = 9223372036854775808", "outside 64 bits"), ("e: 1", "a line of its own"),
+                ('print "a""b"', "no blank"), ("exit", "a value is missing"), ("close F", "no upper-case letters")):
+            with self.assertRaises(BadLine) as caught:
+                read_script(f"e:\n{line}\n".encode())
+            self.assertEqual(caught.exception.line, 2, line)
+            self.assertIn(said, caught.exception.rule, line)
+        with self.assertRaises(BadLine) as caught:
+            read_script(b"e:\n\ne:\n")
+        self.assertEqual(str(caught.exception), "line 3: the label e is on line 1 already")
+        self.assertEqual(len(FORMS), 19)
+
+
+WORLD = {"start": ["main"], "files": {
+    "main": 'sql q "SELECT kk FROM t"\nlet s = "SELECT * FROM tt"\nsql q s\nsql r "SELECT k, g FROM t"\nfetch r a else e\n'
+            'spawn c "child" else e\ne:\nlet t = t ++ "x"\nsql q t\n',
+    "child": "prin 1\n", "data": "no script\n"}, "tables": {"t": {"columns": [["k", "INT"], ["g", "TEXT"]], "rows": []}}}
+
+
+class Command(InFolder):
+    def test_world(self):
+        """Both kinds of findings, in a child too, with the place that is meant."""
+        path = self.put("w.json", json.dumps(WORLD))
+        status, out, err = tool(check, path)
+        self.assertEqual((status, err), (1, ""))
+        self.assertEqual(out.decode(), """\
+main line 1: the statement will be refused with code 3: there is no column kk (columns: k, g); did you mean k?; a text would \
+be 'kk'
+    SELECT kk FROM t
+           ^
+main line 3: the statement will be refused with code 2: there is no table tt (tables: t); did you mean t?
+    SELECT * FROM tt
+                  ^
+main line 5: fetch takes 1 column of a reply of 2: with the first row that is misuse, which ends the process with 240
+child line 1: bad: 'prin' is no instruction; perhaps print v v*
+""")
+        self.assertEqual(tool(check, "--statement", "SELECT k FROM t WHERE k = ?", path), (0, b"", ""))
+        self.assertIn(b"code 3", tool(check, "--statement", "SELECT x FROM t", path)[1])
+        self.assertEqual(tool(check, given=b"{}")[0], 1)
+
+    def test_good(self):
+        made = {"start": ["m"], "files": {"m": 'sql q "SELECT 1 FROM t"\n'}, "tables": {"t": {"columns": [["k", "INT"]]}}}
+        status, out, err = tool(check, given=json.dumps(made).encode())
+        self.assertEqual((status, out, err), (0, b"", "no bad line, and no refused statement among 1\n"))
+
+    def test_outcome(self):
+        """Of a run: each refused statement and each misuse, with its cause."""
+        made = {"start": ["m"], "files": {"m": 'sql q "INSERT INTO t VALUES (?)" "x"\nprint 1\nlet a = a + 1\n'},
+                "tables": {"t": {"columns": [["k", "INT"]]}}}
+        world_path = self.put("w.json", json.dumps(made))
+        path = self.put("o", "outcome 1 0\nprocess 0 240 2 1\n1\n\nrefused 4\n")
+        status, out, _ = tool(check, "--outcome", path, world_path)
+        self.assertEqual((status, out.decode()), (1, """\
+process 0 step 1, statement 1: refused with code 4: k is INT, and a text doesn't fit
+    INSERT INTO t VALUES (?)
+                          ^
+    with x
+process 0: line 3 of its script is misuse: a wrong kind of value, or a name that means nothing: let a + null 1
+"""))
+        shown = tool(outcome, "--world", world_path, path)[1].decode()
+        self.assertIn("  > INSERT INTO t VALUES (?)\n  > with x\n", shown)
+
+    def test_world_maker(self):
+        """world.py warns of what it makes, and refuses a join that would mean another one."""
+        path = self.put("t.csv", "k,g\n1,a\n")
+        words = ["--csv", path]
+        status, out, err = tool(world, *words, "--ask", "SELECT x FROM t")
+        self.assertEqual(status, 0)
+        self.assertIn("world.py: warning: main line 1: the statement will be refused with code 3", err)
+        self.refused("this is an inner join", *words, "--ask", "SELECT t.k FROM t LEFT JOIN t u ON t.k = u.k")
+        script = self.put("m", 'sql q "SELECT 1 FROM t CROSS JOIN t u ON 1 = 1"\n')
+        self.refused("this is an inner join", *words, "--script", script)
+        self.assertEqual(tool(world, *words, "--script", script, "--no-check", "-q")[0], 0)
+        self.refused("--strict", *words, "--strict", "--ask", "SELECT x FROM t")
+        child = self.put("c", "prin\n")
+        status, _, err = tool(world, "--script", self.put("m", 'spawn c "c" else e\ne:\n'), "--file", child)
+        self.assertIn("c line 1: bad: 'prin' is no instruction", err)
+        self.assertEqual(tool(world, *words, *ASK)[2].count("warning"), 0)

@@ -1,0 +1,79 @@
+"""diff.py, over outcomes and packages."""
+import os
+
+import packages
+
+from ldvtools import diff
+
+from .support import EXAMPLES, InFolder, read, tool
+
+BEFORE = b"outcome 1 1\nprocess 0 0 4 2\na\nb\n\nrows 2\nrow 1\nint 1\nrow 1\nint 2\nchanged 1\nfile 1 2\nf\nx\n\n"
+
+
+class Differences(InFolder):
+    def compared(self, before, after, *words):
+        return tool(diff, *words, self.put("a", before), self.put("b", after))
+
+    def test_outcomes(self):
+        self.assertEqual(self.compared(BEFORE, BEFORE), (0, b"", ""))
+        for old, new, said in (
+                (b"0 0 4", b"0 3 4", b"process 0: status 0, and 3\n"),
+                (b"a\nb", b"a\nc", b"process 0 prints something else\n  @@ -2 +2 @@\n  -b\n  +c\n"),
+                (b"int 2", b"int 3", b"process 0 reply 1: 2 rows, and 2 rows\n  - 2\n  + 3\n"),
+                (b"int 1\nrow 1\nint 2", b"int 2\nrow 1\nint 1", b"the same rows in another order"),
+                (b"changed 1", b"refused 3", b"reply 2: 1 row changed, and refused with code 3"),
+                (b"f\nx\n", b"f\ny\n", b"file f: 2 bytes, and 2 bytes\n"),
+                (b"file 1 2\nf\nx\n\n", b"removed 1\nf\n", b"file f: the first has content, the second has none")):
+            self.assertIn(old, BEFORE)
+            status, out, err = self.compared(BEFORE, BEFORE.replace(old, new, 1))
+            self.assertEqual((status, err), (1, ""), new)
+            self.assertIn(said, out)
+
+    def test_statements(self):
+        """With the world, each reply has its statement."""
+        after = read(f"{EXAMPLES}/orders.outcome").replace(b"int 14", b"int 15")
+        path = self.put("after", after)
+        status, out, _ = tool(diff, "--world", f"{EXAMPLES}/orders.json", f"{EXAMPLES}/orders.outcome", path)
+        self.assertEqual(status, 1)
+        self.assertIn(b"process 0.0 reply 1 (SELECT c.name", out)
+
+    def test_limit(self):
+        many = b"".join(b"row 1\nint %d\n" % n for n in range(30))
+        text = b"outcome 1 0\nprocess 0 0 0 1\n\nrows %d\n%s"
+        status, out, _ = self.compared(text % (30, many), text % (0, b""))
+        self.assertIn(b"  .. and 10 lines more (--all shows all)\n", out)
+        self.assertEqual(self.compared(text % (30, many), text % (0, b""), "--all")[1].count(b"\n"), 31)
+
+    def test_packages(self):
+        columns = [packages.column("k", "INT NOT NULL")]
+        tables = [packages.table("t", columns, next=5, rows=[packages.row(0, 1), packages.row(2, 3)])]
+        trace = [packages.started(), packages.asked(0, tables=["t"], reads=[packages.group("t", packages.read(0))]),
+                 packages.ended()]
+        base = dict(tables=tables, trace=trace)
+        before = packages.encode(packages.package(**base))
+        self.assertEqual(self.compared(before, before), (0, b"", ""))
+        for change, said in (
+                (dict(seed=7), b"seed: 0, and 7\n"),
+                (dict(files=[packages.file("main", "exit 1")]), b"file main: 6 bytes, and 6 bytes\n"),
+                (dict(tables=[packages.table("t", columns, next=5, rows=[packages.row(0, 2)])]),
+                 b"table t: 2 packed rows, and 1\n  - row 0: 1\n  + row 0: 2\n  - row 2: 3\n"),
+                (dict(tables=[]), b"- table t\n"),
+                (dict(trace=[packages.started(), packages.asked(0, tables=["t"]), packages.ended()]),
+                 b"process 0 statement 1: needs 1 row, and 0\n  - t 0 version 0 rule L\n")):
+            status, out, err = self.compared(before, packages.encode(packages.package(**{**base, **change})))
+            self.assertEqual((status, err), (1, ""))
+            self.assertIn(said, out)
+
+    def test_logs(self):
+        def spelled(*entries):
+            return packages.encode(packages.package(mode=2, logs=[packages.log([0], *entries)],
+                                                    trace=[packages.started(), packages.asked(0), packages.ended()]))
+        before = spelled(packages.entry("SELECT 1", [1], dict(changed=1)))
+        status, out, _ = self.compared(before, spelled(packages.entry("SELECT 2", [1], dict(changed=2))))
+        self.assertEqual(out.decode(), "process 0 statement 1 is another one\n  - SELECT 1 with 1\n  + SELECT 2 with 1\n"
+                                       "process 0 statement 1: 1 row changed, and 2 rows changed\n")
+
+    def test_misuse(self):
+        self.assertEqual(self.compared(BEFORE, packages.encode(packages.package()))[0], 2)
+        self.assertEqual(self.compared(BEFORE, b"x")[0], 2)
+        self.assertEqual(tool(diff, os.path.join(self.folder, "none"), "none")[0], 2)

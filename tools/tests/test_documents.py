@@ -1,0 +1,187 @@
+"""The checks of documents, with what they have to find."""
+import contextlib
+import io
+import json
+import os
+import shutil
+import unittest
+
+import check_docs
+import check_page
+import check_scripts
+
+from ldvtools.sql_check import judge
+
+from .support import ROOT, InFolder, command, read, tool
+from .test_examples import asked, in_sqlite, reply_text
+
+
+INSTRUCTIONS = """let cut goto if print exit open readline write copy close remove exists spawn wait sql fetch count
+    status""".split()
+
+
+class ScriptsPage(unittest.TestCase):
+    def setUp(self):
+        self.examples, self.tables = check_scripts.read_page(read(check_scripts.PAGE).decode())
+
+    def test_examples(self):
+        """Each instruction and each status of misuse is in an example, and nothing is passed over."""
+        lines = [line.split() for example in self.examples for line in example.script.split("\n")]
+        used = {words[0] for words in lines if len(words) > 1}
+        self.assertEqual(set(INSTRUCTIONS) - used, set())
+        for sign in ("+", "-", "*", "++"):
+            self.assertTrue(any(words[:1] == ["let"] and words[4:5] == [sign] for words in lines), sign)
+        self.assertTrue(any(words[:1] == ["let"] and words[3:4] == ["int"] for words in lines))
+        self.assertEqual({words[2] for words in lines if words[:1] == ["open"]}, set("rwan"))
+        ends = {run.status for example in self.examples for run in example.runs}
+        self.assertTrue({240, 241, 242, 243, 244} <= ends)
+        self.assertEqual([len(example.runs) for example in self.examples if len(example.runs) > 1], [2])
+        self.assertEqual([table[:2] for table in self.tables], [("items", "id")])
+
+    def test_wrong_pages(self):
+        """A page that says something else than the run is found."""
+        page = "# a\n\nWith the file `f`:\n\n    x\n\nthis script\n\n    print 1\n\nprints\n\n    1\n\nand leaves no `f`.\n"
+        right = b"outcome 1 1\nprocess 0 0 2 0\n1\n\nremoved 1\nf\n"
+        printed = io.StringIO()
+        with contextlib.redirect_stdout(printed):
+            self.assertEqual(check_scripts.check(page, lambda given: (0, right, b"")), (1, 0))
+            for old, new in ((b"0 0 2", b"0 1 2"), (b"\n1\n", b"\n2\n"), (b"removed 1\nf", b"file 1 0\nf\n")):
+                wrong = right.replace(old, new, 1)
+                self.assertEqual(check_scripts.check(page, lambda given: (0, wrong, b"")), (1, 1))
+            self.assertEqual(check_scripts.check(page, lambda given: (7, b"", b"ldv: not ended after 1000000 steps\n")), (1, 1))
+        self.assertEqual(printed.getvalue().count("\n"), 4)
+
+    def test_first_line(self):
+        self.assertEqual(check_scripts.pieces("    a\n"), [("block", 1, "a\n"), ("text", 3, "end")])
+
+
+PAGE = """# a page
+
+    $ echo one \\
+        two; ls
+    one two
+
+    no command
+
+    $ false
+    $ ./ldv run
+    said run
+    more
+
+text
+"""
+
+
+class Pages(InFolder):
+    def program(self):
+        path = self.put("fake", '#!/bin/sh\nprintf "said $1\\r\\nmore\\n" >&2\n')
+        os.chmod(path, 0o755)
+        return path
+
+    def test_page(self):
+        program = self.program()
+        shown = [(each.command, each.lines) for each in check_page.commands(PAGE)]
+        self.assertEqual(shown, [("echo one \\\n        two; ls", ["one two"]), ("false", []),
+                                 ("./ldv run", ["said run", "more"])])
+        path = self.put("page.md", PAGE)
+        words = ["--program", program, path]
+        status, out, _ = tool(check_page, *words)
+        self.assertEqual(status, 1)
+        self.assertIn(b"line 6: echo one", out)
+        self.assertIn(b"page: nothing\n    now:  examples\n", out)
+        self.assertIn(b"3 commands, 1 differ", out)
+        self.assertEqual(tool(check_page, "--fill", *words)[0], 0)
+        self.assertEqual(read(path).decode(), PAGE.replace("    one two\n", "    one two\n    examples\n    ldv\n    tools\n"))
+        self.assertEqual(tool(check_page, *words)[0], 0)
+        self.put("page.md", read(path).decode().replace("    more\n", ""))
+        self.assertIn(b"now:  more", tool(check_page, *words)[1])
+        self.assertEqual(tool(check_page, "--program", program + "x", path)[0], 1)
+
+    def test_empty_lines(self):
+        """An empty line that a command writes is kept on the page, and a line that isn't written is missed."""
+        path = self.put("page.md", "    $ printf 'a\\n\\nb\\n'\n\ntext\n")
+        words = ["--program", self.program(), path]
+        for _ in range(2):
+            self.assertEqual(tool(check_page, "--fill", *words)[0], 0)
+            self.assertEqual(read(path), b"    $ printf 'a\\n\\nb\\n'\n    a\n    \n    b\n\ntext\n")
+            self.assertEqual(tool(check_page, *words)[0], 0)
+        self.put("page.md", "    $ true\n    nothing\n")
+        self.assertIn(b"1 commands, 1 differ", tool(check_page, *words)[1])
+
+
+class StatementTables(InFolder):
+    """The tutorial's table of what to write in place of what the dialect leaves out."""
+
+    def asked(self, data):
+        """The outcome of a world whose script asks statements, by SQLite."""
+        made = json.loads(data)
+        base = in_sqlite(made["tables"])
+        replies = [reply_text(base.execute(text).fetchall()) for text, _ in asked(made["files"]["main"])]
+        return f"outcome 1 0\nprocess 0 0 0 {len(replies)}\n\n{''.join(replies)}".encode()
+
+    def test_tutorial(self):
+        """Each statement has its reply in SQLite too, and is one of the dialect."""
+        page = read(check_page.TUTORIAL).decode()
+        (files, rows), = check_page.statement_tables(page)
+        self.assertEqual(len(files), 2)
+        self.assertGreater(len(rows), 15)
+        self.assertEqual(list(check_page.table_differences(page, self.asked)), [])
+        made = json.loads(check_page.asked_world(files, [text for _, texts, _ in rows for text in texts]))
+        schemas = {name: [tuple(column) for column in table["columns"]] for name, table in made["tables"].items()}
+        for number, texts, _ in rows:
+            for text in texts:
+                self.assertEqual(judge(text, [], schemas)[::2], (None, []), number)
+
+    def test_wrong_reply(self):
+        """A reply that is another one is found."""
+        page = read(check_page.TUTORIAL).decode()
+        wrong = page.replace("| (60, 3) |", "| (60, 4) |", 1)
+        self.assertNotEqual(page, wrong)
+        found, = check_page.table_differences(wrong, self.asked)
+        self.assertIn("page: (60, 4)\n    now:  (60, 3)", found)
+
+
+class ManualPage(InFolder):
+    def test_formatted(self):
+        """groff and mandoc have nothing to say against the page."""
+        page = os.path.join(ROOT, check_docs.MANUAL)
+        for words in (["groff", "-mandoc", "-ww", "-Tutf8", page], ["mandoc", "-Tlint", page]):
+            if shutil.which(words[0]):
+                status, out, err = command(words)
+                self.assertEqual((status, err), (0, b""), words)
+                self.assertTrue(words[0] == "groff" or out == b"", out)
+
+    def test_compared(self):
+        """A command or a status that one of the two pages has is found where the other hasn't."""
+        listed = ("| Words | Input |\n|---|---|\n| `run` | a |\n| `inspect why TABLE ROW` | b |\n\n"
+                  "| Status | Message on standard error | When |\n|---|---|---|\n| 0 | none | |\n"
+                  "| 2 | `ldv: usage` | |\n| 126, 127 | of the script `./ldv` | |\n")
+        manual = ".It Cm run\n.It Cm inspect why Ar TABLE ROW\n.It 0\n.It 2 Li ldv: usage\n.It 126, 127\n"
+        for name, text in ((check_docs.COMMANDS, listed), (check_docs.MANUAL, manual)):
+            os.makedirs(os.path.join(self.folder, "docs"), exist_ok=True)
+            self.put(name, text)
+        self.assertEqual(self.differences(), "")
+        self.put(check_docs.MANUAL, manual.replace("why", "how").replace("usage", "use") + ".It Cm record Fl -excluded\n")
+        self.assertEqual(self.differences(), """\
+docs/ldv.1:2: docs/COMMANDS.md has no command inspect how TABLE ROW
+docs/COMMANDS.md:4: docs/ldv.1 has no command inspect why TABLE ROW
+docs/ldv.1:6: docs/COMMANDS.md has no command record --excluded
+docs/COMMANDS.md:9: docs/ldv.1 has no status 2 ldv: usage
+docs/ldv.1:4: docs/COMMANDS.md has no status 2 ldv: use
+""")
+
+    def differences(self):
+        with contextlib.redirect_stdout(io.StringIO()) as printed:
+            check_docs.check_manual(self.folder, check_docs.Differences())
+        return printed.getvalue()
+
+
+class Documents(InFolder):
+    def test_paths(self):
+        """A path that isn't there is found, whatever its letters; one with a word for others is none."""
+        os.makedirs(os.path.join(self.folder, "docs"))
+        self.put("docs/HERE.md", "`docs/HERE.md`, `docs/NONE.md`, `docs/none`, `docs/PART/x.md`, `docs/*.md`\n")
+        with contextlib.redirect_stdout(io.StringIO()) as printed:
+            check_docs.check_paths(self.folder, "docs/HERE.md", check_docs.Differences())
+        self.assertEqual(printed.getvalue(), "docs/HERE.md:1: there is no docs/NONE.md\n"
+                                             "docs/HERE.md:1: there is no docs/none\n")

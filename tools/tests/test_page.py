@@ -1,0 +1,179 @@
+"""page.py: what is in the page, and in Chromium, where it is installed, what it shows."""
+import json
+import os
+import re
+import time
+import unittest
+
+import packages
+
+from ldvtools import page
+from ldvtools.packages import read_any, read_package
+from ldvtools.trace import graph_of
+
+from . import chromium, version2
+from .support import EXAMPLES, InFolder, read, tool
+
+HOSTILE = "</script><img src=x onerror=alert(1)><!--'\"&amp;"
+
+
+def orders(mode=1):
+    """The package of examples/orders.json, whose bytes stand in the cases."""
+    from .test_check import cases
+    words = ["record"] if mode == 1 else ["record", "--excluded"]
+    document = json.loads(read(f"{EXAMPLES}/orders.json"))
+    for given, data, status, output, _ in cases():
+        if given == words and status == 0 and json.loads(data)["start"] == document["start"] and b"report.ldv" in data:
+            if json.loads(data)["files"] == document["files"]:
+                return output
+    raise unittest.SkipTest("no case records the orders world")
+
+
+def large(count):
+    """A package of many rows, each needed by one of two statements."""
+    columns = [packages.column("k", "INT NOT NULL"), packages.column("g", "TEXT")]
+    rows = [packages.row(n, n, f"row {n}") for n in range(count)]
+    needs = [packages.group("t", *(packages.read(n) for n in range(count)))]
+    trace = [packages.started(), packages.asked(0, tables=["t"], reads=needs), packages.ended(2)]
+    return packages.encode(packages.package(steps=2, tables=[packages.table("t", columns, [0], count, rows)], trace=trace))
+
+
+def hostile():
+    """Names and texts that would be HTML, and numbers that JavaScript doesn't carry exactly."""
+    columns = [packages.column("k"), packages.column("g", "TEXT")]
+    rows = [packages.row(0, 9223372036854775807, HOSTILE), packages.row(1, None, "")]
+    trace = [packages.started(HOSTILE), packages.act("wrote", HOSTILE, 1),
+             packages.asked(0, 2, tables=["t"], reads=[packages.group("t", packages.read(0))]), packages.ended(3)]
+    return packages.encode(packages.package(start=[HOSTILE], steps=3, files=[packages.file(HOSTILE, "exit 0")],
+                                            tables=[packages.table("t", columns, next=2, rows=rows)], trace=trace))
+
+
+class PageMaker(InFolder):
+    def made(self, data, *words, outcome=None):
+        path = os.path.join(self.folder, "page.html")
+        given = ["--replayed", self.put("o", outcome)] if outcome is not None else []
+        status, out, err = tool(page, self.put("p.package", data), *given, *words, "-o", path)
+        self.assertEqual((status, out, err), (0, b"", ""))
+        return path
+
+    def data_of(self, path):
+        found = re.search(r'(?s)<script type="application/json" id="data">(.*?)</script>', read(path).decode())
+        return json.loads(found[1])
+
+
+class Pages(PageMaker):
+    def test_kinds(self):
+        """Both kinds, both versions and joined packages have a page."""
+        outcome = read(f"{EXAMPLES}/orders.outcome")
+        for data in (orders(), version2.spelled(read_package(orders()))):
+            shown = self.data_of(self.made(data, outcome=outcome))
+            self.assertEqual((shown["refused"], shown["replies"], shown["kind"]), (1, 3, "included"))
+            self.assertEqual([each["text"][:6] for each in shown["statements"]], ["INSERT", "INSERT", "SELECT"])
+            self.assertEqual(shown["statements"][2]["columns"], ["name", "2"])
+        shown = self.data_of(self.made(orders(2)))
+        self.assertEqual((shown["refused"], shown["kind"], shown["tables"]), (1, "excluded", []))
+        self.assertEqual(shown["statements"][2]["params"], ["1"])
+        package = read_package(orders())
+        other = package._replace(start=[*package.start, "again"], seed=7)
+        joined = version2.joined(package, other)
+        self.assertEqual(read_any(joined).run(2).start, other.start)
+        for run, seed in (("1", "0"), ("2", "7")):
+            shown = self.data_of(self.made(joined, "--run", run))
+            self.assertEqual((shown["seed"], len(shown["tables"]), shown["replayed"]), (seed, 3, False))
+
+    def test_safe(self):
+        """Nothing of a package ends the data or begins an element, and the policy takes the page's own script alone."""
+        text = read(self.made(hostile())).decode()
+        self.assertEqual(text.count("<script"), 2)
+        self.assertEqual(text.count("</script>"), 2)
+        self.assertNotIn("<img", text)
+        self.assertNotIn("http://", text.replace("http://www.w3.org/2000/svg", ""))
+        policy = re.search(r'Content-Security-Policy" content="([^"]*)"', text)[1]
+        self.assertIn("default-src 'none'", policy)
+        script = re.search(r"(?s)<script>(.*?)</script>", text)[1]
+        self.assertIn(page.source_hash(script), policy)
+        self.assertEqual(self.data_of(self.made(hostile()))["tables"][0]["rows"][0][3], {"i": "9223372036854775807"})
+
+    def test_program(self):
+        """--ldv replays and audits the package by a program."""
+        outcome = read(f"{EXAMPLES}/orders.outcome")
+        self.put("outcome", outcome)
+        program = self.put("fake", f'#!/bin/sh\ncat > /dev/null\n[ $1 = audit ] && echo sound || cat {self.folder}/outcome\n')
+        os.chmod(program, 0o755)
+        shown = self.data_of(self.made(orders(), "--ldv", program))
+        self.assertEqual((shown["verdict"], shown["replayed"]), ("sound", True))
+        self.put("fake", "#!/bin/sh\ncat > /dev/null\necho 'ldv: damaged: form' >&2; exit 8\n")
+        status, _, err = tool(page, os.path.join(self.folder, "p.package"), "--ldv", program)
+        self.assertEqual((status, err), (1, f"page.py: {program} replay ends with 8: ldv: damaged: form\n"))
+
+    def test_refused(self):
+        path = self.put("p", orders())
+        status, out, err = tool(page, path, "--replayed", self.put("o", "outcome 1 0\nprocess 0 0 0 0\n\n"))
+        self.assertEqual((status, out), (1, b""))
+        self.assertIn("it isn't of this world", err)
+        self.assertEqual(tool(page, given=b"x")[0], 1)
+
+
+@unittest.skipUnless(chromium.program(), "chromium isn't installed")
+class Browsers(PageMaker):
+    """The page in a real browser."""
+
+    def opened(self, data, *words, outcome=None):
+        browser = chromium.Browser(self.made(data, *words, outcome=outcome))
+        self.addCleanup(browser.close)
+        return browser
+
+    def test_clicks(self):
+        """What is shown after clicks is what the package has."""
+        package = read_package(orders())
+        browser = self.opened(orders(), outcome=read(f"{EXAMPLES}/orders.outcome"))
+        self.assertEqual(browser.texts("#refused"), ["1 of 3 statements was refused"])
+        self.assertEqual(browser.named("tr.needed[data-row]", "data-row"), [])
+        browser.click('tr[data-statement="2"]')
+        asked = [event.asked for event in package.events if event.asked][2]
+        needs = [f"{table} {need.row} {need.rule}" for table, rows in asked.reads for need in rows]
+        self.assertEqual(browser.named("tr[data-need]", "data-need"), needs)
+        for table in package.tables:
+            browser.click(f'button[data-table="{table.name}"]')
+            self.assertEqual(browser.texts("#packed"), [f"{len(table.rows)} of {table.next} rows packed"])
+            wanted = [f"{table.name} {row.number}" for row in table.rows
+                      if any(name == table.name and any(need.row == row.number for need in rows) for name, rows in asked.reads)]
+            self.assertEqual(browser.named("tr.needed[data-row]", "data-row"), wanted)
+        self.assertEqual(browser.named("li[data-rule]", "data-rule"), ["L", "H"])
+        browser.click('tr[data-statement="1"]')
+        self.assertEqual(browser.texts("#detail"), ["Statement 1, which process 0 asked at step 14"])
+        self.assertEqual(browser.problems(), [])
+
+    def test_came_from(self):
+        """The list of what a file came from is that of `inspect depends`, for each path."""
+        package = read_package(orders())
+        graph = graph_of(package)
+        browser = self.opened(orders(), outcome=read(f"{EXAMPLES}/orders.outcome"))
+        for path in ("report.txt", "new.csv", "main.ldv"):
+            browser.value(f"choosePath({json.dumps(path)})")
+            self.assertEqual(browser.named("li[data-node]", "data-node"), graph.depends(path), path)
+        browser.value("choosePath('report.txt')")
+        self.assertIn("path report.txt", browser.named("g.node", "data-box"))
+        browser.click('g[data-box="path new.csv"] rect')
+        self.assertEqual(browser.texts("#came-none"), ["It came from nothing: the run never wrote it."])
+        self.assertEqual(browser.problems(), [])
+
+    def test_hostile(self):
+        """Texts that would be HTML are shown as they are, and great numbers exactly."""
+        browser = self.opened(hostile())
+        cells = browser.texts("tr[data-row] td")
+        self.assertEqual(cells[:8], ["0", "9223372036854775807", HOSTILE, "0 L", "1", "NULL", "(empty)", ""])
+        self.assertIn(HOSTILE, browser.texts("[data-file] td a"))
+        self.assertEqual(browser.value("document.querySelectorAll('img').length"), 0)
+        self.assertEqual(browser.problems(), [])
+
+    def test_many_rows(self):
+        """Of ten thousand rows a hundred are made at a time, and another page is there at once."""
+        browser = self.opened(large(10_000))
+        self.assertEqual(browser.value("document.querySelectorAll('tr[data-row]').length"), 100)
+        start = time.monotonic()
+        browser.click('tr[data-statement="0"]')
+        browser.value("[...document.querySelectorAll('#tables .pager button')].pop().click()")
+        self.assertEqual(browser.named("tr.needed[data-row]", "data-row")[0], "t 100")
+        self.assertLess(time.monotonic() - start, 20)
+        self.assertEqual(browser.problems(), [])

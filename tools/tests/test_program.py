@@ -1,0 +1,298 @@
+"""The script ./ldv, and with the program the examples, the tutorial and the pages."""
+import contextlib
+import glob
+import io
+import json
+import os
+import pty
+import re
+import shlex
+import shutil
+import subprocess
+
+import against_sqlite
+import check_docs
+import check_page
+import check_scripts
+
+from ldvtools import outcome, package, world
+from ldvtools.language import RESERVED
+from ldvtools.outcomes import read_outcome
+
+from . import random_worlds, support
+from .support import ASK, EXAMPLES, LIBRARY, ROOT, TOOLS, TUTORIAL, WEATHER, InFolder, command, ldv, make_database, read, tool
+
+
+# In place of rt: it "builds" a program that says how often it was built, by its words or what it does without input.
+RT = """#!/bin/sh
+echo x >> "$RT_CALLS"
+mkdir -p crates/ldv/out
+cat > crates/ldv/out/ldv <<'END'
+#!/bin/sh
+case $1 in
+    run) cat > /dev/null; echo 'ldv: not a world: not json' >&2; exit 6 ;;
+    version) cat ../ldv.version 2>/dev/null; echo built ;;
+    *) echo 'ldv: usage' >&2; exit 2 ;;
+esac
+END
+chmod +x crates/ldv/out/ldv
+echo 'rt: ldv proved'
+echo '1 passed, 0 failed'
+"""
+
+
+class Script(InFolder):
+    """The script ./ldv, in a checkout of its own and with another rt."""
+
+    def setUp(self):
+        super().setUp()
+        self.root = self.put_folder("checkout")
+        for name in ("crates/ldv/src", "crates/other/src"):
+            self.put_folder("checkout/" + name)
+        self.put_folder("bin")
+        self.put_folder("tmp")
+        for name, text in (("checkout/crates.txt", "ldv:\nother:\n"), ("checkout/HANDLES", "none\n"), ("bin/rt", RT),
+                           ("checkout/crates/ldv/src/main.rt", "one\n"), ("checkout/crates/other/src/lib.rt", "one\n")):
+            self.put(name, text)
+        os.chmod(os.path.join(self.folder, "bin/rt"), 0o755)
+        shutil.copy(os.path.join(ROOT, "ldv"), self.root)
+        self.env = {**os.environ, "PATH": os.path.join(self.folder, "bin") + os.pathsep + os.environ["PATH"],
+                    "TMPDIR": os.path.join(self.folder, "tmp"), "XDG_CACHE_HOME": os.path.join(self.folder, "cache"),
+                    "RT_CALLS": os.path.join(self.folder, "calls")}
+
+    def put_folder(self, name):
+        path = os.path.join(self.folder, name)
+        os.makedirs(path)
+        return path
+
+    def run_script(self, *words, root=None, cwd=None):
+        done = subprocess.run([os.path.join(root or self.root, "ldv"), *words], stdin=subprocess.DEVNULL, stdout=subprocess.PIPE,
+                              stderr=subprocess.PIPE, env=self.env, check=False, cwd=cwd)
+        return done.returncode, done.stdout, done.stderr.decode()
+
+    def builds(self):
+        return len(read(self.env["RT_CALLS"]).split()) if os.path.exists(self.env["RT_CALLS"]) else 0
+
+    def test_ended_build(self):
+        """A build that is ended from outside leaves nothing but its logs."""
+        self.put("bin/rt", "#!/bin/sh\nkill -TERM $PPID\n")
+        status, out, err = self.run_script("run")
+        self.assertEqual((status, out), (126, b""), err)
+        self.assertEqual(os.listdir(os.path.join(self.root, "crates/ldv/out")), ["logs"])
+        self.assertEqual(os.listdir(self.env["TMPDIR"]), [])
+
+    def test_built_once(self):
+        """A source that is changed is built, and one that has the same content again isn't; nor is one of no matter."""
+        status, out, err = self.run_script("version")
+        self.assertEqual((status, out, self.builds()), (0, b"built\n", 1), err)
+        self.assertIn("ldv: proving the program first: 1 crates", err)
+        self.assertEqual(self.run_script("version"), (0, b"built\n", ""))
+        self.assertEqual(self.run_script("run")[0], 6)
+        self.put("checkout/crates/ldv/src/main.rt", "one\n")
+        self.put("checkout/crates/other/src/lib.rt", "two\n")
+        self.assertEqual((self.run_script("version"), self.builds()), ((0, b"built\n", ""), 1))
+        self.put("checkout/crates/ldv/src/main.rt", "two\n")
+        self.run_script("version")
+        self.assertEqual(self.builds(), 2)
+        self.put("checkout/crates/ldv/src/more.rt", "")
+        self.run_script("version")
+        self.assertEqual(self.builds(), 3)
+        os.remove(os.path.join(self.root, "crates/ldv/src/more.rt"))
+        self.run_script("version")
+        self.assertEqual(self.builds(), 4)
+        self.assertEqual(os.listdir(self.env["TMPDIR"]), [])
+
+    def test_other_program(self):
+        """A program that something else put in its place isn't taken for the one of these sources."""
+        self.run_script("version")
+        program = self.put("checkout/crates/ldv/out/ldv", "#!/bin/sh\necho other\n")
+        for _ in range(2):
+            self.assertEqual(self.run_script("version"), (0, b"built\n", ""))
+        shutil.rmtree(self.env["XDG_CACHE_HOME"])
+        os.remove(program)
+        self.put("checkout/crates/ldv/out/ldv", "#!/bin/sh\necho other\n")
+        os.chmod(program, 0o755)
+        self.assertEqual((self.run_script("version")[1], self.builds()), (b"built\n", 2))
+
+    def test_changed_meanwhile(self):
+        """A source that is changed during the build is built by the next call."""
+        source = os.path.join(self.root, "crates/ldv/src/main.rt")
+        self.put("bin/rt", RT + f"[ -e {self.folder}/changed ] || echo two > {source}\ntouch {self.folder}/changed\n"
+                 "echo '1 passed, 0 failed'\n")
+        for builds in (1, 2, 2):
+            self.run_script("version")
+            self.assertEqual(self.builds(), builds)
+
+    def test_copies(self):
+        """A copy of a built checkout has its program, and so has one that was only cloned, by another name or link too."""
+        self.run_script("version")
+        copy = shutil.copytree(self.root, os.path.join(self.folder, "copy"))
+        clone = shutil.copytree(self.root, os.path.join(self.folder, "clone"), ignore=shutil.ignore_patterns("out"))
+        link = os.path.join(self.folder, "link")
+        os.symlink("copy/ldv", link)
+        for root in (copy, clone):
+            for _ in range(2):
+                self.assertEqual((self.run_script("version", root=root), self.builds()), ((0, b"built\n", ""), 1))
+        done = subprocess.run(["./link", "version"], cwd=self.folder, env=self.env, stdout=subprocess.PIPE, check=False)
+        self.assertEqual((done.returncode, done.stdout, self.builds()), (0, b"built\n", 1))
+        self.assertEqual(self.run_script("version", root="copy", cwd=self.folder), (0, b"built\n", ""))
+        self.assertEqual(len(os.listdir(os.path.join(self.env["XDG_CACHE_HOME"], "ldv"))), 1)
+
+    def test_read_only(self):
+        """Where nothing can be written this is said before anything else."""
+        out = os.path.join(self.root, "crates/ldv/out")
+        self.put("checkout/crates/ldv/out", "in the way")
+        status, _, err = self.run_script("version")
+        self.assertEqual((status, err.count("\n"), self.builds()), (126, 1, 0))
+        self.assertIn(f"{out} can't be written", err)
+
+    def test_no_rt(self):
+        os.remove(os.path.join(self.folder, "bin/rt"))
+        self.env["PATH"] = os.path.join(self.folder, "bin") + ":/usr/bin:/bin"
+        status, _, err = self.run_script("version")
+        self.assertEqual((status, err), (
+            127, "ldv: the program must be proved and compiled first, and there is no rt to do it\n"))
+
+    def on_terminal(self, *words):
+        """What is written to a terminal that is standard error."""
+        main, other = pty.openpty()
+        subprocess.run([os.path.join(self.root, "ldv"), *words], stdin=subprocess.DEVNULL, stdout=subprocess.DEVNULL,
+                       stderr=other, env=self.env, check=False, cwd=self.folder)
+        os.close(other)
+        shown = b""
+        try:
+            while data := os.read(main, 4096):
+                shown += data
+        except OSError:
+            pass
+        os.close(main)
+        return shown.decode().replace("\r\n", "\n")
+
+    def test_terminal(self):
+        """On a terminal wrong words get a second line, and a file's name another one."""
+        self.run_script("version")
+        self.assertEqual(self.on_terminal("walk"), "ldv: usage\nldv: the words are in the manual page: man -l "
+                                                   f"{self.root}/docs/ldv.1\n")
+        self.put("world.json", "")
+        self.assertEqual(self.on_terminal("walk", "world.json"), "ldv: usage\nldv: world.json is a file, and the input comes "
+                                                                 "from standard input: ldv .. < world.json\n")
+        self.assertEqual(self.run_script("walk"), (2, b"", "ldv: usage\n"))
+
+    def test_no_program(self):
+        status, out, err = command([os.path.join(TOOLS, "check_program.py"), self.folder + "/none"])
+        self.assertEqual((status, out), (1, b""))
+        self.assertIn(b"none is no program", err)
+
+
+class Program(InFolder):
+    """With the real program."""
+
+    def setUp(self):
+        super().setUp()
+        if not os.access(support.PROGRAM, os.X_OK):
+            self.skipTest(f"{support.PROGRAM} isn't there; compile it with ./ldv")
+
+    def check_run(self, document, expected):
+        """The outcome of a run, and that of the replay of what was recorded."""
+        self.assertEqual(ldv(["run"], document), (0, expected, b""))
+        status, package, err = ldv(["record"], document)
+        self.assertEqual((status, err), (0, b""))
+        self.assertEqual(ldv(["replay"], package), (0, expected, b""))
+        status, replies, err = ldv(["record", "--excluded"], document)
+        self.assertEqual((status, err), (0, b""))
+        self.assertEqual(ldv(["replay"], replies), (0, expected, b""))
+        return package
+
+    def test_examples(self):
+        for path in sorted(glob.glob(EXAMPLES + "/*.outcome")):
+            self.check_run(read(path[:-len(".outcome")] + ".json"), read(path))
+        for path in sorted(glob.glob(EXAMPLES + "/*.error")):
+            for word in ("run", "record"):
+                document = read(path[:-len(".error")] + ".json")
+                self.assertEqual(ldv([word], document), (6, b"", read(path)), path)
+
+    def test_tutorial(self):
+        path = os.path.join(self.folder, "library.db")
+        make_database(path, read(TUTORIAL + "/library.sql").decode())
+        for words, name in ((WEATHER, "weather"), (["--sqlite", path] + LIBRARY, "library")):
+            document = tool(world, *words)[1]
+            package = self.check_run(document, read(f"{TUTORIAL}/{name}.outcome"))
+            self.assertLess(len(package), len(document))
+        self.assertNotIn(b"Middlemarch", package)
+        self.assertEqual(ldv(["replay"], package[:-1]), (8, b"", b"ldv: damaged: digest\n"))
+
+    def test_package(self):
+        """What the orders world packs of its customers, with the statement and the rule of each row."""
+        path = self.put("orders.package", ldv(["record"], read(f"{EXAMPLES}/orders.json"))[1])
+        self.assertEqual(tool(package, "--csv", self.folder, "--reasons", path)[0], 0)
+        self.assertEqual(read(f"{self.folder}/customers.csv"), b"ldv_row,ldv_statement,ldv_rule,id,name\r\n"
+                         b"0,2,L,1,Ada\r\n1,2,H,2,Bo\r\n2,2,H,3,Cy\r\n")
+
+    def test_manual_page(self):
+        """The examples of the manual page, in their order."""
+        check_page.folder_with(support.PROGRAM, self.folder)
+        page = read(os.path.join(ROOT, check_docs.MANUAL)).decode()
+        lines = re.findall(r"(?m)^\.Dl (.*)$", page)
+        for block in re.findall(r"(?s)\n\.Bd .*?\n(.*?)\n\.Ed", page):
+            lines += block.split("\n")
+        self.assertEqual(len(lines), 20)
+        path = self.folder + os.pathsep + os.environ["PATH"]
+        for line in lines:
+            done = subprocess.run(["sh", "-c", line], cwd=self.folder, stdout=subprocess.PIPE, stderr=subprocess.PIPE,
+                                  env={**os.environ, "PATH": path}, check=False)
+            self.assertEqual((done.returncode, done.stderr), (0, b""), line)
+
+    def test_packages_page(self):
+        status, out, err = tool(check_page, "--program", support.PROGRAM)
+        self.assertEqual((status, err), (0, ""), out.decode())
+
+    def test_scripts_page(self):
+        with contextlib.redirect_stdout(io.StringIO()) as printed:
+            status = check_scripts.main(["--program", shlex.join([support.PROGRAM, "run"])])
+        self.assertEqual(status, 0, printed.getvalue())
+
+    def test_against_sqlite(self):
+        """A few random statements; a run of many is made by hand."""
+        words = ["--program", shlex.join([support.PROGRAM, "run"]), "--databases", "10", "--folder", self.folder]
+        with contextlib.redirect_stdout(io.StringIO()) as printed:
+            status = against_sqlite.main(words)
+        self.assertEqual(status, 0, printed.getvalue())
+
+    def test_findings(self):
+        """On random worlds check.py finds a bad line, and a statement that is refused by a code from 1 to 4, exactly where the
+        program does."""
+        seen = set()
+        for seed in range(1, 9):
+            document, flags, codes = random_worlds.Worlds(seed).world(200, 60)
+            status, out, err = ldv(["run"], document)
+            self.assertEqual((status, err), (0, b""), seed)
+            first = read_outcome(out).processes[0]
+            self.assertEqual([int(line) for line in first.printed.split()], flags, seed)
+            given = [reply.code if reply.code <= 4 else 0 for reply in first.replies]
+            self.assertEqual(given, codes, seed)
+            seen |= {*codes}
+        self.assertEqual(seen, {0, 1, 2, 3, 4})
+
+    def test_rows_by_hand(self):
+        path = self.put("t.csv", 'id,name\n2,"Ada, x"\n1,\n-3,Bo\n')
+        document = tool(world, "--csv", path, "--ask", "SELECT * FROM t WHERE id < 2",
+                        "--ask", "SELECT * FROM t WHERE nome = 1")[1]
+        self.check_run(document, b"outcome 1 0\nprocess 0 0 0 2\n\nrows 2\nrow 2\nint 1\nnull\n"
+                                 b"row 2\nint -3\ntext 2\nBo\nrefused 3\n")
+        shown = tool(outcome, "--csv", "--reply", "1", given=ldv(["run"], document)[1])
+        self.assertEqual(shown, (0, b"1,\n-3,Bo\n", ""))
+
+    def test_limits(self):
+        """What world.py lets through at its limits is a world, and reserved words aren't names."""
+        table = ",".join(["a" * 63] + [f"c{n}" for n in range(63)])
+        row = ",".join(["9223372036854775807", "-9223372036854775808", "é" * 32768] + ["x"] * 61)
+        path = self.put("t.csv", f"{table}\n{row}\n")
+        files = [word for n in range(3) for word in ("--file", f"{n}={self.put('full', b'a' * 16777216)}")]
+        words = ["--csv", path, *ASK, *files, "--arg", "b" * 65536, *["--arg", "c"] * 254]
+        status, document, err = tool(world, *words)
+        self.assertEqual(status, 0, err)
+        self.assertEqual(ldv(["run"], document)[0], 0)
+        for word in sorted(RESERVED):
+            tables = {"t": {"columns": [[word, "INT"]]}}
+            document = json.dumps({"start": ["m"], "files": {"m": ""}, "tables": tables}).encode()
+            self.assertEqual(ldv(["run"], document), (6, b"", b"ldv: not a world: name\n"), word)

@@ -1,0 +1,86 @@
+"""The types of the tools by mypy and their style by ruff, where these are installed; the package, and what .ci/run says."""
+import os
+import re
+import shutil
+import subprocess
+import sys
+import unittest
+
+import ldvtools
+
+from .support import ROOT, TOOLS, InFolder, command, read
+
+COMMANDS = ("world", "outcome", "package", "picture", "check", "page", "diff")
+
+
+def called(words):
+    done = subprocess.run(words, cwd=TOOLS, stdout=subprocess.PIPE, stderr=subprocess.STDOUT, check=False)
+    return done.returncode, done.stdout.decode()
+
+
+class Style(unittest.TestCase):
+    @unittest.skipUnless(shutil.which("mypy"), "mypy isn't installed")
+    def test_types(self):
+        status, out = called(["mypy", "--cache-dir", os.devnull])
+        self.assertEqual(status, 0, out)
+
+    @unittest.skipUnless(shutil.which("ruff"), "ruff isn't installed")
+    def test_style(self):
+        status, out = called(["ruff", "check", "--no-cache", "ldvtools", "tests"])
+        self.assertEqual(status, 0, out)
+
+    def test_lines(self):
+        """No line is longer than 130 columns, and no file than 800 lines."""
+        for folder in ("ldvtools", "tests"):
+            for name in sorted(os.listdir(os.path.join(TOOLS, folder))):
+                if name.endswith(".py"):
+                    text = read(os.path.join(TOOLS, folder, name)).decode()
+                    self.assertLess(text.count("\n"), 800, name)
+                    for number, line in enumerate(text.split("\n"), 1):
+                        self.assertLessEqual(len(line), 130, f"{name}:{number}")
+
+
+class Package(InFolder):
+    def test_commands(self):
+        """Each command runs as a script of tools/ and as an entry point, by the same name and version."""
+        text = read(os.path.join(TOOLS, "pyproject.toml")).decode()
+        points = dict(re.findall(r'(?m)^ldv-(\w+) = "ldvtools\.(\w+):main"$', text))
+        self.assertEqual(points, {name: name for name in COMMANDS})
+        self.assertEqual(re.search(r'(?m)^version = "(.*)"$', text)[1], ldvtools.__version__)
+        for name in COMMANDS:
+            for words in ([os.path.join(TOOLS, name + ".py")], [sys.executable, "-m", f"ldvtools.{name}"]):
+                done = subprocess.run([*words, "--help"], stdout=subprocess.PIPE, stderr=subprocess.PIPE, check=False,
+                                      cwd=self.folder, env={**os.environ, "PYTHONPATH": TOOLS})
+                self.assertEqual((done.returncode, done.stderr), (0, b""), words)
+                self.assertIn(f"usage: {name}.py".encode(), done.stdout)
+
+    def test_gate(self):
+        """.ci/run ends with the status of rt ci where that fails, and names what isn't installed."""
+        os.makedirs(os.path.join(self.folder, "bin"))
+        os.makedirs(os.path.join(self.folder, "top/.ci"))
+        script = shutil.copy(os.path.join(ROOT, ".ci/run"), os.path.join(self.folder, "top/.ci"))
+        for name in ("sh", "dirname", "sed"):
+            os.symlink(shutil.which(name), os.path.join(self.folder, "bin", name))
+        rt = self.put("bin/rt", "#!/bin/sh\nexit 3\n")
+        os.chmod(rt, 0o755)
+        env = {"PATH": os.path.join(self.folder, "bin")}
+        done = subprocess.run([script], env=env, stdout=subprocess.PIPE, stderr=subprocess.PIPE, check=False)
+        self.assertEqual((done.returncode, done.stdout), (3, b""))
+        self.put("bin/rt", "#!/bin/sh\nexit 0\n")
+        done = subprocess.run([script], env=env, stdout=subprocess.PIPE, stderr=subprocess.PIPE, check=False)
+        self.assertEqual(done.returncode, 0, done.stderr)
+        for name in ("python3:", "dot (graphviz):", "chromium:", "sqlite3:", "groff:", "mandoc:", "cc:", "mypy:", "ruff:"):
+            self.assertIn(f"  {name}".encode(), done.stdout)
+
+    @unittest.skipUnless(shutil.which("sqlite3"), "sqlite3 isn't installed")
+    def test_database(self):
+        """The program sqlite3 makes the tutorial's database, as the page says."""
+        from ldvtools import world
+
+        from .support import LIBRARY, TUTORIAL, make_database, tool
+        path, other = (os.path.join(self.folder, name, "library.db") for name in ("a", "b"))
+        for each in (path, other):
+            os.makedirs(os.path.dirname(each))
+        self.assertEqual(command(["sqlite3", path], read(TUTORIAL + "/library.sql")), (0, b"", b""))
+        make_database(other, read(TUTORIAL + "/library.sql").decode())
+        self.assertEqual(tool(world, "--sqlite", path, *LIBRARY), tool(world, "--sqlite", other, *LIBRARY))

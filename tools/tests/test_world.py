@@ -1,0 +1,362 @@
+"""world.py: CSV files, databases, scripts and files."""
+import json
+import os
+import sqlite3
+from unittest import mock
+
+from ldvtools import world
+
+from .support import ASK, InFolder, make_database, read, tool
+
+
+class CsvFiles(InFolder):
+    def test_document(self):
+        path = self.put("t.csv", 'id,name,born\n1,"Ada, the first",1815\n2,"says ""hi""",\n\n3,,-7\n')
+        status, out, err = tool(world, "--csv", path, "--key", "t=id", "--ask", "SELECT * FROM t")
+        self.assertEqual(status, 0, err)
+        self.assertEqual(out.decode(), """{
+  "start": ["main"],
+  "files": {
+    "main": "sql q \\"SELECT * FROM t\\"\\n"
+  },
+  "tables": {
+    "t": {
+      "columns": [["id","INT NOT NULL"],["name","TEXT"],["born","INT"]],
+      "key": ["id"],
+      "rows": [
+        [1,"Ada, the first",1815],
+        [2,"says \\"hi\\"",null],
+        [3,null,-7]
+      ]
+    }
+  }
+}
+""")
+        self.assertEqual(err, "world.py: t: 3 rows; id INT NOT NULL, name TEXT, born INT; key id\n")
+
+    def test_kinds(self):
+        """A column is INT where a number loses nothing of what was written."""
+        cases = [("0 -1 9223372036854775807 -9223372036854775808", "INT")]
+        cases += [(cells, "TEXT") for cells in ("1 01", "1 +1", "-0", "1 1.0", "1 1e3", "1_000", "٣",
+                                                "9223372036854775808", "-9223372036854775809")]
+        for cells, kind in cases:
+            table = self.table("a\n" + cells.replace(" ", "\n") + "\n")
+            self.assertEqual(table["columns"], [["a", kind]], cells)
+            read_as = int if kind == "INT" else str
+            self.assertEqual(table["rows"], [[read_as(cell)] for cell in cells.split()])
+        self.assertEqual(self.table("a,b\n,1\n,2\n")["columns"], [["a", "TEXT"], ["b", "INT"]])
+
+    def test_options(self):
+        words = ["--lower", "--kind", "t.id=INT", "--null", "NA"]
+        table = self.table("Id,Zip,Note\n007,0150,NA\n8,,\n", *words)
+        self.assertEqual(table["rows"], [[7, "0150", None], [8, None, None]])
+        table = self.table("a,b\n1,\n", "--kind", "t.a=text not null", "--empty", "t.b=text")
+        self.assertEqual(table["columns"], [["a", "TEXT NOT NULL"], ["b", "TEXT"]])
+        self.assertEqual(table["rows"], [["1", ""]])
+        words = ["--delimiter", ";", "--rename", "t.Count=n", "--leave-out", "t.a"]
+        table = self.table("a;Count\n1;x\n", *words)
+        self.assertEqual((table["columns"], table["rows"]), ([["n", "TEXT"]], [["x"]]))
+        table = self.table("a\tb\n1\tx\n".encode(), "--delimiter", "tab")
+        self.assertEqual(table["rows"], [[1, "x"]])
+        table = self.table("a\nBod\xf8\n".encode("latin-1"), "--encoding", "latin-1")
+        self.assertEqual(table["rows"], [["Bodø"]])
+        self.assertEqual(self.table("\ufeffa\r\n1\r\n")["rows"], [[1]])
+        self.assertEqual(self.table('a,b\n"x\ny",1\n')["rows"], [["x\ny", 1]])
+
+    def test_excel(self):
+        """What Excel writes: a mark, a decimal comma, lines of delimiters alone, headers twice, and workbooks."""
+        table = self.table("\ufeffa;b\r\n1;2,5\r\n;\r\n3;-0,25\r\n", "--delimiter", ";", "--decimal", ",", "--scale", "t.b=2")
+        self.assertEqual(table["rows"], [[1, 250], [None, None], [3, -25]])
+        path = self.put("t.csv", "a;b\n1;2\n;\n;\n;\n;\n")
+        status, out, err = tool(world, "--csv", path, "--delimiter", ";", *ASK)
+        self.assertIn("t.csv: line 3, 4, 5 and 1 more has delimiters alone, and is a row of NULL; --skip-blank", err)
+        table = self.table("a;b\n1;2\n;\n3;x\n", "--delimiter", ";", "--skip-blank")
+        self.assertEqual(table["rows"], [[1, "2"], [3, "x"]])
+        self.csv_refused("t.csv line 4 (row 1 of t), column b: 'x'", "a;b\n1;2\n;\n3;x\n", "--delimiter", ";", "--skip-blank",
+                         "--kind", "t.b=INT")
+        table = self.table("a,a,\n1,2,3\n", "--rename", "t.#2=b", "--rename", "t.#3=c")
+        self.assertEqual(table["columns"], [["a", "INT"], ["b", "INT"], ["c", "INT"]])
+        self.csv_refused("two columns have the name a; --rename \"t.#2=NAME\" renames the column 2", "a,a\n1,2\n")
+        self.csv_refused('isn\'t a name: a letter a to z or _, then such letters, digits and _; '
+                         'give --rename "t.#2=NAME"', "a,\n1,2\n")
+        for encoding in ("utf-16", "utf-32"):
+            self.assertEqual(self.table("a\nø\n".encode(encoding))["rows"], [["ø"]])
+        self.csv_refused("give --encoding, such as cp1252", b"a\n\x80\n")
+        self.assertEqual(self.table(b"a\n\x80\n", "--encoding", "cp1252")["rows"], [["€"]])
+        self.csv_refused("is no CSV file, but a workbook", b"PK\x03\x04...")
+        self.csv_refused("is no CSV file, but an SQLite database: give --sqlite", b"SQLite format 3\0...")
+
+    def test_dumps(self):
+        """Tables as COPY of PostgreSQL and --batch of MySQL write them."""
+        text = 'a\tb\tc\n1\tsays "hi"\t\\N\n2\t\tx\\ty\\nz\\\\n\n3\t"open\tNULL\n'
+        table = self.table(text, "--tsv", "--null", "NULL")
+        self.assertEqual(table["columns"], [["a", "INT"], ["b", "TEXT"], ["c", "TEXT"]])
+        self.assertEqual(table["rows"], [[1, 'says "hi"', None], [2, "", "x\ty\nz\\n"], [3, '"open', None]])
+
+    def test_tidy(self):
+        """Headers that aren't names are named at once, and made names on demand."""
+        text = "Pat.Nr;Größe (cm);Dose;Dose;order;;2nd\n1;2;3;4;5;6;7\n"
+        self.csv_refused('t: 6 columns need another name, column 1 \'pat.nr\', 2 \'größe (cm)\', 4 \'dose\', 5 \'order\', 6 \'\', 7 '
+                         '\'2nd\': ', text, "--delimiter", ";", "--lower")
+        self.csv_refused('give --tidy, or --rename "t.#1=pat_nr" --rename "t.#2=grosse_cm" --rename "t.#4=dose_4" --rename '
+                         '"t.#5=order_" --rename "t.#6=column" --rename "t.#7=_2nd"', text, "--delimiter", ";", "--lower")
+        table = self.table(text, "--delimiter", ";", "--tidy", "--rename", "t.#6=note")
+        self.assertEqual([name for name, _ in table["columns"]],
+                         ["pat_nr", "grosse_cm", "dose", "dose_4", "order_", "note", "_2nd"])
+        path = self.put("My data.csv", "a\n1\n")
+        self.assertEqual(list(json.loads(tool(world, "--csv", path, "--tidy", *ASK)[1])["tables"]), ["my_data"])
+
+    def test_hints(self):
+        """What looks like decimals with a comma, or like dates that don't compare, is said."""
+        err = tool(world, "--csv", self.put("t.csv", 'a;b;c\n1,75;01.02.2024;x\n2;3.2.2024;y\n'), "--delimiter", ";", *ASK)[2]
+        self.assertIn("t.a is TEXT, and looks like decimals with a comma; --decimal , --scale t.a=2", err)
+        self.assertIn("t.b is TEXT, and looks like dates such as '01.02.2024'", err)
+        self.assertEqual(err.count("looks like"), 2)
+
+    def test_rounding(self):
+        table = self.table("a\n0.125\n0.375\n-0.125\n2.5\n1\n", "--scale", "t.a=2", "--round")
+        self.assertEqual(table["rows"], [[12], [38], [-12], [250], [100]])
+        path = self.put("t.csv", "a\n90000000000000000.5\n90000000000000000\n")
+        err = tool(world, "--csv", path, *ASK, "--scale", "t.a=1")[2]
+        self.assertNotIn("may leave 64 bits", err)
+        path = self.put("t.csv", "a\n900000000000000000.5\n900000000000000000\n")
+        err = tool(world, "--csv", path, *ASK, "--scale", "t.a=1")[2]
+        self.assertIn("t.a: the sum of its rows may leave 64 bits at --scale 1, and SUM is NULL there", err)
+        err = tool(world, "--csv", self.put("t.csv", "a,b\n1.5,x\n2.25,y\n"), *ASK)[2]
+        self.assertIn("t.a is TEXT, since", err)
+        self.assertIn("--scale t.a=2 carries it as whole numbers", err)
+
+    def test_shuffle(self):
+        """The same rows in an order that says nothing, and the same order for a seed."""
+        text = "a\n" + "".join(f"{n}\n" for n in range(50))
+        first = self.table(text, "--shuffle", "7")["rows"]
+        self.assertEqual(first, self.table(text, "--shuffle", "7")["rows"])
+        self.assertNotEqual(first, self.table(text, "--shuffle", "8")["rows"])
+        self.assertEqual(sorted(first), self.table(text)["rows"])
+
+    def test_output(self):
+        """A failure leaves the old file, and a quiet call says nothing but that."""
+        path, old = self.put("t.csv", "a\n1\n"), self.put("w.json", "old")
+        self.refused("the key names b", "--csv", path, *ASK, "--key", "t=b", "-o", old)
+        self.assertEqual(read(old), b"old")
+        self.assertEqual(tool(world, "--csv", path, "--ask", "SELECT x FROM t", "-q", "-o", old), (0, b"", ""))
+        self.assertEqual(json.loads(read(old))["tables"]["t"]["rows"], [[1]])
+        self.assertEqual(sorted(os.listdir(self.folder)), ["t.csv", "w.json"])
+        self.refused("No such file", "--csv", path, *ASK, "-o", os.path.join(self.folder, "none", "w.json"))
+        self.assertEqual(tool(world, "--csv", path, *ASK, "-q", "-o", "/dev/null")[0], 0)
+
+    def test_progress(self):
+        """What takes long says so."""
+        path = self.put("t.csv", "a\n1\n")
+        with mock.patch("ldvtools.progress.SECONDS", 0.0):
+            self.assertIn("world.py: t: 1 rows are settled\n", tool(world, "--csv", path, *ASK)[2])
+            self.assertEqual(tool(world, "--csv", path, *ASK, "-q")[2], "")
+
+    def test_decimals(self):
+        table = self.table("a\n3.4\n-0.05\n7\n.5\n+1.250\n\n-.5\n", "--scale", "t.a=2")
+        self.assertEqual(table["columns"], [["a", "INT"]])
+        self.assertEqual(table["rows"], [[340], [-5], [700], [50], [125], [-50]])
+        self.csv_refused("t.csv line 3 (row 1 of t), column a: '0.125' has more than the 2 decimals",
+                         "a\n1\n0.125\n", "--scale", "t.a=2")
+        self.csv_refused("line 2 (row 0 of t), column a: '1e3' is no decimal", "a\n1e3\n", "--scale", "t.a=2")
+        self.csv_refused("is outside 64 bits", "a\n92233720368547758.08\n", "--scale", "t.a=2")
+
+    def test_refused_cells(self):
+        refused = self.csv_refused
+        refused("t.csv line 4: 1 cell, but the header has 2", "a,b\n1,2\n\n3\n")
+        refused("t.csv line 4 (row 1 of t), column b: 'x' is no whole number", 'a,b\n"1\n",2\n3,x\n',
+                "--kind", "t.b=INT")
+        refused("column a: '9223372036854775808' is outside 64 bits", "a\n9223372036854775808\n",
+                "--kind", "t.a=INT")
+        refused("column a: NULL, but it is in the key", "a\n1\n\"\"\n", "--key", "t=a")
+        refused("column a: NULL, but it is NOT NULL", "a,b\n,2\n", "--kind", "t.a=TEXT NOT NULL")
+        refused("t.csv line 4 (row 2 of t): the key (a, b) is (1, 'x'), as in", "a,b\n1,x\n2,x\n1,x\n",
+                "--key", "t=a,b")
+        refused("t.csv line 2 (row 0 of t), column a: a text of 65537 bytes", "a\n" + "é" * 32768 + "x\n")
+        self.assertEqual(len(self.table("a\n" + "é" * 32768 + "\n")["rows"][0][0]), 32768)
+        refused("t.csv: byte 3 isn't utf-8", b"a\nx\xff\n")
+        refused("t.csv isn't utf-7: 'utf-8' codec can't encode", "a\n+2AA-\n", "--encoding", "utf-7")
+        refused("t.csv line 3", 'a\n1\n"x" y\n')
+        refused("is empty", "")
+
+    def test_refused_names(self):
+        refused = self.csv_refused
+        refused("t: column 2 'Age': names have no upper-case letters; give --lower", "id,Age\n1,2\n")
+        refused("t: column 1 'order' is a reserved word", "order\n1\n")
+        refused("t: column 1 'a b' isn't a name", "a b\n1\n")
+        refused("t: column 1 '' isn't a name", ",b\n1,2\n")
+        refused("t: two columns have the name a", "a,A\n1,2\n", "--lower")
+        refused("more than 63 bytes", "a" * 64 + "\n1\n")
+        self.assertEqual(self.table("a" * 63 + "\n1\n")["rows"], [[1]])
+        refused("t has 65 columns", ",".join(f"c{n}" for n in range(65)) + "\n" + "1," * 64 + "1\n")
+        refused("the key names b, which is no column; there are a", "a\n1\n", "--key", "t=b")
+        refused("t has 1000001 rows; the limit is 1000000", "a\n" + "1\n" * 1000001)
+        path = self.put("my data.csv", "a\n1\n")
+        self.refused("the table 'my data' isn't a name", "--csv", path, *ASK)
+        self.refused("two tables have the name t", "--csv", f"t={path}", "--csv", f"t={path}", *ASK)
+        self.refused("the table '\\udcff' isn't a name", "--csv", f"\udcff={path}", *ASK)
+        self.refused("257 tables; the limit is 256", *(word for n in range(257) for word in ("--csv", f"t{n}={path}")), *ASK)
+
+
+class ScriptsAndFiles(InFolder):
+    def script(self, text):
+        status, out, err = tool(world, "--sql", self.put("q.sql", text))
+        self.assertEqual(status, 0, err)
+        return json.loads(out)["files"]["main"]
+
+    def test_statements(self):
+        self.assertEqual(self.script("SELECT * FROM t;"), 'sql q "SELECT * FROM t"\n')
+        self.assertEqual(self.script("-- one\n--two; 2\nselect *\r\n\tfrom t ; ;\n\n-- end\n"),
+                         '# one\n# two; 2\nsql q "select * from t"\n# end\n')
+        self.assertEqual(self.script("SELECT * FROM t WHERE a = 'x;\n\ty''-- \"z\\' AND b<>-1"),
+                         'sql q "SELECT * FROM t WHERE a = \'x;\\n\\ty\'\'-- \\"z\\\\\' AND b<>-1"\n')
+
+    def test_refused_statements(self):
+        for text, message in (
+                ("SELECT * FROM t;\nSELECT * FROM t -- all\n", "line 2: -- within a statement"),
+                ("SELECT * FROM t WHERE a = ?", "line 1: ? takes a parameter"),
+                ("SELECT 'a FROM t", "line 1: the text that begins with ' doesn't end"),
+                ("SELECT\n\"a\" FROM t", "line 2: '\"' has no meaning"),
+                ("-- none\n;", "there is no statement"),
+                ("\nSELECT '" + "a" * 65536 + "'", "line 2: a statement of 65545 bytes"),
+                (b"\xff", "byte 0 isn't UTF-8")):
+            self.refused(message, "--sql", self.put("q.sql", text))
+        for text in ("SELECT '\udcff' FROM t", "-- \udcff\nSELECT a FROM t"):
+            self.refused("--ask 2, ", "--ask", "SELECT a FROM t", "--ask", text)
+
+    def test_many_statements(self):
+        """Lines are counted for a message only: many statements take no time that grows with their square."""
+        with mock.patch("ldvtools.scripts_of_statements.line_at", side_effect=AssertionError):
+            self.assertEqual(self.script("--a\nSELECT a FROM t;\n" * 3), '# a\nsql q "SELECT a FROM t"\n' * 3)
+
+    def test_files(self):
+        script, logo = self.put("go.ldv", "print 1\n"), self.put("logo", b"\x89PNG")
+        words = ["--script", script, "--file", f"pic={logo}", "--arg", "a", "--seed", "7"]
+        status, out, _ = tool(world, *words)
+        self.assertEqual((status, json.loads(out)), (0, {"start": ["go.ldv", "a"], "seed": 7, "files": {
+            "go.ldv": "print 1\n", "pic": {"hex": "89504e47"}}}))
+        self.refused("two files have the path logo", "--script", script, "--file", logo, "--file", logo)
+        self.refused("no path", "--script", f"a\x7f={script}")
+        self.refused("no path", "--script", "a" * 256 + f"={script}")
+        self.refused("257 start words", "--script", script, *["--arg", "x"] * 256)
+        self.refused("No such file", "--script", script + "x")
+        big = self.put("big", b"a" * 16777217)
+        self.refused("the file big has 16777217 bytes", "--script", script, "--file", big)
+        full = self.put("full", b"a" * 16777216)
+        files = [word for n in range(4) for word in ("--file", f"{n}={full}")]
+        self.refused("the document has", "--script", script, *files)
+
+    def test_misuse(self):
+        script, path = self.put("s", ""), self.put("t.csv", "a\n1\n")
+        for words in ([], ["--csv", path], ["--script", script, *ASK], ["--script", script, "--seed", "-1"],
+                      ["--script", script, "--table", "t"], ["--csv", path, *ASK, "--kind", "t.a=REAL"],
+                      ["--csv", path, *ASK, "--kind", "t.b=INT"], ["--csv", path, *ASK, "--key", "u=a"],
+                      ["--csv", path, *ASK, "--scale", "t.a=x"], ["--csv", path, *ASK, "--delimiter", "ab"],
+                      ["--csv", path, *ASK, "--encoding", "none"], ["--csv", path, *ASK, "--empty", "t.a=0"]):
+            self.refused("world.py", *words, status=2)
+
+
+SHOP = """
+CREATE TABLE Customers (id INTEGER PRIMARY KEY AUTOINCREMENT, name VARCHAR(9) NOT NULL COLLATE NOCASE UNIQUE,
+    born DATE, vip BOOLEAN);
+CREATE TABLE lines (n INT, shop, customer INTEGER DEFAULT 1 REFERENCES Customers (id) CHECK (customer > 0),
+    twice INT GENERATED ALWAYS AS (customer * 2), PRIMARY KEY (shop, n)) WITHOUT ROWID;
+CREATE VIEW all_lines AS SELECT * FROM lines;
+CREATE TRIGGER added AFTER INSERT ON lines BEGIN SELECT 1; END;
+INSERT INTO Customers VALUES (9, 'Ada', '1815-12-10', 1), (2, 'Bo', NULL, NULL);
+INSERT INTO lines (n, shop, customer) VALUES (1, 'b', 2), (2, 'a', 9), (1, 'a', NULL);
+"""
+
+
+class Databases(InFolder):
+    def database(self, statements):
+        path = os.path.join(self.folder, "shop.db")
+        if os.path.exists(path):
+            os.remove(path)
+        make_database(path, statements)
+        return ["--sqlite", path, *ASK]
+
+    def test_tables(self):
+        status, out, err = tool(world, *self.database(SHOP), "--lower")
+        self.assertEqual(status, 0, err)
+        self.assertEqual(json.loads(out)["tables"], {
+            "customers": {
+                "columns": [["id", "INT NOT NULL"], ["name", "TEXT NOT NULL"], ["born", "TEXT"],
+                            ["vip", "INT"]],
+                "key": ["id"], "rows": [[2, "Bo", None, None], [9, "Ada", "1815-12-10", 1]]},
+            "lines": {
+                "columns": [["n", "INT NOT NULL"], ["shop", "TEXT NOT NULL"], ["customer", "INT"],
+                            ["twice", "INT"]],
+                "key": ["shop", "n"], "rows": [[1, "a", None, None], [2, "a", 9, 18], [1, "b", 2, 4]]}})
+        for note in ("customers: UNIQUE (name)", "customers: AUTOINCREMENT", "customers: COLLATE NOCASE",
+                     "customers.born: declared DATE, carried as TEXT",
+                     "customers.vip: declared BOOLEAN, carried as INT", "lines: CHECK",
+                     "lines.customer: DEFAULT 1", "lines: the foreign key (customer) to Customers",
+                     "lines.twice is GENERATED", "lines.shop: declared no type", "the view all_lines",
+                     "the trigger added of lines"):
+            self.assertIn(f"world.py: note: {note}", err)
+        self.assertEqual(err.count("note:"), 12, err)
+
+    def test_options(self):
+        words = self.database(SHOP)
+        status, out, err = tool(world, *words, "--table", "lines", "--leave-out", "lines.twice",
+                                "--key", "lines=none", "--kind", "lines.customer=TEXT")
+        self.assertEqual(status, 0, err)
+        self.assertEqual(json.loads(out)["tables"], {"lines": {
+            "columns": [["n", "INT NOT NULL"], ["shop", "TEXT NOT NULL"], ["customer", "TEXT"]],
+            "rows": [[1, "a", None], [2, "a", "9"], [1, "b", "2"]]}})
+        self.refused("a world hasn't all that the database has", *words, "--lower", "--strict")
+        self.refused("names have no upper-case letters", *words)
+        self.refused("there is no table t; there are Customers", *words, "--table", "t")
+        self.refused("--leave-out u: nothing", *words, "--lower", "--leave-out", "u", status=2)
+
+    def test_values(self):
+        words = self.database("CREATE TABLE t (a REAL);"
+                              "INSERT INTO t VALUES (2.5), (3), (NULL), (-0.1), (1e2);")
+        self.refused("row 0 of t, column a: the REAL value 2.5 has no equal here; --scale t.a=1 carries", *words)
+        status, out, err = tool(world, *words, "--scale", "t.a=1")
+        self.assertEqual(json.loads(out)["tables"]["t"]["rows"], [[25], [30], [None], [-1], [1000]], err)
+        for statements, message in (
+                ("a INT); INSERT INTO t VALUES (1), ('x');", "row 1 of t, column a: 'x' is no whole"),
+                ("a INT); INSERT INTO t VALUES (1), (1.5);", "row 1 of t, column a: the REAL value 1.5"),
+                ("a, b); INSERT INTO t VALUES (1, 1), ('x', 1);", "rows before have the kind INT"),
+                ("a BLOB); INSERT INTO t VALUES (x'00ff');", "column a: a BLOB of 2 bytes"),
+                ("a TEXT); INSERT INTO t VALUES (CAST(x'ff' AS TEXT));", "a text that isn't UTF-8"),
+                ("a TEXT PRIMARY KEY); INSERT INTO t VALUES (NULL);", "NULL, but it is in the key"),
+                ("\"a b\" INT);", "column 1 'a b' isn't a name")):
+            self.refused(message, *self.database("CREATE TABLE t (" + statements))
+        self.refused("there are t\n", *self.database("CREATE TABLE t (a INTEGER PRIMARY KEY AUTOINCREMENT);"),
+                     "--table", "sqlite_sequence")
+        path = self.put("x.db", "no database, but long enough" * 40)
+        self.refused("file is not a database", "--sqlite", path, *ASK)
+        self.refused("No such file", "--sqlite", self.folder + "/none.db", *ASK)
+
+    def test_real_columns(self):
+        """All columns that need --scale are named at once, each with the decimals that it needs."""
+        words = self.database("CREATE TABLE t (a REAL, b INT, c REAL, d REAL);"
+                              "INSERT INTO t VALUES (1.5, 1, 0.125, 1e-30), (2, 2, 1.5, 1);")
+        self.refused("--scale t.a=1 --scale t.c=3 --scale t.d=18 --round carries what t has of them", *words)
+        status, out, err = tool(world, *words, "--scale", "t.a=1", "--scale", "t.c=3", "--scale", "t.d=2", "--round")
+        self.assertEqual(json.loads(out)["tables"]["t"]["rows"], [[15, 1, 125, 0], [20, 2, 1500, 100]], err)
+
+    def test_paths_and_names(self):
+        """A path of two slashes, and a table and columns in other quotes whose names are words of a note."""
+        words = self.database("CREATE TABLE t (a INT, [check] INT, `autoincrement` INT);")
+        words = words[:1] + ["/" + words[1]] + words[2:]
+        status, out, err = tool(world, *words, "-q")
+        self.assertEqual((status, err), (0, ""))
+        self.assertEqual(json.loads(out)["tables"]["t"]["columns"],
+                         [["a", "INT"], ["check", "INT"], ["autoincrement", "INT"]])
+
+    def test_write_ahead_log(self):
+        """Reading leaves the database as it was, with no file beside it, and takes away no log that was there."""
+        words = self.database("PRAGMA journal_mode = WAL; CREATE TABLE t (a INT); INSERT INTO t VALUES (1);")
+        before = read(words[1])
+        self.assertEqual(tool(world, *words, "-q")[0], 0)
+        self.assertEqual((os.listdir(self.folder), read(words[1])), (["shop.db"], before))
+        base = sqlite3.connect(words[1], isolation_level=None)
+        base.execute("INSERT INTO t VALUES (2)")
+        status, out, err = tool(world, *words, "-q")
+        self.assertEqual(json.loads(out)["tables"]["t"]["rows"], [[1], [2]], err)
+        self.assertEqual(len(os.listdir(self.folder)), 3)
+        base.close()
