@@ -5,8 +5,12 @@
 
 ROOT is the top of a checkout, by default that of this script. Checked are
 
+- crates.txt: that a crate comes after those that it stands on, that it names each of these in its sources, specs
+  or proofs, and that the folders of crates/ are the crates that it lists;
 - the tables of crates in docs/ARCHITECTURE.md against crates.txt: the crates in their order, what each stands
   on, and the libraries of the kit; and that its entry function and its first definition are where it says;
+- the boxes in docs/ARCHITECTURE.md against the parts of crates.txt;
+- that README.md names each library of the kit among what is trusted;
 - each relative link of each document, with its heading where it names one;
 - each path in a document that begins with a folder of this repository or with a crate, such as
   `crates/ldv_top/specs/Due.antt` or `ldv_top/specs/Due.antt`;
@@ -19,7 +23,9 @@ import os
 import re
 import sys
 
+CRATES = 'crates.txt'
 ARCHITECTURE = 'docs/ARCHITECTURE.md'
+README = 'README.md'
 DEFINITIONS = 'docs/DEFINITIONS.md'
 COMMANDS = 'docs/COMMANDS.md'
 MANUAL = 'docs/ldv.1'
@@ -30,6 +36,9 @@ PATH = re.compile(r'(?<![\w./-])(?:%s)/[\w./+*-]*' % '|'.join(re.escape(f) for f
 CRATE_PATH = re.compile(r'(?<![\w./-])\w+/(?:src|specs|proofs|must-fail)/[\w./+*-]*')
 # A path with such a mark stands for several, or for one that a build makes.
 PLACEHOLDER = re.compile(r'\*|\bNAME\b|/out\b|[A-Z]{3,}\b(?!\.md)')
+
+# What a crate lists and needn't name.
+UNNAMED = ()
 
 
 class Differences:
@@ -61,14 +70,21 @@ def documents(root):
     return sorted(found)
 
 
-def crates_in(root):
-    """The lines of crates.txt: each crate with what it stands on, in their order."""
-    crates = {}
-    for line in read(root, 'crates.txt').splitlines():
-        if line.strip() and not line.lstrip().startswith('#'):
+def parts_in(root):
+    """The parts of crates.txt by their headings: of each line its number, the crate and what it stands on."""
+    parts = {}
+    for number, line in enumerate(read(root, CRATES).splitlines(), 1):
+        if line.startswith('# '):
+            heading = line[2:].strip()
+        elif line.strip():
             name, _, uses = line.partition(':')
-            crates[name.strip()] = uses.split()
-    return crates
+            parts.setdefault(heading, []).append((number, name.strip(), uses.split()))
+    return parts
+
+
+def crates_in(root):
+    """Each crate of crates.txt with what it stands on, in their order."""
+    return {name: uses for lines in parts_in(root).values() for _, name, uses in lines}
 
 
 def tables(text):
@@ -89,7 +105,56 @@ def codes(cell):
     return CODE.findall(cell)
 
 
-# ---- the tables of crates
+# ---- crates.txt
+
+def named_in(root, crate):
+    """All sources, specs and proofs of a crate."""
+    found = []
+    for folder, folders, files in os.walk(os.path.join(root, 'crates', crate)):
+        folders[:] = [f for f in folders if f != 'out']
+        found += [os.path.join(folder, f) for f in files if f.endswith(('.rt', '.antt'))]
+    return '\n'.join(open(file, encoding='utf-8').read() for file in found)
+
+
+def check_list(root, differ):
+    crates = crates_in(root)
+    seen = set()
+    for number, name, uses in [line for lines in parts_in(root).values() for line in lines]:
+        for use in uses:
+            if use in crates and use not in seen:
+                differ.add(CRATES, number, f'{name} comes before {use}')
+        seen.add(name)
+        text = named_in(root, name)
+        for use in uses:
+            if use not in UNNAMED and not re.search(r'\b%s\b' % re.escape(use), text):
+                differ.add(CRATES, number, f'{name} names no {use}')
+    folders = {f for f in os.listdir(os.path.join(root, 'crates')) if exists(root, f'crates/{f}/src')}
+    for name in sorted(folders ^ set(crates)):
+        differ.add(CRATES, 1, f'{name} is ' + ('no crate of the list' if name in folders else 'no folder of crates/'))
+
+
+# ---- the boxes and tables of crates
+
+def boxes_in(text):
+    """The boxes of docs/ARCHITECTURE.md: the heading and the crates of each."""
+    boxes = []
+    for line in text.splitlines():
+        heading = re.match(r'    [┌├]─ (.*?) ─+[┐┤]$', line)
+        if heading:
+            boxes.append((heading[1], []))
+        elif line.startswith('    │ '):
+            boxes[-1][1].extend(line.strip(' │').split())
+    return boxes
+
+
+def check_boxes(root, differ):
+    boxes = dict(boxes_in(read(root, ARCHITECTURE)))
+    parts = {heading: [name for _, name, _ in lines] for heading, lines in parts_in(root).items()}
+    for heading in sorted(set(boxes) | set(parts)):
+        there, here = sorted(parts.get(heading, [])), sorted(boxes.get(heading, []))
+        if there != here:
+            differ.add(ARCHITECTURE, 1, f'the box {heading} has {" ".join(here)}, {CRATES} {" ".join(there)}')
+
 
 def place(crate, path):
     """A file of the crate itself, or of another one whose name stands before it."""
@@ -113,6 +178,8 @@ def check_entry(root, number, crate, cell, differ):
 
 
 def check_crates(root, differ):
+    check_list(root, differ)
+    check_boxes(root, differ)
     crates = crates_in(root)
     rows = [row for row in tables(read(root, ARCHITECTURE)) if row[2][0] == 'Crate']
     listed = [codes(cells[0])[0] for _, cells, _ in rows]
@@ -151,6 +218,9 @@ def check_kit(crates, differ, root):
             differ.add(ARCHITECTURE, number, f'{library} is used by: {" ".join(used.get(library, []))}')
     for library in sorted(set(used) - listed):
         differ.add(ARCHITECTURE, 1, f'the library {library} is missing')
+    trusted = read(root, README).partition('## What is trusted')[2].partition('\n## ')[0]
+    for library in sorted(set(used) - set(codes(trusted.replace('\n', ' ')))):
+        differ.add(README, 1, f'the library {library} is missing among what is trusted')
 
 
 # ---- links and paths

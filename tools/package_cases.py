@@ -2,8 +2,9 @@
 """Writes the cases of packages: for each rule of a valid package some that break this rule only, each with a right
 digest, beside some that come as close and are valid. packages.py makes the bytes.
 
-    python3 tools/package_cases.py                writes crates/conformance/data/packages.json
-    python3 tools/package_cases.py --check        fails where that file isn't what this script would write
+    python3 tools/package_cases.py                writes packages.json, traces.json and needs.json into
+                                                  crates/conformance/data
+    python3 tools/package_cases.py --check        fails where one of them isn't what this script would write
     python3 tools/package_cases.py --list         each rule with the names of its cases
     python3 tools/package_cases.py --large DIR    writes the packages that are too long to be stored, each as a file in
                                                   DIR, and DIR/large.json, where the input of a case is {"file": NAME}
@@ -16,9 +17,11 @@ import os
 import sys
 
 from packages import *      # the parts of packages, by which the cases below are described
+from need_cases import need_cases
+from trace_cases import TRACES, trace_case
 
 HERE = os.path.dirname(os.path.abspath(__file__))
-STORED = os.path.join(HERE, '..', 'crates', 'conformance', 'data', 'packages.json')
+DATA = os.path.join(HERE, '..', 'crates', 'conformance', 'data')
 
 # ---- the whole
 rule('The first 8 bytes are the magic. This is judged before the digest.', 'plain', [
@@ -493,6 +496,11 @@ rule('The trace begins with the start of process 0 at step 0, on the first start
     ('a trace without events', {'trace': []}), ('a trace without a start', {'trace': [ended()]}),
     ('a trace that begins with a spawn at step 0', {'trace': [act('spawned', 'main', 0), ended()]}),
     ('a trace that begins with a read at step 0', {'trace': [act('read', 'main', 0), ended()]}),
+] + [('a trace that begins with %s at step 0' % name, {'trace': [act(name, 'main', 0), ended()]})
+     for name in WITH_PATH if name not in ('spawned', 'read')] + [
+    ('a trace that begins with a wait for process 0 at step 0', {'trace': [waited(0, 0), ended()]}),
+    ('a trace that begins with an end at step 0', {'trace': [ended(0), ended()]}),
+    ('a trace that begins with a statement at step 0', {'trace': [asked(0, 0), ended()]}),
     ('a start after the end', {'trace': [ended(), started()]}),
     ('a start at step 1', {'trace': [started(step=1), ended()]}),
     ('a start of process 1', {'trace': [started(process=1), ended()]}),
@@ -744,16 +752,36 @@ allowed('The greatest counts that a field has room for, and rows without a limit
     ('65,536 statements', {'trace': lambda old: old + [asked(n) for n in range(65536)]}),
 ], LARGE)
 
-def stored():
+def replayed(rules):
+    """The cases of some rules. No name and no package is there twice."""
     check_encoder()
     cases, names, inputs = [], {}, {}
-    for name, p, expect in described(RULES):
+    for name, p, expect in described(rules):
         given = encode(p).hex()
         if name in names or given in inputs:
             raise SystemExit('twice: %s (%s)' % (name, inputs.get(given)))
         names[name], inputs[given] = given, name
         cases.append(case(name, {'hex': given}, p, expect))
     return lines(cases)
+
+
+def stored():
+    """The text of each file, by its name."""
+    return {'packages.json': replayed(RULES), 'traces.json': lines([trace_case(*given) for given in TRACES]),
+            'needs.json': lines(list(need_cases(1)))}
+
+
+def differing():
+    for name, text in stored().items():
+        with open(os.path.join(DATA, name)) as there:
+            if there.read() != text:
+                yield name
+
+
+def write_stored():
+    for name, text in stored().items():
+        with open(os.path.join(DATA, name), 'w') as out:
+            out.write(text)
 
 
 def write_large(folder):
@@ -774,12 +802,11 @@ def main(words):
     if len(words) == 2 and words[0] == '--large':
         return write_large(words[1])
     if words == ['--check']:
-        with open(STORED) as there:
-            return None if there.read() == stored() else 'packages.json is not what package_cases.py writes'
+        others = list(differing())
+        return '%s: not what package_cases.py writes' % ', '.join(others) if others else None
     if words:
         return __doc__
-    with open(STORED, 'w') as out:
-        out.write(stored())
+    write_stored()
     return None
 
 

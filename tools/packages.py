@@ -2,6 +2,9 @@
 
 A package is a dict of its sections. A file without content (None) is present only. Raw bytes may stand in place of any
 field, and a list or text may say another count than it has, so that what is no package can be spelled too.
+
+A package is spelled in version 1 or 2. In version 2 the trace stands in runs, which are the cut of its events or, where
+`runs` is no None, those that it lists.
 """
 import copy
 import hashlib
@@ -76,6 +79,30 @@ def group(table, *rows):
     return dict(table=table, rows=list(rows))
 
 
+def run(first, count=1, stride=0):
+    """Events of version 2 that differ in their steps alone: the first one, how many there are, and from step to step."""
+    return dict(first=first, count=count, stride=stride)
+
+
+def alike(one, other):
+    return {**one, 'step': 0} == {**other, 'step': 0}
+
+
+def cut(events):
+    """The runs of a list of events, from its front. Each goes on as far as the list allows."""
+    events, runs, at = list(events), [], 0
+    while at < len(events):
+        first, count, stride = events[at], 1, 0
+        if at + 1 < len(events) and alike(first, events[at + 1]):
+            stride = events[at + 1]['step'] - first['step']
+            while (at + count < len(events) and alike(first, events[at + count])
+                    and events[at + count]['step'] == first['step'] + count * stride):
+                count += 1
+        runs.append(run(first, count, stride))
+        at += count
+    return runs
+
+
 # ---- bases
 
 ACTS = ['started', 'spawned', 'unspawned', 'opened read', 'opened write', 'opened append', 'opened new', 'unopened',
@@ -85,9 +112,11 @@ FLAGGED = ['unspawned', 'opened append', 'unopened', 'tested']
 # How the digest is made of the bytes before it, and what is done to these bytes and to all of them.
 WAYS = ('digest', 'body', 'whole')
 
+MAGIC = {1: b'LDVPACK1', 2: b'LDVPACK2'}
 
-def package(**parts):
-    given = dict(magic=b'LDVPACK1', mode=1, start=['main'], seed=0, steps=1, files=[file('main', 'exit 0')], tables=[],
+
+def package(version=1, **parts):
+    given = dict(version=version, magic=MAGIC[version], runs=None, mode=1, start=['main'], seed=0, steps=1, files=[file('main', 'exit 0')], tables=[],
                  logs=[], trace=[started(), ended()], digest=lambda body: hashlib.sha256(body).digest(),
                  body=lambda body: body, whole=lambda all: all, output=None)
     given.update(parts)
@@ -109,6 +138,11 @@ BASES = {
     'plain': package(),
     # the same as an excluded package
     'excluded': package(mode=2),
+    # both in version 2
+    'plain in runs': package(2),
+    'excluded in runs': package(2, mode=2),
+    # a file read three times, two steps apart, and the end
+    'loop': package(2, steps=9, trace=[started(), *[act('read', step=step) for step in (1, 3, 5)], ended(9)]),
     # a table with two needed rows, and the statement that needed them
     'rows': package(
         seed=7, steps=2, files=[file('main', SCRIPT)],
@@ -121,8 +155,9 @@ BASES = {
         tables=[table('t', [column('v'), column('g', 'TEXT')], next=3, rows=[row(1, 2, 'b'), row(2, 2, None)])],
         trace=[started(), asked(0, 2, tables=['t'], reads=[group('t', read(1), read(2))]), ended(3)],
         output='outcome 1 0\nprocess 0 0 3 1\nhi\n\nrows 2\nrow 2\nint 2\ntext 1\nb\nrow 2\nint 2\nnull\n'),
-    # each act
+    # each act, in both versions
     'acts': package(steps=9, trace=every_act()),
+    'acts in runs': package(2, steps=9, trace=every_act()),
     # logs of two processes, with each kind of reply
     'logs': package(
         mode=2, start=['main', 'arg'], seed=2 ** 64 - 1, steps=9,
@@ -132,6 +167,10 @@ BASES = {
               log([0, 1], entry('w', [None], dict(refused=6, table='t', key=[7, 'k'])))],
         trace=[started(), spawned(), asked(0, 1), asked(1, 2, 1), ended(9)]),
 }
+
+
+for name in ('rows', 'picked', 'logs'):
+    BASES[name + ' in runs'] = {**BASES[name], 'version': 2, 'magic': MAGIC[2]}
 
 
 def changed(base, change):
@@ -342,9 +381,14 @@ def spell_row(r):
             + b''.join(map(spell_value, r['values'])))
 
 
-def spell_table(t):
-    return (spell_text(t['name']) + spell_list(1, t['columns'], spell_column)
-            + spell_list(1, t['key'], spell_byte) + spell_u32(t['next']) + spell_list(4, t['rows'], spell_row))
+def spell_table(version):
+    """The spelling of a table. Version 2 has the number of its foreign keys, none so far, behind the key."""
+    def spell(t):
+        foreign = t.get('foreign', b'\0') if version == 2 else b''
+        return (spell_text(t['name']) + spell_list(1, t['columns'], spell_column)
+                + spell_list(1, t['key'], spell_byte) + foreign + spell_u32(t['next'])
+                + spell_list(4, t['rows'], spell_row))
+    return spell
 
 
 def spell_reply(r):
@@ -393,11 +437,21 @@ def spell_event(e):
     return spell_u32(e['step']) + spell_u32(e['process']) + spell_byte(act) + spell_fields(e)
 
 
+def spell_run(r):
+    return spell_event(r['first']) + spell_u32(r['count']) + spell_u32(r['stride'])
+
+
+def spell_trace(p):
+    if p['version'] == 1 or isinstance(p['trace'], Raw):
+        return spell_list(4, p['trace'], spell_event)
+    return spell_list(4, cut(p['trace']) if p['runs'] is None else p['runs'], spell_run)
+
+
 def before_digest(p):
     return (p['magic'] + spell_byte(p['mode']) + spell_list(2, p['start'], spell_text)
             + spell_number(8, p['seed']) + spell_u32(p['steps'])
-            + spell_list(4, p['files'], spell_file) + spell_list(2, p['tables'], spell_table)
-            + spell_list(4, p['logs'], spell_log) + spell_list(4, p['trace'], spell_event))
+            + spell_list(4, p['files'], spell_file) + spell_list(2, p['tables'], spell_table(p['version']))
+            + spell_list(4, p['logs'], spell_log) + spell_trace(p))
 
 
 def encode(p):
@@ -405,15 +459,19 @@ def encode(p):
     return p['whole'](body + p['digest'](body))
 
 
-# The worked example of docs/FORMATS.md without its digest, which the encoder must give for the first base.
+# The worked examples of docs/FORMATS.md without their digests, which the encoder must give for the first base.
 WORKED = ('4c44565041434b31' '01' '0001' '000000046d61696e' '0000000000000000' '00000001' '00000001'
           '000000046d61696e' '01' '00000006657869742030' '0000' '00000000' '00000002' '0000000000000000' '00'
           '000000046d61696e' '0000000100000000' '0d' '00')
+WORKED_RUNS = ('4c44565041434b32' '01' '0001' '000000046d61696e' '0000000000000000' '00000001' '00000001'
+               '000000046d61696e' '01' '00000006657869742030' '0000' '00000000' '00000002' '0000000000000000' '00'
+               '000000046d61696e' '00000001' '00000000' '0000000100000000' '0d' '00' '00000001' '00000000')
 
 
 def check_encoder():
-    if before_digest(BASES['plain']).hex() != WORKED:
-        raise SystemExit('the encoder differs from the worked example')
+    for base, worked in (('plain', WORKED), ('plain in runs', WORKED_RUNS)):
+        if before_digest(BASES[base]).hex() != worked:
+            raise SystemExit('the encoder differs from the worked example, ' + base)
 
 
 # ---- the outcome, where the base has none: of a script that is empty, `exit`, or a SELECT of one whole table
