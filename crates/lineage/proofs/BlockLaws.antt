@@ -1,5 +1,5 @@
 -- Rows of one block, added and united.
-use Rattle.std.proofs.Common.{◌≡◌, ◌≢◌, ◌==◌, ◌∙◌, sym, ap, refl, ℕ, zero, suc, ◌+◌, ◌-◌, ◌<◌, ◌≤◌, ◌&&◌, ◌||◌, List, [], ◌∷◌, length, Bool, true, false, cond, not, get_or, arith, inl, inr, lt-ltb, eq-eqb}
+use Rattle.std.proofs.Common.{◌≡◌, ◌==◌, ◌∙◌, sym, ap, refl, ℕ, ◌+◌, ◌-◌, ◌<◌, ◌≤◌, ◌&&◌, List, length, true, false, cond, not, get_or, arith, inl, inr, lt-ltb, eq-eqb}
 use Rattle.std.specs.Prelude.{nat_lt, Result, Ok, Err, OnOk}
 use Rattle.std.proofs.lemmas.Bool.{cases_lt, le-ltb, ne_eqb, cases_eq, cases_Bool}
 use Rattle.std.proofs.lemmas.List.{get_or_past}

@@ -1,7 +1,7 @@
 -- The rows of blocks, in their order.
-use Rattle.std.proofs.Common.{◌≡◌, ◌∙◌, sym, ap, subst, refl, ℕ, zero, suc, ◌+◌, ◌-◌, ◌*◌, ◌/◌, ◌%◌, ◌<◌, ◌≤◌, ◌⊎◌, inl, inr, Bool, true, false, cond, T, List, [], ◌∷◌, ◌++◌, map, Option, Some, None, is_some, arith, append_assoc}
+use Rattle.std.proofs.Common.{◌≡◌, ◌∙◌, sym, ap, subst, refl, ℕ, zero, suc, ◌+◌, ◌-◌, ◌*◌, ◌<◌, ◌≤◌, inl, inr, T, List, [], ◌∷◌, ◌++◌, map, Option, Some, None, arith}
 use Rattle.std.specs.declared.cmp.Ordering.{Ordering}
-use Rattle.std.specs.declared.cmp.Ordering.TheVariants.{Less, Equal, Greater}
+use Rattle.std.specs.declared.cmp.Ordering.TheVariants.{Less, Equal}
 use Rattle.std.specs.List.{AllByRecursion}
 use Rattle.std.specs.List.Sorted.{IsStrictlySortedBy}
 use Rattle.std.specs.Ordering.{nat_cmp, is_lt, ordering_then}
@@ -18,7 +18,6 @@ use Rattle.lineage.proofs.Laws.{row_total}
 use Rattle.lineage.proofs.Listed.{then_less}
 use Rattle.ldv_value.proofs.Booleans.{t-first, t-second, t-both}
 use Rattle.ldv_value.proofs.SortedMaps.{entries-sorted}
-use Rattle.std.specs.FinMap.{nat_cmp-IsAntisymmetric}
 
 -- ---- one row below another
 

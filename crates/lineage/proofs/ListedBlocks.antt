@@ -1,5 +1,5 @@
 -- Blocks, listed in turn.
-use Rattle.std.proofs.Common.{◌≡◌, ◌∙◌, sym, ap, subst, refl, ℕ, ◌+◌, ◌-◌, ◌*◌, ◌/◌, ◌%◌, ◌<◌, ◌≤◌, inl, inr, Bool, true, false, cond, List, [], ◌∷◌, ◌++◌, map, length, Option, Some, None, is_some, arith, append_assoc, append-nil}
+use Rattle.std.proofs.Common.{◌≡◌, ◌∙◌, sym, ap, refl, ℕ, ◌+◌, ◌-◌, ◌*◌, ◌/◌, ◌%◌, ◌<◌, inl, inr, true, false, cond, List, [], ◌∷◌, ◌++◌, map, length, Option, Some, None, is_some, arith, append_assoc, append-nil}
 use Rattle.std.specs.Prelude.{IsTrue}
 use Rattle.std.specs.BTreeMap as tree
 use Rattle.std.specs.BTreeMap.{BTreeMap}
@@ -7,7 +7,7 @@ use Rattle.std.specs.Map.{keys_of}
 use Rattle.std.proofs.lemmas.Bool.{cases_lt}
 use Rattle.lanes.specs.Sets.{member as has_member, IsNext}
 use Rattle.lanes.proofs.SetLaws.{no_member}
-use Rattle.lineage.specs.Blocks.{row_in, row_at, version_of, rows_from, rows_of_block, rows_under, found_at, block_of}
+use Rattle.lineage.specs.Blocks.{row_in, row_at, version_of, rows_from, rows_of_block, rows_under, found_at}
 use Rattle.lineage.specs.Lineage.{Row, row_cmp, member}
 use Rattle.lineage.specs.declared.blocks.Block.{Block}
 use Rattle.lineage.proofs.BlockOrder.{next_row, no_row}

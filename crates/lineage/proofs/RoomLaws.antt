@@ -1,5 +1,5 @@
 -- Blocks written in their map: what stays and what changes.
-use Rattle.std.proofs.Common.{◌≡◌, ◌==◌, ◌∙◌, sym, ap, subst, refl, ℕ, ◌+◌, ◌*◌, ◌/◌, ◌%◌, ◌<◌, ◌||◌, inl, inr, Bool, true, false, cond, not, List, [], ◌∷◌, length, Option, Some, None, is_some, arith, eq-eqb, drop, get_or, drop-cons, add-one}
+use Rattle.std.proofs.Common.{◌≡◌, ◌==◌, ◌∙◌, sym, ap, subst, refl, ℕ, ◌+◌, ◌/◌, ◌%◌, ◌<◌, ◌||◌, inl, inr, Bool, true, false, cond, List, [], ◌∷◌, length, Option, Some, None, is_some, arith, eq-eqb, drop, get_or, drop-cons, add-one}
 use Rattle.std.specs.BTreeMap as tree
 use Rattle.std.specs.BTreeMap.{BTreeMap, is_at, Updates}
 use Rattle.std.specs.Map.{lookup}
@@ -7,14 +7,13 @@ use Rattle.std.specs.Option.{option_or}
 use Rattle.std.specs.FinMap.{find}
 use Rattle.std.specs.Cmp.{both_ways}
 use Rattle.std.proofs.lemmas.Bool.Decides.{Decides-eqb}
-use Rattle.std.specs.Ordering.{eq_by_cmp, is_eq}
+use Rattle.std.specs.Ordering.{eq_by_cmp}
 use Rattle.std.proofs.lemmas.Bool.{cases_Bool}
-use Rattle.std.proofs.lemmas.Cmp.{tied_itself}
 use Rattle.lanes.specs.Sets.{member}
-use Rattle.lineage.specs.Blocks.{version_of, HasPlace, HasRoomIn, RoomAt, HasRoom, AllRoom, IsRoomy, AreRoomy, IsKept, AreKept, StaysAt, Stays, IsRoomier, AreRoomier, row_in, row_at, row_of_both, block_of, found_at}
+use Rattle.lineage.specs.Blocks.{version_of, HasPlace, HasRoomIn, RoomAt, HasRoom, AllRoom, IsRoomy, IsKept, AreKept, StaysAt, Stays, IsRoomier, AreRoomier, row_in, row_at, row_of_both, block_of, found_at}
 use Rattle.lineage.specs.Lineage.{Row, row_cmp}
 use Rattle.lineage.specs.declared.blocks.Block.{Block}
-use Rattle.lineage.proofs.Laws.{row_total, same_row, or_none, or_assoc}
+use Rattle.lineage.proofs.Laws.{same_row, or_none, or_assoc}
 use Rattle.lineage.proofs.Seen.{tied_row, apart_row}
 use Rattle.lineage.proofs.Maps.{one_first}
 use Rattle.ldv_value.proofs.Booleans.{true≢false}

@@ -1,5 +1,5 @@
 -- The rows that blocks mean.
-use Rattle.std.proofs.Common.{◌≡◌, ◌≢◌, ◌∙◌, sym, ap, subst, refl, ℕ, zero, suc, ◌+◌, ◌*◌, ◌/◌, ◌%◌, ◌<◌, ◌≤◌, inl, inr, Bool, true, false, cond, List, [], ◌∷◌, ◌++◌, Option, Some, None, is_some, arith}
+use Rattle.std.proofs.Common.{◌≡◌, ◌≢◌, ◌∙◌, sym, ap, refl, ℕ, zero, suc, ◌+◌, ◌*◌, ◌/◌, ◌%◌, ◌<◌, ◌≤◌, inl, inr, Bool, true, false, cond, List, [], ◌∷◌, Option, Some, None, is_some, arith}
 use Rattle.std.specs.BTreeMap as tree
 use Rattle.std.specs.BTreeMap.{BTreeMap, is_at}
 use Rattle.std.specs.Map.{lookup, keys_of}
@@ -11,7 +11,7 @@ use Rattle.std.proofs.lemmas.Cmp.{tied_itself}
 use Rattle.lineage.specs.Blocks.{with_row, rows_from, rows_of_block, rows_under, all_rows, row_at, found_at, block_of, AreRoomier}
 use Rattle.lineage.specs.Lineage.{Row, row_cmp, Lineage, version_at, added, IsUnion}
 use Rattle.lineage.specs.declared.blocks.Block.{Block}
-use Rattle.lineage.proofs.Laws.{row_total, row_exact, same_row, same_set, alone, version_at-added}
+use Rattle.lineage.proofs.Laws.{row_total, same_row, same_set, alone, version_at-added}
 use Rattle.lineage.proofs.Unions.{find_append}
 use Rattle.ldv_value.proofs.Booleans.{true≢false}
 

@@ -1,6 +1,4 @@
-use Rattle.std.proofs.Common.{◌≡◌, ◌<◌, ◌+◌, ◌&&◌, ℕ, cond, not, length}
-use Rattle.std.specs.Prelude.{nat_lt}
-use Rattle.lanes.specs.Sets.{member}
+use Rattle.std.proofs.Common.{◌≡◌, ℕ}
 use Rattle.lineage.specs.Blocks.{version_of, HasPlace}
 use Rattle.lineage.proofs.BlockLaws.{taken}
 use Rattle.lineage.proofs.blocks.take_versions.Given as goal

@@ -1,4 +1,4 @@
-use Rattle.std.proofs.Common.{◌≡◌, ◌∙◌, ◌++◌, sym, ap, List, map, ℕ}
+use Rattle.std.proofs.Common.{◌∙◌, ◌++◌, ap, List, map}
 use Rattle.std.specs.BTreeMap as tree
 use Rattle.std.specs.Map.{keys_of}
 use Rattle.std.specs.Map.Iter.{deref_pair}

@@ -1,4 +1,4 @@
-use Rattle.std.proofs.Common.{◌≡◌, ◌∙◌, sym, ap, subst, is_some, true, None}
+use Rattle.std.proofs.Common.{◌∙◌, sym, ap, is_some, true}
 use Rattle.std.specs.Ordering.{eq_by_cmp}
 use Rattle.lineage.specs.Blocks.{found_at}
 use Rattle.lineage.specs.Lineage.{Row, row_cmp}

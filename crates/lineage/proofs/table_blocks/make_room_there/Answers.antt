@@ -1,8 +1,4 @@
-use Rattle.std.proofs.Common.{rules, ◌≡◌, ◌∙◌, sym, ap, subst, Some}
-use Rattle.std.specs.BTreeMap as tree
-use Rattle.std.specs.BTreeMap.{Updates}
-use Rattle.lineage.specs.Blocks.{block_of}
-use Rattle.lineage.specs.Lineage.{Row, row_cmp}
+use Rattle.std.proofs.Common.{rules, sym}
 use Rattle.lineage.proofs.RoomLaws.{roomier_written}
 use Rattle.lineage.proofs.table_blocks.make_room_there.Goals as goal
 

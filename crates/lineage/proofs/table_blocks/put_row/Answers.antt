@@ -1,7 +1,6 @@
-use Rattle.std.proofs.Common.{rules, ◌≡◌, ◌∙◌, sym, ap, subst, Some, ◌%◌, ◌==◌, ◌||◌, ℕ, cond}
+use Rattle.std.proofs.Common.{rules, ◌∙◌, sym, ap, subst, Some}
 use Rattle.std.specs.BTreeMap as tree
 use Rattle.std.specs.BTreeMap.{Updates}
-use Rattle.lineage.specs.Blocks.{block_of}
 use Rattle.lineage.specs.Lineage.{Row, row_cmp}
 use Rattle.lineage.proofs.RoomLaws.{put_room, put_clear, put_long, put_kept, put_stays, put_found}
 use Rattle.lineage.proofs.table_blocks.put_row.Goals as goal

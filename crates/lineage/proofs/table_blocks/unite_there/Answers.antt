@@ -1,8 +1,4 @@
-use Rattle.std.proofs.Common.{rules, ◌≡◌, ◌∙◌, sym, ap, subst, Some, length, ◌%◌, ◌==◌, ◌||◌, ℕ, cond}
-use Rattle.std.specs.BTreeMap as tree
-use Rattle.std.specs.BTreeMap.{Updates}
-use Rattle.lineage.specs.Blocks.{IsRoomy, IsKept, HasRoomIn, version_of}
-use Rattle.lineage.specs.Lineage.{Row, row_cmp}
+use Rattle.std.proofs.Common.{rules, sym}
 use Rattle.lineage.proofs.RoomLaws.{united_kept, united_stays, united_here, there_written}
 use Rattle.lineage.proofs.table_blocks.unite_there.Goals as goal
 

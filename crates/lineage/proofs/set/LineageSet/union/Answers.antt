@@ -1,4 +1,4 @@
-use Rattle.std.proofs.Common.{◌∙◌, ap, ◌%◌, Option, ℕ}
+use Rattle.std.proofs.Common.{◌∙◌, ap, ◌%◌}
 use Rattle.std.specs.Option.{option_or}
 use Rattle.lineage.specs.Blocks.{block_of, found_at}
 use Rattle.lineage.proofs.Seen.{roomier_seen, united_seen, seen_in}
