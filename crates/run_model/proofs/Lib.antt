@@ -1,6 +1,6 @@
 pub mod Equations
-pub mod KeyPlaces
 pub mod Fronts
+pub mod KeyPlaces
 pub mod NeverStuck
 pub mod OwnFiles
 pub mod Settled
