@@ -5,12 +5,13 @@ ghost use Rattle.std.specs.Prelude.{option_map, string_bytes, IfOk};
 ghost use Rattle.ldv_value.specs.Gives.{Gives};
 ghost use Rattle.ldv_value.specs.Limits.{input_limit};
 ghost use Rattle.inspect.specs.Stopping.{Stops as StopsReport};
+ghost use Rattle.run_model.specs.ValidTrace.{IsTrace};
 ghost use Rattle.ldv_top.specs.Due.{response_due};
-ghost use Rattle.ldv_top.specs.DueOfReports.{due_inspect, item_due};
+ghost use Rattle.ldv_top.specs.DueOfReports.{due_inspect, item_due, report_due};
 ghost use Rattle.ldv_top.specs.WordNumbers.{number_within};
 ghost use Rattle.ldv_top.specs.WordStops.{Stops};
 ghost use Rattle.ldv_top.specs.WordsOfReports.{depends_named, report_named, report_of, why_named};
-ghost use Rattle.ldv_top.specs.declared.command.Report.TheVariants.{Depends, Files, Rows, Trace, Why};
+ghost use Rattle.ldv_top.specs.declared.command.Report.TheVariants.{Depends, Files, Rows, Why};
 
 use crate::command::Report;
 use crate::numbers::number_within;
@@ -20,6 +21,7 @@ use crate::word_stop::WordStop;
 use inspect::{InspectStop, depends_text, files_text, rows_text, trace_text, why_text};
 use ldv_value::{Bytes, Utf8, is_path};
 use package_layout::PackageStop;
+use run_model::Package;
 use sql_model::is_sql_name;
 use std::alloc::{AllocError, Global};
 
@@ -121,9 +123,7 @@ pub(crate) fn inspect_response(
     match report {
         Report::Rows => rows_response(alloc, input),
         Report::Files => files_response(alloc, input),
-        Report::Trace => trace_response(alloc, input),
-        Report::Why { table, row } => why_response(alloc, table.as_str(), *row, input),
-        Report::Depends { path } => depends_response(alloc, path.as_str(), input),
+        _ => whole_response(alloc, report, input),
     }
 }
 
@@ -149,39 +149,35 @@ fn files_response(alloc: Global, input: Bytes) -> Result<Response, AllocError>
     }
 }
 
+// A report on the package with its events.
 #[tactic(auto, using(crate::proofs::Traces::valid_trace))]
-fn trace_response(alloc: Global, input: Bytes) -> Result<Response, AllocError>
+fn whole_response(alloc: Global, report: &Report, input: Bytes) -> Result<Response, AllocError>
     requires short { length input ≤ input_limit }
-    ensures { IfOk result (λ response. response_due response ≡ due_inspect Trace input) }
+    ensures { IfOk result (λ response. response_due response ≡ due_inspect report.now input) }
 {
     match read_input(alloc, input) {
-        Ok(package) => Ok(Response::Written(trace_text(alloc, &package)?)),
+        Ok(package) => report_response(alloc, report, &package),
         Err(PackageStop::Damaged(kind)) => Ok(Response::Damaged(kind)),
         Err(PackageStop::NoMemory) => Err(AllocError),
     }
 }
 
-#[tactic(auto, using(crate::proofs::Traces::valid_trace))]
-fn why_response(alloc: Global, table: &str, row: u32, input: Bytes) -> Result<Response, AllocError>
-    requires short { length input ≤ input_limit }
-    ensures { IfOk result (λ response. response_due response ≡ due_inspect (Why table.now row) input) }
+fn report_response(
+    alloc: Global,
+    report: &Report,
+    package: &Package,
+) -> Result<Response, AllocError>
+    requires { IsTrace «package».now.events }
+    ensures { IfOk result (λ response. response_due response ≡ report_due report.now «package».now) }
 {
-    match read_input(alloc, input) {
-        Ok(package) => item_response(why_text(alloc, &package, table, row)),
-        Err(PackageStop::Damaged(kind)) => Ok(Response::Damaged(kind)),
-        Err(PackageStop::NoMemory) => Err(AllocError),
-    }
-}
-
-#[tactic(auto, using(crate::proofs::Traces::valid_trace))]
-fn depends_response(alloc: Global, path: &str, input: Bytes) -> Result<Response, AllocError>
-    requires short { length input ≤ input_limit }
-    ensures { IfOk result (λ response. response_due response ≡ due_inspect (Depends path.now) input) }
-{
-    match read_input(alloc, input) {
-        Ok(package) => item_response(depends_text(alloc, &package, path)),
-        Err(PackageStop::Damaged(kind)) => Ok(Response::Damaged(kind)),
-        Err(PackageStop::NoMemory) => Err(AllocError),
+    match report {
+        Report::Rows => Ok(Response::Written(rows_text(alloc, package)?)),
+        Report::Files => Ok(Response::Written(files_text(alloc, package)?)),
+        Report::Trace => Ok(Response::Written(trace_text(alloc, package)?)),
+        Report::Why { table, row } => {
+            item_response(why_text(alloc, package, table.as_str(), *row))
+        }
+        Report::Depends { path } => { item_response(depends_text(alloc, package, path.as_str())) }
     }
 }
 
