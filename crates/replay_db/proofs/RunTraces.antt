@@ -18,7 +18,7 @@ use Rattle.run_model.proofs.StartScripts.{has_script}
 use Rattle.replay_db.specs.Runs.{CanRun}
 use Rattle.replay_db.specs.Types.{File, Instr, Event, World}
 use Rattle.replay_db.proofs.InitialRows.{initial_rows_law}
-use Rattle.replay_db.proofs.TraceValid.{starts_run}
+use Rattle.replay_db.proofs.TraceValid.{traced}
 
 -- a file that is there has a valid path
 path_found : (path : List ℕ) (files : List File) (file : File) → file_at path files ≡ Some file
@@ -55,7 +55,7 @@ pub run_traces : (n : ℕ) (picks : List ℕ) (w : World) (script : List Instr) 
 run_traces n picks w script is runs =
     let files = and-parts (list_all file_test w.files) (is_strictly_sorted file_precedes w.files) runs.files in
     let begins : Begins w.start = begins_on w.start w.files script is files.0 in
-    (begins.0, steps_by n picks w, begins.2, starts_run n picks w script is runs.tables begins.0 begins.1)
+    (begins.0, steps_by n picks w, begins.2, traced n picks w script is runs.tables begins.0 begins.1)
 
 -- so it is of what is recorded of a run
 module _ (n : ℕ) (w : World) (runs : CanRun w) (events : List Event) (is : events ≡ events_within n w) where

@@ -32,6 +32,7 @@ use Rattle.package_layout.specs.Events.{need_groups, member_groups, needs_room, 
 use Rattle.package_layout.specs.Order.{rises, is_below, need_below, member_below}
 use Rattle.package_layout.specs.Parts.{need_table, need_part, member_table, member_part}
 use Rattle.package_layout.specs.Room.{some_thousands}
+use Rattle.run_model.specs.ValidTrace.{named_rule}
 use Rattle.package_layout.specs.Trace.{act_rule}
 use Rattle.package_layout.specs.Typed.{IsU32}
 use Rattle.replay_db.proofs.NeedsSorted.{row_under, needs_rise, reads_rise}
@@ -300,6 +301,20 @@ module _ (names : List (List ℕ)) (asked : ℕ) (db : SqlDatabase) (good : Good
       made_names : AllByRecursion (λ m. NameOf (member_table m)) made
       made_names = all-weaker IsMade (λ m. NameOf m.table) (λ m there. there.0.0) made (made_there statement)
 
+      reads_named : list_all (λ n. sql_name_test (need_table n)) reads ≡ true
+      reads_named =
+          tested-all (λ n. sql_name_test (need_table n)) reads
+          (all-weaker (λ n. NameOf (need_table n)) (λ n. IsTrue (sql_name_test (need_table n))) (λ n there. named_there (need_table n) there) reads read_names)
+
+      made_named : list_all (λ m. sql_name_test (member_table m)) made ≡ true
+      made_named =
+          tested-all (λ m. sql_name_test (member_table m)) made
+          (all-weaker (λ m. NameOf (member_table m)) (λ m. IsTrue (sql_name_test (member_table m))) (λ m there. named_there (member_table m) there) made made_names)
+
+      -- its tables have names
+      pub asked_named : named_rule act ≡ true
+      asked_named = and-from (list_all (λ n. sql_name_test (need_table n)) reads) (list_all (λ m. sql_name_test (member_table m)) made) reads_named made_named
+
       module _ (few_names : length names ≤ 256) where
         few_groups : (n : ℕ) → n ≤ length names → nat_lt n (2 ^ 16) ≡ true
         few_groups n within = lt-ltb n (2 ^ 16) (omega (arith, within, few_names))
@@ -307,14 +322,12 @@ module _ (names : List (List ℕ)) (asked : ℕ) (db : SqlDatabase) (good : Good
         reads_fit : needs_room reads ≡ true
         reads_fit =
             let few : length (need_groups reads) ≤ length names = groups_few need_table (λ n. n.member.row) need_part names reads (reads_rise db.versions statement db.tables) read_names in
-            and-from (some_thousands (need_groups reads)) (list_all (λ n. sql_name_test (need_table n)) reads) (few_groups (length (need_groups reads)) few)
-            (tested-all (λ n. sql_name_test (need_table n)) reads (all-weaker (λ n. NameOf (need_table n)) (λ n. IsTrue (sql_name_test (need_table n))) (λ n there. named_there (need_table n) there) reads read_names))
+            and-from (some_thousands (need_groups reads)) (list_all (λ n. sql_name_test (need_table n)) reads) (few_groups (length (need_groups reads)) few) reads_named
 
         made_fit : members_room made ≡ true
         made_fit =
             let few : length (member_groups made) ≤ length names = groups_few member_table (λ m. m.row) member_part names made (made_sorted statement) made_names in
-            and-from (some_thousands (member_groups made)) (list_all (λ m. sql_name_test (member_table m)) made) (few_groups (length (member_groups made)) few)
-            (tested-all (λ m. sql_name_test (member_table m)) made (all-weaker (λ m. NameOf (member_table m)) (λ m. IsTrue (sql_name_test (member_table m))) (λ m there. named_there (member_table m) there) made made_names))
+            and-from (some_thousands (member_groups made)) (list_all (λ m. sql_name_test (member_table m)) made) (few_groups (length (member_groups made)) few) made_named
 
         -- the format has room for it
         pub asked_room : act_room act ≡ true

@@ -10,7 +10,7 @@ use Rattle.ldv_value.proofs.Lists.{tested-all}
 use Rattle.ldv_value.proofs.Booleans.{and-from}
 use Rattle.sql_model.specs.Needs.{table_name}
 use Rattle.sql_model.specs.Tables.{tables_test}
-use Rattle.replay_db.specs.Types.{Instr, Started, Event, World}
+use Rattle.replay_db.specs.Types.{Instr, Act, Started, Asked, Event, World}
 use Rattle.run_model.specs.Core.{all_ended, is_over}
 use Rattle.run_model.specs.Events.{event_at, events, start_events}
 use Rattle.run_model.specs.Run.{first_pick, later_picks, move, run, steps}
@@ -19,18 +19,19 @@ use Rattle.run_model.specs.SqlDatabase.{SqlDatabase, sql_base}
 use Rattle.run_model.specs.Start.{start_script, start_state}
 use Rattle.run_model.specs.State.{State}
 use Rattle.run_model.specs.WorldRun.{ends_in, ends_by, steps_in, steps_by, events_in, events_by}
+use Rattle.run_model.specs.ValidTrace.{named_rule, are_named, ValidTrace}
 use Rattle.run_model.proofs.Equations.{run-zero, steps-zero, steps-over, steps-suc}
 use Rattle.package_layout.specs.Events.{TypedEvent, event_room}
 use Rattle.package_layout.specs.Trace.{follows, at_start, starts, trace_test, asked_count}
 use Rattle.package_layout.specs.Typed.{IsU32}
 use Rattle.package_layout.specs.Valid.{start_rule, trace_rule, reasons_rule}
 use Rattle.replay_db.specs.Worlds.{all_of_world, TypedWorld, world_rules}
-use Rattle.replay_db.proofs.StatementEvents.{RuledNames, tables_names, GoodDatabase, asked_room, asked_typed}
+use Rattle.replay_db.proofs.StatementEvents.{RuledNames, tables_names, GoodDatabase, asked_named, asked_room, asked_typed}
 use Rattle.replay_db.proofs.TraceLists.{all_append}
 use Rattle.replay_db.proofs.TraceReasons.{reasons_asked}
 use Rattle.run_model.proofs.NeverStuck.{Ordered}
 use Rattle.replay_db.proofs.TraceRun.{plain_room, plain_typed, run_follows, run_good}
-use Rattle.replay_db.proofs.TraceState.{GoodList}
+use Rattle.replay_db.proofs.TraceState.{GoodList, PlainAct}
 use Rattle.run_model.proofs.ValidWorlds.{ruled_by}
 use Rattle.replay_db.proofs.WorldRules.{few_names, texts_of_names}
 
@@ -67,6 +68,13 @@ module _ (n : ℕ) (picks : List ℕ) (w : World) (script : List Instr) (is : st
 
 -- ---- the trace
 
+abbrev IsNamed : Event → Type 0
+IsNamed e = IsTrue (named_rule e.act)
+
+plain_named : (made : ℕ) (act : Act) → PlainAct made act → named_rule act ≡ true
+plain_named made (Asked statement tables reads written) plain = absurd plain
+plain_named made other plain = refl
+
 -- of a world with valid tables that has a script
 module _ (n : ℕ) (picks : List ℕ) (w : World) (script : List Instr) (is : start_script w ≡ Some script)
     (valid : tables_test w.tables ≡ true) where
@@ -98,7 +106,7 @@ module _ (n : ℕ) (picks : List ℕ) (w : World) (script : List Instr) (is : st
   follows_start = run_follows names ruled (steps sql_base n picks begun) n 1 picks begun start_list start_ordered start_good (omega arith) 1 (omega arith)
 
   -- the first event starts the first process on the first start word
-  pub starts_run : (word : List ℕ) → slice_get w.start 0 ≡ Some word
+  starts_run : (word : List ℕ) → slice_get w.start 0 ≡ Some word
       → trace_test word (steps_by n picks w) (events_by n picks w) ≡ true
   starts_run word first =
       let all : events_by n picks w ≡ start_events (Some word) ++ later_events =
@@ -106,6 +114,29 @@ module _ (n : ℕ) (picks : List ℕ) (w : World) (script : List Instr) (is : st
       let self : bytes_eq word word ≡ true = bytes_eq-itself word in
       (λ j. trace_test word (steps_are n picks w script is j) (all j))
       ∙ and-from (starts word (event_at 0 0 (Started word))) (follows (steps sql_base n picks begun) at_start later_events) self follows_start
+
+  -- each table of an event has a name
+  start_named : (word : Option (List ℕ)) → AllByRecursion IsNamed (start_events word)
+  start_named None = tt
+  start_named (Some word) = (refl, tt)
+
+  run_named : AllByRecursion IsNamed later_events
+  run_named =
+      run_good names IsNamed (steps sql_base n picks begun)
+      (λ number process asked statement db within below few good. asked_named names asked db good statement ruled)
+      (λ number process made act within below few plain. plain_named made act plain)
+      n 1 picks begun start_list start_ordered start_good (omega arith) (omega arith)
+
+  named_is : are_named (events_by n picks w) ≡ true
+  named_is =
+      ap are_named events_are
+      ∙ tested-all (λ e. named_rule e.act) (start_events (slice_get w.start 0) ++ later_events)
+      (all_append IsNamed (start_events (slice_get w.start 0)) later_events (start_named (slice_get w.start 0)) run_named)
+
+  -- so they are a valid trace
+  pub traced : (word : List ℕ) → slice_get w.start 0 ≡ Some word → ValidTrace word (steps_by n picks w) (events_by n picks w)
+  traced word first =
+      and-from (trace_test word (steps_by n picks w) (events_by n picks w)) (are_named (events_by n picks w)) (starts_run word first) named_is
 
   -- and that meets the rules of documents
   module _ (met : IsTrue (world_rules w)) where

@@ -7,7 +7,7 @@ use Rattle.ldv_value.specs.Limits.{max_processes}
 use Rattle.ldv_value.specs.Names.{path_test}
 use Rattle.run_model.specs.declared.event.Act.TheVariants as acts
 use Rattle.run_model.specs.ValidTrace.{Progress, progress_after, act_rule, event_rule, made_after, follows, at_start}
-use Rattle.run_model.specs.ValidTrace.{starts, starts_on, trace_test, IsTrace}
+use Rattle.run_model.specs.ValidTrace.{starts, starts_on, trace_test, are_named, IsTrace}
 use Rattle.trace_graph.specs.Types.{Act, Event}
 use Rattle.trace_graph.specs.Building.{made_fits}
 
@@ -69,4 +69,4 @@ test_fits path steps (e ∷ es) valid =
     start_fits path e.act es on (events_fit steps at_start es refl (and-second (starts path e) (follows steps at_start es) valid))
 
 pub trace_fits : (events : List Event) → IsTrace events → IsTrue (made_fits 1 events)
-trace_fits events trace = test_fits trace.0 trace.1 events trace.3
+trace_fits events trace = test_fits trace.0 trace.1 events (and-first (trace_test trace.0 trace.1 events) (are_named events) trace.3)

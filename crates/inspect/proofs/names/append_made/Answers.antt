@@ -15,4 +15,4 @@ returns c =
     let within : c.args.place < length c.args.made.now = omega arith in
     let name : name_text c.as_slice.result.now ≡ name_in (named_of c.args.made.now) c.args.place =
     ap name_text (c.as_slice.ensures.value ∙ c.in_ok-numbers.ensures) ∙ sym (name_there c.args.made.now c.args.place within) in
-    subst (λ (l : List ℕ). OnOk c.append_name.result (c.append_name.new.to ≡ c.args.to.now ++ l)) name c.append_name.ensures
+    subst (λ (l : List ℕ). OnOk c.append_name.result (c.append_name.new.to ≡ c.args.to.now ++ l)) name c.append_name.ensures.ok
