@@ -1,18 +1,19 @@
 -- Comparisons of columns and constants.
-use Rattle.std.proofs.Common.{◌≡◌, ◌∙◌, sym, ap, refl, ℕ, List, [], ◌∷◌, ◌++◌}
+use Rattle.std.proofs.Common.{◌≡◌, ◌∙◌, sym, ap, refl, ℕ, Bool, true, false, not, List, [], ◌∷◌, ◌++◌}
 use Rattle.std.specs.Cmp.{eq_by_cmp_equiv}
+use Rattle.core_parts.specs.Constants.{IsConstant}
 use Rattle.core_parts.specs.Equality.{equals}
 use Rattle.core_parts.specs.Placing.{IsPlaced}
 use Rattle.core_parts.specs.Types.{ColumnName, Compare, Expr, Null, Int, Text, Value}
 use Rattle.core_parts.specs.declared.placed.Placed.{Placed}
 use Rattle.ldv_value.specs.Order.{known, test_of}
 use Rattle.ldv_value.specs.declared.value.Cmp.{Cmp}
-use Rattle.sql_model.proofs.Folds.{fold-Both, fold-Column, fold-Constant}
+use Rattle.sql_model.proofs.Folds.{fold-Both, fold-Column, fold-IsNull}
 use Rattle.sql_model.specs.KeyOrder.{order_total}
 use Rattle.sql_model.specs.Kinds.{names_in, names_step}
-use Rattle.sql_model.specs.Meaning.{Environment, Meaning, eval, eval_step, is_true, truth}
+use Rattle.sql_model.specs.Meaning.{Environment, Meaning, eval, eval_step, is_null, is_true, null_test, truth}
 use Rattle.sql_model.specs.Scope.{InScope, place_of, places_in}
-use Rattle.sql_model.specs.declared.expr.Expr.TheVariants.{Both, Column, Constant}
+use Rattle.sql_model.specs.declared.expr.Expr.TheVariants.{Both, Column, IsNull}
 
 pub equals-turned : (a b : Value) → equals a b ≡ equals b a
 equals-turned Null Null = refl
@@ -27,36 +28,58 @@ equals-turned (Text s) (Text t) = ap (λ b. is_true (known b)) ((eq_by_cmp_equiv
 
 -- ---- what each side means
 
+known-true : (b : Bool) → is_true (known b) ≡ b
+known-true true = refl
+known-true false = refl
+
+-- whether a value is NULL, or isn't
+abbrev pub is_null_as : Bool → Value → Bool
+is_null_as false v = is_null v
+is_null_as true v = not (is_null v)
+
 truth-both : (test : Cmp) (left right : Expr) (env : Environment) → is_true (truth (Both (Compare test) left right) env) ≡ is_true (test_of test (eval left (env ∷ [])).value (eval right (env ∷ [])).value)
 truth-both test left right env = ap (λ (f : List Environment → Meaning). is_true (f (env ∷ [])).truth) (fold-Both eval_step (Compare test) left right)
 
 column-value : (name : ColumnName) (env : Environment) → (eval (Column name) (env ∷ [])).value ≡ env name
 column-value name env = ap (λ (f : List Environment → Meaning). (f (env ∷ [])).value) (fold-Column eval_step name)
 
-constant-value : (v : Value) (env : Environment) → (eval (Constant v) (env ∷ [])).value ≡ v
-constant-value v env = ap (λ (f : List Environment → Meaning). (f (env ∷ [])).value) (fold-Constant eval_step v)
+column-sides : (test : Cmp) (left right : Expr) (env : Environment) (a b : Value) → (eval left (env ∷ [])).value ≡ a → (eval right (env ∷ [])).value ≡ b
+    → is_true (truth (Both (Compare test) left right) env) ≡ is_true (test_of test a b)
+column-sides test left right env a b first second = truth-both test left right env ∙ (λ j. is_true (test_of test (first j) (second j)))
+
+column-is : (expr : Expr) (name : ColumnName) (env : Environment) → expr ≡ Column name → (eval expr (env ∷ [])).value ≡ env name
+column-is expr name env is = ap (λ (e : Expr). (eval e (env ∷ [])).value) is ∙ column-value name env
+
+pub column-names : (expr : Expr) (name : ColumnName) → expr ≡ Column name → names_in expr ≡ name ∷ []
+column-names expr name is = ap names_in is ∙ fold-Column names_step name
 
 -- a column beside a constant: what it names, and where it is True
-pub column-first : (test : Cmp) (left right : Expr) (name : ColumnName) (v : Value) → left ≡ Column name → right ≡ Constant v
+pub column-first : (test : Cmp) (left right : Expr) (name : ColumnName) (v : Value) → left ≡ Column name → IsConstant right v
     → (names_in (Both (Compare test) left right) ≡ name ∷ []) × ((env : Environment) → is_true (truth (Both (Compare test) left right) env) ≡ is_true (test_of test (env name) v))
 column-first test left right name v first second = (
-  fold-Both names_step (Compare test) left right
-      ∙ (λ j. (ap names_in first ∙ fold-Column names_step name) j ++ (ap names_in second ∙ fold-Constant names_step v) j),
-  (λ env. truth-both test left right env
-      ∙ (λ j. is_true (test_of test
-      ((ap (λ (e : Expr). (eval e (env ∷ [])).value) first ∙ column-value name env) j)
-      ((ap (λ (e : Expr). (eval e (env ∷ [])).value) second ∙ constant-value v env) j)))),
+  fold-Both names_step (Compare test) left right ∙ (λ j. column-names left name first j ++ second.nameless j),
+  (λ env. column-sides test left right env (env name) v (column-is left name env first) (second.same env)),
 )
 
-pub constant-first : (test : Cmp) (left right : Expr) (v : Value) (name : ColumnName) → left ≡ Constant v → right ≡ Column name
+pub constant-first : (test : Cmp) (left right : Expr) (v : Value) (name : ColumnName) → IsConstant left v → right ≡ Column name
     → (names_in (Both (Compare test) left right) ≡ name ∷ []) × ((env : Environment) → is_true (truth (Both (Compare test) left right) env) ≡ is_true (test_of test v (env name)))
 constant-first test left right v name first second = (
-  fold-Both names_step (Compare test) left right
-      ∙ (λ j. (ap names_in first ∙ fold-Constant names_step v) j ++ (ap names_in second ∙ fold-Column names_step name) j),
-  (λ env. truth-both test left right env
-      ∙ (λ j. is_true (test_of test
-      ((ap (λ (e : Expr). (eval e (env ∷ [])).value) first ∙ constant-value v env) j)
-      ((ap (λ (e : Expr). (eval e (env ∷ [])).value) second ∙ column-value name env) j)))),
+  fold-Both names_step (Compare test) left right ∙ (λ j. first.nameless j ++ column-names right name second j),
+  (λ env. column-sides test left right env v (env name) (first.same env) (column-is right name env second)),
+)
+
+-- a column that is tested for NULL
+null-true : (negative : Bool) (v : Value) → is_true (null_test negative v) ≡ is_null_as negative v
+null-true false v = known-true (is_null v)
+null-true true v = known-true (not (is_null v))
+
+pub column-null : (inner : Expr) (negative : Bool) (name : ColumnName) → inner ≡ Column name
+    → (names_in (IsNull inner negative) ≡ name ∷ []) × ((env : Environment) → is_true (truth (IsNull inner negative) env) ≡ is_null_as negative (env name))
+column-null inner negative name is = (
+  fold-IsNull names_step inner negative ∙ column-names inner name is,
+  (λ env. ap (λ (f : List Environment → Meaning). is_true (f (env ∷ [])).truth) (fold-IsNull eval_step inner negative)
+      ∙ ap (λ (v : Value). is_true (null_test negative v)) (column-is inner name env is)
+      ∙ null-true negative (env name)),
 )
 
 -- the place of the only name is the first one

@@ -7,6 +7,7 @@ use Rattle.std.specs.declared.cmp.Ordering.TheVariants.{Less, Equal, Greater}
 use Rattle.core_parts.proofs.Equalities.{column-first, constant-first, equals-turned, first-place}
 use Rattle.core_parts.proofs.SameValues.{exact}
 use Rattle.core_parts.specs.Conditions.{meets}
+use Rattle.core_parts.specs.Constants.{IsConstant}
 use Rattle.core_parts.specs.Equality.{IsColumn, equals}
 use Rattle.core_parts.specs.Fixing.{IsFixing, Fixes, AllFix, FixesColumn, FixesAll, FixesKey}
 use Rattle.core_parts.specs.Placing.{IsPlaced, AllPlaced}
@@ -19,7 +20,7 @@ use Rattle.sql_model.specs.KeyOrder.{values_total}
 use Rattle.sql_model.specs.Keys.{same_values, values_at}
 use Rattle.sql_model.specs.Meaning.{is_true, truth}
 use Rattle.sql_model.specs.Scope.{InScope, environment, value_at}
-use Rattle.sql_model.specs.declared.expr.Expr.TheVariants.{Both, Constant}
+use Rattle.sql_model.specs.declared.expr.Expr.TheVariants.{Both}
 
 -- ---- where `=` is True, values are equal
 
@@ -39,7 +40,7 @@ equals-is (Text s) (Text t) is = exact (Text s) (Text t) (equal-by (order (Text 
 
 -- ---- an equality of a column with a constant
 
-pub column_constant : (left right : Expr) (value : Value) → IsColumn left → right ≡ Constant value → IsFixing (Both (Compare Eq) left right) value
+pub column_constant : (left right : Expr) (value : Value) → IsColumn left → IsConstant right value → IsFixing (Both (Compare Eq) left right) value
 column_constant left right value (name, is) constant =
     let compared = column-first Eq left right name value is constant in record {
       name = name;
@@ -47,7 +48,7 @@ column_constant left right value (name, is) constant =
       same = compared.1;
     }
 
-pub constant_column : (left right : Expr) (value : Value) → left ≡ Constant value → IsColumn right → IsFixing (Both (Compare Eq) left right) value
+pub constant_column : (left right : Expr) (value : Value) → IsConstant left value → IsColumn right → IsFixing (Both (Compare Eq) left right) value
 constant_column left right value constant (name, is) =
     let compared = constant-first Eq left right value name constant is in record {
       name = name;
@@ -64,7 +65,7 @@ fixes-is cond at place more value is places here scope row placed holds =
 -- ---- a condition among others
 
 module _ (scope : List InScope) (row : List Value) (cond : Placed) (rest : List Placed) where
-  at-index : (conds : List Placed) (i : ℕ) → drop i conds ≡ cond ∷ rest → AllPlaced scope conds → meets scope conds row ≡ true
+  pub at-index : (conds : List Placed) (i : ℕ) → drop i conds ≡ cond ∷ rest → AllPlaced scope conds → meets scope conds row ≡ true
       → IsPlaced scope cond × (is_true (truth cond.expr (environment scope row)) ≡ true)
   at-index [] zero split placed met = cc
   at-index [] (suc i) split placed met = cc

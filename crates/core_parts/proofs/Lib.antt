@@ -1,9 +1,12 @@
+pub mod Agree
 pub mod Checks
 pub mod ConjunctLaws
+pub mod ConstantLaws
 pub mod Equalities
 pub mod FixingLaws
 pub mod Listings
 pub mod Lists
+pub mod MaskLaws
 pub mod Names
 pub mod Places
 pub mod SameValues

@@ -40,6 +40,17 @@ module _ {K X : Type 0} (cmp : K → K → Ordering) where
         ∙ ap (λ b. cond b (items_at m v ++ item ∷ []) (items_at m v)) (sym miss)
   ]
 
+  -- the items under a key are put back as they were
+  pub put_same : IsTotalOrder cmp → (m n : BTreeMap K (List X)) (key : K) (items more : List X) → items ≡ items_at m key → more ≡ items
+      → ((v : K) → tree.get cmp n v ≡ cond (is_at (cmp key) v) (Some more) (tree.get cmp m v))
+      → (v : K) → items_at n v ≡ items_at m v
+  put_same total m n key items more is same put v = elim (cases_Bool (is_eq (cmp key v))) [
+    | inl hit ↦
+        ap (λ (o : Option (List X)). unwrap_or o []) (put v ∙ ap (λ b. cond b (Some more) (tree.get cmp m v)) hit)
+        ∙ same ∙ is ∙ same_at total m key v (tied (cmp key v) hit)
+    | inr miss ↦ ap (λ (o : Option (List X)). unwrap_or o []) (put v ∙ ap (λ b. cond b (Some more) (tree.get cmp m v)) miss)
+  ]
+
   -- the same of an item under its key
   pub item_listed : (own : X → K) (m n : RefsBy K X) (item : X) (rest : List X) → ((v : K) → listed cmp n v ≡ item_added cmp (own item) item v (listed cmp m v)) → (v : K)
       → listed cmp n v ++ filter (λ x. is_eq (cmp (own x) v)) rest ≡ listed cmp m v ++ filter (λ x. is_eq (cmp (own x) v)) (item ∷ rest)

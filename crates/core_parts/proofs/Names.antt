@@ -1,8 +1,11 @@
 -- The places that expressions take of a list, form by form.
-use Rattle.std.proofs.Common.{◌≡◌, ℕ, List, [], ◌∷◌, ◌++◌, length, take, drop, sym, ap, ◌∙◌, append-nil, append_assoc}
+use Rattle.std.proofs.Common.{◌≡◌, ℕ, zero, suc, ◌+◌, ◌-◌, ◌≤◌, List, [], ◌∷◌, ◌++◌, length, take, drop, refl, sym, ap, ◌∙◌, append-nil, inl, inr, arith}
 use Rattle.std.specs.Prelude.{Some, None, Bool}
 use Rattle.ldv_value.specs.declared.value.Value.{Value}
-use Rattle.core_parts.proofs.Lists.{take-joined, drop-joined}
+use Rattle.std.proofs.lemmas.Bool.{cases_lt}
+use Rattle.std.proofs.lemmas.List.{drop-drop, length-drop}
+use Rattle.std.proofs.Math.ListN.{drop_of_length-le}
+use Rattle.core_parts.proofs.Lists.{take-joined, drop-joined, none-taken}
 use Rattle.core_parts.specs.Placing.{own_places, other_places}
 use Rattle.sql_model.proofs.Folds.{fold-Constant, fold-Column, fold-Negate, fold-Not, fold-Both, fold-IsNull, fold-Count, fold-Aggregate}
 use Rattle.sql_model.specs.Kinds.{names_in, names_step}
@@ -84,11 +87,36 @@ next-other_some l rest place is = sym (ap (drop 1) is)
 
 pub ruleset next_forms = (next-own_none, next-other_none, next-own_some, next-other_some)
 
--- the places of both operands, one after the other
-pub both-own : (own mid new places after : List ℕ) (op : Operator) (a b e : Expr) → e ≡ Both op a b → mid ≡ own ++ own_places a places → after ≡ other_places a places
-    → new ≡ mid ++ own_places b after → new ≡ own ++ own_places e places
-both-own own mid new places after op a b e is first rest second =
-    second
-    ∙ (λ j. first j ++ own_places b (rest j))
-    ∙ append_assoc own (own_places a places) (own_places b (other_places a places))
-    ∙ ap (λ l. own ++ l) (sym (ap (λ (x : Expr). own_places x places) is ∙ own-Both places op a b))
+-- ---- places between two indexes
+
+-- nothing is taken past the end
+taken-past : (places : List ℕ) (at k : ℕ) → length places ≤ at → [] ≡ take k (drop at places)
+taken-past places at k past = none-taken ℕ k ∙ ap (take k) (sym (drop_of_length-le places past))
+
+pub none_between : (own places : List ℕ) (at k : ℕ) → length places ≤ at → own ≡ own ++ take k (drop at places)
+none_between own places at k past = sym (append-nil own) ∙ ap (λ l. own ++ l) (taken-past places at k past)
+
+-- lists that leave the same after so many items have taken the same
+same-taken : (l : List ℕ) (k n : ℕ) → k ≤ length l → drop k l ≡ drop n l → take k l ≡ take n l
+same-taken [] k n below same = sym (none-taken ℕ k) ∙ none-taken ℕ n
+same-taken (x ∷ l) zero zero below same = refl
+same-taken (x ∷ l) zero (suc n) below same = let long : length (x ∷ l) ≡ length l - n = ap length same ∙ length-drop n l in absurd (omega (arith, long))
+same-taken (x ∷ l) (suc k) zero below same = let long : length l - k ≡ length (x ∷ l) = sym (length-drop k l) ∙ ap length same in absurd (omega (arith, long))
+same-taken (x ∷ l) (suc k) (suc n) below same = ap (λ r. x ∷ r) (same-taken l k n (omega (arith, below)) same)
+
+between : (places : List ℕ) (at end n : ℕ) → at ≤ end → (at ≤ length places → end ≤ length places) → drop end places ≡ drop n (drop at places)
+    → take (end - at) (drop at places) ≡ take n (drop at places)
+between places at end n onward within same = elim (cases_lt at (length places)) [
+  | inl below ↦
+      let reach : at + (end - at) ≡ end = omega (arith, onward) in
+      let inside : end ≤ length places = within (omega (arith, below)) in
+      let rest : drop (end - at) (drop at places) ≡ drop n (drop at places) = drop-drop (end - at) at places ∙ ap (λ (k : ℕ). drop k places) reach ∙ same in
+      let few : end - at ≤ length (drop at places) = omega (arith, length-drop at places, inside) in
+      same-taken (drop at places) (end - at) n few rest
+  | inr past ↦ sym (taken-past places at (end - at) past) ∙ taken-past places at n past
+]
+
+-- what is taken up to the index after an expression's places is its own
+pub own_taken : (own new places : List ℕ) (e : Expr) (at end : ℕ) → at ≤ end → (at ≤ length places → end ≤ length places) → drop end places ≡ other_places e (drop at places)
+    → new ≡ own ++ take (end - at) (drop at places) → new ≡ own ++ own_places e (drop at places)
+own_taken own new places e at end onward within others made = made ∙ ap (λ l. own ++ l) (between places at end (length (names_in e)) onward within others)

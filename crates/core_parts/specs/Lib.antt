@@ -1,7 +1,9 @@
 pub mod Checking
 pub mod Conditions
+pub mod Constants
 pub mod Equality
 pub mod Fixing
 pub mod Listing
+pub mod Masking
 pub mod Placing
 pub mod Types

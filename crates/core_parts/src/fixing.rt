@@ -7,9 +7,10 @@ ghost use Rattle.core_parts.specs.Equality.{IsColumn};
 ghost use Rattle.core_parts.specs.Types.{Compare};
 ghost use Rattle.sql_model.specs.declared.expr.Expr.TheVariants.{Both};
 
+use crate::constants::constant_of;
 use crate::equality::{is_column, is_equal_test};
 use crate::placed::Placed;
-use ldv_value::{Cmp, CopyItem, List, Value, Values};
+use ldv_value::{Cmp, List, Value, Values};
 use sql_model::{Expr, Operator, Schema};
 use std::alloc::{AllocError, Global};
 
@@ -19,7 +20,7 @@ use std::alloc::{AllocError, Global};
 pub fn fixed_key(
     alloc: Global,
     conds: &[Placed],
-    before: usize,
+    before: u128,
     schema: &Schema,
 ) -> Result<Option<Values>, AllocError>
     ensures { IfOk result (λ fixed.
@@ -43,7 +44,7 @@ pub fn fixed_key(
 fn fixed_values(
     alloc: Global,
     conds: &[Placed],
-    before: usize,
+    before: u128,
     width: usize,
     columns: &[usize],
 ) -> Result<Option<Values>, AllocError>
@@ -52,10 +53,10 @@ fn fixed_values(
     let mut values = List::new(alloc);
     let mut left = columns;
     'columns: while let [column, others @ ..] = left {
-        match fixed_value(conds, before, width, *column) {
+        match fixed_value(alloc, conds, before, width, *column)? {
             None => return Ok(None),
             Some(value) => {
-                values.push(value.copy_item(alloc)?)?;
+                values.push(value)?;
                 left = others;
             }
         }
@@ -64,102 +65,110 @@ fn fixed_values(
 }
 
 // The value of a column of a source, if it is fixed.
-fn fixed_value<'a>(
-    conds: &'a [Placed],
-    before: usize,
+fn fixed_value(
+    alloc: Global,
+    conds: &[Placed],
+    before: u128,
     width: usize,
     column: usize,
-) -> Option<&'a Value>
-    ensures { IfSome result (λ value. FixesColumn conds.now before width column value.now) }
+) -> Result<Option<Value>, AllocError>
+    ensures { IfOk result (λ found. IfSome found (FixesColumn conds.now before width column)) }
 {
     if column >= width {
-        return None;
+        return Ok(None);
     }
-    match before.checked_add(column) {
-        None => None,
-        Some(at) => constant_at(conds, at),
+    match before.checked_add(column as u128) {
+        None => Ok(None),
+        Some(at) => constant_at(alloc, conds, at),
     }
 }
 
 // The constant at a place of the joined row, by the first condition that says it.
-fn constant_at<'a>(conds: &'a [Placed], at: usize) -> Option<&'a Value>
-    ensures { IfSome result (λ value. AllFix conds.now at value.now) }
+fn constant_at(alloc: Global, conds: &[Placed], at: u128) -> Result<Option<Value>, AllocError>
+    ensures { IfOk result (λ found. IfSome found (AllFix conds.now at)) }
 {
     for cond in conds {
-        if let Some(value) = constant_by(cond, at) {
-            return Some(value);
+        let found = constant_by(alloc, cond, at)?;
+        if found.is_some() {
+            return Ok(found);
         }
     }
-    None
+    Ok(None)
 }
 
 // The constant at a place of the joined row, if a condition says it.
-fn constant_by(cond: &Placed, at: usize) -> Option<&Value>
-    ensures { IfSome result (λ value. Fixes cond.now at value.now) }
+fn constant_by(alloc: Global, cond: &Placed, at: u128) -> Result<Option<Value>, AllocError>
+    ensures { IfOk result (λ found. IfSome found (Fixes cond.now at)) }
 {
     let Some(place) = cond.places.get(0) else {
-        return None;
+        return Ok(None);
     };
-    if *place == at {
-        fixing(&cond.expr)
+    let place = *place as u128;
+    if place == at {
+        fixing(alloc, &cond.expr)
     } else {
-        None
+        Ok(None)
     }
 }
 
 // The constant of an equality of a column with a constant.
-fn fixing(expr: &Expr) -> Option<&Value>
-    ensures { IfSome result (λ value. IsFixing expr.now value.now) }
+fn fixing(alloc: Global, expr: &Expr) -> Result<Option<Value>, AllocError>
+    ensures { IfOk result (λ found. IfSome found (IsFixing expr.now)) }
 {
     match expr {
         Expr::Both(operator, left, right) => match operator {
-            Operator::Compare(test) => constant_between(*test, left.get(), right.get()),
-            _ => None,
+            Operator::Compare(test) => constant_between(alloc, *test, left.get(), right.get()),
+            _ => Ok(None),
         },
-        _ => None,
+        _ => Ok(None),
     }
 }
 
 // The same with its two sides.
-fn constant_between<'a>(test: Cmp, left: &'a Expr, right: &'a Expr) -> Option<&'a Value>
-    ensures { IfSome result (λ value. IsFixing (Both (Compare test) left.now right.now) value.now) }
+fn constant_between(
+    alloc: Global,
+    test: Cmp,
+    left: &Expr,
+    right: &Expr,
+) -> Result<Option<Value>, AllocError>
+    ensures { IfOk result (λ found. IfSome found (IsFixing (Both (Compare test) left.now right.now))) }
 {
     if !is_equal_test(test) {
-        return None;
+        return Ok(None);
     }
-    constant_beside(left, right)
+    constant_beside(alloc, left, right)
 }
 
-fn constant_beside<'a>(left: &'a Expr, right: &'a Expr) -> Option<&'a Value>
-    ensures { IfSome result (λ value. IsFixing (Both (Compare Eq) left.now right.now) value.now) }
+fn constant_beside(alloc: Global, left: &Expr, right: &Expr) -> Result<Option<Value>, AllocError>
+    ensures { IfOk result (λ found. IfSome found (IsFixing (Both (Compare Eq) left.now right.now))) }
 {
     if is_column(left) {
-        return constant_after(left, right);
+        return constant_after(alloc, left, right);
     }
     if is_column(right) {
-        return constant_before(left, right);
+        return constant_before(alloc, left, right);
     }
-    None
+    Ok(None)
 }
 
 #[tactic(auto, using(crate::proofs::FixingLaws::column_constant))]
-fn constant_after<'a>(left: &Expr, right: &'a Expr) -> Option<&'a Value>
+fn constant_after(alloc: Global, left: &Expr, right: &Expr) -> Result<Option<Value>, AllocError>
     requires { IsColumn left.now }
-    ensures { IfSome result (λ value. IsFixing (Both (Compare Eq) left.now right.now) value.now) }
+    ensures { IfOk result (λ found. IfSome found (IsFixing (Both (Compare Eq) left.now right.now))) }
 {
-    match right {
-        Expr::Constant(value) => Some(value),
-        _ => None,
+    match constant_of(alloc, right)? {
+        None => Ok(None),
+        Some(value) => Ok(Some(value)),
     }
 }
 
 #[tactic(auto, using(crate::proofs::FixingLaws::constant_column))]
-fn constant_before<'a>(left: &'a Expr, right: &Expr) -> Option<&'a Value>
+fn constant_before(alloc: Global, left: &Expr, right: &Expr) -> Result<Option<Value>, AllocError>
     requires { IsColumn right.now }
-    ensures { IfSome result (λ value. IsFixing (Both (Compare Eq) left.now right.now) value.now) }
+    ensures { IfOk result (λ found. IfSome found (IsFixing (Both (Compare Eq) left.now right.now))) }
 {
-    match left {
-        Expr::Constant(value) => Some(value),
-        _ => None,
+    match constant_of(alloc, left)? {
+        None => Ok(None),
+        Some(value) => Ok(Some(value)),
     }
 }

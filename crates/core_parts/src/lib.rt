@@ -7,23 +7,27 @@
 //!   `take_places` and `take_place` take the places of expressions from the front of a list
 //!   (`specs/Placing.antt`);
 //! - `conjuncts` and `conjuncts_of` take conditions apart at their ANDs (`specs/Conditions.antt`). `fixed_key`
-//!   has the constants to which conditions fix the columns of a key (`specs/Fixing.antt`). `is_column` and
-//!   `is_equal_test` tell the comparisons for that (`specs/Equality.antt`);
+//!   has the constants to which conditions fix the columns of a key (`specs/Fixing.antt`), and `masks_of` the
+//!   tests of single columns by which the rows of a source may be chosen (`specs/Masking.antt`). `constant_of`
+//!   has the value of an expression that names no column (`specs/Constants.antt`); `is_column` and
+//!   `is_equal_test` tell comparisons of columns (`specs/Equality.antt`);
 //! - `Refs` is a list of references, which contracts see as the list of what they refer to, and `RefsBy` has
 //!   such lists under keys (`specs/Listing.antt`);
 //! - `ByOrder` is a reference to a value or to the values of a row, as a key of a set or a map;
 //! - `is_certain` tells True from False and Unknown.
 //!
 //! The lemmas on places and lists that proofs above use are in `proofs/Places.antt`, `proofs/Names.antt`,
-//! `proofs/Lists.antt` and `proofs/Listings.antt`, those on conditions in `proofs/Equalities.antt`,
-//! `proofs/ConjunctLaws.antt` and `proofs/FixingLaws.antt`.
+//! `proofs/Lists.antt` and `proofs/Listings.antt`, those on conditions in `proofs/Agree.antt`,
+//! `proofs/Equalities.antt`, `proofs/ConjunctLaws.antt`, `proofs/FixingLaws.antt` and `proofs/MaskLaws.antt`.
 #![tactic(auto)]
 
 mod by_order;
 mod conditions;
+mod constants;
 mod cores;
 mod equality;
 mod fixing;
+mod masking;
 mod placed;
 mod refs;
 mod refs_by;
@@ -31,9 +35,11 @@ mod truths;
 
 pub use by_order::{ByOrder, Ordered};
 pub use conditions::{conjuncts, conjuncts_of};
+pub use constants::constant_of;
 pub use cores::{core_of, places_or, query_of};
 pub use equality::{is_column, is_equal_test};
 pub use fixing::fixed_key;
+pub use masking::{Mask, MaskTest, masks_of};
 pub use placed::{Placed, placed_at, placed_items, take_place, take_places};
 pub use refs::Refs;
 pub use refs_by::RefsBy;

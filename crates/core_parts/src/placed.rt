@@ -1,11 +1,12 @@
 //! Expressions with the places of their columns.
 
-ghost use Rattle.std.specs.Prelude.{◌≡◌, ◌++◌, drop, take, IfOk, OnOk};
+ghost use Rattle.std.specs.Prelude.{◌≡◌, ◌++◌, ◌-◌, ◌≤◌, drop, length, take, IfOk, OnErr, OnOk};
 ghost use Rattle.core_parts.specs.Placing.{own_places, other_places, PlacesItems};
 
 use ldv_value::{CopyItem, List, Places};
 use sql_model::{Expr, Item};
 use std::alloc::{AllocError, Global};
+use std::mem;
 
 /// An expression, and the place in the joined row of each column that it names, left to right.
 #[derive(Drop)]
@@ -14,8 +15,8 @@ pub struct Placed {
     pub places: Places,
 }
 
-/// Appends the places that an expression takes of those from `at` on; afterwards `at` is after them.
-#[tactic(auto, using(crate::proofs::Names::own_forms))]
+/// Appends the places that an expression takes of those from `at` on; afterwards `at` is after them. On
+/// `AllocError` both are as they were.
 pub fn take_places(
     expr: &Expr,
     places: &Places,
@@ -24,27 +25,73 @@ pub fn take_places(
 ) -> Result<(), AllocError>
     ensures own { OnOk result (own.new ≡ own.old ++ own_places expr.now (drop at.old places.now)) }
     ensures others { OnOk result (drop at.new places.now ≡ other_places expr.now (drop at.old places.now)) }
+    ensures err { OnErr result ((own.new ≡ own.old) × (at.new ≡ at.old)) }
+{
+    let end = passed(expr, places, *at);
+    add_between(places, *at, end, own)?;
+    *at = end;
+    Ok(())
+}
+
+// The index after the places that an expression takes of those from an index on.
+#[tactic(auto, using(crate::proofs::Names::own_forms))]
+fn passed(expr: &Expr, places: &Places, at: usize) -> usize
+    ensures onward { at ≤ result }
+    ensures within { at ≤ length places.now → result ≤ length places.now }
+    ensures others { drop result places.now ≡ other_places expr.now (drop at places.now) }
 {
     match expr {
-        Expr::Constant(_) => Ok(()),
-        Expr::Column(_) => take_place(places, at, own),
-        Expr::Negate(inner) => take_places(inner.get(), places, at, own),
-        Expr::Not(inner) => take_places(inner.get(), places, at, own),
+        Expr::Constant(_) => at,
+        Expr::Column(_) => next_after(places, at),
+        Expr::Negate(inner) => passed(inner.get(), places, at),
+        Expr::Not(inner) => passed(inner.get(), places, at),
         Expr::Both(_, left, right) => {
-            take_places(left.get(), places, at, own)?;
-            take_places(right.get(), places, at, own)
+            let middle = passed(left.get(), places, at);
+            passed(right.get(), places, middle)
         }
-        Expr::IsNull(inner, _) => take_places(inner.get(), places, at, own),
-        Expr::Aggregate(_, None) => Ok(()),
-        Expr::Aggregate(_, Some(inner)) => take_places(inner.get(), places, at, own),
+        Expr::IsNull(inner, _) => passed(inner.get(), places, at),
+        Expr::Aggregate(_, None) => at,
+        Expr::Aggregate(_, Some(inner)) => passed(inner.get(), places, at),
     }
 }
 
-/// Appends the next place, where there is one.
+// The next index, where there is a place at this one.
+#[tactic(auto, using(crate::proofs::Names::next_forms))]
+fn next_after(places: &Places, at: usize) -> usize
+    ensures onward { at ≤ result }
+    ensures within { at ≤ length places.now → result ≤ length places.now }
+    ensures others { drop result places.now ≡ drop 1 (drop at places.now) }
+{
+    match places.get(at) {
+        None => at,
+        Some(_place) => at + 1,
+    }
+}
+
+// Appends the places from one index to another. On `AllocError` the list is as it was.
+#[tactic(auto, using(crate::proofs::Names::none_between))]
+fn add_between(places: &Places, from: usize, to: usize, own: &mut Places) -> Result<(), AllocError>
+    requires onward { from ≤ to }
+    requires within { from ≤ length places.now → to ≤ length places.now }
+    ensures ok { OnOk result (own.new ≡ own.old ++ take (to - from) (drop from places.now)) }
+    ensures err { OnErr result (own.new ≡ own.old) }
+{
+    if from >= places.len() {
+        return Ok(());
+    }
+    let alloc = own.allocator();
+    let mut held = mem::replace(own, List::new(alloc)).into_vec();
+    let added = held.extend_from_slice(&places.items()[from..to]);
+    *own = List::of_vec(held);
+    added
+}
+
+/// Appends the next place, where there is one. On `AllocError` the list and `at` are as they were.
 #[tactic(auto, using(crate::proofs::Names::next_forms))]
 pub fn take_place(places: &Places, at: &mut usize, own: &mut Places) -> Result<(), AllocError>
     ensures own { OnOk result (own.new ≡ own.old ++ take 1 (drop at.old places.now)) }
     ensures others { OnOk result (drop at.new places.now ≡ drop 1 (drop at.old places.now)) }
+    ensures err { OnErr result ((own.new ≡ own.old) × (at.new ≡ at.old)) }
 {
     match places.get(*at) {
         None => Ok(()),

@@ -1,7 +1,6 @@
 //! A list of references, which contracts see as the list of what they refer to.
 
-ghost use Rattle.std.specs.Prelude.{◌≡◌, ◌++◌, ◌∷◌, [], map, take, length, IfOk, OnOk, slice_get};
-ghost use Rattle.std.specs.Option.{option_map};
+ghost use Rattle.std.specs.Prelude.{◌≡◌, ◌++◌, ◌∷◌, [], map, take, length, IfOk, OnErr, OnOk};
 
 use std::alloc::{AllocError, Global};
 use std::marker::Model;
@@ -47,9 +46,10 @@ impl<'a, X> Refs<'a, X> {
         self.held.as_slice()
     }
 
-    /// Appends a reference.
+    /// Appends a reference. On `AllocError` the list is as it was.
     pub fn push(&mut self, item: &'a X) -> Result<(), AllocError>
-        ensures { OnOk result (self.new ≡ self.old ++ item.now ∷ []) }
+        ensures ok { OnOk result (self.new ≡ self.old ++ item.now ∷ []) }
+        ensures err { OnErr result (self.new ≡ self.old) }
     {
         self.held.push(item)?;
         Ok(())

@@ -1,6 +1,6 @@
 //! References under keys.
 
-ghost use Rattle.std.specs.Prelude.{◌≡◌, ◌==◌, [], length, OnOk, unwrap_or};
+ghost use Rattle.std.specs.Prelude.{◌≡◌, ◌==◌, [], length, OnErr, OnOk, unwrap_or};
 ghost use Rattle.std.specs.Option.{option_map};
 ghost use Rattle.core_parts.specs.Listing.{listed, item_added};
 
@@ -44,10 +44,11 @@ impl<'a, K: Ord + Drop, X> RefsBy<'a, K, X> {
         }
     }
 
-    /// Appends a reference to those under a key.
+    /// Appends a reference to those under a key. On `AllocError` each key has those that it had.
     pub fn add(&mut self, key: K, item: &'a X) -> Result<(), AllocError>
-        ensures { OnOk result ((other : K) → listed K.cmp self.new other
+        ensures ok { OnOk result ((other : K) → listed K.cmp self.new other
             ≡ item_added K.cmp key item.now other (listed K.cmp self.old other)) }
+        ensures err { OnErr result ((other : K) → listed K.cmp self.new other ≡ listed K.cmp self.old other) }
     {
         match self.map.get_mut(&key) {
             Some(items) => items.push(item),
@@ -58,8 +59,9 @@ impl<'a, K: Ord + Drop, X> RefsBy<'a, K, X> {
     // Puts the first reference under a key.
     fn add_first(&mut self, key: K, item: &'a X) -> Result<(), AllocError>
         requires { listed K.cmp self.old key ≡ [] }
-        ensures { OnOk result ((other : K) → listed K.cmp self.new other
+        ensures ok { OnOk result ((other : K) → listed K.cmp self.new other
             ≡ item_added K.cmp key item.now other (listed K.cmp self.old other)) }
+        ensures err { OnErr result ((other : K) → listed K.cmp self.new other ≡ listed K.cmp self.old other) }
     {
         let mut items = Refs::new(self.alloc);
         items.push(item)?;

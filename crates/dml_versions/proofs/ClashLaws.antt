@@ -5,7 +5,7 @@ use Rattle.std.specs.List.{list_any, AllByRecursion}
 use Rattle.std.specs.Option.{option_or}
 use Rattle.ldv_value.proofs.Booleans.{or-parts}
 use Rattle.ldv_value.proofs.Lists.{find-append}
-use Rattle.sql_laws.proofs.UniqueKeys.{values_in, unique-fewer}
+use Rattle.sql_model.proofs.UniqueKeys.{values_in, unique-fewer}
 use Rattle.sql_model.specs.Changes.{shares_key, clash_or, clash_after, clash_by}
 use Rattle.sql_model.specs.Keys.{same_values, values_at, repeats}
 use Rattle.sql_model.specs.Tables.{are_keys_unique}

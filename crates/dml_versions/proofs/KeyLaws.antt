@@ -4,7 +4,7 @@ use Rattle.std.specs.Prelude.{filter, find}
 use Rattle.std.specs.List.{AllByRecursion}
 use Rattle.std.specs.Option.{option_map, option_to_list}
 use Rattle.core_parts.proofs.Lists.{kept_twice}
-use Rattle.sql_laws.proofs.UniqueKeys.{values_in}
+use Rattle.sql_model.proofs.UniqueKeys.{values_in}
 use Rattle.sql_model.specs.Tables.{are_keys_unique}
 use Rattle.table_store.proofs.StandingRows.{slot-there, slot-has, none-twice, only-one}
 use Rattle.table_store.specs.Histories.{RowHistory, rows_now, slot_of_row}

@@ -16,5 +16,6 @@ pub mod NumberLaws
 pub mod RefuseLaws
 pub mod StandingLaws
 pub mod TableLaws
+pub mod TestLaws
 pub mod UpdateLaws
 pub mod VersionLaws

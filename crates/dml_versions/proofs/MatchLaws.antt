@@ -8,7 +8,7 @@ use Rattle.ldv_value.proofs.Lists.{all-weaker, map-map}
 use Rattle.ldv_value.proofs.Options.{same-some}
 use Rattle.ldv_value.proofs.SameBytes.{bytes_eq-true}
 use Rattle.ldv_value.specs.Sorted.{is_strictly_sorted}
-use Rattle.sql_laws.proofs.SortedLists.{sorted-all, sorted-tail}
+use Rattle.sql_model.proofs.SortedLists.{sorted-all, sorted-tail}
 use Rattle.sql_laws.proofs.TableNames.{table-trans, more-differs}
 use Rattle.sql_model.proofs.ValidTables.{table-parts}
 use Rattle.sql_model.specs.Needs.{matched_row, next_member, read_of}

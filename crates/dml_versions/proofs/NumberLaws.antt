@@ -6,7 +6,7 @@ use Rattle.std.proofs.lemmas.Bool.{ne_eqb, ltb-true, lt-ltb}
 use Rattle.ldv_value.proofs.Booleans.{and-parts, or-true}
 use Rattle.ldv_value.proofs.Cases.{cases-bool}
 use Rattle.ldv_value.proofs.Lists.{list_all-filter, list_all-map, list_all-weaker, sorted-map}
-use Rattle.sql_laws.proofs.SortedLists.{sorted-all, sorted-tail, sorted-filter}
+use Rattle.sql_model.proofs.SortedLists.{sorted-all, sorted-tail, sorted-filter}
 use Rattle.table_store.specs.Stops.{replaced_by, is_among, are_sorted_rows, are_sorted_numbers}
 use Rattle.dml_versions.specs.Types.{TableRow}
 

@@ -1,8 +1,9 @@
 -- The rows that a statement matches, as they are found in the slots of a table.
-use Rattle.std.specs.Prelude.{◌≡◌, ℕ, List, map, filter, drop, Bool, Option, Some, None}
+use Rattle.std.specs.Prelude.{◌≡◌, ℕ, List, [], map, filter, drop, Bool, false, Option, Some, None}
 use Rattle.std.specs.Prelude.{unwrap_or, slice_index_or}
 use Rattle.std.specs.List.{flat_map}
 use Rattle.std.specs.Option.{option_to_list}
+use Rattle.lanes.specs.Sets.{member}
 use Rattle.sql_model.specs.Changes.{is_matched}
 use Rattle.sql_model.specs.Kinds.{names_in}
 use Rattle.sql_model.specs.Scope.{InScope, places_in}
@@ -51,3 +52,7 @@ found_at test slots slot =
 -- and in all slots from one on
 abbrev pub found_from : (TableRow → Bool) → List RowHistory → ℕ → List Found
 found_from test slots slot = map (found_row slots) (filter test (rows_now (drop slot slots)))
+
+-- what is found is in the slots of a set
+abbrev pub CoverFound : List ℕ → (TableRow → Bool) → List RowHistory → Type 0
+CoverFound words test slots = (n : ℕ) → member words n ≡ false → found_at test slots n ≡ []

@@ -4,5 +4,6 @@ pub mod Fixing
 pub mod Holding
 pub mod Making
 pub mod Needing
+pub mod Testing
 pub mod Types
 pub mod Versions

@@ -2,7 +2,6 @@
 
 ghost use Rattle.std.specs.Prelude.{◌≡◌, ◌<◌, IfOk, OnOk, OnErr};
 ghost use Rattle.dml_versions.specs.Changing.{IsDelete, IsCheckedOver, IsChange, IsStoreAfter};
-ghost use Rattle.sql_model.specs.Tables.{AreWellFormed};
 ghost use Rattle.dml_versions.specs.Changing.{AreFound};
 ghost use Rattle.dml_versions.specs.Types.{TheDelete};
 ghost use Rattle.table_store.specs.Histories.{tables_now};
@@ -31,7 +30,6 @@ pub fn delete(
 ) -> Result<Change, AllocError>
     requires kind { IsDelete checked.now.statement }
     requires checked { IsCheckedOver (tables_now store.old) checked.now }
-    requires formed { AreWellFormed (tables_now store.old) }
     requires later { store.old.time < time }
     ensures change { IfOk result (IsChange checked.now.statement keep store.old) }
     ensures after { OnOk result (IsStoreAfter checked.now.statement time store.old store.new) }
@@ -39,6 +37,7 @@ pub fn delete(
 {
     let alloc = checked.places.allocator();
     let delete = delete_of(checked);
+    store.tell_formed();
     let found = deleted_rows(checked, delete, store)?;
     let numbers = numbers_of(alloc, &found)?;
     let change = matched_change(alloc, &delete.table, &found, keep)?;
@@ -51,12 +50,12 @@ pub fn delete(
 fn deleted_rows(checked: &Checked, delete: &Delete, store: &Store) -> Result<FoundRows, AllocError>
     requires statement { checked.now.statement ≡ TheDelete delete.now }
     requires checked { IsCheckedOver (tables_now store.now) checked.now }
-    requires formed { AreWellFormed (tables_now store.now) }
     ensures { IfOk result (AreFound delete.now.table delete.now.pick store.now) }
 {
     let alloc = checked.places.allocator();
     let none = List::new(alloc);
     let places = pick_places(alloc, &delete.pick, places_or(checked, 0, &none), 0)?;
+    store.tell_formed();
     let table = table_of(store, &delete.table);
     let found = found_rows(alloc, table, &delete.pick, &places)?;
     Ok(found)

@@ -1,22 +1,27 @@
 //! The rows of a table for which WHERE is True.
 
-ghost use Rattle.std.specs.Prelude.{◌≡◌, ◌++◌, true, IfOk, OnOk};
-ghost use Rattle.dml_versions.specs.Finding.{IsPickPlaced, scope_in, test_in, found_at, found_from};
+ghost use Rattle.std.specs.Prelude.{◌≡◌, ◌++◌, ◌+◌, ◌*◌, ◌^◌, ◌<◌, ◌≤◌, length, true, IfOk, OnOk};
+ghost use Rattle.lanes.specs.Sets.{member};
+ghost use Rattle.dml_versions.specs.Finding.{CoverFound, IsPickPlaced, scope_in, test_in};
+ghost use Rattle.dml_versions.specs.Finding.{found_at, found_from};
 ghost use Rattle.sql_model.specs.Changes.{is_matched};
 ghost use Rattle.sql_model.specs.Scope.{InScope};
 ghost use Rattle.sql_model.specs.Tables.{are_keys_unique, row_values};
 ghost use Rattle.dml_versions.specs.Fixing.{FixesKey};
+ghost use Rattle.dml_versions.specs.Testing.{AreTests};
 ghost use Rattle.table_store.specs.Histories.{table_now};
 ghost use Rattle.std.specs.Prelude.{ℕ, List as Items};
 
 use crate::found::{Found, FoundRows};
 use crate::keys::picked_key;
 use crate::needs::version_of;
+use crate::tested::picked_tests;
 use core_parts::is_certain;
+use lanes::next_one;
 use ldv_value::{List, Places, Values};
 use sql_model::{Expr, RowKey, truth_of};
 use std::alloc::{AllocError, Global};
-use table_store::TableStore;
+use table_store::{ColumnTest, TableStore};
 
 /// The rows of a table for which WHERE is True, or missing, in the order of their numbers. `places` are those
 /// of WHERE's columns.
@@ -37,7 +42,7 @@ pub(crate) fn found_rows(
     }
 }
 
-// The same slot by slot.
+// The same among the rows that pass the tests of single columns which WHERE makes.
 fn found_in_slots(
     alloc: Global,
     table: &TableStore,
@@ -47,11 +52,62 @@ fn found_in_slots(
     requires placed { IsPickPlaced (scope_in table.now) pick.now places.now }
     ensures { IfOk result (λ found. found ≡ found_from (test_in table.now pick.now) table.now.slots 0) }
 {
-    let mut found = List::new(alloc);
-    for slot in 0..table.slots() {
-        add_found(alloc, table, slot, pick, places, &mut found)?;
-    }
+    let tests = picked_tests(alloc, &table.schema().columns, pick, places)?;
+    let found = found_by_tests(alloc, table, tests.as_slice(), pick, places)?;
     Ok(found)
+}
+
+fn found_by_tests(
+    alloc: Global,
+    table: &TableStore,
+    tests: &[ColumnTest],
+    pick: &Option<Expr>,
+    places: &Places,
+) -> Result<FoundRows, AllocError>
+    requires placed { IsPickPlaced (scope_in table.now) pick.now places.now }
+    requires tests { AreTests pick.now places.now table.now.schema.columns tests.now }
+    ensures { IfOk result (λ found. found ≡ found_from (test_in table.now pick.now) table.now.slots 0) }
+{
+    let words = table.chosen(alloc, tests)?;
+    let found = found_among(alloc, table, words.as_slice(), pick, places)?;
+    Ok(found)
+}
+
+// The rows of the slots of a set, which has all of them.
+fn found_among(
+    alloc: Global,
+    table: &TableStore,
+    words: &[u64],
+    pick: &Option<Expr>,
+    places: &Places,
+) -> Result<FoundRows, AllocError>
+    requires placed { IsPickPlaced (scope_in table.now) pick.now places.now }
+    requires few { length words.now < 2 ^ 57 }
+    requires cover { CoverFound words.now (test_in table.now pick.now) table.now.slots }
+    ensures { IfOk result (λ found. found ≡ found_from (test_in table.now pick.now) table.now.slots 0) }
+{
+    let mut found = List::new(alloc);
+    let mut at = 0;
+    'slots: loop {
+        match next_one(words, at) {
+            None => return Ok(found),
+            Some(slot) => {
+                add_found(alloc, table, slot, pick, places, &mut found)?;
+                at = after(words, slot);
+            }
+        }
+    }
+}
+
+// The slot after one that is set.
+#[tactic(auto, using(crate::proofs::TestLaws::slot_within))]
+fn after(words: &[u64], slot: u64) -> u64
+    requires few { length words.now < 2 ^ 57 }
+    requires set { member words.now slot ≡ true }
+    ensures next { result ≡ slot + 1 }
+    ensures within { result ≤ 64 * length words.now }
+{
+    slot + 1
 }
 
 // The same by the values of the key, which WHERE fixes.

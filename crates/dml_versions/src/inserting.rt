@@ -2,7 +2,6 @@
 
 ghost use Rattle.std.specs.Prelude.{◌≡◌, ◌<◌, IfOk, OnOk, OnErr};
 ghost use Rattle.dml_versions.specs.Changing.{IsInsert, IsCheckedOver, IsChange, IsStoreAfter};
-ghost use Rattle.sql_model.specs.Tables.{AreWellFormed};
 ghost use Rattle.dml_versions.specs.Changing.{AreNewRows};
 ghost use Rattle.dml_versions.specs.Types.{TheInsert};
 ghost use Rattle.table_store.specs.Histories.{tables_now};
@@ -28,7 +27,6 @@ pub fn insert(
 ) -> Result<Change, AllocError>
     requires kind { IsInsert checked.now.statement }
     requires checked { IsCheckedOver (tables_now store.old) checked.now }
-    requires formed { AreWellFormed (tables_now store.old) }
     requires later { store.old.time < time }
     ensures change { IfOk result (IsChange checked.now.statement keep store.old) }
     ensures after { OnOk result (IsStoreAfter checked.now.statement time store.old store.new) }
@@ -36,6 +34,7 @@ pub fn insert(
 {
     let alloc = checked.places.allocator();
     let insert = insert_of(checked);
+    store.tell_formed();
     let rows = inserted_rows(checked, insert, store)?;
     let name = insert.table.as_str();
     let next = store.next_at(name, time);

@@ -8,17 +8,13 @@
 //!   (`IsStoreAfter`); what they were at earlier times stays;
 //! - where memory is out, the store is as it was.
 //!
-//! Besides what the statement and the time have to be, a caller owes that the store's tables are a database
-//! none of whose tables has two columns of one name (`AreWellFormed`). Whoever holds a store keeps that: the
-//! tables that it begins with are so, and every statement leaves them so.
-//!
 //! The version of a row is how many accepted UPDATEs matched it (`specs/Versions.antt`). `specs/Finding.antt`
 //! says how matched rows are found in the slots of a table, `specs/Fixing.antt` when WHERE fixes a key,
 //! `specs/Making.antt` how new values are made, and `specs/Needing.antt` what is needed and made then.
 //!
 //! The way of a change: `finding` finds the rows for which WHERE is True, by the table's key where WHERE
-//! compares each of its columns by `=` with a constant (`keys`), and else slot by slot; `rows` or `updates`
-//! makes the new values, `needs` the lists, all before the store changes; `inserting`, `updating` and
+//! compares each of its columns by `=` with a constant (`keys`), and else among the rows that pass the tests
+//! of single columns that WHERE makes (`tested`); `rows` or `updates` makes the new values, `needs` the lists, all before the store changes; `inserting`, `updating` and
 //! `deleting` put them together.
 #![tactic(auto)]
 
@@ -33,6 +29,7 @@ mod places;
 mod rows;
 mod statements;
 mod tables;
+mod tested;
 mod updates;
 mod updating;
 

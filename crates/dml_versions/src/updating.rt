@@ -2,7 +2,6 @@
 
 ghost use Rattle.std.specs.Prelude.{◌≡◌, ◌<◌, IfOk, OnOk, OnErr};
 ghost use Rattle.dml_versions.specs.Changing.{IsUpdate, IsCheckedOver, IsChange, IsStoreAfter};
-ghost use Rattle.sql_model.specs.Tables.{AreWellFormed};
 ghost use Rattle.dml_versions.specs.Changing.{ArePrepared};
 ghost use Rattle.dml_versions.specs.Types.{TheUpdate};
 ghost use Rattle.table_store.specs.Histories.{tables_now};
@@ -32,7 +31,6 @@ pub fn update(
 ) -> Result<Change, AllocError>
     requires kind { IsUpdate checked.now.statement }
     requires checked { IsCheckedOver (tables_now store.old) checked.now }
-    requires formed { AreWellFormed (tables_now store.old) }
     requires later { store.old.time < time }
     ensures change { IfOk result (IsChange checked.now.statement keep store.old) }
     ensures after { OnOk result (IsStoreAfter checked.now.statement time store.old store.new) }
@@ -40,6 +38,7 @@ pub fn update(
 {
     let alloc = checked.places.allocator();
     let update = update_of(checked);
+    store.tell_formed();
     let prepared = prepare(checked, update, store)?;
     let Prepared { found, rows } = prepared;
     let change = matched_change(alloc, &update.table, &found, keep)?;
@@ -69,12 +68,12 @@ struct Prepared {
 fn prepare(checked: &Checked, update: &Update, store: &Store) -> Result<Prepared, AllocError>
     requires statement { checked.now.statement ≡ TheUpdate update.now }
     requires checked { IsCheckedOver (tables_now store.now) checked.now }
-    requires formed { AreWellFormed (tables_now store.now) }
     ensures { IfOk result (λ made. ArePrepared update.now store.now made.found made.rows) }
 {
     let alloc = checked.places.allocator();
     let none = List::new(alloc);
     let places = update_places(alloc, update, places_or(checked, 0, &none))?;
+    store.tell_formed();
     let table = table_of(store, &update.table);
     let found = found_rows(alloc, table, &update.pick, &places.pick)?;
     let columns = table.schema().columns.items();

@@ -8,4 +8,5 @@ pub mod FileReports
 pub mod TraceReports
 pub mod WhyReports
 pub mod DependsReports
+pub mod DependsSources
 pub mod Stopping

@@ -8,7 +8,8 @@
 //!   `specs/ProcessNames.antt`);
 //! - `why_text` says of one row which statement needed it, and when (`specs/WhyReports.antt`);
 //! - `depends_text` lists what the content of a path came from (`specs/DependsReports.antt`), by the graph of
-//!   the events.
+//!   the events, and `depends_law` says of every such list that it has the nodes from which a path of the graph
+//!   leads there in time, and no others (`specs/DependsSources.antt`).
 //!
 //! Memory is linear in the package and the report, since the name of a process is made only where a report has
 //! it. So is time, but for the sorting in `depends_text`. No clause says so.
@@ -17,6 +18,7 @@
 mod append;
 mod depends;
 mod files;
+mod law;
 mod names;
 mod rows;
 mod stop;
@@ -25,6 +27,7 @@ mod why;
 
 pub use depends::depends_text;
 pub use files::files_text;
+pub use law::depends_law;
 pub use rows::rows_text;
 pub use stop::InspectStop;
 pub use trace::trace_text;

@@ -1,13 +1,10 @@
 pub mod AuditResponses
-pub mod DocumentWorlds
 pub mod GenerateLaws
-pub mod GeneratedWorlds
 pub mod HeadlineLaw
 pub mod LogResponses
 pub mod RecordLaws
 pub mod ResponseLaws
 pub mod TopLaws
 pub mod Traces
-pub mod TypedWorlds
 pub mod WordLaws
 pub mod WriteLemmas

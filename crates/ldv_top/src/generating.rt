@@ -22,7 +22,6 @@ ghost use Rattle.ldv_top.specs.declared.command.Command.TheVariants.{Generate};
 use crate::command::Command;
 use crate::numbers::positive_within;
 use crate::response::Response;
-use crate::typed::see_types;
 use hex::encode;
 use itoa::Buffer;
 use ldv_value::{Bytes, DEFAULT_STEPS};
@@ -65,7 +64,6 @@ pub(crate) fn generate_response(alloc: Global, orders: u32) -> Result<Response, 
     ensures { IfOk result (λ response. response_due response ≡ due_generate orders) }
 {
     let world = generate(alloc, orders)?;
-    see_types(&world);
     world_response(alloc, orders, world)
 }
 

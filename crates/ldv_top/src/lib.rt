@@ -36,7 +36,6 @@ mod replay;
 mod response;
 mod tabling;
 mod top;
-mod typed;
 mod word_stop;
 
 pub use command::{Command, Report};

@@ -4,6 +4,7 @@ ghost use Rattle.std.specs.Prelude.{◌≡◌, Ok, IfOk, IfErr};
 ghost use Rattle.package_layout.specs.ReadResult.{ReadsAs};
 ghost use Rattle.package_layout.specs.Valid.{Valid, reading};
 ghost use Rattle.package_layout.specs.Whole.{IsTyped};
+ghost use Rattle.run_model.specs.ValidWorld.{CanRun, ValidWorld};
 ghost use Rattle.world_json.specs.Reading.{world_reading, IsFaultOf};
 
 use ldv_value::Bytes;
@@ -16,6 +17,8 @@ use world_json::{WorldStop, world_of};
 pub(crate) fn read_document(alloc: Global, input: Bytes) -> Result<World, WorldStop>
     ensures world { IfOk result (λ world. world_reading input ≡ Ok world) }
     ensures fault { IfErr result (IsFaultOf (world_reading input)) }
+    ensures valid { IfOk result (λ world. ValidWorld world) }
+    ensures runs { IfOk result (λ world. CanRun world) }
 {
     world_of(alloc, input.as_slice())
 }

@@ -11,7 +11,6 @@ ghost use Rattle.ldv_top.specs.declared.exit.Exit.{Exit};
 use crate::headline::headline_law;
 use crate::reading::read_document;
 use crate::response::Response;
-use crate::typed::see_types;
 use ldv_value::Bytes;
 use package_layout::{SpellStop, spell};
 use replay_db::{EndStop, record_world};
@@ -63,10 +62,7 @@ pub(crate) fn record_response(
 {
     headline_law();
     match read_document(alloc, input) {
-        Ok(world) => {
-            see_types(&world);
-            recorded_response(alloc, mode, budget, world)
-        }
+        Ok(world) => recorded_response(alloc, mode, budget, world),
         Err(WorldStop::Fault(fault)) => Ok(Response::NotWorld(fault)),
         Err(WorldStop::NoMemory) => Err(AllocError),
     }

@@ -10,7 +10,7 @@ use Rattle.ldv_value.proofs.SameBytes.{bytes_eq-true, nat_eq-true}
 use Rattle.sql_model.specs.Scope.{same_text}
 use Rattle.sql_model.specs.Tables.{is_valid_table, table_precedes, tables_test}
 use Rattle.sql_model.proofs.ValidTables.{table-parts}
-use Rattle.sql_laws.proofs.SortedLists.{sorted-all, sorted-tail}
+use Rattle.sql_model.proofs.SortedLists.{sorted-all, sorted-tail}
 use Rattle.sql_laws.proofs.TableNames.{table-trans, more-differs}
 use Rattle.replay_db.specs.Types.{Instr, Started, Table, TableRow, Event, World}
 use Rattle.run_model.specs.Events.{event_at, events, start_events}

@@ -26,12 +26,12 @@ mod StatementNames
 mod StatementEvents
 mod TraceReasons
 mod TraceRun
-pub mod KeyPlaces
 mod PackageLogs
 pub mod PackageValid
 mod PackageValidLists
 mod PackageValidParts
 mod PackageValidTyped
+mod TableRooms
 pub mod TraceValid
 pub mod BudgetLaw
 mod EndedRuns

@@ -23,10 +23,11 @@ use Rattle.package_layout.specs.Whole.{IsTyped, tables_room, has_room}
 use Rattle.value_laws.specs.Steps.{GoodLogs, StepsLaw}
 use Rattle.replay_db.specs.Worlds.{all_of_file, all_of_world, TypedWorld, world_rules, ValidWorld, TypedFor, ValidPackageLaw, TypedPackageLaw}
 use Rattle.replay_db.proofs.PackageLogs.{logs_valid, logs_roomy, logs_typed}
-use Rattle.replay_db.proofs.PackageValidParts.{files_valid, whole_found, rooms_valid, tables_valid}
+use Rattle.replay_db.proofs.PackageValidParts.{files_valid, whole_found, tables_valid}
 use Rattle.replay_db.proofs.PackageValidTyped.{files_typed, tables_typed}
+use Rattle.replay_db.proofs.TableRooms.{rooms_met}
 use Rattle.replay_db.proofs.TraceValid.{trace_is, steps_at_least_one, steps_at_most, reasons_valid, room_is, typed_is}
-use Rattle.replay_db.proofs.WorldRules.{Ruled, ruled_by, RuledList, ruled_list, world_tables}
+use Rattle.run_model.proofs.ValidWorlds.{Ruled, ruled_by, RuledList, ruled_list, world_tables}
 use Rattle.replay_db.proofs.WorldValues.{good_world}
 use Rattle.replay_db.proofs.EndedLaw.{ended_starts}
 
@@ -104,7 +105,7 @@ module _ (n : ℕ) (w : World) (met : IsTrue (world_rules w)) (valid : tables_te
       let list : RuledList tables = ruled_list tables rule in
       record {
         ruled = rule;
-        room = and_from (some_thousands tables) (list_all table_room tables) (tables_few (length tables) list.few) (rooms_valid happened w.tables ruled.room);
+        room = and_from (some_thousands tables) (list_all table_room tables) (tables_few (length tables) list.few) (rooms_met tables rule);
         reasons = reasons_valid n [] w script is valid met;
         logs_ruled = refl;
         logs_room = refl;

@@ -12,7 +12,6 @@ use Rattle.sql_model.specs.Tables.{schema_test, is_row, is_short, numbers_test, 
 use Rattle.run_model.specs.Slice.{FileNeed, Whole, Present, file_need, packed_as, packed_file, files_needed, Reason, first_reason, packed_because, packed_row, rows_needed, is_table_needed, packed_table, tables_needed}
 use Rattle.sql_model.specs.Keys.{repeats, same_values, values_at}
 use Rattle.package_layout.specs.Order.{rises, is_below, file_below, table_below}
-use Rattle.package_layout.specs.Room.{few, key_room, row_room, table_room}
 use Rattle.package_layout.specs.Valid.{content_rule, file_rule, files_rule, rows_rule, table_rule, tables_rule}
 use Rattle.replay_db.specs.Worlds.{all_of_file, all_of_row, all_of_table}
 use Rattle.replay_db.proofs.PackageValidLists.{kept_if, tests_stay, within_still, rises_still, unique_still, some_kept}
@@ -170,22 +169,11 @@ module _ (events : List Event) (table : Table) where
       let first = and_parts described (rows_rule (all_of_table table)) parts.0 in
       and_from (described && kept) (keyed kept_rows) (and_from described kept first.0 (rows_valid first.1)) (table_keyed parts.1)
 
-  pub table_roomy : table_room (all_of_table table) ≡ true → table_room (packed_table events table) ≡ true
-  table_roomy met =
-      let wide : ℕ = length table.schema.columns in
-      let first = and_parts (few table.schema.columns) (key_room table.schema.key && list_all (row_room wide) all_rows) met in
-      let second = and_parts (key_room table.schema.key) (list_all (row_room wide) all_rows) first.1 in
-      and_from (few table.schema.columns) (key_room table.schema.key && list_all (row_room wide) kept_rows) first.0
-      (and_from (key_room table.schema.key) (list_all (row_room wide) kept_rows) second.0 (values_still (λ values. length values == wide) second.1))
-
 module _ (events : List Event) where
   each_table : (p : PackedTable → Bool) → ((table : Table) → p (all_of_table table) ≡ true → p (packed_table events table) ≡ true) → (tables : List Table) → list_all p (map all_of_table tables) ≡ true → list_all p (tables_needed events tables) ≡ true
   each_table p keeps tables all =
       ap (list_all p) (tables_as events tables)
       ∙ tests_stay all_of_table (table_kept events) p p (λ table y is met. ap p (table_is events table y is) ∙ keeps table met) tables all
-
-  pub rooms_valid : (tables : List Table) → list_all table_room (map all_of_table tables) ≡ true → list_all table_room (tables_needed events tables) ≡ true
-  rooms_valid tables all = each_table table_room (table_roomy events) tables all
 
   pub tables_valid : (tables : List Table) → tables_rule (map all_of_table tables) ≡ true → tables_rule (tables_needed events tables) ≡ true
   tables_valid tables met =

@@ -6,8 +6,8 @@ use Rattle.ldv_value.proofs.Booleans.{and-parts}
 use Rattle.ldv_value.proofs.SameBytes.{bytes_eq-itself}
 use Rattle.ldv_value.specs.Sorted.{precedes_first, is_strictly_sorted}
 use Rattle.sql_model.specs.Needs.{NeededRow, matched_row, is_same_row, is_earlier_row, put_row, sorted_needs}
-use Rattle.sql_laws.proofs.SortedLists.{sorted-filter}
-use Rattle.sql_laws.proofs.NewNumbers.{row_precedes, row-trans}
+use Rattle.sql_model.proofs.SortedLists.{sorted-filter}
+use Rattle.sql_model.proofs.NewNumbers.{row_precedes, row-trans}
 use Rattle.replay_db.specs.Types.{Table, TableRow}
 
 abbrev pub rows_sorted : List TableRow → Bool

@@ -31,7 +31,8 @@ use Rattle.replay_db.proofs.TraceReasons.{reasons_asked}
 use Rattle.run_model.proofs.NeverStuck.{Ordered}
 use Rattle.replay_db.proofs.TraceRun.{plain_room, plain_typed, run_follows, run_good}
 use Rattle.replay_db.proofs.TraceState.{GoodList}
-use Rattle.replay_db.proofs.WorldRules.{ruled_by, few_names, texts_of_names}
+use Rattle.run_model.proofs.ValidWorlds.{ruled_by}
+use Rattle.replay_db.proofs.WorldRules.{few_names, texts_of_names}
 
 -- ---- the number of steps
 

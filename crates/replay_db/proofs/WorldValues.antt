@@ -14,8 +14,8 @@ use Rattle.value_laws.specs.Values.{GoodRow, GoodTable, GoodTables}
 use Rattle.value_laws.proofs.StepGood.{row_good}
 use Rattle.replay_db.specs.Types.{Table, TableRow, PackedRow, World}
 use Rattle.replay_db.specs.Worlds.{all_of_row, all_of_table, all_of_world, ValidWorld}
-use Rattle.replay_db.proofs.KeyPlaces.{key_within}
-use Rattle.replay_db.proofs.WorldRules.{Ruled, ruled_by, RuledList, ruled_list, world_tables}
+use Rattle.run_model.proofs.KeyPlaces.{key_within}
+use Rattle.run_model.proofs.ValidWorlds.{Ruled, ruled_by, RuledList, ruled_list, world_tables}
 
 rows_good : (rows : List TableRow) → AllByRecursion TypedRow (map all_of_row rows)
     → list_all (λ (row : PackedRow). list_all is_short row.values) (map all_of_row rows) ≡ true

@@ -1,31 +1,26 @@
--- A valid world can be run, and so can the own world of a valid package.
-use Rattle.std.proofs.Common.{◌≡◌, ℕ, ◌^◌, ◌<◌, List, [], ◌∷◌, refl, ap, ◌∙◌, subst, Bool, true, IsTrue, arith}
-use Rattle.std.specs.Prelude.{map, length, ◌&&◌, nat_le, nat_lt, is_some}
+-- The own world of a valid package can be run.
+use Rattle.std.proofs.Common.{◌≡◌, ℕ, ◌^◌, ◌<◌, List, [], ◌∷◌, refl, ap, ◌∙◌, Bool, true, arith}
+use Rattle.std.specs.Prelude.{map, length, ◌&&◌, nat_le, nat_lt}
 use Rattle.std.specs.List.{list_all, AllByRecursion}
 use Rattle.std.proofs.lemmas.Bool.{le-leb}
 use Rattle.ldv_value.proofs.Booleans.{and-parts, and-from}
 use Rattle.ldv_value.proofs.Lists.{list_all-map, map-map, sorted-under}
-use Rattle.ldv_value.specs.FileState.{files_test}
 use Rattle.ldv_value.specs.Limits.{max_tables, max_next}
 use Rattle.ldv_value.specs.Sorted.{is_strictly_sorted}
-use Rattle.ldv_value.specs.declared.file.File.{File}
 use Rattle.ldv_value.specs.declared.value.Value.{Value}
 use Rattle.sql_model.specs.SqlNames.{sql_name_test}
 use Rattle.sql_model.specs.Tables.{schema_test, is_row, is_short, numbers_test, are_keys_unique, is_valid_table, table_precedes, is_database, is_described, tables_test}
 use Rattle.sql_model.specs.declared.table.TableRow.{TableRow}
 use Rattle.sql_model.proofs.ValidTables.{table-from}
-use Rattle.run_model.specs.Package.{own_file, own_row, own_table}
+use Rattle.run_model.specs.Package.{own_row, own_table}
 use Rattle.run_model.specs.TypedPackage.{TypedTable}
 use Rattle.run_model.specs.ValidPackage.{packed_table_precedes, files_rule, rows_rule, table_rule, tables_rule, start_rule, logs_rule, script_rule, parts_rule, whole_rule}
 use Rattle.run_model.specs.declared.package.PackedRow.{PackedRow}
 use Rattle.run_model.specs.declared.package.PackedTable.{PackedTable}
-use Rattle.run_model.specs.declared.world.World.{World}
 use Rattle.package_layout.specs.Whole.{has_room}
 use Rattle.run_model.proofs.OwnFiles.{own_files}
-use Rattle.run_model.proofs.StartScripts.{first_script, own_script}
-use Rattle.replay_db.specs.Worlds.{all_of_file, all_of_world, world_rules}
-use Rattle.replay_db.proofs.WorldRules.{Ruled, ruled_by, world_tables}
-use Rattle.replay_db.specs.Runs.{CanRun, WorldRunsLaw, OwnRunsLaw}
+use Rattle.run_model.proofs.StartScripts.{own_script}
+use Rattle.replay_db.specs.Runs.{OwnRunsLaw}
 
 -- ---- tables of a package
 
@@ -91,7 +86,7 @@ own_tables ts rule typed =
     (sorted-under table_precedes own_table ts ∙ parts.1))
     met.0
 
--- ---- worlds
+-- ---- the own world
 
 pub own_runs : OwnRunsLaw
 own_runs p typed valid =
@@ -106,22 +101,3 @@ own_runs p typed valid =
       files = own_files p.files files.1;
       tables = own_tables p.tables tables.1 typed.1.1.1.1.0;
     }
-
-own_all : (files : List File) → map own_file (map all_of_file files) ≡ files
-own_all [] = refl
-own_all (file ∷ files) = ap (λ (l : List File). file ∷ l) (own_all files)
-
--- a world that meets the rules and has valid tables
-pub ruled_runs : (w : World) → IsTrue (world_rules w) → tables_test w.tables ≡ true → CanRun w
-ruled_runs w met tables =
-    let ruled : Ruled (all_of_world w) = ruled_by (all_of_world w) met in
-    record {
-      script = subst (λ (files : List File). is_some (first_script w.start files) ≡ true) (own_all w.files)
-          (own_script w.start (map all_of_file w.files) ruled.script);
-      files = subst (λ (files : List File). files_test files ≡ true) (own_all w.files)
-          (own_files (map all_of_file w.files) ruled.files);
-      tables = tables;
-    }
-
-pub world_runs : WorldRunsLaw
-world_runs w valid = ruled_runs w valid.ruled (world_tables w valid)

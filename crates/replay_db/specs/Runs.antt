@@ -1,12 +1,11 @@
 -- Runs of worlds within a budget of steps, and the packages of these runs: what can be run, what comes of it,
 -- and what that says of the worlds that are larger.
-use Rattle.std.specs.Prelude.{◌≡◌, ◌≤◌, ℕ, true, if◌then◌else◌, Option, Some, None, is_some, Result}
-use Rattle.ldv_value.specs.FileState.{files_test}
+use Rattle.std.specs.Prelude.{◌≡◌, ◌≤◌, ℕ, true, if◌then◌else◌, Option, Some, None, Result}
 use Rattle.ldv_value.specs.Gives.{Gives}
 use Rattle.sql_model.specs.Tables.{tables_test}
 use Rattle.run_model.specs.Between.{Between}
 use Rattle.run_model.specs.Package.{package_of, own_world}
-use Rattle.run_model.specs.Start.{start_script}
+pub use Rattle.run_model.specs.ValidWorld.{CanRun}
 use Rattle.run_model.specs.WorldRun.{ends_within, outcome_within}
 use Rattle.package_layout.specs.Valid.{Valid}
 use Rattle.package_layout.specs.Whole.{IsTyped}
@@ -16,13 +15,6 @@ use Rattle.replay_db.specs.declared.stop.EndStop.{EndStop}
 use Rattle.replay_db.specs.declared.stop.EndStop.TheVariants.{NotEnded, NoMemory}
 
 -- ---- what can be run
-
--- A world that can be run: its first start word names a script, its files are valid and sorted by path, and
--- its tables meet the rules.
-pub record CanRun (w : World) : Type 0 where
-  pub script : is_some (start_script w) ≡ true
-  pub files : files_test w.files ≡ true
-  pub tables : tables_test w.tables ≡ true
 
 -- every valid world, and the own world of every valid package
 abbrev pub WorldRunsLaw : Type 0

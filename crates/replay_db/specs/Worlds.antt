@@ -1,66 +1,14 @@
--- Valid worlds: what a world's parts meet is what the layout asks of a package that has all of them. The
--- packages of their runs, of the needed rows or of the recorded replies, are valid.
+-- The packages of the runs of valid worlds, of the needed rows or of the recorded replies, are valid.
 use Rattle.ldv_value.specs.Limits.{max_steps}
-use Rattle.std.specs.Prelude.{◌≡◌, ◌≤◌, ℕ, [], map, Bool, true, ◌&&◌, Some, IsTrue}
-use Rattle.std.specs.List.{list_all}
-use Rattle.sql_model.specs.declared.need.Rule.TheVariants.{L}
+use Rattle.std.specs.Prelude.{◌≡◌, ◌≤◌, ℕ, true, IsTrue}
 use Rattle.sql_model.specs.Tables.{tables_test}
-use Rattle.replay_db.specs.Types.{File, Table, TableRow, Mode, Included, Excluded, Package, PackedFile, PackedRow}
-use Rattle.replay_db.specs.Types.{PackedTable, World}
+use Rattle.replay_db.specs.Types.{Mode, Included, Excluded, World}
 use Rattle.run_model.specs.Package.{package_of}
 use Rattle.run_model.specs.WorldRun.{ends_within}
-use Rattle.package_layout.specs.Room.{table_room}
-use Rattle.package_layout.specs.Valid.{start_rule, files_rule, tables_rule, script_rule, Valid}
+use Rattle.package_layout.specs.Valid.{Valid}
 use Rattle.package_layout.specs.Whole.{IsTyped}
-
--- ---- the package that has all of a world, of which nothing was asked
-
-abbrev pub all_of_file : File → PackedFile
-all_of_file file = record { path = file.path; content = Some file.content }
-
-abbrev pub all_of_row : TableRow → PackedRow
-all_of_row row = record { number = row.number; statement = 0; rule = L; values = row.values }
-
-abbrev pub all_of_table : Table → PackedTable
-all_of_table table = record {
-  name = table.name;
-  schema = table.schema;
-  next = table.next;
-  rows = map all_of_row table.rows;
-}
-
-abbrev pub all_of_world : World → Package
-all_of_world w = record {
-  mode = Included;
-  start = w.start;
-  seed = w.seed;
-  steps = 1;
-  files = map all_of_file w.files;
-  tables = map all_of_table w.tables;
-  logs = [];
-  events = [];
-}
-
--- ---- what a world meets
-
--- numbers are those of their types and texts are UTF-8, as in every world in memory
-abbrev pub TypedWorld : World → Type 0
-TypedWorld w = IsTyped (all_of_world w)
-
--- start words, files and tables meet the rules, and the first start word is a file that is a script
-abbrev pub rules_of_parts : Package → Bool
-rules_of_parts p =
-    start_rule p.start && files_rule p.files && tables_rule p.tables && list_all table_room p.tables
-    && script_rule p.start p.files
-
-abbrev pub world_rules : World → Bool
-world_rules w = rules_of_parts (all_of_world w)
-
-pub record ValidWorld (w : World) : Type 0 where
-  pub typed : TypedWorld w
-  pub ruled : IsTrue (world_rules w)
-
--- ---- laws
+pub use Rattle.run_model.specs.ValidWorld.{all_of_file, all_of_row, all_of_table, all_of_world}
+pub use Rattle.run_model.specs.ValidWorld.{TypedWorld, rules_of_parts, world_rules, ValidWorld}
 
 -- the tables of a valid world are valid, and so a database
 abbrev pub WorldTablesLaw : Type 0

@@ -1,7 +1,11 @@
 pub mod Equations
+pub mod Fronts
+pub mod KeyPlaces
 pub mod NeverStuck
 pub mod OwnFiles
 pub mod Settled
 pub mod StartScripts
+pub mod StepActs
 pub mod StepKeeps
 pub mod Undiverged
+pub mod ValidWorlds

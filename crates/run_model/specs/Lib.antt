@@ -25,4 +25,5 @@ pub mod TypedPackage
 pub mod Types
 pub mod ValidPackage
 pub mod ValidTrace
+pub mod ValidWorld
 pub mod WorldRun

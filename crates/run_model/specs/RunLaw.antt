@@ -1,11 +1,14 @@
--- A run is never stuck: while a process hasn't ended, the scheduler chooses one that may run.
-use Rattle.std.specs.Prelude.{◌≡◌, ℕ, List, Bool, true, false, Option, Some, slice_get}
-use Rattle.run_model.specs.Types.{File, Instr}
+-- A run is never stuck: while a process hasn't ended, the scheduler chooses one that may run. And a run has few
+-- events: at most two a step, and one at the start.
+use Rattle.std.specs.Prelude.{◌≡◌, ◌≤◌, ℕ, ◌+◌, ◌*◌, List, length, true, false, Option, Some, slice_get}
+use Rattle.run_model.specs.Types.{File, Instr, World}
 use Rattle.run_model.specs.Core.{Process, Core, all_ended, start_core}
 use Rattle.run_model.specs.Database.{Base}
-use Rattle.run_model.specs.Run.{run}
+use Rattle.run_model.specs.Events.{events}
+use Rattle.run_model.specs.Run.{run, steps}
 use Rattle.run_model.specs.Schedule.{is_runnable, choose}
 use Rattle.run_model.specs.State.{State}
+use Rattle.run_model.specs.WorldRun.{steps_by, events_by}
 
 -- the process of a creation number is there, hasn't ended, and doesn't wait for one that hasn't
 abbrev pub MayRun : ℕ → Core → Type 0
@@ -22,3 +25,17 @@ NeverStuckLaw Db = (base : Base Db) (n : ℕ) (picks : List ℕ)
     → all_ended (run base n picks (started start seed files script db)).core ≡ false
     → MayRun (choose pick (run base n picks (started start seed files script db)).core)
     (run base n picks (started start seed files script db)).core
+
+-- over any database, whatever chooses: the events after the start are at most two for each step that is made,
+-- since only a `copy` that succeeds has two of its own, and its process doesn't end by it
+abbrev pub FewEventsLaw : Type 0 → Type 0
+FewEventsLaw Db = (base : Base Db) (n : ℕ) (picks : List ℕ)
+    (start : List (List ℕ)) (seed : ℕ) (files : List File) (script : List Instr) (db : Db)
+    → length (events base n 1 picks (started start seed files script db))
+    ≤ 2 * steps base n picks (started start seed files script db)
+
+-- of a world, by the steps that its run makes and by those that it may make
+abbrev pub WorldEventsLaw : Type 0
+WorldEventsLaw = (n : ℕ) (picks : List ℕ) (w : World)
+    → (length (events_by n picks w) ≤ 2 * steps_by n picks w + 1)
+    × (length (events_by n picks w) ≤ 2 * n + 1)

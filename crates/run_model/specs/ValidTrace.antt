@@ -127,8 +127,33 @@ abbrev pub trace_test : List ℕ → ℕ → List Event → Bool
 trace_test path steps [] = false
 trace_test path steps (e ∷ es) = starts path e && follows steps at_start es
 
+-- the table of each row that a statement read and of each version that it made has a name by the rule, as
+-- those that it names have by act_rule
+abbrev pub named_rule : Act → Bool
+named_rule (acts.Started path) = true
+named_rule (acts.Spawned path) = true
+named_rule (acts.Unspawned path found) = true
+named_rule (acts.OpenedRead path) = true
+named_rule (acts.OpenedWrite path) = true
+named_rule (acts.OpenedAppend path found) = true
+named_rule (acts.OpenedNew path) = true
+named_rule (acts.Unopened path found) = true
+named_rule (acts.Read path) = true
+named_rule (acts.Wrote path) = true
+named_rule (acts.Removed path) = true
+named_rule (acts.Tested path found) = true
+named_rule (acts.Waited child) = true
+named_rule (acts.Ended status) = true
+named_rule (acts.Asked statement tables reads made) =
+    list_all (λ n. sql_name_test n.member.table) reads && list_all (λ m. sql_name_test m.table) made
+
+abbrev pub are_named : List Event → Bool
+are_named events = list_all (λ e. named_rule e.act) events
+
+-- Of a package `trace_test` is one of its rules, while the format takes only groups of rows whose tables are
+-- named: a valid package's events are a valid trace.
 abbrev pub ValidTrace : List ℕ → ℕ → List Event → Type 0
-ValidTrace path steps events = IsTrue (trace_test path steps events)
+ValidTrace path steps events = IsTrue (trace_test path steps events && are_named events)
 
 -- the events of some run
 abbrev pub IsTrace : List Event → Type 0

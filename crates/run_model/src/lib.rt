@@ -14,6 +14,8 @@
 //! It promises to the layers above:
 //! - `never_stuck_law`: over any database, a run that hasn't ended has a process that may run
 //!   (`specs/RunLaw.antt`);
+//! - `few_events_law` and `world_events_law`: a run has at most two events a step and one at the start, so a
+//!   run of n steps at most 2 n + 1 (`specs/RunLaw.antt`);
 //! - `Database` and `Tracer`: what a run asks and tells, so that the code that runs is proved once, over
 //!   every database and every tracer; `NullTracer` keeps nothing, and `ListTracer` all events;
 //! - files, tables, rows and logs of a package are in the orders of `specs/ValidPackage.antt`, by `Precedes`;
@@ -34,7 +36,7 @@ mod world;
 
 pub use database::{Asker, Database, Stop};
 pub use event::{Act, Event, Events};
-pub use law::never_stuck_law;
+pub use law::{few_events_law, never_stuck_law, world_events_law};
 pub use name::ProcName;
 pub use outcome::{Outcome, PathOutcome, PathOutcomes, ProcOutcome, ProcOutcomes};
 pub use package::{

@@ -1,6 +1,6 @@
 //! The texts of an outcome and of a table (`docs/FORMATS.md`).
 
-ghost use Rattle.std.specs.Prelude.{◌≡◌, ◌++◌, ◌∷◌, [], codes, length, IfOk, OnOk};
+ghost use Rattle.std.specs.Prelude.{◌≡◌, ◌++◌, ◌∷◌, [], codes, length, take, IfOk, OnOk, OnErr};
 ghost use Rattle.std.specs.List.{flat_map};
 ghost use Rattle.std.specs.Fmt.{decimal};
 ghost use Rattle.run_model.specs.OutcomeText.{line, utf8_text, value_text, values_text, row_text, rows_text};
@@ -13,6 +13,7 @@ use crate::outcome::{Outcome, PathOutcome, ProcOutcome};
 use ldv_value::{Bytes, RowList, Utf8, Value, Values, append_number, append_signed};
 use sql_model::{Replies, Reply, SqlRefusal, Table, TableRow};
 use std::alloc::{AllocError, Global};
+use std::mem;
 
 /// The text of an outcome: its counts, its processes and its touched paths.
 pub fn outcome_text(alloc: Global, outcome: &Outcome) -> Result<Bytes, AllocError>
@@ -167,8 +168,11 @@ fn append_replies(to: &mut Bytes, replies: &[Reply]) -> Result<(), AllocError>
     Ok(())
 }
 
+// On `AllocError` some of it may stand at the end.
+#[tactic(auto, using(crate::proofs::Fronts::front_rules))]
 fn append_parts(to: &mut Bytes, parts: &[u32]) -> Result<(), AllocError>
-    ensures { OnOk result (to.new ≡ to.old ++ parts_text parts.now) }
+    ensures ok { OnOk result (to.new ≡ to.old ++ parts_text parts.now) }
+    ensures front { take (length to.old) to.new ≡ to.old }
 {
     for part in parts {
         to.extend(b".")?;
@@ -177,9 +181,10 @@ fn append_parts(to: &mut Bytes, parts: &[u32]) -> Result<(), AllocError>
     Ok(())
 }
 
-/// Puts the name of a process at the end, by its spawn path: `0`, `0.1`.
+/// Puts the name of a process at the end, by its spawn path: `0`, `0.1`. On `AllocError` nothing is put there.
 pub fn append_name(to: &mut Bytes, parts: &[u32]) -> Result<(), AllocError>
-    ensures { OnOk result (to.new ≡ to.old ++ name_text parts.now) }
+    ensures ok { OnOk result (to.new ≡ to.old ++ name_text parts.now) }
+    ensures err { OnErr result (to.new ≡ to.old) }
 {
     match parts {
         [] => Ok(()),
@@ -188,10 +193,36 @@ pub fn append_name(to: &mut Bytes, parts: &[u32]) -> Result<(), AllocError>
 }
 
 fn append_parts_from(to: &mut Bytes, first: u32, rest: &[u32]) -> Result<(), AllocError>
-    ensures { OnOk result (to.new ≡ to.old ++ decimal first ++ parts_text rest.now) }
+    ensures ok { OnOk result (to.new ≡ to.old ++ decimal first ++ parts_text rest.now) }
+    ensures err { OnErr result (to.new ≡ to.old) }
+{
+    let length = to.len();
+    match append_all_parts(to, first, rest) {
+        Ok(()) => Ok(()),
+        Err(stop) => {
+            cut_at(to, length);
+            Err(stop)
+        }
+    }
+}
+
+#[tactic(auto, using(crate::proofs::Fronts::front_rules))]
+fn append_all_parts(to: &mut Bytes, first: u32, rest: &[u32]) -> Result<(), AllocError>
+    ensures ok { OnOk result (to.new ≡ to.old ++ decimal first ++ parts_text rest.now) }
+    ensures front { take (length to.old) to.new ≡ to.old }
 {
     append_number(first as u64, to)?;
     append_parts(to, rest)
+}
+
+// Takes away what stands after the first bytes.
+fn cut_at(to: &mut Bytes, length: usize)
+    ensures { to.new ≡ take length to.old }
+{
+    let none = Bytes::new(to.allocator());
+    let mut bytes = mem::replace(to, none).into_vec();
+    bytes.truncate(length);
+    *to = Bytes::of_vec(bytes);
 }
 
 fn append_process(to: &mut Bytes, process: &ProcOutcome) -> Result<(), AllocError>

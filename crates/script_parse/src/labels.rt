@@ -1,6 +1,6 @@
 //! Labels and their places.
 
-ghost use Rattle.std.specs.Prelude.{◌≡◌, ◌+◌, ◌<◌, ◌^◌, List, ℕ, length, IfOk, OnOk, if◌then◌else◌};
+ghost use Rattle.std.specs.Prelude.{◌≡◌, List, ℕ, IfOk, OnOk, if◌then◌else◌};
 ghost use Rattle.std.specs.BTreeMap.{get_by_text};
 ghost use Rattle.std.specs.Option.{option_or};
 ghost use Rattle.script_parse.specs.Script.{labels_from, labels_in, instructions_in, definition_of, look_up};
@@ -16,11 +16,10 @@ pub(crate) type Labels = BTreeMap<String, Definition>;
 
 /// The labels that lines define.
 pub(crate) fn labels(alloc: Global, entries: &Entries) -> Result<Labels, AllocError>
-    requires { length entries.now < 2 ^ 32 }
     ensures { IfOk result (λ labels. (name : List ℕ) → get_by_text labels name ≡ look_up entries.now name) }
 {
     let mut labels = Labels::new(alloc);
-    let mut place: u32 = 0;
+    let mut place: u64 = 0;
     for entry in entries.items() {
         add_label(alloc, &mut labels, entry, place)?;
         if is_instruction(&entry.line) {
@@ -47,7 +46,7 @@ fn add_label(
     alloc: Global,
     labels: &mut Labels,
     entry: &Entry,
-    place: u32,
+    place: u64,
 ) -> Result<(), AllocError>
     ensures { OnOk result ((name : List ℕ)
         → get_by_text labels.new name

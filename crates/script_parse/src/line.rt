@@ -20,7 +20,7 @@ pub(crate) enum Line {
 #[derive(Drop)]
 pub(crate) struct Entry {
     /// Its number, from 1.
-    pub number: u32,
+    pub number: u64,
     /// What it says; `None` where it is bad in itself.
     pub line: Option<Line>,
 }
@@ -32,7 +32,7 @@ pub(crate) type Entries = List<Entry>;
 #[derive(Clone, Copy, Drop)]
 pub(crate) struct Definition {
     /// The number of the line, from 1.
-    pub line: u32,
+    pub line: u64,
     /// The number of instructions before it.
-    pub place: u32,
+    pub place: u64,
 }

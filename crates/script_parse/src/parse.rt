@@ -1,6 +1,6 @@
 //! From bytes to a script.
 
-ghost use Rattle.std.specs.Prelude.{◌≡◌, ◌<◌, ◌^◌, length, List, IfOk, IfErr, option_map};
+ghost use Rattle.std.specs.Prelude.{◌≡◌, List, Some, IfOk, IfErr, option_map};
 ghost use Rattle.std.specs.BTreeMap.{get_by_text};
 ghost use Rattle.script_parse.specs.declared.script.Instr.{Instr};
 ghost use Rattle.script_parse.specs.BadLine.{IsFirstBadLine};
@@ -24,7 +24,8 @@ pub enum ScriptStop {
     /// has no form, that defines a label which an earlier line defines, or that uses a label which no
     /// line defines.
     Line(u32),
-    /// Out of memory, as which a script of 2^32 lines or more counts: its numbers aren't `u32`.
+    /// Out of memory. It stands too where the number of the first bad line, or of the instructions before a
+    /// label that is used, isn't a `u32`, which takes more than 4 GiB of bytes.
     NoMemory,
 }
 
@@ -69,7 +70,6 @@ fn parsed(alloc: Global, bytes: &[u8]) -> Result<Script, ScriptStop>
 // The instructions of lines, with the labels that they define.
 #[tactic(auto, using(crate::proofs::LookUp::results_same))]
 fn resolved(alloc: Global, entries: Entries) -> Result<Instrs, ScriptStop>
-    requires { length entries < 2 ^ 32 }
     ensures { Answers result
         (instructions_of (look_up entries) entries) (first_bad (look_up entries) entries) }
 {
@@ -88,11 +88,21 @@ fn instructions(alloc: Global, labels: &Labels, entries: Entries) -> Result<Inst
         match resolve(labels, entry) {
             Ok(None) => {}
             Ok(Some(instr)) => instructions.push(instr)?,
-            Err(LineError::Malformed) => return Err(ScriptStop::Line(number)),
+            Err(LineError::Malformed) => return Err(bad_line(number)),
             Err(LineError::NoMemory) => return Err(ScriptStop::NoMemory),
         }
     }
     Ok(instructions)
+}
+
+// What is reported of a bad line of this number.
+fn bad_line(number: u64) -> ScriptStop
+    ensures { IfLine result (λ n. n ≡ number) }
+{
+    match u32::try_from(number) {
+        Ok(number) => ScriptStop::Line(number),
+        Err(_) => ScriptStop::NoMemory,
+    }
 }
 
 fn resolve(labels: &Labels, entry: Entry) -> Result<Option<Instr>, LineError>
@@ -113,12 +123,22 @@ fn resolve(labels: &Labels, entry: Entry) -> Result<Option<Instr>, LineError>
             let Some(place) = place_of(labels, &label) else {
                 return Err(LineError::Malformed);
             };
-            Ok(Some(with_place(instr, place)))
+            placed(instr, place)
         }
     }
 }
 
-fn is_first(labels: &Labels, number: u32, name: &Utf8) -> bool
+// An instruction with the place of its label.
+fn placed(instr: Instr, place: u64) -> Result<Option<Instr>, LineError>
+    ensures { Gives result (Some (Some (with_place place instr))) }
+{
+    match u32::try_from(place) {
+        Ok(place) => Ok(Some(with_place(instr, place))),
+        Err(_) => Err(LineError::NoMemory),
+    }
+}
+
+fn is_first(labels: &Labels, number: u64, name: &Utf8) -> bool
     ensures { result ≡ is_first number (get_by_text labels.now name.now) }
 {
     match labels.get(name.as_str()) {
@@ -127,7 +147,7 @@ fn is_first(labels: &Labels, number: u32, name: &Utf8) -> bool
     }
 }
 
-fn place_of(labels: &Labels, name: &Utf8) -> Option<u32>
+fn place_of(labels: &Labels, name: &Utf8) -> Option<u64>
     ensures { result ≡ option_map (λ d. d.place) (get_by_text labels.now name.now) }
 {
     match labels.get(name.as_str()) {

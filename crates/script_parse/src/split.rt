@@ -1,6 +1,6 @@
 //! From the bytes of a script to its lines.
 
-ghost use Rattle.std.specs.Prelude.{◌≡◌, ◌⊎◌, ◌++◌, ◌∷◌, [], ◌+◌, ◌<◌, ◌≤◌, ◌^◌, ◌==◌, length, position};
+ghost use Rattle.std.specs.Prelude.{◌≡◌, ◌⊎◌, ◌++◌, ◌∷◌, [], ◌<◌, ◌==◌, length, position};
 ghost use Rattle.std.specs.Prelude.{IfOk, OnOk};
 ghost use Rattle.script_parse.specs.Grammar.{EndsInReturn};
 ghost use Rattle.script_parse.specs.Lines.{lines_of, line_of};
@@ -11,29 +11,24 @@ use crate::line::{Entries, Entry, Line};
 use crate::line_error::LineError;
 use std::alloc::{AllocError, Global};
 
-/// The lines of a script that aren't quiet. Numbers are `u32`, so 2^32 lines count as out of memory.
+/// The lines of a script that aren't quiet, with their numbers from 1.
 pub(crate) fn entries(alloc: Global, bytes: &[u8]) -> Result<Entries, AllocError>
-    ensures all { IfOk result (λ entries. entries ≡ entries_of bytes.now) }
-    ensures few { IfOk result (λ entries. length entries < 2 ^ 32) }
+    ensures { IfOk result (λ entries. entries ≡ entries_of bytes.now) }
 {
     let mut entries = Entries::new(alloc);
     let mut rest = bytes;
-    let mut done: u32 = 0;
+    let mut done: u64 = 0;
     while !rest.is_empty() {
         let (line, next) = next_line(rest);
-        let Some(number) = done.checked_add(1) else {
-            return Err(AllocError);
-        };
-        add(alloc, &mut entries, number, line)?;
-        done = number;
+        done += 1;
+        add(alloc, &mut entries, done, line)?;
         rest = next;
     }
     Ok(entries)
 }
 
-fn add(alloc: Global, entries: &mut Entries, number: u32, line: &[u8]) -> Result<(), AllocError>
-    ensures all { OnOk result (entries.new ≡ entries.old ++ entry_of number (line_of line.now)) }
-    ensures few { OnOk result (length entries.new ≤ length entries.old + 1) }
+fn add(alloc: Global, entries: &mut Entries, number: u64, line: &[u8]) -> Result<(), AllocError>
+    ensures { OnOk result (entries.new ≡ entries.old ++ entry_of number (line_of line.now)) }
 {
     match read_line(alloc, line) {
         Ok(Line::Quiet) => Ok(()),

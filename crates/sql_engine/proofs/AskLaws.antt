@@ -1,7 +1,7 @@
 -- What a statement is answered, and what is recorded of it, by the definitions of databases.
 use Rattle.std.proofs.Common.{◌≡◌, ◌∙◌, sym, ap, subst, refl, ℕ, List, [], ◌∷◌, ◌++◌, map, Bool, true, false, Option, Some, None, IsTrue, inl, inr}
 use Rattle.std.specs.Prelude.{Ok, Err, filter, find, if◌then◌else◌}
-use Rattle.std.specs.List.{flat_map, list_all, list_any}
+use Rattle.std.specs.List.{flat_map}
 use Rattle.std.proofs.lemmas.Bool.{cases_Bool}
 use Rattle.std.proofs.lemmas.List.{map-append}
 use Rattle.core_parts.specs.Checking.{IsQuery}
@@ -11,7 +11,7 @@ use Rattle.sql_model.specs.Tables.{AreWellFormed}
 use Rattle.dml_versions.specs.Versions.{versions_now, updates_of, updates_in}
 use Rattle.dml_versions.specs.declared.change.Change.{Change}
 use Rattle.query_eval.specs.Stored.{table_names}
-use Rattle.run_model.specs.SqlDatabase.{SqlDatabase, unchanged, lists_of, answer_of, sql_base}
+use Rattle.run_model.specs.SqlDatabase.{unchanged, lists_of, answer_of, sql_base}
 use Rattle.run_model.specs.Database.{Gives, asked_by}
 use Rattle.run_model.specs.declared.database.Asker.{Asker}
 use Rattle.sql_model.specs.Texts.{statement_of}
@@ -20,22 +20,17 @@ use Rattle.sql_engine.proofs.StoreLaws.{answer_named, hidden_named, sorted_names
 use Rattle.sql_engine.specs.Answering.{IsAnswer, IsAnswered, hidden_lineage}
 use Rattle.sql_engine.specs.Asking.{database, lists_in, IsDone, IsTold, refused, done_of}
 use Rattle.sql_engine.specs.Listing.{names_table, needs_of}
-use Rattle.sql_engine.specs.Types.{Catalog, Checked, H, L, Member, Need, Query, Refused, Rows, SqlRefusal, Statement, StoreHistory, Syntax, Table, TheQuery, TheInsert, TheUpdate, TheDelete, Value}
+use Rattle.sql_engine.specs.Types.{Catalog, Checked, H, L, Member, Need, Query, Rows, SqlRefusal, Statement, StoreHistory, Syntax, Table, TheQuery, TheInsert, TheUpdate, TheDelete, Value}
 use Rattle.sql_engine.specs.declared.answered.Answered.{Answered}
 use Rattle.sql_engine.specs.declared.done.Done.{Done}
-use Rattle.sql_laws.proofs.DatabaseLaws.{database_law}
-use Rattle.sql_model.specs.Tables.{have_distinct_columns}
 use Rattle.sql_model.proofs.Equations.{reply_is, need_is, made_is, updated_is, after_is}
 use Rattle.sql_model.specs.Changes.{or_else, change_refusal}
-use Rattle.sql_model.specs.Needs.{Versions, NeededRow, need_of, needs_by, sorted_needs, needed_by, hidden_rows, sums_up, asked_tables, is_named, table_name, made_unless, updated_unless, versions_after, read_of}
-use Rattle.sql_model.specs.QueryAnswer.{Origin, answer, answer_rows, cut, lineage_of, rejected}
+use Rattle.sql_model.specs.Needs.{NeededRow, need_of, needs_by, sorted_needs, needed_by, hidden_rows, sums_up, asked_tables, is_named, table_name, made_unless, updated_unless, versions_after, read_of}
+use Rattle.sql_model.specs.QueryAnswer.{answer, cut, lineage_of, rejected}
 use Rattle.sql_model.specs.Refusals.{check_refusal}
 use Rattle.sql_model.specs.Places.{checked_of, checked_statement, checked_unless}
 use Rattle.sql_model.specs.Scope.{catalog_of}
-use Rattle.sql_model.specs.Tables.{are_distinct, is_database}
-use Rattle.sql_model.specs.declared.table.Schema.{Schema}
-use Rattle.ldv_value.proofs.Lists.{list_all-map}
-use Rattle.sql_model.specs.Statements.{refusal_of, reply_of, reply_or, target, after, after_unless}
+use Rattle.sql_model.specs.Statements.{refusal_of, reply_or, target, after, after_unless}
 use Rattle.table_store.specs.Histories.{added, is_history, is_of_number, tables_now}
 use Rattle.table_store.specs.StoreView.{started}
 use Rattle.table_store.specs.TableView.{begun}
@@ -158,25 +153,6 @@ change_done s store new keep time tables change is after known = record {
   after = λ j. record { tables = after.tables j; versions = after.versions j };
   lists = λ kept j. record { tables = known kept j; reads = is.needs kept j; made = is.made kept j };
 }
-
--- ---- the tables stay well formed
-
-abbrev distinct_in : Catalog → Bool
-distinct_in catalog = list_all (λ (schema : Schema). are_distinct schema.columns) catalog.schemas
-
-distinct_is : (db : List Table) → have_distinct_columns db ≡ distinct_in (catalog_of db)
-distinct_is db = sym (list_all-map (λ (schema : Schema). are_distinct schema.columns) (λ (t : Table). t.schema) db)
-
-pub formed_after : (statement : Option Statement) (keep : Bool) (old new : StoreHistory) (done : Done)
-    → AreWellFormed (tables_now old) → IsDone statement keep old new done → AreWellFormed (tables_now new)
-formed_after statement keep old new done formed is =
-    let tables : tables_now new ≡ after statement (tables_now old) = ap (λ (d : SqlDatabase). d.tables) is.after in
-    let law = database_law statement (tables_now old) formed.database formed.distinct in
-    record {
-      database = ap is_database tables ∙ law.database;
-      distinct =
-          distinct_is (tables_now new) ∙ ap distinct_in (ap catalog_of tables ∙ law.catalog) ∙ sym (distinct_is (tables_now old)) ∙ formed.distinct;
-    }
 
 -- ---- a query that was checked
 

@@ -3,7 +3,6 @@
 ghost use Rattle.std.specs.Prelude.{◌≡◌, ◌<◌, ◌≤◌, Some, Ok, filter, IfOk, OnOk, OnErr, IsTrue};
 ghost use Rattle.core_parts.specs.Checking.{IsQuery};
 ghost use Rattle.dml_versions.specs.Changing.{IsCheckedOver};
-ghost use Rattle.sql_model.specs.Tables.{AreWellFormed};
 ghost use Rattle.sql_engine.specs.Asking.{IsDone, IsTold, done_of};
 ghost use Rattle.sql_engine.specs.Listing.{names_table};
 ghost use Rattle.sql_model.specs.Scope.{catalog_of};
@@ -48,7 +47,6 @@ fn asked_query(
 ) -> Result<Done, AllocError>
     requires query { IsQuery checked.now.statement }
     requires checked { IsCheckedOver (tables_now store.now) checked.now }
-    requires formed { AreWellFormed (tables_now store.now) }
     ensures { IfOk result (λ done. IsTold checked.now.statement keep store.now tables
         → IsDone (Some checked.now.statement) keep store.now store.now done) }
 {
@@ -57,6 +55,7 @@ fn asked_query(
         lineage,
         hidden,
     } = query_answer(alloc, checked, store, keep)?;
+    store.tell_formed();
     let names = &store.catalog().names;
     Ok(Done {
         reply: Reply::Rows(rows),
@@ -89,7 +88,6 @@ fn asked_checked(
     keep: bool,
 ) -> Result<Done, AllocError>
     requires checked { IsCheckedOver (tables_now store.old) checked.now }
-    requires formed { AreWellFormed (tables_now store.old) }
     requires later { store.old.time < time }
     ensures done { IfOk result (λ done. IsTold checked.now.statement keep store.old tables
         → IsDone (Some checked.now.statement) keep store.old store.new done) }
@@ -112,7 +110,6 @@ fn asked_statement(
     time: u32,
     keep: bool,
 ) -> Result<Done, AllocError>
-    requires formed { AreWellFormed (tables_now store.old) }
     requires later { store.old.time < time }
     ensures done { IfOk result (IsDone (Some statement.now) keep store.old store.new) }
     ensures latest { OnOk result (store.new.time ≤ time) }
@@ -138,7 +135,6 @@ pub(crate) fn asked(
     time: u32,
     keep: bool,
 ) -> Result<Done, AllocError>
-    requires formed { AreWellFormed (tables_now store.old) }
     requires later { store.old.time < time }
     ensures done { IfOk result (IsDone (statement_of text.now params.now) keep store.old store.new) }
     ensures latest { OnOk result (store.new.time ≤ time) }

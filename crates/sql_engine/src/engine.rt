@@ -24,14 +24,11 @@ pub struct Engine {
 }
 
 impl Model for Engine {
-    ghost use Rattle.sql_model.specs.Tables.{AreWellFormed};
-    ghost use Rattle.table_store.specs.Histories.{StoreHistory, tables_now};
+    ghost use Rattle.table_store.specs.Histories.{StoreHistory};
 
     ghost Value = { StoreHistory };
 
     ghost view = { λ a. a.store };
-
-    ghost invariant = { λ a. AreWellFormed (tables_now a.store) };
 }
 
 impl Engine {

@@ -8,10 +8,10 @@ use Rattle.ldv_value.proofs.Cases.{cases-bool}
 use Rattle.ldv_value.proofs.Lists.{list_all-append, list_all-filter, length-map}
 use Rattle.ldv_value.proofs.Options.{none-some}
 use Rattle.sql_laws.specs.Types.{Value, Catalog, Expr, SqlRefusal, NoTable, NoColumn, TypeClash, NotNull, Full, Delete, Insert, Statement, TheQuery, TheInsert, TheUpdate, TheDelete, Update, Column, Schema, Table, TableRow}
-use Rattle.sql_laws.proofs.NewNumbers.{numbers-insert, numbers-map, numbers-filter, next-within}
-use Rattle.sql_laws.proofs.NewRows.{AllFirst, all_first, row_from, new_kinds, updated_kinds, updated_length}
-use Rattle.sql_laws.proofs.UniqueKeys.{unique-clash}
-use Rattle.sql_model.proofs.ValidTables.{TableParts, table-parts, table-from, kinds-fits}
+use Rattle.sql_model.proofs.NewNumbers.{numbers-insert, numbers-map, numbers-filter, next-within}
+use Rattle.sql_laws.proofs.NewRows.{AllFirst, all_first, new_kinds, updated_kinds, updated_length}
+use Rattle.sql_model.proofs.UniqueKeys.{unique-clash}
+use Rattle.sql_model.proofs.ValidTables.{TableParts, table-parts, table-from, kinds-fits, row_from}
 use Rattle.sql_model.specs.Changes.{is_matched, update_one, new_values, numbered, inserted, updated_row, updated_values, after_insert, after_update, after_delete, changed, has_null, lacks_value, KeyClash, key_clash, key_refusal, is_full, or_else, refusal_if, change_refusal}
 use Rattle.sql_model.specs.Keys.{repeats}
 use Rattle.sql_model.specs.Refusals.{lacks_table, insert_lacks_column, insert_clashes, row_fits, target_columns, update_clashes, set_fits, pick_fits, lacks_column, clashes, check_refusal, unresolved, insert_names}

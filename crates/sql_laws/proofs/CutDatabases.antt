@@ -7,10 +7,10 @@ use Rattle.ldv_value.specs.Sorted.{is_strictly_sorted}
 use Rattle.sql_laws.specs.QueryLaw.{Keep, stays, cut_table, cut_tables}
 use Rattle.sql_laws.specs.StatementLaw.{KeepTables, table_stays, cut_database, CutLaw, CutTablesLaw}
 use Rattle.sql_laws.specs.Types.{Table}
-use Rattle.sql_laws.proofs.NewNumbers.{numbers-filter}
-use Rattle.sql_laws.proofs.SortedLists.{sorted-filter}
+use Rattle.sql_model.proofs.NewNumbers.{numbers-filter}
+use Rattle.sql_model.proofs.SortedLists.{sorted-filter}
 use Rattle.sql_laws.proofs.TableNames.{table-trans}
-use Rattle.sql_laws.proofs.UniqueKeys.{unique-fewer}
+use Rattle.sql_model.proofs.UniqueKeys.{unique-fewer}
 use Rattle.sql_model.proofs.ValidTables.{TableParts, table-parts, table-from}
 use Rattle.sql_model.specs.Tables.{is_row, is_valid_table, table_precedes, is_database, is_described}
 

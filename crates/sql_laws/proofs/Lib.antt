@@ -13,7 +13,6 @@ pub mod LeftRowsStatements
 pub mod LineageLaws
 pub mod NeedsLaws
 pub mod NeedsSound
-pub mod NewNumbers
 pub mod NewRows
 pub mod OtherRows
 pub mod QueryCombinations
@@ -22,8 +21,6 @@ pub mod QueryLaws
 pub mod QueryMerging
 pub mod QueryRows
 pub mod QuerySorting
-pub mod SortedLists
 pub mod StatementLaws
 pub mod StatementParts
 pub mod TableNames
-pub mod UniqueKeys

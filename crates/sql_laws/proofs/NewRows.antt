@@ -1,10 +1,10 @@
 -- The rows that a checked statement inserts or changes have the kinds of their columns, and where none has NULL
 -- in a NOT NULL column they are rows of the table.
 use Rattle.std.proofs.Common.{◌≡◌, ℕ, suc, pred, List, [], ◌∷◌, refl, sym, ap, ◌∙◌, subst, Bool, true, false, inl, inr}
-use Rattle.std.specs.Prelude.{Option, Some, None, unwrap_or, map, find, length, zip, not, ◌==◌, if◌then◌else◌}
+use Rattle.std.specs.Prelude.{Option, Some, None, unwrap_or, map, find, length, zip, ◌==◌, if◌then◌else◌}
 use Rattle.std.specs.List.{list_any, list_all}
 use Rattle.std.proofs.lemmas.Bool.Decides.{Decides-eqb}
-use Rattle.ldv_value.proofs.Booleans.{and-parts, and-from, and-true, or-parts, not-true}
+use Rattle.ldv_value.proofs.Booleans.{and-parts, and-from, or-parts, not-true}
 use Rattle.ldv_value.proofs.Cases.{cases-bool}
 use Rattle.ldv_value.proofs.Lists.{found-passes, found-all, length-map}
 use Rattle.ldv_value.proofs.Options.{same-some, none-some}
@@ -12,14 +12,13 @@ use Rattle.ldv_value.proofs.SameBytes.{bytes_eq-true, bytes_eq-itself}
 use Rattle.sql_laws.specs.KindLaw.{is_typed_row}
 use Rattle.sql_laws.specs.Types.{Value, Null, Int, Text, Kind, IntKind, TextKind, AnyKind, TruthKind, Expr, Set, Column}
 use Rattle.sql_laws.proofs.KindLaws.{kind_law, row_law}
-use Rattle.sql_model.proofs.ValidTables.{fits-from}
-use Rattle.sql_model.specs.Changes.{plain_value, value_given, new_values, sets_column, value_set, updated_value, updated_values, refuses_null}
+use Rattle.sql_model.specs.Changes.{plain_value, value_given, new_values, sets_column, value_set, updated_value, updated_values}
 use Rattle.sql_model.specs.Keys.{repeats}
 use Rattle.sql_model.specs.Kinds.{kind_of_column, comparable, row_kind, is_of_kind}
 use Rattle.sql_model.specs.Refusals.{takes, takes_value, row_fits, columns_named, target_columns, takes_set, set_fits}
 use Rattle.sql_model.specs.Scope.{InScope, same_text, is_column, has_column, environment}
 use Rattle.sql_model.specs.Meaning.{Environment, eval}
-use Rattle.sql_model.specs.Tables.{column_names, are_distinct, has_kind, allows, fits, each_value, is_row}
+use Rattle.sql_model.specs.Tables.{column_names, are_distinct, has_kind, fits, each_value}
 
 -- ---- a value of a kind that its column takes
 
@@ -61,29 +60,6 @@ taken c (Some k) v fit is = kind_column c v ∙ column_kind c.text k v fit (is k
 plain_taken : (c : Column) (e : Expr) → takes_value (c, e) ≡ true → has_kind c (plain_value e) ≡ true
 plain_taken c e fit = taken c (row_kind [] e) (plain_value e) fit
     (λ k is. kind_law [] e false k (environment [] [] ∷ []) ((λ name entry found. absurd (none-some entry found)), tt) is)
-
--- ---- NULL
-
-allowed : (c : Column) (v : Value) → refuses_null (c, v) ≡ false → allows c v ≡ true
-allowed c Null is = ap not (sym (and-true c.not_null) ∙ is)
-allowed c (Int z) is = refl
-allowed c (Text t) is = refl
-
-all_allowed : (cells : List (Column × Value)) → list_any refuses_null cells ≡ false
-    → list_all (λ cell. allows cell.0 cell.1) cells ≡ true
-all_allowed [] is = refl
-all_allowed (cell ∷ cells) is =
-    let parts = or-parts (refuses_null cell) (list_any refuses_null cells) is in
-    and-from (allows cell.0 cell.1) (list_all (λ (c : Column × Value). allows c.0 c.1) cells) (allowed cell.0 cell.1 parts.0) (all_allowed cells parts.1)
-
--- a row of the right length and kinds that has no NULL where none may be
-pub row_from : (columns : List Column) (values : List Value) → length values ≡ length columns
-    → each_value has_kind columns values ≡ true → list_any refuses_null (zip columns values) ≡ false
-    → is_row columns values ≡ true
-row_from columns values long kinds there =
-    and-from (length values == length columns) (each_value fits columns values)
-    ((Decides-eqb (length values) (length columns)).1 long)
-    (fits-from (zip columns values) kinds (all_allowed (zip columns values) there))
 
 -- ---- columns by their names
 

@@ -15,8 +15,8 @@ use Rattle.sql_model.specs.Scope.{is_table}
 use Rattle.sql_laws.specs.StatementLaw.{has_row, keep_others}
 use Rattle.sql_model.proofs.ValidTables.{table-parts}
 use Rattle.sql_model.specs.Tables.{is_valid_table, table_precedes, is_database}
-use Rattle.sql_laws.proofs.NewNumbers.{row_precedes}
-use Rattle.sql_laws.proofs.SortedLists.{sorted-all, sorted-tail}
+use Rattle.sql_model.proofs.NewNumbers.{row_precedes}
+use Rattle.sql_model.proofs.SortedLists.{sorted-all, sorted-tail}
 use Rattle.sql_laws.proofs.TableNames.{less-differs, more-differs, table-trans}
 use Rattle.sql_laws.proofs.LeftRows.{has_number}
 use Rattle.sql_laws.proofs.LeftRowsStatements.{KeepsAllNew}

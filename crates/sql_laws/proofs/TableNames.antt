@@ -13,7 +13,7 @@ use Rattle.ldv_value.proofs.Options.{same-some}
 use Rattle.ldv_value.proofs.SameBytes.{bytes_eq-true}
 use Rattle.ldv_value.specs.Sorted.{text_precedes, is_strictly_sorted}
 use Rattle.sql_laws.specs.Types.{Table}
-use Rattle.sql_laws.proofs.SortedLists.{sorted-all, sorted-tail}
+use Rattle.sql_model.proofs.SortedLists.{sorted-all, sorted-tail}
 use Rattle.sql_model.specs.Scope.{same_text, is_table}
 use Rattle.sql_model.specs.Tables.{table_precedes}
 use Rattle.ldv_value.proofs.Orderings.{is_lt-true}

@@ -3,10 +3,13 @@ pub mod Equations
 pub mod Evaluations
 pub mod Folds
 pub mod Neighbours
+pub mod NewNumbers
 pub mod OriginSets
 pub mod RepeatedNames
 pub mod Seen
+pub mod SortedLists
 pub mod StableSorting
+pub mod UniqueKeys
 pub mod ValidTables
 pub mod WorkedDatabases
 pub mod WorkedRefusals

@@ -1,11 +1,13 @@
 -- The parts of a valid table, and of the tests of a row's values.
-use Rattle.std.proofs.Common.{◌≡◌, List, [], ◌∷◌, refl, Bool, true}
-use Rattle.std.specs.Prelude.{◌&&◌, nat_le}
-use Rattle.std.specs.List.{list_all}
-use Rattle.ldv_value.proofs.Booleans.{and-parts, and-from}
+use Rattle.std.proofs.Common.{◌≡◌, List, [], ◌∷◌, refl, sym, ap, ◌∙◌, Bool, true, false}
+use Rattle.std.specs.Prelude.{◌&&◌, ◌==◌, length, nat_le, not, zip}
+use Rattle.std.specs.List.{list_all, list_any}
+use Rattle.std.proofs.lemmas.Bool.Decides.{Decides-eqb}
+use Rattle.ldv_value.proofs.Booleans.{and-parts, and-from, and-true, or-parts}
 use Rattle.ldv_value.specs.Limits.{max_next}
-use Rattle.sql_model.specs.Tables.{has_kind, allows, fits, is_row, numbers_test, are_keys_unique, row_values, is_valid_table}
-use Rattle.sql_model.specs.Types.{Value, Column, Table}
+use Rattle.sql_model.specs.Changes.{refuses_null}
+use Rattle.sql_model.specs.Tables.{has_kind, allows, each_value, fits, is_row, numbers_test, are_keys_unique, row_values, is_valid_table}
+use Rattle.sql_model.specs.Types.{Value, Null, Int, Text, Column, Table}
 
 pub record TableParts (t : Table) : Type 0 where
   pub next : nat_le t.next max_next ≡ true
@@ -65,3 +67,26 @@ allows-fits (cell ∷ cells) is =
     let both = and-parts (fits cell.0 cell.1) (list_all (λ (c : Column × Value). fits c.0 c.1) cells) is in
     and-from (allows cell.0 cell.1) (list_all (λ (c : Column × Value). allows c.0 c.1) cells)
     (and-parts (has_kind cell.0 cell.1) (allows cell.0 cell.1) both.0).1 (allows-fits cells both.1)
+
+-- ---- rows without NULL where none may be
+
+allowed : (c : Column) (v : Value) → refuses_null (c, v) ≡ false → allows c v ≡ true
+allowed c Null is = ap not (sym (and-true c.not_null) ∙ is)
+allowed c (Int z) is = refl
+allowed c (Text t) is = refl
+
+all_allowed : (cells : List (Column × Value)) → list_any refuses_null cells ≡ false
+    → list_all (λ cell. allows cell.0 cell.1) cells ≡ true
+all_allowed [] is = refl
+all_allowed (cell ∷ cells) is =
+    let parts = or-parts (refuses_null cell) (list_any refuses_null cells) is in
+    and-from (allows cell.0 cell.1) (list_all (λ (c : Column × Value). allows c.0 c.1) cells) (allowed cell.0 cell.1 parts.0) (all_allowed cells parts.1)
+
+-- a row of the right length and kinds that has no NULL where none may be
+pub row_from : (columns : List Column) (values : List Value) → length values ≡ length columns
+    → each_value has_kind columns values ≡ true → list_any refuses_null (zip columns values) ≡ false
+    → is_row columns values ≡ true
+row_from columns values long kinds there =
+    and-from (length values == length columns) (each_value fits columns values)
+    ((Decides-eqb (length values) (length columns)).1 long)
+    (fits-from (zip columns values) kinds (all_allowed (zip columns values) there))

@@ -1,11 +1,12 @@
 -- Bits of slots as a list.
-use Rattle.std.proofs.Common.{◌≡◌, ◌==◌, ◌≢◌, ℕ, zero, suc, ◌+◌, ◌*◌, ◌/◌, ◌%◌, ◌^◌, ◌<◌, inl, inr, Bool, true, false, cond, List, [], ◌∷◌, ◌++◌, map, length, get_or, set, refl, ap, sym, subst, ◌∙◌, arith, bit_or, bit_and, w64, get_or-set_same, get_or-set_other, eq-eqb}
+use Rattle.std.proofs.Common.{◌≡◌, ◌==◌, ◌≢◌, ℕ, zero, suc, ◌+◌, ◌*◌, ◌/◌, ◌%◌, ◌^◌, ◌<◌, ◌≤◌, inl, inr, Bool, true, false, cond, List, [], ◌∷◌, ◌++◌, map, length, get_or, set, refl, ap, sym, subst, ◌∙◌, arith, bit_or, bit_and, w64, get_or-set_same, get_or-set_other, eq-eqb}
 use Rattle.std.specs.Int.{bit_at, bit_not}
 use Rattle.std.specs.List.{range_with_len}
 use Rattle.std.proofs.lemmas.Bool.{cases_eq, ne_eqb}
 use Rattle.std.proofs.lemmas.List.FromFn.{length-map-range_with_len, get_or-map-range_with_len, map-range_with_len_more, fill_by_all}
 use Rattle.std.proofs.lemmas.List.{length-set}
 use Rattle.std.proofs.lemmas.Nat.Bits.{bit_at_set_same, bit_at_set_other, bit_at_clear_same, bit_at_clear_other}
+use Rattle.lanes.proofs.SetLaws.{no_member}
 use Rattle.lanes.specs.Sets.{member}
 use Rattle.table_store.specs.Flags.{Flags, flags_of}
 
@@ -72,7 +73,7 @@ bit_set_at words slot room =
     let low : slot % 64 < 64 = omega arith in
     written words slot room _ true (ap (λ (p : ℕ). p == 1) (bit_at_set_same w64 (get_or words (slot / 64) 0) (slot % 64) low)) (λ i within other. bit_at_set_other w64 (get_or words (slot / 64) 0) (slot % 64) low i other)
 
-bit_cleared_at : (words : List ℕ) (slot : ℕ) → slot / 64 < length words → (n : ℕ)
+pub bit_cleared_at : (words : List ℕ) (slot : ℕ) → slot / 64 < length words → (n : ℕ)
     → member (set words (slot / 64) (bit_and (get_or words (slot / 64) 0) (bit_not w64 (1 * 2 ^ (slot % 64) % 2 ^ 64)))) n ≡ cond (n == slot) false (member words n)
 bit_cleared_at words slot room =
     let low : slot % 64 < 64 = omega arith in
@@ -114,5 +115,21 @@ zero_word words n = ap (λ (w : ℕ). bit_at w (n % 64) == 1) (at words (n / 64)
   at [] (suc k) = refl
   at (x ∷ xs) zero = refl
   at (x ∷ xs) (suc k) = at xs k
+
+-- ---- no bit past the slots
+
+pub clear_none : (n : ℕ) → 0 ≤ n → member [] n ≡ false
+clear_none n from = no_member [] n (omega arith)
+
+pub clear_more : (old wide new : List ℕ) (count : ℕ) (bit : Bool) → ((n : ℕ) → count ≤ n → member old n ≡ false)
+    → ((n : ℕ) → member wide n ≡ member old n) → ((n : ℕ) → member new n ≡ cond (n == count) bit (member wide n))
+    → (n : ℕ) → count + 1 ≤ n → member new n ≡ false
+clear_more old wide new count bit clear same put n from =
+    put n ∙ ap (λ b. cond b bit (member wide n)) (ne_eqb n count (omega (arith, from))) ∙ same n ∙ clear n (omega (arith, from))
+
+pub clear_set : (old new : List ℕ) (count slot : ℕ) (bit : Bool) → ((n : ℕ) → count ≤ n → member old n ≡ false) → slot < count
+    → ((n : ℕ) → member new n ≡ cond (n == slot) bit (member old n)) → (n : ℕ) → count ≤ n → member new n ≡ false
+clear_set old new count slot bit clear within put n from =
+    put n ∙ ap (λ b. cond b bit (member old n)) (ne_eqb n slot (omega (arith, within, from))) ∙ clear n from
 
 pub ruleset flag_rules = (flags_len, flag_at, flags_same, flags_more_seen, flags_set_seen)

@@ -8,8 +8,8 @@ use Rattle.std.proofs.lemmas.List.{get_or_past, length-set, length-map, get_or-m
 use Rattle.ldv_value.proofs.Booleans.{and-parts}
 use Rattle.table_store.specs.Types.{Cmp, Value, Null}
 use Rattle.sql_model.specs.Scope.{value_at}
-use Rattle.table_store.specs.Cells.{Cells, is_of_kind, passes_test}
-use Rattle.table_store.specs.Grid.{Slot, slots_of, slot_of, values_at, kinds_of, no_cells, no_slot, new_slot, IsGrid, AreLong, IsRising, ArePushed, AreSet, fits_kinds, FitColumns, slot_passes}
+use Rattle.table_store.specs.Cells.{Cells, is_of_kind, null_passes, passes_test}
+use Rattle.table_store.specs.Grid.{Slot, slots_of, slot_of, values_at, kinds_of, no_cells, no_slot, new_slot, IsGrid, AreLong, IsRising, ArePushed, AreSet, fits_kinds, FitColumns, slot_null, slot_passes}
 use Rattle.table_store.proofs.FlagLaws.{same_below}
 
 pub slots_len : (numbers since : List ℕ) (standing : List Bool) (columns : List Cells) → length (slots_of numbers since standing columns) ≡ length numbers
@@ -307,3 +307,27 @@ scan_slot numbers since standing columns next column op constant grid there n wo
           ap (λ (v : Value). passes_test op constant v && word) none
           ∙ ap (slot_passes column op constant) (sym (get_or_past slots n no_slot (omega (arith, past, slots_len numbers since standing columns))))
     ]
+
+-- ---- the bits of the rows that stand
+
+module _ (numbers since : List ℕ) (standing : List Bool) (columns : List Cells) (same : length standing ≡ length numbers) (n : ℕ) (word : Bool)
+    (is : n < length standing → word ≡ get_or standing n false) (clear : length standing ≤ n → word ≡ false) where
+  abbrev slots : List Slot
+  slots = slots_of numbers since standing columns
+
+  pub standing_slot : word ≡ (get_or slots n no_slot).stands
+  standing_slot = elim (cases_lt n (length numbers)) [
+    | inl within ↦ is (omega (arith, within, same)) ∙ ap (λ (s : Slot). s.stands) (sym (slot_is numbers since standing columns n within))
+    | inr past ↦ clear (omega (arith, past, same)) ∙ ap (λ (s : Slot). s.stands) (sym (get_or_past slots n no_slot (omega (arith, past, slots_len numbers since standing columns))))
+  ]
+
+  -- those with NULL in a column, or another value
+  pub nulls_slot : (column : ℕ) (is_null : Bool) → (word && null_passes is_null (value_at (values_at columns n) column)) ≡ slot_null column is_null (get_or slots n no_slot)
+  nulls_slot column is_null = elim (cases_lt n (length numbers)) [
+    | inl within ↦
+        (λ j. is (omega (arith, within, same)) j && null_passes is_null (place_index (values_at columns n) column j))
+        ∙ ap (slot_null column is_null) (sym (slot_is numbers since standing columns n within))
+    | inr past ↦
+        ap (λ b. b && null_passes is_null (value_at (values_at columns n) column)) (clear (omega (arith, past, same)))
+        ∙ ap (slot_null column is_null) (sym (get_or_past slots n no_slot (omega (arith, past, slots_len numbers since standing columns))))
+  ]

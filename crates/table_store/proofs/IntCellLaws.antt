@@ -1,7 +1,8 @@
 -- IntCells of a column as a list.
-use Rattle.std.proofs.Common.{◌≡◌, ℕ, zero, suc, ◌<◌, Bool, true, false, not, ◌&&◌, List, [], ◌∷◌, ◌++◌, length, get_or, set, refl, ap, arith}
+use Rattle.std.proofs.Common.{◌≡◌, ℕ, zero, suc, ◌<◌, ◌≤◌, Bool, true, false, not, ◌&&◌, List, [], ◌∷◌, ◌++◌, length, get_or, set, refl, ap, sym, ◌∙◌, arith}
 use Rattle.std.specs.Prelude.{ℤ, pos, None, slice_get}
 use Rattle.std.specs.Option.{option_map_or}
+use Rattle.table_store.specs.Cells.{int_value, null_passes}
 use Rattle.table_store.specs.IntCells.{cell_of, cells_of}
 
 and_false : (b : Bool) → (b && false) ≡ false
@@ -51,5 +52,23 @@ select_cell p (v ∷ values) (b ∷ nulls) zero null same is = rw (is (omega ari
   one true = and_false (p v)
   one false = and_true (p v)
 select_cell p (v ∷ values) (b ∷ nulls) (suc n) null same is = select_cell p values nulls n null (omega (arith, same)) (λ below. is (omega (arith, below)))
+
+-- cells that are NULL, or aren't, among some slots
+pub keep_cell : (values : List ℤ) (nulls : List Bool) (n : ℕ) (old null : Bool) → length values ≡ length nulls → (n < length nulls → null ≡ get_or nulls n false) → (length nulls ≤ n → null ≡ false) → (length nulls ≤ n → old ≡ false)
+    → ((old && null) ≡ (old && null_passes true (int_value (get_or (cells_of values nulls) n None))))
+    × ((old && not null) ≡ (old && null_passes false (int_value (get_or (cells_of values nulls) n None))))
+keep_cell [] [] n old null same is past none =
+    let gone : old ≡ false = none (omega arith) in
+    (ap (λ b. b && null) gone ∙ ap (λ b. b && true) (sym gone), ap (λ b. b && not null) gone ∙ ap (λ b. b && false) (sym gone))
+keep_cell [] (b ∷ nulls) n old null same is past none = cc
+keep_cell (v ∷ values) [] n old null same is past none = cc
+keep_cell (v ∷ values) (b ∷ nulls) zero old null same is past none =
+    let here : null ≡ b = is (omega arith) in
+    (ap (λ c. old && c) (here ∙ (one b).0), ap (λ c. old && c) (ap not here ∙ (one b).1)) where
+      one : (b : Bool) → (b ≡ null_passes true (int_value (cell_of v b))) × (not b ≡ null_passes false (int_value (cell_of v b)))
+      one true = (refl, refl)
+      one false = (refl, refl)
+keep_cell (v ∷ values) (b ∷ nulls) (suc n) old null same is past none =
+    keep_cell values nulls n old null (omega (arith, same)) (λ below. is (omega (arith, below))) (λ over. past (omega (arith, over))) (λ over. none (omega (arith, over)))
 
 pub ruleset cell_rules = (cells_len, cell_at, cells_push, cells_set)

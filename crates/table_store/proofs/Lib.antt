@@ -1,7 +1,9 @@
 pub mod CellLaws
 pub mod ChangeLaws
+pub mod ChosenLaws
 pub mod ClaimLaws
 pub mod FlagLaws
+pub mod FormedLaws
 pub mod GivenKeyLaws
 pub mod GridLaws
 pub mod HighLaws

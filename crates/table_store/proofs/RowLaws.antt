@@ -6,8 +6,8 @@ use Rattle.std.proofs.lemmas.Bool.{cases_lt}
 use Rattle.std.proofs.lemmas.List.{length-map, get_or-map, get_or_past}
 use Rattle.row_version.specs.History.{History, current}
 use Rattle.table_store.specs.Types.{Cmp, Value, Null, TableRow}
-use Rattle.table_store.specs.Cells.{passes_test}
-use Rattle.table_store.specs.Grid.{Slot, no_slot, new_slot, AreNumberedFrom, next_after, slot_passes}
+use Rattle.table_store.specs.Cells.{null_passes, passes_test}
+use Rattle.table_store.specs.Grid.{Slot, no_slot, new_slot, AreNumberedFrom, next_after, slot_null, slot_passes}
 use Rattle.table_store.specs.RowOrder.{AreInOrder}
 use Rattle.table_store.specs.Histories.{RowHistory, no_history, added}
 use Rattle.table_store.specs.RowChains.{Chains, changes_or, history_of, histories_of, IsKept, AreChained}
@@ -134,3 +134,22 @@ module _ (chains : Chains) (slots : List Slot) (next : ℕ) (chained : AreChaine
     by : (b : Bool) (values : List Value) → (b && passes_test op constant (get_or values column Null)) ≡ option_map_or (λ row. passes_test op constant (get_or row column Null)) (cond b (Some values) None) false
     by true values = refl
     by false values = refl
+
+  pub nulls_are : (column : ℕ) (is_null : Bool) (n : ℕ) → slot_null column is_null (get_or slots n no_slot) ≡ option_map_or (λ row. null_passes is_null (get_or row column Null)) (current (get_or seen n no_history).changes) false
+  nulls_are column is_null n = elim (cases_lt n (length seen)) [
+    | inl within ↦ by (get_or slots n no_slot).stands (get_or slots n no_slot).values ∙ ap (λ (o : Option (List Value)). option_map_or (λ row. null_passes is_null (get_or row column Null)) o false) (sym (current_is chains slots next chained seen same n within))
+    | inr past ↦
+        ap (slot_null column is_null) (get_or_past slots n no_slot (omega (arith, past, rows_len chains slots next chained seen same)))
+        ∙ ap (λ (h : RowHistory). option_map_or (λ row. null_passes is_null (get_or row column Null)) (current h.changes) false) (sym (get_or_past seen n no_history past))
+  ] where
+    by : (b : Bool) (values : List Value) → (b && null_passes is_null (get_or values column Null)) ≡ option_map_or (λ row. null_passes is_null (get_or row column Null)) (cond b (Some values) None) false
+    by true values = refl
+    by false values = refl
+
+  pub standing_is : (n : ℕ) → (get_or slots n no_slot).stands ≡ is_some (current (get_or seen n no_history).changes)
+  standing_is n = elim (cases_lt n (length seen)) [
+    | inl within ↦ stands_is chains slots next chained seen same n within
+    | inr past ↦
+        ap (λ (s : Slot). s.stands) (get_or_past slots n no_slot (omega (arith, past, rows_len chains slots next chained seen same)))
+        ∙ ap (λ (h : RowHistory). is_some (current h.changes)) (sym (get_or_past seen n no_history past))
+  ]

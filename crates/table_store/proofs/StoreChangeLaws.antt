@@ -6,10 +6,12 @@ use Rattle.std.proofs.lemmas.Bool.{cases_eq}
 use Rattle.std.proofs.lemmas.List.{length-set, length-map, get_or-map, map-set}
 use Rattle.ldv_value.specs.Sorted.{is_strictly_sorted, precedes_first, text_precedes}
 use Rattle.sql_model.specs.Scope.{is_table, table_at}
+use Rattle.sql_model.specs.Tables.{AreWellFormed, is_valid_table, table_precedes}
 use Rattle.table_store.specs.Types.{Value, Catalog, Table, TableRow}
 use Rattle.table_store.specs.Histories.{TableHistory, StoreHistory, table_now, tables_now, is_history, in_table, changed_at, rows_as_of, next_as_of, AreKeptBefore, last_since, last_next, inserted, replaced, removed}
 use Rattle.table_store.specs.Stops.{with_changed}
 use Rattle.table_store.specs.StoreView.{AreStored, are_sorted, no_table}
+use Rattle.table_store.proofs.FormedLaws.{all_at, formed_set, valid_all}
 use Rattle.table_store.proofs.NowLaws.{found_now, there_from}
 use Rattle.table_store.proofs.TableChangeLaws.{noted_since, noted_earlier, inserted_before, replaced_before, removed_before}
 use Rattle.table_store.proofs.NamedLaws.{named_set, named_found, found_set, set_sorted}
@@ -52,11 +54,21 @@ module _ (catalog : Catalog) (tables : List TableHistory) (time : ℕ) (stored :
         here : get_or (map table_now tables) place (table_now no_table) ≡ table_now (get_or tables place no_table)
         here = get_or-map table_now tables place no_table (table_now no_table) within
 
+  -- the table is valid
+  pub valid_there : is_valid_table (table_now (get_or tables place no_table)) ≡ true
+  valid_there =
+      let long : place < length (map table_now tables) = omega (arith, within, length-map tables table_now) in
+      ap is_valid_table (sym (get_or-map table_now tables place no_table (table_now no_table) within))
+      ∙ all_at is_valid_table (map table_now tables) place (table_now no_table) (valid_all (map table_now tables) stored.formed) long
+
   pub stored_after : (later : ℕ) (new : TableHistory) → new.name ≡ (get_or tables place no_table).name → new.schema ≡ (get_or tables place no_table).schema → last_since new.nexts ≤ later → time ≤ later
-      → AreStored catalog (set tables place new) later
-  stored_after later new name_is schema_is by from = record {
+      → is_valid_table (table_now new) ≡ true → AreStored catalog (set tables place new) later
+  stored_after later new name_is schema_is by from valid = record {
     catalog_is = stored.catalog_is ∙ (λ j. record { names = sym names j; schemas = sym schemas j });
     sorted = set_sorted (λ (t : TableHistory). t.name) no_table tables place new name_is ∙ stored.sorted;
+    formed = subst AreWellFormed (sym listed) (formed_set (map table_now tables) place (table_now new) stored.formed valid
+        (ap (map (λ (t : Table). t.schema)) (sym listed) ∙ schemas)
+        (ap (is_strictly_sorted table_precedes) (sym listed) ∙ sorted_now (set tables place new) ∙ set_sorted (λ (t : TableHistory). t.name) no_table tables place new name_is ∙ stored.sorted));
     timed = λ k below.
         let long : k < length tables = omega (arith, below, length-set tables place new) in
         elim (cases_eq k place) [
@@ -68,6 +80,9 @@ module _ (catalog : Catalog) (tables : List TableHistory) (time : ℕ) (stored :
               subst (λ (t : TableHistory). last_since t.nexts ≤ later) (sym at) (omega (arith, stored.timed k long, from))
         ];
   } where
+    listed : map table_now (set tables place new) ≡ set (map table_now tables) place (table_now new)
+    listed = map-set table_now tables place new
+
     names : map (λ (t : Table). t.name) (map table_now (set tables place new)) ≡ map (λ (t : Table). t.name) (map table_now tables)
     names = map_now (λ (t : Table). t.name) (set tables place new) ∙ kept_map (λ (t : TableHistory). t.name) tables place new name_is ∙ sym (map_now (λ (t : Table). t.name) tables)
 
@@ -135,11 +150,11 @@ module _ (catalog : Catalog) (tables : List TableHistory) (before : ℕ) (stored
   given_there P given = subst (λ (o : Option Table). IfSome o P) at_place given
 
   module _ (change : TableHistory → TableHistory) (is : IsChange time change) (new : List TableHistory) (made : new ≡ set tables place (change (get_or tables place no_table))) where
-    pub after_stored : AreStored catalog new time
-    after_stored =
+    pub after_stored : is_valid_table (table_now (change (get_or tables place no_table))) ≡ true → AreStored catalog new time
+    after_stored valid =
         let there : TableHistory = get_or tables place no_table in
         subst (λ (l : List TableHistory). AreStored catalog l time) (sym made)
-        (stored_after catalog tables before stored name place found.0 found.1 time (change there) (is.name there) (is.schema there) (omega (arith, is.since there)) (omega (arith, time_is, later)))
+        (stored_after catalog tables before stored name place found.0 found.1 time (change there) (is.name there) (is.schema there) (omega (arith, is.since there)) (omega (arith, time_is, later)) valid)
 
     pub after_is : record { tables = new; time = time } ≡ changed_at time name change seen
     after_is = (λ j. record { tables = (made ∙ changed_is catalog tables before stored name place found.0 found.1 change) j; time = time }) ∙ ap (changed_at time name change) view

@@ -64,6 +64,12 @@ scanned column op constant row = by (current row.changes) where
   by None = refl
   by (Some values) = refl
 
+pub standing_now : (row : RowHistory) → is_some (current row.changes) ≡ is_some (row_now row)
+standing_now row = by (current row.changes) where
+  by : (now : Option (List Value)) → is_some now ≡ is_some (row_of row.number now)
+  by None = refl
+  by (Some values) = refl
+
 -- ---- rows by number
 
 -- a row has the number that it is found by

@@ -1,8 +1,8 @@
 -- The cells of a column, of numbers or of texts.
-use Rattle.std.specs.Prelude.{ℕ, ◌-◌, ℤ, Bool, true, false, Option, Some, None, List, [], map, vec_len}
+use Rattle.std.specs.Prelude.{ℕ, ◌-◌, ℤ, Bool, true, false, not, Option, Some, None, List, [], map, vec_len}
 use Rattle.std.specs.Prelude.{vec_capacity}
 use Rattle.ldv_value.specs.Order.{test_of}
-use Rattle.sql_model.specs.Meaning.{is_true}
+use Rattle.sql_model.specs.Meaning.{is_null, is_true}
 use Rattle.sql_model.specs.Tables.{has_kind}
 use Rattle.table_store.specs.Types.{Cmp, Value, Null, Int}
 use Rattle.table_store.specs.declared.column.Held.{Held}
@@ -30,3 +30,8 @@ is_of_kind text value = has_kind (record { name = []; text = text; not_null = fa
 -- whether a value compares so to a constant; NULL doesn't
 abbrev pub passes_test : Cmp → ℤ → Value → Bool
 passes_test op constant value = is_true (test_of op value (Int constant))
+
+-- whether a value is NULL, or, where that is asked, isn't
+abbrev pub null_passes : Bool → Value → Bool
+null_passes true value = is_null value
+null_passes false value = not (is_null value)

@@ -3,7 +3,7 @@ use Rattle.std.specs.Prelude.{◌≡◌, ◌==◌, ℕ, ℤ, ◌+◌, ◌<◌, �
 use Rattle.std.specs.Prelude.{◌++◌, length, map, zip, slice_index, slice_index_or, slice_set}
 use Rattle.std.specs.List.{range_with_len, list_all}
 use Rattle.table_store.specs.Types.{Cmp, Value, Null, TableRow}
-use Rattle.table_store.specs.Cells.{Cells, is_of_kind, passes_test}
+use Rattle.table_store.specs.Cells.{Cells, is_of_kind, null_passes, passes_test}
 use Rattle.table_store.specs.declared.grid.Grid.TheInside.{Inside}
 
 -- a row in its slot: since when it has its first values, whether it stands, and its last values
@@ -123,3 +123,7 @@ are_of_kinds kinds rows = list_all (λ row. fits_kinds kinds row.values) rows
 abbrev pub slot_passes : ℕ → Cmp → ℤ → Slot → Bool
 slot_passes column op constant slot =
     slot.stands && passes_test op constant (slice_index_or slot.values column Null)
+
+-- whether the row of a slot stands and has NULL in a column, or, where that is asked, another value
+abbrev pub slot_null : ℕ → Bool → Slot → Bool
+slot_null column is_null slot = slot.stands && null_passes is_null (slice_index_or slot.values column Null)

@@ -1,8 +1,10 @@
 pub mod Cells
+pub mod CellTests
 pub mod Claims
 pub mod Flags
 pub mod GivenKeys
 pub mod Grid
+pub mod HighKeys
 pub mod Histories
 pub mod IndexView
 pub mod IntCells

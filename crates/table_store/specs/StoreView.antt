@@ -2,6 +2,7 @@
 use Rattle.std.specs.Prelude.{◌≡◌, ℕ, ◌<◌, ◌≤◌, Bool, true, List, [], length, map, slice_index_or}
 use Rattle.ldv_value.specs.Sorted.{is_strictly_sorted, text_precedes}
 use Rattle.sql_model.specs.Scope.{catalog_of}
+use Rattle.sql_model.specs.Tables.{AreWellFormed}
 use Rattle.table_store.specs.Types.{Catalog, Table}
 use Rattle.table_store.specs.Histories.{TableHistory, StoreHistory, table_now, last_since}
 use Rattle.table_store.specs.TableView.{begun}
@@ -20,6 +21,7 @@ are_sorted tables = is_strictly_sorted (λ a b. text_precedes a.name b.name) tab
 pub record AreStored (catalog : Catalog) (tables : List TableHistory) (time : ℕ) : Type 0 where
   pub catalog_is : catalog ≡ catalog_of (map table_now tables)
   pub sorted : are_sorted tables ≡ true
+  pub formed : AreWellFormed (map table_now tables)
   pub timed : (k : ℕ) → k < length tables → last_since (slice_index_or tables k no_table).nexts ≤ time
 
 abbrev pub IsStore : Inside → Type 0

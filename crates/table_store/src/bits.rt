@@ -37,12 +37,13 @@ impl Bits {
         }
     }
 
-    /// The words, of which the bits at slots are told.
+    /// The words: a bit for each slot, and no further bit is set.
     #[tactic(auto, using(crate::proofs::FlagLaws::flag_rules))]
     pub(crate) fn words(&self) -> &[u64]
         ensures count { length result.now ≡ (length self.now.items + 63) / 64 }
         ensures bits { (n : ℕ) → n < length self.now.items
             → member result.now n ≡ slice_index_or self.now.items n false }
+        ensures clear { (n : ℕ) → length self.now.items ≤ n → member result.now n ≡ false }
     {
         self.words.as_slice()
     }
@@ -141,6 +142,15 @@ fn clear_bit(words: &mut Vec<u64>, slot: usize)
     ensures bits { (n : ℕ) → member words.new.items n ≡ cond (n == slot) false (member words.old.items n) }
     ensures count { vec_len words.new ≡ vec_len words.old }
     ensures capacity { vec_capacity words.new ≡ vec_capacity words.old }
+{
+    words[slot / 64] &= !(1 << (slot % 64));
+}
+
+/// Clears the bit of a slot in words.
+#[tactic(auto, using(crate::proofs::FlagLaws::bit_cleared_at))]
+pub(crate) fn drop_bit(words: &mut [u64], slot: usize)
+    requires { slot / 64 < length words.old }
+    ensures { (n : ℕ) → member words.new n ≡ cond (n == slot) false (member words.old n) }
 {
     words[slot / 64] &= !(1 << (slot % 64));
 }

@@ -11,10 +11,12 @@ ghost use Rattle.sql_model.specs.KeyOrder.{key_order};
 ghost use Rattle.sql_model.specs.Keys.{same_values, values_at};
 ghost use Rattle.table_store.specs.Claims.{claim_stop, taken_stop, old_number, high_or};
 ghost use Rattle.table_store.specs.Histories.{rows_now};
+ghost use Rattle.table_store.specs.HighKeys.{high_in};
 ghost use Rattle.table_store.specs.IndexView.{held_in};
 ghost use Rattle.table_store.specs.KeyIndex.{has_key, AreHeld, AreIndexed};
 ghost use Rattle.table_store.specs.Stops.{StopsAs};
 
+use crate::high_keys::HighKeys;
 use crate::index::{Index, has_key_at, key_of};
 use crate::rows::Rows;
 use crate::stop::StoreStop;
@@ -70,7 +72,7 @@ fn claim_all(
         (clash_after places.now (rows_now stored.now.slots) (numbered next values.now))) result }
 {
     stored.tell_order();
-    let mut high = Index::new(alloc);
+    let mut high = HighKeys::new(alloc);
     for count in 0..values.len() {
         match claim_one(alloc, index, &mut high, stored, places, values, count, next) {
             Ok(()) => {}
@@ -84,7 +86,7 @@ fn claim_all(
 fn claim_one(
     alloc: Global,
     index: &mut Index,
-    high: &mut Index,
+    high: &mut HighKeys,
     stored: &Rows,
     places: &Places,
     values: &[Values],
@@ -92,16 +94,16 @@ fn claim_one(
     next: u32,
 ) -> Result<(), StoreStop>
     requires within { count < length values.now }
-    requires held { AreHeld places.now (λ key. high_or (held_in index.old key) (held_in high.old key))
+    requires held { AreHeld places.now (λ key. high_or (held_in index.old key) (high_in high.old key))
         (rows_now stored.now.slots ++ numbered next (take count values.now)) }
-    requires low { next + count < 2 ^ 32 → (q : RowKey) → held_in high.old q ≡ None }
+    requires low { next + count < 2 ^ 32 → (q : RowKey) → high_in high.old q ≡ None }
     requires next { stored.now.next ≡ next }
-    ensures kept { AreHeld places.now (λ key. high_or (held_in index.new key) (held_in high.new key))
+    ensures kept { AreHeld places.now (λ key. high_or (held_in index.new key) (high_in high.new key))
         (rows_now stored.now.slots ++ numbered next (take count values.now)) }
     ensures ok { OnOk result (AreHeld places.now
-        (λ key. high_or (held_in index.new key) (held_in high.new key))
+        (λ key. high_or (held_in index.new key) (high_in high.new key))
         (rows_now stored.now.slots ++ numbered next (take (count + 1) values.now))) }
-    ensures low { next + count < 2 ^ 32 → (q : RowKey) → held_in high.new q ≡ None }
+    ensures low { next + count < 2 ^ 32 → (q : RowKey) → high_in high.new q ≡ None }
     ensures stop { StopsAs (taken_stop places.now next (slice_index_or values.now count [])
         (find (has_key places.now (values_at places.now (slice_index_or values.now count [])))
         (rows_now stored.now.slots ++ numbered next (take count values.now)))) result }
@@ -116,49 +118,28 @@ fn claim_one(
             later: None,
             key: key.values,
         }),
-        None => match put_new(index, high, key, next, count) {
+        None => match put_number(index, high, key, next as u128 + count as u128) {
             Ok(()) => Ok(()),
             Err(_refused) => Err(StoreStop::NoMemory),
         },
     }
 }
 
-// Puts the number of a new row under its key. No list has so many rows that the number doesn't fit.
-fn put_new(
-    index: &mut Index,
-    high: &mut Index,
-    key: RowKey,
-    next: u32,
-    count: usize,
-) -> Result<(), AllocError>
-    requires { next + count < 2 ^ 32 → (q : RowKey) → held_in high.old q ≡ None }
-    ensures ok { OnOk result ((q : RowKey) → high_or (held_in index.new q) (held_in high.new q)
-        ≡ cond (is_at (key_order key) q) (Some (next + count))
-        (high_or (held_in index.old q) (held_in high.old q))) }
-    ensures err { OnErr result ((q : RowKey) → high_or (held_in index.new q) (held_in high.new q)
-        ≡ high_or (held_in index.old q) (held_in high.old q)) }
-    ensures low { next + count < 2 ^ 32 → (q : RowKey) → held_in high.new q ≡ None }
-{
-    match (next as u64).checked_add(count as u64) {
-        None => Err(AllocError),
-        Some(number) => put_number(index, high, key, number),
-    }
-}
-
 // Puts a number under a key, apart where it is too high for a row.
 fn put_number(
     index: &mut Index,
-    high: &mut Index,
+    high: &mut HighKeys,
     key: RowKey,
-    number: u64,
+    number: u128,
 ) -> Result<(), AllocError>
-    requires { number < 2 ^ 32 → (q : RowKey) → held_in high.old q ≡ None }
-    ensures ok { OnOk result ((q : RowKey) → high_or (held_in index.new q) (held_in high.new q)
+    requires small { number < 2 ^ 64 + 2 ^ 32 }
+    requires low { number < 2 ^ 32 → (q : RowKey) → high_in high.old q ≡ None }
+    ensures ok { OnOk result ((q : RowKey) → high_or (held_in index.new q) (high_in high.new q)
         ≡ cond (is_at (key_order key) q) (Some number)
-        (high_or (held_in index.old q) (held_in high.old q))) }
-    ensures err { OnErr result ((q : RowKey) → high_or (held_in index.new q) (held_in high.new q)
-        ≡ high_or (held_in index.old q) (held_in high.old q)) }
-    ensures low { number < 2 ^ 32 → (q : RowKey) → held_in high.new q ≡ None }
+        (high_or (held_in index.old q) (high_in high.old q))) }
+    ensures err { OnErr result ((q : RowKey) → high_or (held_in index.new q) (high_in high.new q)
+        ≡ high_or (held_in index.old q) (high_in high.old q)) }
+    ensures low { number < 2 ^ 32 → (q : RowKey) → high_in high.new q ≡ None }
 {
     if number < 4_294_967_296 {
         index.put(key, number as u32)
@@ -168,45 +149,41 @@ fn put_number(
 }
 
 // Puts a number that is too high for a row under a key, by what it is above 2^32.
-fn put_high(high: &mut Index, key: RowKey, number: u64) -> Result<(), AllocError>
-    requires { 2 ^ 32 ≤ number }
-    ensures ok { OnOk result ((q : RowKey) → held_in high.new q
-        ≡ cond (is_at (key_order key) q) (Some (number - 2 ^ 32)) (held_in high.old q)) }
-    ensures err { OnErr result ((q : RowKey) → held_in high.new q ≡ held_in high.old q) }
+fn put_high(high: &mut HighKeys, key: RowKey, number: u128) -> Result<(), AllocError>
+    requires from { 2 ^ 32 ≤ number }
+    requires small { number < 2 ^ 64 + 2 ^ 32 }
+    ensures ok { OnOk result ((q : RowKey) → high_in high.new q
+        ≡ cond (is_at (key_order key) q) (Some (number - 2 ^ 32)) (high_in high.old q)) }
+    ensures err { OnErr result ((q : RowKey) → high_in high.new q ≡ high_in high.old q) }
 {
-    let above = number - 4_294_967_296;
-    if above < 4_294_967_296 {
-        high.put(key, above as u32)
-    } else {
-        Err(AllocError)
-    }
+    high.put(key, (number - 4_294_967_296) as u64)
 }
 
 // The number under a key, also where it is too high for a row.
 #[tactic(auto, using(crate::proofs::HighLaws::high_none, crate::proofs::HighLaws::high_some))]
-fn number_under(index: &Index, high: &Index, key: &RowKey) -> Option<u64>
-    ensures { result ≡ high_or (held_in index.now key.now) (held_in high.now key.now) }
+fn number_under(index: &Index, high: &HighKeys, key: &RowKey) -> Option<u128>
+    ensures { result ≡ high_or (held_in index.now key.now) (high_in high.now key.now) }
 {
     match high.number(key) {
         None => low_number(index, key),
-        Some(above) => Some(above as u64 + 4_294_967_296),
+        Some(above) => Some(above as u128 + 4_294_967_296),
     }
 }
 
-fn low_number(index: &Index, key: &RowKey) -> Option<u64>
+fn low_number(index: &Index, key: &RowKey) -> Option<u128>
     ensures { result ≡ held_in index.now key.now }
 {
     match index.number(key) {
         None => None,
-        Some(number) => Some(number as u64),
+        Some(number) => Some(number as u128),
     }
 }
 
 // A number that is below those of the new rows.
-fn old_number(number: u64, next: u32) -> Option<u32>
+fn old_number(number: u128, next: u32) -> Option<u32>
     ensures { result ≡ old_number next number }
 {
-    if number < next as u64 {
+    if number < next as u128 {
         Some(number as u32)
     } else {
         None
@@ -217,16 +194,16 @@ fn old_number(number: u64, next: u32) -> Option<u32>
 fn earlier(
     alloc: Global,
     index: &Index,
-    high: &Index,
+    high: &HighKeys,
     stored: &Rows,
     places: &Places,
     values: &[Values],
     count: usize,
     next: u32,
     key: &RowKey,
-) -> Result<Option<u64>, AllocError>
+) -> Result<Option<u128>, AllocError>
     requires within { count < length values.now }
-    requires held { AreHeld places.now (λ key. high_or (held_in index.now key) (held_in high.now key))
+    requires held { AreHeld places.now (λ key. high_or (held_in index.now key) (high_in high.now key))
         (rows_now stored.now.slots ++ numbered next (take count values.now)) }
     requires next { stored.now.next ≡ next }
     ensures { IfOk result (λ number. number ≡ option_map (λ row. row.number)
@@ -254,7 +231,7 @@ fn is_earlier(
     count: usize,
     next: u32,
     key: &RowKey,
-    number: u64,
+    number: u128,
 ) -> Result<bool, AllocError>
     requires within { count < length values.now }
     requires next { stored.now.next ≡ next }
@@ -263,14 +240,15 @@ fn is_earlier(
         (rows_now stored.now.slots ++ numbered next (take count values.now)))
         ≡ (if has then Some number else None)) }
 {
-    if number < next as u64 {
-        return Ok(has_key_at(stored, places, &key.values, number));
+    if number < next as u128 {
+        return Ok(has_key_at(stored, places, &key.values, number as u64));
     }
     stored.tell_order();
-    let at = (number - next as u64) as usize;
-    if at >= count {
+    let past = number - next as u128;
+    if past >= count as u128 {
         return Ok(false);
     }
+    let at = past as usize;
     let row = &values[at];
     let other = key_of(alloc, places, row)?;
     Ok(other == *key)

@@ -2,13 +2,14 @@
 
 ghost use Rattle.std.specs.Prelude.{◌≡◌, ℕ, ◌+◌, ◌*◌, ◌/◌, ◌^◌, ◌<◌, ◌≤◌, Bool, true, false, List, [], ◌∷◌};
 ghost use Rattle.std.specs.Prelude.{◌++◌, length, slice_index_or, slice_set, OnOk, OnErr, IfOk, IsOk, Option};
-ghost use Rattle.std.specs.Prelude.{Some};
+ghost use Rattle.std.specs.Prelude.{Some, ◌&&◌, ◌==◌, cond};
 ghost use Rattle.ldv_value.specs.Order.{order};
 ghost use Rattle.lanes.specs.Sets.{member};
 ghost use Rattle.table_store.specs.Types.{Null};
-ghost use Rattle.table_store.specs.Cells.{Cells, int_value, is_of_kind, passes_test};
+ghost use Rattle.table_store.specs.Cells.{Cells, int_value, is_of_kind, null_passes, passes_test};
 ghost use Rattle.table_store.specs.LentCells.{lent_value};
 
+use crate::bits::drop_bit;
 use crate::cell::Cell;
 use crate::int_column::IntColumn;
 use ldv_value::{Cmp, CopyItem, Value, compare};
@@ -161,6 +162,54 @@ impl Column {
             Held::Ints(ints) => ints.select(op, constant, mask),
             Held::Texts(_values) => {}
         }
+    }
+
+    /// Keeps of some slots those whose cell is NULL, or, where `is_null` is false, another value.
+    #[tactic(auto, using(crate::proofs::CellLaws::cell_rules))]
+    pub(crate) fn keep_nulls(&self, is_null: bool, mask: &mut [u64])
+        requires long { length mask.old ≡ (length self.now.items + 63) / 64 }
+        requires clear { (n : ℕ) → length self.now.items ≤ n → member mask.old n ≡ false }
+        ensures { (n : ℕ) → member mask.new n
+            ≡ (member mask.old n && null_passes is_null (slice_index_or self.now.items n Null)) }
+    {
+        match &self.held {
+            Held::Ints(ints) => ints.keep_nulls(is_null, mask),
+            Held::Texts(values) => keep_values(values, is_null, mask),
+        }
+    }
+}
+
+// Keeps of some slots those whose value is NULL, or, where `is_null` is false, isn't.
+fn keep_values(values: &[Value], is_null: bool, mask: &mut [u64])
+    requires long { length mask.old ≡ (length values.now + 63) / 64 }
+    requires clear { (n : ℕ) → length values.now ≤ n → member mask.old n ≡ false }
+    ensures { (n : ℕ) → member mask.new n
+        ≡ (member mask.old n && null_passes is_null (slice_index_or values.now n Null)) }
+{
+    for slot in 0..values.len() {
+        keep_value(&values[slot], is_null, slot, mask);
+    }
+}
+
+// Keeps a slot if its value is NULL, or, where `is_null` is false, isn't.
+fn keep_value(value: &Value, is_null: bool, slot: usize, mask: &mut [u64])
+    requires { slot / 64 < length mask.old }
+    ensures { (n : ℕ) → member mask.new n ≡ cond (n == slot)
+        (member mask.old n && null_passes is_null value.now) (member mask.old n) }
+{
+    if !null_passes(is_null, value) {
+        drop_bit(mask, slot);
+    }
+}
+
+// Whether a value is NULL, or, where `is_null` is false, isn't.
+fn null_passes(is_null: bool, value: &Value) -> bool
+    ensures { result ≡ null_passes is_null value.now }
+{
+    match value {
+        Value::Null => is_null,
+        Value::Int(_) => !is_null,
+        Value::Text(_) => !is_null,
     }
 }
 

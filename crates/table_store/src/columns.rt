@@ -1,7 +1,9 @@
 //! One cell of each of several columns.
 
 ghost use Rattle.std.specs.Prelude.{◌≡◌, ℕ, ◌+◌, ◌-◌, ◌^◌, ◌<◌, ◌≤◌, Bool, true, false, List, [], ◌∷◌, ◌++◌};
-ghost use Rattle.std.specs.Prelude.{length, slice_index_or, slice_set, OnOk, OnErr, IfOk, IsOk, vec_len, map};
+ghost use Rattle.lanes.specs.Sets.{member};
+ghost use Rattle.table_store.specs.Cells.{null_passes};
+ghost use Rattle.std.specs.Prelude.{◌*◌, ◌/◌, ◌&&◌, length, slice_index_or, slice_set, OnOk, OnErr, IfOk, IsOk, vec_len, map};
 ghost use Rattle.std.specs.Cmp.Lexicographic.{slice_cmp};
 ghost use Rattle.ldv_value.specs.Order.{order};
 ghost use Rattle.sql_model.specs.Scope.{value_at};
@@ -167,6 +169,36 @@ pub(crate) fn cell_at(columns: &Vec<Column>, slot: usize, place: usize) -> Cell<
     }
     let column = &columns[place];
     column.cell(slot)
+}
+
+/// Keeps of some slots those with NULL at a place, or, where `is_null` is false, with another value. Past the
+/// last column there is NULL.
+#[tactic(auto, using(crate::proofs::GridLaws::place_rules))]
+pub(crate) fn keep_nulls_at(columns: &Vec<Column>, place: usize, is_null: bool, mask: &mut [u64])
+    requires long { (k : ℕ) → k < length columns.now.items
+        → length mask.old ≡ (length (slice_index_or columns.now.items k no_cells).items + 63) / 64 }
+    requires clear { (k : ℕ) → k < length columns.now.items → (n : ℕ)
+        → length (slice_index_or columns.now.items k no_cells).items ≤ n → member mask.old n ≡ false }
+    ensures { (n : ℕ) → member mask.new n ≡ (member mask.old n
+        && null_passes is_null (value_at (values_at columns.now.items n) place)) }
+{
+    if place < columns.len() {
+        let column = &columns[place];
+        column.keep_nulls(is_null, mask);
+        return;
+    }
+    if !is_null {
+        drop_all(mask);
+    }
+}
+
+// Clears all bits.
+fn drop_all(mask: &mut [u64])
+    ensures { (n : ℕ) → member mask.new n ≡ false }
+{
+    for word in mask.iter_mut() {
+        *word = 0;
+    }
 }
 
 /// Columns with no cells, of texts where that is said.

@@ -12,12 +12,14 @@ ghost use Rattle.sql_model.specs.Keys.{values_at};
 ghost use Rattle.sql_model.specs.Scope.{value_at};
 ghost use Rattle.table_store.specs.LentCells.{lent_value};
 ghost use Rattle.table_store.specs.Grid.{IsRising, Slot, no_slot, fits_kinds, are_of_kinds, AreNumberedFrom};
-ghost use Rattle.table_store.specs.Grid.{next_after, new_slot, slot_passes};
+ghost use Rattle.table_store.specs.Grid.{next_after, new_slot, slot_null, slot_passes};
 
 use crate::bits::Bits;
 use crate::cell::Cell;
 use crate::column::Column;
-use crate::columns::{cell_at, compare_cells, copy_cells, empty_columns, reserve_cells, set_cells};
+use crate::columns::{
+    cell_at, compare_cells, copy_cells, empty_columns, keep_nulls_at, reserve_cells, set_cells,
+};
 use crate::grow::reserve_eighth;
 use crate::push::push_rows;
 use lanes::and_into;
@@ -153,6 +155,25 @@ impl Grid {
         let chosen = &self.columns[column];
         chosen.select(op, constant, mask);
         and_into(mask, self.standing.words());
+    }
+
+    /// Sets the bits of the slots whose row stands and has NULL in the column, or, where `is_null` is false,
+    /// another value, and clears all others. Past the last column there is NULL.
+    pub(crate) fn scan_nulls(&self, column: usize, is_null: bool, mask: &mut [u64])
+        requires { length mask.old ≡ (length self.now.slots + 63) / 64 }
+        ensures { (n : ℕ) → member mask.new n ≡ slot_null column is_null
+            (slice_index_or self.now.slots n no_slot) }
+    {
+        mask.copy_from_slice(self.standing.words());
+        keep_nulls_at(&self.columns, column, is_null, mask);
+    }
+
+    /// The slots whose row stands, as bits.
+    pub(crate) fn standing(&self) -> &[u64]
+        ensures long { length result.now ≡ (length self.now.slots + 63) / 64 }
+        ensures members { (n : ℕ) → member result.now n ≡ (slice_index_or self.now.slots n no_slot).stands }
+    {
+        self.standing.words()
     }
 
     /// Adds rows, which have their first values since `since`. On `AllocError` nothing has changed.

@@ -1,14 +1,15 @@
 //! A column of numbers.
 
 ghost use Rattle.std.specs.Prelude.{◌≡◌, ℕ, ◌+◌, ◌-◌, ◌*◌, ◌/◌, ◌^◌, ◌<◌, ◌≤◌, Bool, true, false, List, []};
-ghost use Rattle.std.specs.Prelude.{◌∷◌, ◌++◌, length, slice_index_or, slice_set, OnOk, OnErr, IfOk, IsOk};
+ghost use Rattle.table_store.specs.Cells.{int_value, null_passes};
+ghost use Rattle.std.specs.Prelude.{◌∷◌, ◌++◌, ◌&&◌, None, length, slice_index_or, slice_set, OnOk, OnErr, IfOk, IsOk};
 ghost use Rattle.std.specs.Option.{option_map_or};
 ghost use Rattle.lanes.specs.Sets.{member};
 ghost use Rattle.lanes.specs.Selection.{passes};
 
 use crate::bits::Bits;
 use crate::grow::reserve_eighth;
-use lanes::{minus_into, select_i64};
+use lanes::{and_into, minus_into, select_i64};
 use ldv_value::Cmp;
 use std::alloc::{AllocError, Global};
 use std::marker::Model;
@@ -98,5 +99,19 @@ impl IntColumn {
     {
         select_i64(op, &self.values, constant, mask);
         minus_into(mask, self.nulls.words());
+    }
+
+    /// Keeps of some slots those whose cell is NULL, or, where `is_null` is false, a number.
+    pub(crate) fn keep_nulls(&self, is_null: bool, mask: &mut [u64])
+        requires long { length mask.old ≡ (length self.now.items + 63) / 64 }
+        requires clear { (n : ℕ) → length self.now.items ≤ n → member mask.old n ≡ false }
+        ensures { (n : ℕ) → member mask.new n ≡ (member mask.old n
+            && null_passes is_null (int_value (slice_index_or self.now.items n None))) }
+    {
+        if is_null {
+            and_into(mask, self.nulls.words());
+        } else {
+            minus_into(mask, self.nulls.words());
+        }
     }
 }

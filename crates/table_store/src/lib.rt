@@ -3,16 +3,20 @@
 //! Contracts see a store as its tables, each with the changes of every row that it ever held
 //! (`specs/Histories.antt`). The tables as they are now, as they were after a time, and the versions of
 //! rows are functions of that. It promises to the layers above:
-//! - `Store::of_tables` begins with the tables that it is given, at time 0;
+//! - `Store::of_tables` begins with the tables that it is given, at time 0. They are a database none of whose
+//!   tables has two columns of one name, and stay so: `tell_formed` lends that to a caller;
 //! - `insert_all`, `replace_all` and `delete_all` make of a table what INSERT, UPDATE and DELETE make of
 //!   it, or refuse the rows for the first cause that holds; a refusal changes nothing (`specs/Stops.antt`);
 //! - `rows_at`, `next_at` and `version` return what those functions say. What tables were before a change
 //!   they stay, and from the last change on they are what they are now;
 //! - `by_key` returns the number of the row that has a key, and `None` exactly where no row has it;
-//! - `slots`, `slot_row`, `row_values` and `scan` give a table slot by slot, for layers that look through
-//!   it. There is a slot for each row that the table ever held, by number;
-//! - of one table, `slot_of` finds the slot of a row, `cell` lends one value, and `tell_order` and
-//!   `tell_times` lend a caller what is known of the order of its rows and of their changes.
+//! - `slots`, `slot_row` and `row_values` give a table slot by slot, for layers that look through it. There is
+//!   a slot for each row that the table ever held, by number. `scan` and `scan_nulls` tell by bits which slots
+//!   have a row that passes a test of one column, `chosen` those that pass several (`specs/CellTests.antt`),
+//!   and `standing` lends the bits of all rows that stand;
+//! - of one table, `slot_of` finds the slot of a row, `cell` lends one value, and `tell_order`,
+//!   `tell_times` and `tell_few` lend a caller what is known of the order of its rows, of their changes and of
+//!   their number.
 //!
 //! How a table is kept: the last values of its rows stand in columns, one for each column of the schema. A
 //! column of INT is a list of words with a bit for each NULL, and one of TEXT a list of values (`column`).
@@ -32,14 +36,17 @@
 mod apply;
 mod bits;
 mod cell;
+mod cell_test;
 mod chains;
 mod change;
+mod chosen;
 mod claim;
 mod clash;
 mod column;
 mod columns;
 mod grid;
 mod grow;
+mod high_keys;
 mod index;
 mod insert;
 mod int_column;
@@ -54,6 +61,7 @@ mod store;
 mod table;
 
 pub use cell::Cell;
+pub use cell_test::{CellTest, ColumnTest};
 pub use stop::StoreStop;
 pub use store::Store;
 pub use table::TableStore;

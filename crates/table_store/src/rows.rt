@@ -10,7 +10,7 @@ ghost use Rattle.ldv_value.specs.Order.{order};
 ghost use Rattle.sql_model.specs.Keys.{values_at};
 ghost use Rattle.sql_model.specs.Scope.{value_at};
 ghost use Rattle.table_store.specs.LentCells.{lent_value};
-ghost use Rattle.table_store.specs.Cells.{passes_test};
+ghost use Rattle.table_store.specs.Cells.{null_passes, passes_test};
 ghost use Rattle.table_store.specs.Types.{Null};
 ghost use Rattle.row_version.specs.History.{written, current, as_of, version};
 ghost use Rattle.table_store.specs.Grid.{are_of_kinds, AreNumberedFrom, next_after};
@@ -186,6 +186,29 @@ impl Rows {
             (current (slice_index_or self.now.slots n no_history).changes) false }
     {
         self.grid.scan(column, op, constant, mask);
+    }
+
+    /// Sets the bits of the slots whose row stands and has NULL in the column, or, where `is_null` is false,
+    /// another value, and clears all others. Past the last column there is NULL.
+    pub(crate) fn scan_nulls(&self, column: usize, is_null: bool, mask: &mut [u64])
+        requires { length mask.old ≡ (length self.now.slots + 63) / 64 }
+        ensures { (n : ℕ) → member mask.new n ≡ option_map_or
+            (λ row. null_passes is_null (slice_index_or row column Null))
+            (current (slice_index_or self.now.slots n no_history).changes) false }
+    {
+        self.grid.scan_nulls(column, is_null, mask);
+    }
+
+    /// The slots whose row stands, as bits.
+    pub(crate) fn standing(&self) -> &[u64]
+        ensures long { length result.now ≡ (length self.now.slots + 63) / 64 }
+        ensures few { length self.now.slots < 2 ^ 32 }
+        ensures members { (n : ℕ) → member result.now n
+            ≡ is_some (current (slice_index_or self.now.slots n no_history).changes) }
+    {
+        let _len = self.grid.len();
+        self.grid.tell_order();
+        self.grid.standing()
     }
 
     /// Moves the number of the next row up.

@@ -9,8 +9,8 @@ ghost use Rattle.lanes.specs.Sets.{member};
 ghost use Rattle.row_version.specs.History.{current};
 ghost use Rattle.ldv_value.specs.Sorted.{text_precedes};
 ghost use Rattle.sql_model.specs.Scope.{catalog_of, table_at};
-ghost use Rattle.sql_model.specs.Tables.{is_database, is_valid_table};
-ghost use Rattle.table_store.specs.Cells.{passes_test};
+ghost use Rattle.sql_model.specs.Tables.{AreWellFormed, have_distinct_columns, is_database, is_valid_table};
+ghost use Rattle.table_store.specs.Cells.{null_passes, passes_test};
 ghost use Rattle.table_store.specs.Histories.{history_at, is_history, table_now, tables_now, last_since};
 ghost use Rattle.table_store.specs.Histories.{rows_after, next_number_after, AreKeptBefore, changed_at};
 ghost use Rattle.table_store.specs.Histories.{inserted, replaced, removed, version_now, history_of_row};
@@ -51,10 +51,11 @@ impl Model for Store {
 }
 
 impl Store {
-    /// The store of tables at time 0.
+    /// The store of tables at time 0. They are a database, and none has two columns of one name.
     #[tactic(auto, using(crate::proofs::StoreLaws::start_rules))]
     pub fn of_tables(alloc: Global, tables: Tables) -> Result<Store, AllocError>
-        requires { is_database tables ≡ true }
+        requires database { is_database tables ≡ true }
+        requires distinct { have_distinct_columns tables ≡ true }
         ensures made { IfOk result (λ store. store ≡ started tables) }
         ensures now { IfOk result (λ store. tables_now store ≡ tables) }
     {
@@ -65,6 +66,14 @@ impl Store {
             tables: held,
             time: 0,
         })
+    }
+
+    /// The tables are a database, and none has two columns of one name. The call does nothing; it lends this
+    /// to the caller.
+    pub fn tell_formed(&self)
+        ensures { AreWellFormed (tables_now self.now) }
+    {
+        let _tables = &self.tables;
     }
 
     /// The names and the schemas of the tables.
@@ -201,6 +210,25 @@ impl Store {
     {
         match self.table(table) {
             Some(held) => held.scan(column, op, constant, mask),
+            None => unreachable!(),
+        }
+    }
+
+    /// Sets the bits of the slots of a table whose row stands and has NULL in the column, or, where `is_null`
+    /// is false, another value, and clears all others. Past the last column there is NULL. The table is there,
+    /// and the mask has a word for each 64 slots, rounded up.
+    pub fn scan_nulls(&self, table: &str, column: u64, is_null: bool, mask: &mut [u64])
+        requires there { IsSome (table_at table.now (tables_now self.now)) }
+        requires mask { IfSome (history_at table.now self.now)
+            (λ history. length mask.old ≡ (length history.slots + 63) / 64) }
+        ensures { (n : ℕ)
+            → option_map (λ history. option_map_or
+            (λ row. null_passes is_null (slice_index_or row.values column Null))
+            (row_now (slice_index_or history.slots n no_history)) false) (history_at table.now self.now)
+            ≡ Some (member mask.new n) }
+    {
+        match self.table(table) {
+            Some(held) => held.scan_nulls(column, is_null, mask),
             None => unreachable!(),
         }
     }

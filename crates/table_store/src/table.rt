@@ -10,7 +10,7 @@ ghost use Rattle.row_version.specs.History.{current, version};
 ghost use Rattle.sql_model.specs.Scope.{value_at};
 ghost use Rattle.sql_model.specs.Tables.{is_valid_table};
 ghost use Rattle.table_store.specs.LentCells.{lent_value};
-ghost use Rattle.table_store.specs.Cells.{passes_test};
+ghost use Rattle.table_store.specs.Cells.{null_passes, passes_test};
 ghost use Rattle.table_store.specs.KeyIndex.{has_key};
 ghost use Rattle.table_store.specs.Types.{Null};
 ghost use Rattle.table_store.specs.Histories.{added, inserted, replaced, removed, noted, changed_by};
@@ -192,6 +192,36 @@ impl TableStore {
             (row_now (slice_index_or self.now.slots n no_history)) false }
     {
         self.rows.scan(column as usize, op, constant, mask);
+    }
+
+    /// Sets the bits of the slots whose row stands and has NULL in the column, or, where `is_null` is false,
+    /// another value, and clears all others. Past the last column there is NULL. The mask has a word for each
+    /// 64 slots, rounded up.
+    pub fn scan_nulls(&self, column: u64, is_null: bool, mask: &mut [u64])
+        requires { length mask.old ≡ (length self.now.slots + 63) / 64 }
+        ensures { (n : ℕ) → member mask.new n ≡ option_map_or
+            (λ row. null_passes is_null (slice_index_or row.values column Null))
+            (row_now (slice_index_or self.now.slots n no_history)) false }
+    {
+        self.rows.scan_nulls(column as usize, is_null, mask);
+    }
+
+    /// The slots whose row stands now, as bits: a word for each 64 slots, rounded up.
+    #[tactic(auto, using(crate::proofs::TableLaws::standing_now))]
+    pub fn standing(&self) -> &[u64]
+        ensures long { length result.now ≡ (length self.now.slots + 63) / 64 }
+        ensures few { length result.now < 2 ^ 57 }
+        ensures members { (n : ℕ) → member result.now n
+            ≡ is_some (row_now (slice_index_or self.now.slots n no_history)) }
+    {
+        self.rows.standing()
+    }
+
+    /// There are fewer than 2^32 slots. The call does nothing; it lends this to the caller.
+    pub fn tell_few(&self)
+        ensures { length self.now.slots < 2 ^ 32 }
+    {
+        let _standing = self.rows.standing();
     }
 
     /// The version of a row: how often it has changed. `None` where it doesn't stand now.

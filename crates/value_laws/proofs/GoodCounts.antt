@@ -9,7 +9,7 @@ use Rattle.ldv_value.specs.Limits.{max_next}
 use Rattle.ldv_value.specs.Sorted.{precedes_first, is_strictly_sorted}
 use Rattle.sql_laws.specs.Types.{Catalog, NotNull, Full, Insert, Statement, TheInsert, Table, TableRow}
 use Rattle.sql_laws.proofs.ChangedTables.{check-parts, else-parts, if-none}
-use Rattle.sql_laws.proofs.NewNumbers.{row_precedes}
+use Rattle.sql_model.proofs.NewNumbers.{row_precedes}
 use Rattle.sql_model.proofs.Equations.{table_schema, schema_found}
 use Rattle.sql_model.proofs.ValidTables.{table-parts}
 use Rattle.sql_model.specs.Changes.{changed, lacks_value, key_clash, key_refusal, is_full, or_else, refusal_if, change_refusal}

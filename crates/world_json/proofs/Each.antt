@@ -1,5 +1,6 @@
 -- Items and members that are read one after another.
 use Rattle.std.proofs.Common.{◌≡◌, List, [], ◌∷◌, ◌++◌, Option, Some, None, option_map, refl, sym, ap, ◌∙◌, append_assoc}
+use Rattle.std.specs.List.{AllByRecursion}
 use Rattle.world_json.specs.Shape.{◌>>=◌}
 
 append_none : {X : Type 0} (xs : List X) → xs ++ [] ≡ xs
@@ -35,3 +36,9 @@ pub none_more : {X : Type 0} (all : Option (List X)) (found : List X) (o : Optio
     → IsSoFar all found (o >>= λ x. rest >>= λ xs. Some (x ∷ xs)) → o ≡ None → all ≡ None
 none_more all found o rest so_far is =
     so_far ∙ ap (λ (o : Option _). option_map (λ xs. found ++ xs) (o >>= λ x. rest >>= λ xs. Some (x ∷ xs))) is
+
+-- ---- what holds of each
+
+pub all_push : {X : Type 0} (P : X → Type 0) (xs : List X) (x : X) → AllByRecursion P xs → P x → AllByRecursion P (xs ++ x ∷ [])
+all_push P [] x all one = (one, tt)
+all_push P (y ∷ ys) x all one = (all.0, all_push P ys x all.1 one)

@@ -1,4 +1,5 @@
 pub mod Columns
+pub mod DocumentWorlds
 pub mod Each
 pub mod Found
 pub mod JsonText
@@ -8,3 +9,5 @@ pub mod ReadDocuments
 pub mod Readings
 pub mod WorldFiles
 pub mod GeneratedRows
+pub mod GeneratedWorlds
+pub mod TypedWorlds

@@ -3,4 +3,5 @@ pub mod Shape
 pub mod Faults
 pub mod Reading
 pub mod SortedWorld
+pub mod Typed
 pub mod Generated

@@ -13,8 +13,10 @@ use std::alloc::Global;
 
 impl FromMember for File {
     ghost use Rattle.world_json.specs.Shape.{file_of};
+    ghost use Rattle.world_json.specs.Typed.{TypedDocumentFile};
 
     ghost of_member = { file_of };
+    ghost typed = { TypedDocumentFile };
 
     fn from_member(alloc: Global, name: Utf8, value: Value) -> Result<Self, ShapeStop> {
         match read_content(alloc, value) {

@@ -3,6 +3,7 @@
 ghost use Rattle.std.specs.Prelude.{◌≡◌, ◌++◌, map, codes, IfOk};
 ghost use Rattle.std.specs.Fmt.{decimal};
 ghost use Rattle.std.specs.List.{range_with_len};
+ghost use Rattle.run_model.specs.ValidWorld.{CanRun, ValidWorld};
 ghost use Rattle.world_json.specs.Generated.{customer_columns, customer_row, customer_values, customers};
 ghost use Rattle.world_json.specs.Generated.{generated, keyed_table, needed_column, order_columns, order_row};
 ghost use Rattle.world_json.specs.Generated.{order_values, orders, script_file};
@@ -32,8 +33,16 @@ const SCRIPT: &str =
 
 /// A world to try out and to measure with: ten customers, a number of orders of theirs, 1 to 100,000, and a
 /// script that writes what each customer has ordered in small orders, deletes the large ones, and counts the
-/// small ones.
+/// small ones. It is valid, and it can be run.
 pub fn generate(alloc: Global, n: u32) -> Result<World, AllocError>
+    ensures world { IfOk result (λ world. world ≡ generated n) }
+    ensures valid { IfOk result (λ world. ValidWorld world) }
+    ensures runs { IfOk result (λ world. CanRun world) }
+{
+    made_world(alloc, n)
+}
+
+fn made_world(alloc: Global, n: u32) -> Result<World, AllocError>
     ensures { IfOk result (λ world. world ≡ generated n) }
 {
     let mut start = Words::new(alloc);

@@ -1,12 +1,14 @@
 //! Tables and whole documents of a JSON value.
 
 ghost use Rattle.std.specs.Prelude.{◌≡◌, Some, None, IfOk, length, codes, option_map, [], ◌==◌};
-ghost use Rattle.std.specs.List.{list_all};
+ghost use Rattle.std.specs.List.{list_all, AllByRecursion};
+ghost use Rattle.std.specs.Str.{IsUtf8};
 ghost use Rattle.serde_json.specs.Find.{get_member};
 ghost use Rattle.serde_json.specs.View.{view, members_view};
 ghost use Rattle.world_json.specs.Shape.{array_of, object_of, required, optional, whole_of, file_of};
 ghost use Rattle.world_json.specs.Shape.{is_width, table_from, table_in, table_of};
 ghost use Rattle.world_json.specs.Shape.{document_from, document_in, document_of};
+ghost use Rattle.world_json.specs.Typed.{TypedDocument, TypedDocumentFile, TypedDraft};
 
 use crate::document::{Document, Draft, Drafts};
 use crate::members::{has_only, take_member};
@@ -38,6 +40,7 @@ fn read_required<X: FromItem>(alloc: Global, value: Option<Value>) -> Result<Lis
     ensures ok { IfOk result (λ xs. required (array_of X.of_item) (option_map view value) ≡ Some xs) }
     ensures shape { result ≡ Err ShapeStop.Shape
         → required (array_of X.of_item) (option_map view value) ≡ None }
+    ensures typed { IfOk result (λ xs. AllByRecursion X.typed xs) }
 {
     match value {
         Some(array) => read_array(alloc, array),
@@ -50,6 +53,7 @@ fn read_optional<X: FromItem>(alloc: Global, value: Option<Value>) -> Result<Lis
     ensures ok { IfOk result (λ xs. optional (array_of X.of_item) [] (option_map view value) ≡ Some xs) }
     ensures shape { result ≡ Err ShapeStop.Shape
         → optional (array_of X.of_item) [] (option_map view value) ≡ None }
+    ensures typed { IfOk result (λ xs. AllByRecursion X.typed xs) }
 {
     match value {
         Some(array) => read_array(alloc, array),
@@ -95,8 +99,10 @@ fn have_width(rows: &[TableRow], width: usize) -> bool
 
 impl FromMember for Draft {
     ghost use Rattle.world_json.specs.Shape.{table_of};
+    ghost use Rattle.world_json.specs.Typed.{TypedDraft};
 
     ghost of_member = { table_of };
+    ghost typed = { TypedDraft };
 
     fn from_member(alloc: Global, name: Utf8, value: Value) -> Result<Self, ShapeStop> {
         match value {
@@ -107,8 +113,10 @@ impl FromMember for Draft {
 }
 
 fn read_table(alloc: Global, name: Utf8, members: Map<String, Value>) -> Result<Draft, ShapeStop>
+    requires { IsUtf8 name }
     ensures ok { IfOk result (λ draft. table_in name (members_view members.entries) ≡ Some draft) }
     ensures shape { result ≡ Err ShapeStop.Shape → table_in name (members_view members.entries) ≡ None }
+    ensures typed { IfOk result (λ draft. TypedDraft draft) }
 {
     if !has_only(&members, &["columns", "key", "rows", "next"]) {
         return Err(ShapeStop::Shape);
@@ -136,11 +144,13 @@ fn table_parts(mut members: Map<String, Value>) -> TableParts
 }
 
 fn table_of_parts(alloc: Global, name: Utf8, parts: TableParts) -> Result<Draft, ShapeStop>
+    requires { IsUtf8 name }
     ensures ok { IfOk result (λ draft. table_from name (option_map view parts.columns)
         (option_map view parts.key) (option_map view parts.rows) (option_map view parts.next) ≡ Some draft) }
     ensures shape { result ≡ Err ShapeStop.Shape
         → table_from name (option_map view parts.columns) (option_map view parts.key)
         (option_map view parts.rows) (option_map view parts.next) ≡ None }
+    ensures typed { IfOk result (λ draft. TypedDraft draft) }
 {
     let TableParts {
         columns,
@@ -168,6 +178,7 @@ fn table_of_parts(alloc: Global, name: Utf8, parts: TableParts) -> Result<Draft,
 pub(crate) fn read_document(alloc: Global, value: Value) -> Result<Document, ShapeStop>
     ensures ok { IfOk result (λ document. document_of (view value) ≡ Some document) }
     ensures shape { result ≡ Err ShapeStop.Shape → document_of (view value) ≡ None }
+    ensures typed { IfOk result (λ document. TypedDocument document) }
 {
     match value {
         Value::Object(members) => read_whole_document(alloc, members),
@@ -178,6 +189,7 @@ pub(crate) fn read_document(alloc: Global, value: Value) -> Result<Document, Sha
 fn read_whole_document(alloc: Global, members: Map<String, Value>) -> Result<Document, ShapeStop>
     ensures ok { IfOk result (λ document. document_in (members_view members.entries) ≡ Some document) }
     ensures shape { result ≡ Err ShapeStop.Shape → document_in (members_view members.entries) ≡ None }
+    ensures typed { IfOk result (λ document. TypedDocument document) }
 {
     if !has_only(&members, &["start", "seed", "files", "tables"]) {
         return Err(ShapeStop::Shape);
@@ -211,6 +223,7 @@ fn document_of_parts(alloc: Global, parts: DocumentParts) -> Result<Document, Sh
     ensures shape { result ≡ Err ShapeStop.Shape
         → document_from (option_map view parts.start) (option_map view parts.seed)
         (option_map view parts.files) (option_map view parts.tables) ≡ None }
+    ensures typed { IfOk result (λ document. TypedDocument document) }
 {
     let DocumentParts {
         start,
@@ -234,6 +247,7 @@ fn read_files(alloc: Global, value: Option<Value>) -> Result<Files, ShapeStop>
     ensures ok { IfOk result (λ files. required (object_of file_of) (option_map view value) ≡ Some files) }
     ensures shape { result ≡ Err ShapeStop.Shape
         → required (object_of file_of) (option_map view value) ≡ None }
+    ensures typed { IfOk result (λ files. AllByRecursion TypedDocumentFile files) }
 {
     match value {
         Some(object) => read_object(alloc, object),
@@ -246,6 +260,7 @@ fn read_tables(alloc: Global, value: Option<Value>) -> Result<Drafts, ShapeStop>
         optional (object_of table_of) [] (option_map view value) ≡ Some tables) }
     ensures shape { result ≡ Err ShapeStop.Shape
         → optional (object_of table_of) [] (option_map view value) ≡ None }
+    ensures typed { IfOk result (λ tables. AllByRecursion TypedDraft tables) }
 {
     match value {
         Some(object) => read_object(alloc, object),

@@ -1,7 +1,9 @@
 //! Rows of a document, numbered as they are read, so that a table takes them as they are.
 
 ghost use Rattle.std.specs.Prelude.{◌≡◌, ◌≤◌, ◌++◌, ◌∷◌, [], Some, None, IfOk, OnOk, length, map, option_map};
+ghost use Rattle.std.specs.List.{AllByRecursion};
 ghost use Rattle.ldv_value.specs.Limits.{max_rows};
+ghost use Rattle.run_model.specs.TypedPackage.{TypedValues};
 ghost use Rattle.serde_json.specs.View.{view, items_view};
 ghost use Rattle.world_json.specs.Shape.{array_of, each, optional, cell_of};
 ghost use Rattle.world_json.specs.Reading.{numbered_from};
@@ -101,6 +103,7 @@ pub(crate) fn read_rows(alloc: Global, value: Option<Value>) -> Result<NumberedR
         optional (array_of (array_of cell_of)) [] (option_map view value) ≡ Some rows) }
     ensures shape { result ≡ Err ShapeStop.Shape
         → optional (array_of (array_of cell_of)) [] (option_map view value) ≡ None }
+    ensures typed { IfOk result (λ rows. AllByRecursion TypedValues rows) }
 {
     match value {
         Some(Value::Array(items)) => read_row_items(alloc, items),
@@ -112,6 +115,7 @@ pub(crate) fn read_rows(alloc: Global, value: Option<Value>) -> Result<NumberedR
 fn read_row_items(alloc: Global, items: Vec<Value>) -> Result<NumberedRows, ShapeStop>
     ensures ok { IfOk result (λ rows. each (array_of cell_of) (items_view items.items) ≡ Some rows) }
     ensures shape { result ≡ Err ShapeStop.Shape → each (array_of cell_of) (items_view items.items) ≡ None }
+    ensures typed { IfOk result (λ rows. AllByRecursion TypedValues rows) }
 {
     let mut found = NumberedRows::with_capacity(alloc, items.len())?;
     for value in items {

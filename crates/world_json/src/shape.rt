@@ -1,7 +1,9 @@
 //! Arrays and objects of a document, read item by item and member by member. Each call takes its value
 //! and lets it go as it reads.
 
-ghost use Rattle.std.specs.Prelude.{◌≡◌, Option, Some, None, IfOk, List, ℕ};
+ghost use Rattle.std.specs.List.{AllByRecursion};
+ghost use Rattle.std.specs.Prelude.{◌≡◌, Option, Some, None, IfOk, List, ℕ, string_bytes};
+ghost use Rattle.std.specs.Str.{IsUtf8};
 ghost use Rattle.serde_json.specs.Data.{Data};
 ghost use Rattle.serde_json.specs.View.{view, items_view, members_view};
 ghost use Rattle.world_json.specs.Shape.{each, array_of, each_member, object_of};
@@ -33,19 +35,34 @@ impl From<AllocError> for ShapeStop {
 /// What an item of an array may be.
 pub(crate) trait FromItem: Drop + Sized {
     ghost of_item: { Data → Option Self };
+    // What its type says of it.
+    ghost typed: { Self → Type 0 };
 
     fn from_item(alloc: Global, value: Value) -> Result<Self, ShapeStop>
         ensures ok { IfOk result (λ x. of_item (view value) ≡ Some x) }
-        ensures shape { result ≡ Err ShapeStop.Shape → of_item (view value) ≡ None };
+        ensures shape { result ≡ Err ShapeStop.Shape → of_item (view value) ≡ None }
+        ensures typed { IfOk result (λ x. typed x) };
 }
 
 /// What a member of an object may be.
 pub(crate) trait FromMember: Drop + Sized {
     ghost of_member: { List ℕ → Data → Option Self };
+    // What its type says of it.
+    ghost typed: { Self → Type 0 };
 
     fn from_member(alloc: Global, name: Utf8, value: Value) -> Result<Self, ShapeStop>
+        requires { IsUtf8 name }
         ensures ok { IfOk result (λ x. of_member name (view value) ≡ Some x) }
-        ensures shape { result ≡ Err ShapeStop.Shape → of_member name (view value) ≡ None };
+        ensures shape { result ≡ Err ShapeStop.Shape → of_member name (view value) ≡ None }
+        ensures typed { IfOk result (λ x. typed x) };
+}
+
+/// A text as a name.
+pub(crate) fn name_of_text(text: String) -> Utf8
+    ensures name { result ≡ string_bytes text }
+    ensures typed { IsUtf8 result }
+{
+    Utf8::of_string(text)
 }
 
 /// The items of an array.
@@ -55,6 +72,7 @@ pub(crate) fn read_items<X: FromItem>(
 ) -> Result<List<X>, ShapeStop>
     ensures ok { IfOk result (λ xs. each X.of_item (items_view items.items) ≡ Some xs) }
     ensures shape { result ≡ Err ShapeStop.Shape → each X.of_item (items_view items.items) ≡ None }
+    ensures typed { IfOk result (λ xs. AllByRecursion X.typed xs) }
 {
     let mut found = List::with_capacity(alloc, items.len())?;
     for value in items {
@@ -70,6 +88,7 @@ pub(crate) fn read_items<X: FromItem>(
 pub(crate) fn read_array<X: FromItem>(alloc: Global, value: Value) -> Result<List<X>, ShapeStop>
     ensures ok { IfOk result (λ xs. array_of X.of_item (view value) ≡ Some xs) }
     ensures shape { result ≡ Err ShapeStop.Shape → array_of X.of_item (view value) ≡ None }
+    ensures typed { IfOk result (λ xs. AllByRecursion X.typed xs) }
 {
     match value {
         Value::Array(items) => read_items(alloc, items),
@@ -85,10 +104,11 @@ pub(crate) fn read_members<X: FromMember>(
     ensures ok { IfOk result (λ xs. each_member X.of_member (members_view members.entries) ≡ Some xs) }
     ensures shape { result ≡ Err ShapeStop.Shape
         → each_member X.of_member (members_view members.entries) ≡ None }
+    ensures typed { IfOk result (λ xs. AllByRecursion X.typed xs) }
 {
     let mut found = List::with_capacity(alloc, members.len())?;
     for (name, value) in members {
-        match X::from_member(alloc, Utf8::of_string(name), value) {
+        match X::from_member(alloc, name_of_text(name), value) {
             Ok(member) => found.push(member)?,
             Err(stop) => return Err(stop),
         }
@@ -100,6 +120,7 @@ pub(crate) fn read_members<X: FromMember>(
 pub(crate) fn read_object<X: FromMember>(alloc: Global, value: Value) -> Result<List<X>, ShapeStop>
     ensures ok { IfOk result (λ xs. object_of X.of_member (view value) ≡ Some xs) }
     ensures shape { result ≡ Err ShapeStop.Shape → object_of X.of_member (view value) ≡ None }
+    ensures typed { IfOk result (λ xs. AllByRecursion X.typed xs) }
 {
     match value {
         Value::Object(members) => read_members(alloc, members),

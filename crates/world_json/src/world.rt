@@ -3,9 +3,11 @@
 ghost use Rattle.std.specs.Prelude.{◌≡◌, IfOk, IfErr, Ok, Some, map, true};
 ghost use Rattle.std.specs.List.{list_all};
 ghost use Rattle.serde_json.specs.View.{view};
+ghost use Rattle.run_model.specs.ValidWorld.{CanRun, TypedWorld, ValidWorld};
 ghost use Rattle.world_json.specs.Faults.{is_within, is_table_within};
 ghost use Rattle.world_json.specs.Reading.{world_reading, parsed, reading_of, world_as, table_as, IsFaultOf};
 ghost use Rattle.world_json.specs.SortedWorld.{is_sorted_world};
+ghost use Rattle.world_json.specs.Typed.{TypedDocument};
 
 use crate::document::{Document, Draft, Drafts};
 use crate::fault::{WorldFault, WorldStop};
@@ -25,11 +27,13 @@ use std::alloc::{AllocError, Global};
 
 /// The world that a document is. The faults are tried in the order of `WorldFault`, each over the whole
 /// document, and the first one that holds is returned; out of memory may come in its place. The files are
-/// sorted by path, the tables by name.
+/// sorted by path, the tables by name. The world is valid, and it can be run.
 pub fn world_of(alloc: Global, bytes: &[u8]) -> Result<World, WorldStop>
     ensures world { IfOk result (λ world. world_reading bytes.now ≡ Ok world) }
     ensures fault { IfErr result (IsFaultOf (world_reading bytes.now)) }
     ensures sorted { IfOk result (λ world. is_sorted_world world ≡ true) }
+    ensures valid { IfOk result (λ world. ValidWorld world) }
+    ensures runs { IfOk result (λ world. CanRun world) }
 {
     match read_json(alloc, bytes) {
         Ok(value) => world_of_value(alloc, value),
@@ -41,6 +45,7 @@ pub fn world_of(alloc: Global, bytes: &[u8]) -> Result<World, WorldStop>
 fn world_of_value(alloc: Global, value: Value) -> Result<World, WorldStop>
     ensures world { IfOk result (λ world. parsed (Some (view value)) ≡ Ok world) }
     ensures fault { IfErr result (IsFaultOf (parsed (Some (view value)))) }
+    ensures typed { IfOk result (λ world. TypedWorld world) }
 {
     match read_document(alloc, value) {
         Ok(document) => world_of_document(alloc, document),
@@ -50,8 +55,10 @@ fn world_of_value(alloc: Global, value: Value) -> Result<World, WorldStop>
 }
 
 fn world_of_document(alloc: Global, document: Document) -> Result<World, WorldStop>
+    requires { TypedDocument document }
     ensures world { IfOk result (λ world. reading_of document ≡ Ok world) }
     ensures fault { IfErr result (IsFaultOf (reading_of document)) }
+    ensures typed { IfOk result (λ world. TypedWorld world) }
 {
     if !meets_names(alloc, &document)? {
         return Err(WorldStop::Fault(WorldFault::Name));
@@ -75,8 +82,10 @@ fn world_of_document(alloc: Global, document: Document) -> Result<World, WorldSt
 }
 
 fn to_world(alloc: Global, document: Document) -> Result<World, AllocError>
-    requires { is_within document ≡ true }
-    ensures { IfOk result (λ world. world ≡ world_as document) }
+    requires within { is_within document ≡ true }
+    requires typed { TypedDocument document }
+    ensures world { IfOk result (λ world. world ≡ world_as document) }
+    ensures typed { IfOk result (λ world. TypedWorld world) }
 {
     let Document {
         start,

@@ -1,10 +1,15 @@
 use Rattle.std.proofs.Common.{◌+◌, drop}
-use Rattle.core_parts.proofs.Lists.{drop-step}
+use Rattle.core_parts.proofs.Lists.{drop-step, IfSome-weaker}
 use Rattle.core_parts.proofs.FixingLaws.{all-fix}
+use Rattle.core_parts.specs.Fixing.{AllFix, Fixes}
 use Rattle.core_parts.proofs.fixing.constant_at.Goals as goal
 
-pub returns-in-Some : goal.returns-in-Some
-returns-in-Some c =
+pub returns-then-is_some : goal.returns-then-is_some
+returns-then-is_some c =
     let conds = c.args.conds.now in
     let i = c.loop-cond.cond-index in
-    all-fix conds (drop (i + 1) conds) i c.cond-item.result c.args.at c.in-Some.value.now (drop-step conds i c.cond-item.result c.loop-cond-test.true c.cond-item.is) c.in-Some.ensures
+    let cond = c.cond-item.result in
+    let at = c.args.at in
+    IfSome-weaker c.in_ok-found.found (Fixes cond at) (AllFix conds at)
+    (λ value fixes. all-fix conds (drop (i + 1) conds) i cond at value (drop-step conds i cond c.loop-cond-test.true c.cond-item.is) fixes)
+    c.in_ok-found.ensures

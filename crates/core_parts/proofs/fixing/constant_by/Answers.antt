@@ -1,4 +1,6 @@
 use Rattle.std.proofs.Common.{drop}
+use Rattle.std.specs.Prelude.{IfSome}
+use Rattle.std.proofs.lemmas.Result.{IfOk-weaker}
 use Rattle.core_parts.proofs.Lists.{IfSome-weaker}
 use Rattle.core_parts.specs.Fixing.{IsFixing, Fixes}
 use Rattle.core_parts.proofs.FixingLaws.{fixes-is}
@@ -7,6 +9,8 @@ use Rattle.core_parts.proofs.fixing.constant_by.Goals as goal
 pub returns-then-place-at : goal.returns-then-place-at
 returns-then-place-at c =
     let cond = c.args.cond.now in
-    IfSome-weaker c.fixing.result (λ value. IsFixing cond.expr value.now) (λ value. Fixes cond c.args.at value.now)
-    (λ value is. fixes-is cond c.args.at c.in-Some.place.now (drop 1 cond.places) value.now is c.in-Some.ensures.rest c.if-place-at.true)
+    let at = c.args.at in
+    IfOk-weaker c.fixing.result (λ found. IfSome found (IsFixing cond.expr)) (λ found. IfSome found (Fixes cond at))
+    (λ found are. IfSome-weaker found (IsFixing cond.expr) (Fixes cond at)
+    (λ value is. fixes-is cond at c.in-Some.place.now (drop 1 cond.places) value is c.in-Some.ensures.rest c.if-place-at.true) are)
     c.fixing.ensures

@@ -1,4 +1,6 @@
 use Rattle.std.proofs.Common.{◌≡◌, ◌+◌, ◌<◌, rules}
+use Rattle.std.specs.Prelude.{IfSome}
+use Rattle.std.proofs.lemmas.Result.{IfOk-weaker}
 use Rattle.core_parts.proofs.Lists.{IfSome-weaker}
 use Rattle.core_parts.specs.Fixing.{AllFix, FixesColumn}
 use Rattle.core_parts.proofs.FixingLaws.{fixed-column}
@@ -9,6 +11,7 @@ returns-in-Some c =
     let conds = c.args.conds.now in
     let within : c.args.column < c.args.width = search rules in
     let sum : c.in-Some.at ≡ c.args.before + c.args.column = search rules in
-    IfSome-weaker c.constant_at.result (λ value. AllFix conds c.in-Some.at value.now) (λ value. FixesColumn conds c.args.before c.args.width c.args.column value.now)
-    (λ value all. fixed-column conds c.args.before c.args.width c.args.column c.in-Some.at value.now within sum all)
+    IfOk-weaker c.constant_at.result (λ found. IfSome found (AllFix conds c.in-Some.at)) (λ found. IfSome found (FixesColumn conds c.args.before c.args.width c.args.column))
+    (λ found are. IfSome-weaker found (AllFix conds c.in-Some.at) (FixesColumn conds c.args.before c.args.width c.args.column)
+    (λ value all. fixed-column conds c.args.before c.args.width c.args.column c.in-Some.at value within sum all) are)
     c.constant_at.ensures

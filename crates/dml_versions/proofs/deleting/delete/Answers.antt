@@ -30,7 +30,7 @@ pub delete_all-requires-clause-sorted : goal.delete_all-requires-clause-sorted
 delete_all-requires-clause-sorted c =
     let f = c.in_ok-found.ensures in
     ap are_sorted_numbers c.in_ok-numbers.ensures
-    ∙ delete-sorted c.args.store.now c.delete_of-delete.result.now f.table f.there f.held.order c.requires.formed c.in_ok-found.found f.found_is
+    ∙ delete-sorted c.args.store.now c.delete_of-delete.result.now f.table f.there f.held.order c.tell_formed.ensures c.in_ok-found.found f.found_is
 
 pub delete_all-requires-clause-stand : goal.delete_all-requires-clause-stand
 delete_all-requires-clause-stand c =
@@ -40,7 +40,7 @@ delete_all-requires-clause-stand c =
     ap (λ (n : List ℕ). table_at n (tables_now c.args.store.now)) c.as_str-name.ensures ∙ table-now name c.args.store.now f.table f.there in
     subst (λ (o : Option Table). IfSome o (λ table. all_stand c.in_ok-numbers.numbers table ≡ true)) (sym there)
     (ap (λ (l : List ℕ). all_stand l (table_now f.table)) c.in_ok-numbers.ensures
-    ∙ delete-stand c.args.store.now c.delete_of-delete.result.now f.table f.there f.held.order c.requires.formed c.in_ok-found.found f.found_is)
+    ∙ delete-stand c.args.store.now c.delete_of-delete.result.now f.table f.there f.held.order c.tell_formed.ensures c.in_ok-found.found f.found_is)
 
 pub returns-clause-change : goal.returns-clause-change
 returns-clause-change c =
@@ -49,7 +49,7 @@ returns-clause-change c =
     let check = check-of (tables_now c.args.store.now) c.args.checked.now c.requires.checked (TheDelete delete) c.delete_of-delete.ensures in
     subst (λ (s : Statement). IsChange s c.args.keep c.args.store.now c.in_ok-change.change) (sym c.delete_of-delete.ensures)
     (told-change (TheDelete delete) c.args.keep c.args.store.now (matched_change delete.table c.in_ok-found.found) c.in_ok-change.change
-    (delete-change c.args.store.now delete f.table f.there f.held.order c.requires.formed c.in_ok-found.found f.found_is check)
+    (delete-change c.args.store.now delete f.table f.there f.held.order c.tell_formed.ensures c.in_ok-found.found f.found_is check)
     c.in_ok-change.ensures)
 
 pub returns-clause-after : goal.returns-clause-after
@@ -59,7 +59,7 @@ returns-clause-after c =
     let old = c.args.store.now in
     let check = check-of (tables_now old) c.args.checked.now c.requires.checked (TheDelete delete) c.delete_of-delete.ensures in
     subst (λ (s : Statement). IsStoreAfter s c.args.time old c.delete_all.new.self) (sym c.delete_of-delete.ensures)
-    (delete-after old delete f.table f.there f.held.order c.requires.formed c.in_ok-found.found f.found_is check c.args.time c.delete_all.new.self
+    (delete-after old delete f.table f.there f.held.order c.tell_formed.ensures c.in_ok-found.found f.found_is check c.args.time c.delete_all.new.self
     (c.in_ok-delete_all.ensures.now ∙ (λ j. with_changed (c.as_str-name.ensures j) (with_removed (c.in_ok-numbers.ensures j)) (tables_now old)))
     (c.in_ok-delete_all.ensures.ok ∙ (λ j. changed_at c.args.time (c.as_str-name.ensures j) (removed c.args.time (c.in_ok-numbers.ensures j)) old))
     c.in_ok-delete_all.ensures.earlier)

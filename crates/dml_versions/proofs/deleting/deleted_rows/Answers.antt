@@ -22,7 +22,7 @@ pub found_rows-requires-clause-unique : goal.found_rows-requires-clause-unique
 found_rows-requires-clause-unique c =
     let name = c.args.delete.now.table in
     let table = c.table_of-table.result.now in
-    (table-parts (table_now table) (found-valid (tables_now c.args.store.now) c.requires.formed name (table_now table) (table-now name c.args.store.now table c.table_of-table.ensures.found))).keys
+    (table-parts (table_now table) (found-valid (tables_now c.args.store.now) c.tell_formed.ensures name (table_now table) (table-now name c.args.store.now table c.table_of-table.ensures.found))).keys
 
 pub returns : goal.returns
 returns c = record {

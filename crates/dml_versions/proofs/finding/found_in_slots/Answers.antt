@@ -1,15 +1,13 @@
-use Rattle.std.proofs.Common.{◌+◌, ◌++◌, List, ap, sym, ◌∙◌, append_assoc}
-use Rattle.dml_versions.proofs.FoundLaws.{found-step}
-use Rattle.dml_versions.specs.Finding.{test_in, found_at, found_from}
-use Rattle.dml_versions.specs.declared.found.Found.{Found}
+use Rattle.std.proofs.Common.{rules, ◌≡◌, subst, List}
+use Rattle.table_store.specs.declared.cell_test.ColumnTest.{ColumnTest}
+use Rattle.dml_versions.specs.Testing.{AreTests}
+use Rattle.dml_versions.specs.Types.{Schema}
 use Rattle.dml_versions.proofs.finding.found_in_slots.Goals as goal
 
-pub loop-slot-preserved : goal.loop-slot-preserved
-loop-slot-preserved c =
-    let test = test_in c.args.table.now c.args.pick.now in
-    let slots = c.args.table.now.slots in
-    let slot = c.loop-slot.slot in
-    ap (λ (l : List Found). l ++ found_from test slots (slot + 1)) c.in_ok-add_found.ensures
-    ∙ append_assoc c.loop-slot.found (found_at test slots slot) (found_from test slots (slot + 1))
-    ∙ ap (λ (l : List Found). c.loop-slot.found ++ l) (sym (found-step test slots slot))
-    ∙ c.loop-slot.invariant
+pub found_by_tests-requires-clause-tests : goal.found_by_tests-requires-clause-tests
+found_by_tests-requires-clause-tests c =
+    let pick = c.args.pick.now in
+    let places = c.args.places.now in
+    let same : c.in_ok-tests.tests.items ≡ c.as_slice.result.now = search rules in
+    subst (λ (l : List ColumnTest). AreTests pick places c.args.table.now.schema.columns l) same
+    (subst (λ (s : Schema). AreTests pick places s.columns c.in_ok-tests.tests.items) c.schema.ensures c.in_ok-tests.ensures)

@@ -33,7 +33,7 @@ insert_all-requires-clause-shape c =
     let there : table_at c.as_str-name.result.now (tables_now old) ≡ Some (table_now f.table) =
     ap (λ (n : List ℕ). table_at n (tables_now old)) c.as_str-name.ensures ∙ table-now insert.table old f.table f.there in
     subst (λ (o : Option Table). IfSome o (λ table. have_shape c.in_ok-rows.rows table ≡ true)) (sym there)
-    (insert-shape old insert f.table f.there f.held.order c.requires.formed check c.in_ok-rows.rows f.rows_are)
+    (insert-shape old insert f.table f.there f.held.order c.tell_formed.ensures check c.in_ok-rows.rows f.rows_are)
 
 pub returns-in-Ok-clause-change : goal.returns-in-Ok-clause-change
 returns-in-Ok-clause-change c =
@@ -49,10 +49,10 @@ returns-in-Ok-clause-change c =
     let later : old.time ≤ c.args.time = omega (arith, c.requires.later) in
     let next : c.next_at-next.result ≡ t.next =
     same-some c.next_at-next.result t.next (sym (c.next_at-next.ensures.last later) ∙ ap (option_map (λ (table : Table). table.next)) there) in
-    let fits = ap (λ (n : ℕ). nat_lt max_next (n + length rows)) next ∙ insert-fits old insert f.table f.there f.held.order c.requires.formed check rows f.rows_are fine in
+    let fits = ap (λ (n : ℕ). nat_lt max_next (n + length rows)) next ∙ insert-fits old insert f.table f.there f.held.order c.tell_formed.ensures check rows f.rows_are fine in
     subst (λ (s : Statement). IsChange s c.args.keep old c.in_ok-change.change) (sym c.insert_of-insert.ensures)
     (told-change (TheInsert insert) c.args.keep old (inserted_change insert.table c.next_at-next.result rows) c.in_ok-change.change
-    (insert-change old insert f.table f.there f.held.order c.requires.formed check rows f.rows_are fine c.next_at-next.result next)
+    (insert-change old insert f.table f.there f.held.order c.tell_formed.ensures check rows f.rows_are fine c.next_at-next.result next)
     (c.in_ok-change.ensures fits))
 
 pub returns-in-Ok-clause-after : goal.returns-in-Ok-clause-after
@@ -64,7 +64,7 @@ returns-in-Ok-clause-after c =
     let check = check-of (tables_now old) c.args.checked.now c.requires.checked (TheInsert insert) c.insert_of-insert.ensures in
     let fine = ap (λ (n : List ℕ). option_and_then (insert_stop rows) (table_at n (tables_now old))) (sym c.as_str-name.ensures) ∙ c.in-Ok.ensures.stop in
     subst (λ (s : Statement). IsStoreAfter s c.args.time old c.insert_all.new.self) (sym c.insert_of-insert.ensures)
-    (insert-after old insert f.table f.there f.held.order c.requires.formed check rows f.rows_are fine c.args.time c.insert_all.new.self
+    (insert-after old insert f.table f.there f.held.order c.tell_formed.ensures check rows f.rows_are fine c.args.time c.insert_all.new.self
     (c.in-Ok.ensures.now ∙ ap (λ (n : List ℕ). with_changed n (with_inserted rows) (tables_now old)) c.as_str-name.ensures)
     (c.in-Ok.ensures.ok ∙ ap (λ (n : List ℕ). changed_at c.args.time n (inserted c.args.time rows) old) c.as_str-name.ensures)
     c.in-Ok.ensures.earlier)
@@ -92,7 +92,7 @@ returns-in_ok-refused-in-Err-clause-change c =
     (λ j. refused_change insert.table (sym same j).slots (sym c.new.ensures j) c.in-Err.stop) ∙ c.in_ok-refused-in-Err.ensures in
     subst (λ (s : Statement). IsChange s c.args.keep old c.in_ok-refused-in-Err.refused) (sym c.insert_of-insert.ensures)
     (whole-change (TheInsert insert) c.args.keep old c.in_ok-refused-in-Err.refused
-    (insert-refused old insert f.table f.there f.held.order c.requires.formed check rows f.rows_are ℕ c.in-Err.stop c.in_ok-refused-in-Err.refused stops made))
+    (insert-refused old insert f.table f.there f.held.order c.tell_formed.ensures check rows f.rows_are ℕ c.in-Err.stop c.in_ok-refused-in-Err.refused stops made))
 
 pub returns-in_ok-refused-in-Err-clause-after : goal.returns-in_ok-refused-in-Err-clause-after
 returns-in_ok-refused-in-Err-clause-after c =
@@ -107,5 +107,5 @@ returns-in_ok-refused-in-Err-clause-after c =
     let made : refused_change insert.table f.table.slots [] c.in-Err.stop ≡ Some c.in_ok-refused-in-Err.refused =
     (λ j. refused_change insert.table (sym same j).slots (sym c.new.ensures j) c.in-Err.stop) ∙ c.in_ok-refused-in-Err.ensures in
     subst (λ (s : Statement). IsStoreAfter s c.args.time old c.insert_all.new.self) (sym c.insert_of-insert.ensures)
-    (insert-kept old insert f.table f.there f.held.order c.requires.formed check rows f.rows_are ℕ c.in-Err.stop c.in_ok-refused-in-Err.refused stops made
+    (insert-kept old insert f.table f.there f.held.order c.tell_formed.ensures check rows f.rows_are ℕ c.in-Err.stop c.in_ok-refused-in-Err.refused stops made
     c.args.time c.insert_all.new.self c.requires.later c.in-Err.ensures.err)

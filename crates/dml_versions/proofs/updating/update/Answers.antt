@@ -38,7 +38,7 @@ replace_all-requires-clause-shape c =
     let there : table_at c.as_str-name.result.now (tables_now old) ≡ Some (table_now f.table) =
     ap (λ (n : List ℕ). table_at n (tables_now old)) c.as_str-name.ensures ∙ table-now update.table old f.table f.there in
     subst (λ (o : Option Table). IfSome o (λ table. have_shape (values_of c.in_ok-prepared.prepared.rows) table ≡ true)) (sym there)
-    (update-shape old update f.table f.there f.held.order c.requires.formed check c.in_ok-prepared.prepared.found c.in_ok-prepared.prepared.rows f.found_is f.rows_are)
+    (update-shape old update f.table f.there f.held.order c.tell_formed.ensures check c.in_ok-prepared.prepared.found c.in_ok-prepared.prepared.rows f.found_is f.rows_are)
 
 pub replace_all-requires-clause-sorted : goal.replace_all-requires-clause-sorted
 replace_all-requires-clause-sorted c =
@@ -46,7 +46,7 @@ replace_all-requires-clause-sorted c =
     let update = c.update_of-update.result.now in
     let old = c.args.store.now in
     let check = check-of (tables_now old) c.args.checked.now c.requires.checked (TheUpdate update) c.update_of-update.ensures in
-    update-sorted old update f.table f.there f.held.order c.requires.formed check c.in_ok-prepared.prepared.found c.in_ok-prepared.prepared.rows f.found_is f.rows_are
+    update-sorted old update f.table f.there f.held.order c.tell_formed.ensures check c.in_ok-prepared.prepared.found c.in_ok-prepared.prepared.rows f.found_is f.rows_are
 
 pub replace_all-requires-clause-stand : goal.replace_all-requires-clause-stand
 replace_all-requires-clause-stand c =
@@ -57,7 +57,7 @@ replace_all-requires-clause-stand c =
     let there : table_at c.as_str-name.result.now (tables_now old) ≡ Some (table_now f.table) =
     ap (λ (n : List ℕ). table_at n (tables_now old)) c.as_str-name.ensures ∙ table-now update.table old f.table f.there in
     subst (λ (o : Option Table). IfSome o (λ table. all_stood c.in_ok-prepared.prepared.rows table ≡ true)) (sym there)
-    (update-stand old update f.table f.there f.held.order c.requires.formed check c.in_ok-prepared.prepared.found c.in_ok-prepared.prepared.rows f.found_is f.rows_are)
+    (update-stand old update f.table f.there f.held.order c.tell_formed.ensures check c.in_ok-prepared.prepared.found c.in_ok-prepared.prepared.rows f.found_is f.rows_are)
 
 -- ---- accepted
 
@@ -71,7 +71,7 @@ returns-in-Ok-clause-change c =
     let fine = ap (λ (n : List ℕ). option_and_then (replace_stop rows) (table_at n (tables_now old))) (sym c.as_str-name.ensures) ∙ c.in-Ok.ensures.stop in
     subst (λ (s : Statement). IsChange s c.args.keep old c.in_ok-change.change) (sym c.update_of-update.ensures)
     (told-change (TheUpdate update) c.args.keep old (matched_change update.table c.in_ok-prepared.prepared.found) c.in_ok-change.change
-    (update-change old update f.table f.there f.held.order c.requires.formed check c.in_ok-prepared.prepared.found rows f.found_is f.rows_are fine)
+    (update-change old update f.table f.there f.held.order c.tell_formed.ensures check c.in_ok-prepared.prepared.found rows f.found_is f.rows_are fine)
     c.in_ok-change.ensures)
 
 pub returns-in-Ok-clause-after : goal.returns-in-Ok-clause-after
@@ -83,7 +83,7 @@ returns-in-Ok-clause-after c =
     let check = check-of (tables_now old) c.args.checked.now c.requires.checked (TheUpdate update) c.update_of-update.ensures in
     let fine = ap (λ (n : List ℕ). option_and_then (replace_stop rows) (table_at n (tables_now old))) (sym c.as_str-name.ensures) ∙ c.in-Ok.ensures.stop in
     subst (λ (s : Statement). IsStoreAfter s c.args.time old c.replace_all.new.self) (sym c.update_of-update.ensures)
-    (update-after old update f.table f.there f.held.order c.requires.formed check c.in_ok-prepared.prepared.found rows f.found_is f.rows_are fine c.args.time c.replace_all.new.self
+    (update-after old update f.table f.there f.held.order c.tell_formed.ensures check c.in_ok-prepared.prepared.found rows f.found_is f.rows_are fine c.args.time c.replace_all.new.self
     (c.in-Ok.ensures.now ∙ ap (λ (n : List ℕ). with_changed n (with_replaced rows) (tables_now old)) c.as_str-name.ensures)
     (c.in-Ok.ensures.ok ∙ ap (λ (n : List ℕ). changed_at c.args.time n (replaced c.args.time rows) old) c.as_str-name.ensures)
     c.in-Ok.ensures.earlier)
@@ -116,7 +116,7 @@ returns-clause-change c =
     subst (λ (s : Statement). IsChange s c.args.keep old refused) (sym c.update_of-update.ensures)
     (refused-told (TheUpdate update) c.args.keep old update.table f.table.slots given (map (need_found update.table) found) c.in-Err.stop refused over
     (told-needs c.args.keep (matched_change update.table found) c.in_ok-change.change c.in_ok-change.ensures)
-    (update-refused old update f.table f.there f.held.order c.requires.formed check found rows f.found_is f.rows_are (Unit {0}) c.in-Err.stop over.whole stops over.is))
+    (update-refused old update f.table f.there f.held.order c.tell_formed.ensures check found rows f.found_is f.rows_are (Unit {0}) c.in-Err.stop over.whole stops over.is))
 
 pub returns-clause-after : goal.returns-clause-after
 returns-clause-after c =
@@ -135,5 +135,5 @@ returns-clause-after c =
     (λ j. refused_change update.table (sym same j).slots given c.in-Err.stop) ∙ c.in_ok-refused-in-Err.ensures in
     let over = refused-over update.table f.table.slots given (map (need_found update.table) found) c.in-Err.stop refused made in
     subst (λ (s : Statement). IsStoreAfter s c.args.time old c.replace_all.new.self) (sym c.update_of-update.ensures)
-    (update-kept old update f.table f.there f.held.order c.requires.formed check found rows f.found_is f.rows_are (Unit {0}) c.in-Err.stop over.whole stops over.is
+    (update-kept old update f.table f.there f.held.order c.tell_formed.ensures check found rows f.found_is f.rows_are (Unit {0}) c.in-Err.stop over.whole stops over.is
     c.args.time c.replace_all.new.self c.requires.later c.in-Err.ensures.err)

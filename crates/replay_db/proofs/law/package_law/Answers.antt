@@ -1,6 +1,6 @@
 use Rattle.replay_db.proofs.PackageValid.{valid_package, typed_package}
-use Rattle.replay_db.proofs.WorldRules.{world_tables}
-use Rattle.replay_db.proofs.WorldsThatRun.{world_runs, own_runs}
+use Rattle.run_model.proofs.ValidWorlds.{world_tables, valid_runs}
+use Rattle.replay_db.proofs.WorldsThatRun.{own_runs}
 use Rattle.replay_db.proofs.law.package_law.Goals as goal
 
 pub returns-clause-tables : goal.returns-clause-tables
@@ -13,7 +13,7 @@ pub returns-clause-typed : goal.returns-clause-typed
 returns-clause-typed c = typed_package c.steps_law.ensures.logs
 
 pub returns-clause-runs : goal.returns-clause-runs
-returns-clause-runs c = world_runs
+returns-clause-runs c = valid_runs
 
 pub returns-clause-own_runs : goal.returns-clause-own_runs
 returns-clause-own_runs c = own_runs

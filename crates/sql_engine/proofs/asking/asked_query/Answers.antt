@@ -12,7 +12,7 @@ use Rattle.sql_engine.proofs.asking.asked_query.Goals as goal
 pub needs_of-requires-clause-sorted : goal.needs_of-requires-clause-sorted
 needs_of-requires-clause-sorted c =
     subst (IsStrictlySortedBy (slice_cmp nat_cmp)) (ap (λ (catalog : Catalog). catalog.names) (sym c.catalog.ensures))
-    (sorted_names c.args.store.now c.requires.formed.database)
+    (sorted_names c.args.store.now c.tell_formed.ensures.database)
 
 pub returns : goal.returns
 returns c known =
@@ -24,4 +24,4 @@ returns c known =
     same_parts (Some c.args.checked.now.statement) c.args.keep store store
     (record { reply = Rows rows.rows; tables = c.args.tables; reads = needs_of (table_names store) rows.lineage rows.hidden; made = [] })
     c.tables.inside.held.items c.in_ok-needs_of.field-0 c.new.result c.tables.view_is reads c.new.ensures
-    (asked_query_done c.args.checked.now store c.args.keep c.args.tables rows c.requires.query c.requires.checked c.requires.formed c.in_ok-rows.ensures known)
+    (asked_query_done c.args.checked.now store c.args.keep c.args.tables rows c.requires.query c.requires.checked c.tell_formed.ensures c.in_ok-rows.ensures known)

@@ -5,6 +5,7 @@ use Rattle.sql_model.specs.Changes.{numbered}
 use Rattle.sql_model.specs.Keys.{key_at, values_at}
 use Rattle.table_store.specs.Types.{RowKey}
 use Rattle.table_store.specs.Histories.{rows_now}
+use Rattle.table_store.specs.HighKeys.{high_in}
 use Rattle.table_store.specs.IndexView.{held_in}
 use Rattle.table_store.specs.KeyIndex.{Held, AreHeld, has_key}
 use Rattle.table_store.proofs.ClaimLaws.{none_from, put_kept, put_more}
@@ -16,8 +17,8 @@ returns-in-Ok-clause-kept c =
     let places = c.args.places.now in
     let values = c.args.values.now in
     let rows = rows_now c.args.stored.now.slots in
-    let old : Held = both (λ q. held_in c.args.index.now q) (λ q. held_in c.args.high.now q) in
-    let new : Held = both (λ q. held_in c.put_new.new.index q) (λ q. held_in c.put_new.new.high q) in
+    let old : Held = both (λ q. held_in c.args.index.now q) (λ q. high_in c.args.high.now q) in
+    let new : Held = both (λ q. held_in c.put_number.new.index q) (λ q. high_in c.put_number.new.high q) in
     let key : RowKey = c.in_ok-key.key in
     let row : c.index-values-count.result ≡ get_or values c.args.count [] = c.index-values-count.is ∙ get_or_default values c.args.count c.index-values-count.result [] c.requires.within in
     let same : key ≡ key_at places (get_or values c.args.count []) = c.in_ok-key.ensures ∙ ap (key_at places) row in
@@ -31,8 +32,8 @@ returns-in-Ok-clause-ok c =
     let places = c.args.places.now in
     let values = c.args.values.now in
     let rows = rows_now c.args.stored.now.slots in
-    let old : Held = both (λ q. held_in c.args.index.now q) (λ q. held_in c.args.high.now q) in
-    let new : Held = both (λ q. held_in c.put_new.new.index q) (λ q. held_in c.put_new.new.high q) in
+    let old : Held = both (λ q. held_in c.args.index.now q) (λ q. high_in c.args.high.now q) in
+    let new : Held = both (λ q. held_in c.put_number.new.index q) (λ q. high_in c.put_number.new.high q) in
     let key : RowKey = c.in_ok-key.key in
     let row : c.index-values-count.result ≡ get_or values c.args.count [] = c.index-values-count.is ∙ get_or_default values c.args.count c.index-values-count.result [] c.requires.within in
     let same : key ≡ key_at places (get_or values c.args.count []) = c.in_ok-key.ensures ∙ ap (key_at places) row in
@@ -44,7 +45,7 @@ returns-in-Ok-clause-ok c =
 pub returns-in-Err-clause-kept : goal.returns-in-Err-clause-kept
 returns-in-Err-clause-kept c =
     let rows = rows_now c.args.stored.now.slots ++ numbered c.args.next (take c.args.count c.args.values.now) in
-    let old : Held = both (λ q. held_in c.args.index.now q) (λ q. held_in c.args.high.now q) in
-    let new : Held = both (λ q. held_in c.put_new.new.index q) (λ q. held_in c.put_new.new.high q) in
+    let old : Held = both (λ q. held_in c.args.index.now q) (λ q. high_in c.args.high.now q) in
+    let new : Held = both (λ q. held_in c.put_number.new.index q) (λ q. high_in c.put_number.new.high q) in
     let same : old ≡ new = λ j q. sym (c.in-Err.ensures.err q) j in
     subst (λ (held : Held). AreHeld c.args.places.now held rows) same c.requires.held

@@ -16,8 +16,8 @@ returns-then-number-next c =
     ap (option_map (λ (row : TableRow). row.number)) (found_old c.args.places.now c.args.key.now.values c.args.number c.args.next (rows_now c.args.stored.now.slots) (take c.args.count c.args.values.now) (search rules))
     ∙ c.has_key_at.ensures.found
 
-pub returns-then-at-count : goal.returns-then-at-count
-returns-then-at-count c =
+pub returns-then-past-count : goal.returns-then-past-count
+returns-then-past-count c =
     let more = take c.args.count c.args.values.now in
     let slots = c.args.stored.now.slots in
     let order : AreInOrder slots c.args.next = subst (λ (n : ℕ). AreInOrder slots n) c.requires.next c.tell_order.ensures.order in

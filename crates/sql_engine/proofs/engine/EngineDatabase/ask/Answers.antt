@@ -2,14 +2,11 @@ use Rattle.std.proofs.Common.{◌≡◌, ◌∙◌, ◌++◌, ◌∷◌, [], sub
 use Rattle.std.specs.Prelude.{IsTrue}
 use Rattle.run_model.specs.Database.{Gives, asked_by, asked_event}
 use Rattle.run_model.specs.SqlDatabase.{lists_of, sql_base}
-use Rattle.sql_engine.proofs.AskLaws.{formed_after, never_kept, seen_gives, seen_lists}
+use Rattle.sql_engine.proofs.AskLaws.{never_kept, seen_gives, seen_lists}
 use Rattle.sql_engine.specs.Asking.{database}
 use Rattle.sql_engine.specs.Types.{Reply}
 use Rattle.sql_model.specs.Texts.{statement_of}
 use Rattle.sql_engine.proofs.engine.EngineDatabase.ask.Goals as goal
-
-pub invariant_of-self-then-not-KEEPS : goal.invariant_of-self-then-not-KEEPS
-invariant_of-self-then-not-KEEPS g c = formed_after _ _ _ _ _ c.self.invariant c.in_ok-done.ensures.done
 
 pub returns-then-not-KEEPS-clause-reply : goal.returns-then-not-KEEPS-clause-reply
 returns-then-not-KEEPS-clause-reply g c = (
@@ -18,12 +15,6 @@ returns-then-not-KEEPS-clause-reply g c = (
       c.self.view_is c.as_str.ensures c.in_ok-done.ensures.done c.args.who.now,
   λ kept. absurd (never_kept c.KEEPS-2.result g.T.Tracer.KEEPS c.if-not-KEEPS.true c.KEEPS-2.ensures kept),
 )
-
-pub invariant_of-self-in_err-note : goal.invariant_of-self-in_err-note
-invariant_of-self-in_err-note g c = formed_after _ _ _ _ _ c.self.invariant c.in_ok-done.ensures.done
-
-pub invariant_of-self-2 : goal.invariant_of-self-2
-invariant_of-self-2 g c = formed_after _ _ _ _ _ c.self.invariant c.in_ok-done.ensures.done
 
 pub returns-clause-reply : goal.returns-clause-reply
 returns-clause-reply g c = (

@@ -1,8 +1,10 @@
-use Rattle.std.proofs.Common.{◌≡◌, true, get_or}
-use Rattle.table_store.specs.Histories.{TableHistory, removed}
+use Rattle.std.proofs.Common.{◌≡◌, ◌∙◌, ap, true, get_or}
+use Rattle.sql_model.specs.Tables.{is_valid_table}
+use Rattle.table_store.specs.Histories.{TableHistory, removed, table_now}
 use Rattle.table_store.specs.Stops.{with_removed, all_stand}
 use Rattle.table_store.specs.StoreView.{no_table}
-use Rattle.table_store.proofs.StoreChangeLaws.{remove_is, later_there, given_there, after_stored, after_is, after_now, after_kept, not_missing}
+use Rattle.table_store.proofs.FormedLaws.{removed_valid}
+use Rattle.table_store.proofs.StoreChangeLaws.{remove_is, valid_there, later_there, given_there, after_stored, after_is, after_now, after_kept, not_missing}
 use Rattle.table_store.proofs.TableChangeLaws.{removed_now}
 use Rattle.table_store.proofs.store.Store.delete_all.Goals as goal
 
@@ -33,7 +35,10 @@ invariant_of-self-in-Ok c =
     let tables = a.tables.items in
     let place = c.in-Some.place in
     let found = c.in-Some.ensures.found in
+    let there : TableHistory = get_or tables place no_table in
+    let valid = valid_there a.catalog tables a.time c.self.invariant c.args.table.now place found.0 found.1 in
     after_stored a.catalog tables a.time c.self.invariant c.args.self.now c.self.view_is c.args.table.now place found c.args.time c.requires.later (removed c.args.time c.args.numbers.now) (remove_is c.args.time c.args.numbers.now) c.delete_in.new.tables.items c.in-Ok.ensures.ok
+    (ap is_valid_table (removed_now c.args.time c.args.numbers.now there) ∙ removed_valid (table_now there) valid c.args.numbers.now)
 
 pub returns-in-Ok-clause-ok : goal.returns-in-Ok-clause-ok
 returns-in-Ok-clause-ok c =

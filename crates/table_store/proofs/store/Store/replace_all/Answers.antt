@@ -2,10 +2,12 @@ use Rattle.std.proofs.Common.{◌≡◌, ◌∙◌, ap, sym, subst, Option, true
 use Rattle.std.specs.Prelude.{Err}
 use Rattle.std.specs.Option.{option_and_then}
 use Rattle.table_store.specs.Types.{Table}
-use Rattle.table_store.specs.Histories.{TableHistory, replaced}
+use Rattle.sql_model.specs.Tables.{is_valid_table}
+use Rattle.table_store.specs.Histories.{TableHistory, replaced, table_now}
 use Rattle.table_store.specs.Stops.{with_replaced, StopsAs, have_shape, values_of, all_stood, replace_stop}
 use Rattle.table_store.specs.StoreView.{no_table}
-use Rattle.table_store.proofs.StoreChangeLaws.{replace_is, at_place, later_there, given_there, after_stored, after_is, after_now, after_kept, not_missing}
+use Rattle.table_store.proofs.FormedLaws.{replaced_valid}
+use Rattle.table_store.proofs.StoreChangeLaws.{replace_is, valid_there, at_place, later_there, given_there, after_stored, after_is, after_now, after_kept, not_missing}
 use Rattle.table_store.proofs.store.Store.replace_all.Goals as goal
 
 pub unreachable-requires : goal.unreachable-requires
@@ -43,7 +45,10 @@ invariant_of-self-in-Ok c =
     let tables = a.tables.items in
     let place = c.in-Some.place in
     let found = c.in-Some.ensures.found in
+    let there : TableHistory = get_or tables place no_table in
+    let valid = valid_there a.catalog tables a.time c.self.invariant c.args.table.now place found.0 found.1 in
     after_stored a.catalog tables a.time c.self.invariant c.args.self.now c.self.view_is c.args.table.now place found c.args.time c.requires.later (replaced c.args.time c.args.rows) (replace_is c.args.time c.args.rows) c.replace_in.new.tables.items c.in-Ok.ensures.ok
+    (ap is_valid_table c.in-Ok.ensures.now ∙ replaced_valid (table_now there) valid c.args.rows (given_there a.catalog tables a.time c.self.invariant c.args.self.now c.self.view_is c.args.table.now place found c.args.time c.requires.later (λ table. have_shape (values_of c.args.rows) table ≡ true) c.requires.shape) c.in-Ok.ensures.stop)
 
 pub returns-in-Ok-clause-ok : goal.returns-in-Ok-clause-ok
 returns-in-Ok-clause-ok c =

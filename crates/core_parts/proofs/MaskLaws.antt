@@ -1,0 +1,153 @@
+-- Tests of single columns.
+use Rattle.std.proofs.Common.{◌≡◌, ◌∙◌, sym, ap, refl, ℕ, zero, suc, arith, ◌+◌, ◌<◌, Bool, true, false, ◌&&◌, List, [], ◌∷◌, ◌++◌, drop, length}
+use Rattle.std.specs.Prelude.{ℤ, option_to_list, slice_get, IfSome, Option, Some, None}
+use Rattle.std.specs.List.{AllByRecursion}
+use Rattle.std.specs.Option.{option_map_or}
+use Rattle.std.specs.declared.cmp.Ordering.{Ordering}
+use Rattle.std.specs.declared.cmp.Ordering.TheVariants.{Less, Equal, Greater}
+use Rattle.std.specs.Ordering.{ordering_reverse}
+use Rattle.core_parts.proofs.Equalities.{column-first, column-null, constant-first, first-place}
+use Rattle.core_parts.proofs.FixingLaws.{at-index}
+use Rattle.core_parts.specs.Conditions.{meets}
+use Rattle.core_parts.specs.Constants.{IsConstant}
+use Rattle.core_parts.specs.Equality.{IsColumn}
+use Rattle.core_parts.specs.Masking.{AreMasks, IsFound, IsMask, IsTest, fits, passes, passes_all, suits, turned}
+use Rattle.core_parts.specs.Placing.{AllPlaced}
+use Rattle.core_parts.specs.Types.{Column, Compare, Expr, Int, Null, Text, Value}
+use Rattle.core_parts.specs.declared.masking.Mask.{Mask}
+use Rattle.core_parts.specs.declared.masking.MaskTest.{MaskTest}
+use Rattle.core_parts.specs.declared.masking.MaskTest.TheVariants.{Compares, IsNull as TestsNull, IsNotNull}
+use Rattle.core_parts.specs.declared.placed.Placed.{Placed}
+use Rattle.ldv_value.specs.Order.{order, meets as meets_order, known, test_of}
+use Rattle.ldv_value.specs.declared.value.Cmp.{Cmp}
+use Rattle.ldv_value.specs.declared.value.Cmp.TheVariants.{Eq, Ne, Lt, Le, Gt, Ge}
+use Rattle.sql_model.specs.KeyOrder.{order_total}
+use Rattle.sql_model.specs.Meaning.{is_true}
+use Rattle.sql_model.specs.Scope.{InScope, environment, value_at}
+use Rattle.sql_model.specs.declared.expr.Expr.TheVariants.{Both, IsNull}
+
+-- ---- comparisons
+
+meets-turned : (op : Cmp) (o : Ordering) → meets_order op o ≡ meets_order (turned op) (ordering_reverse o)
+meets-turned Eq Less = refl
+meets-turned Eq Equal = refl
+meets-turned Eq Greater = refl
+meets-turned Ne Less = refl
+meets-turned Ne Equal = refl
+meets-turned Ne Greater = refl
+meets-turned Lt Less = refl
+meets-turned Lt Equal = refl
+meets-turned Lt Greater = refl
+meets-turned Le Less = refl
+meets-turned Le Equal = refl
+meets-turned Le Greater = refl
+meets-turned Gt Less = refl
+meets-turned Gt Equal = refl
+meets-turned Gt Greater = refl
+meets-turned Ge Less = refl
+meets-turned Ge Equal = refl
+meets-turned Ge Greater = refl
+
+known-turned : (op : Cmp) (a b : Value) → known (meets_order op (order a b)) ≡ known (meets_order (turned op) (order b a))
+known-turned op a b = ap known (meets-turned op (order a b) ∙ ap (meets_order (turned op)) (sym (order_total.antisymm b a)))
+
+test-turned : (op : Cmp) (n : ℤ) (v : Value) → test_of op (Int n) v ≡ test_of (turned op) v (Int n)
+test-turned op n Null = refl
+test-turned op n (Int m) = known-turned op (Int n) (Int m)
+test-turned op n (Text t) = known-turned op (Int n) (Text t)
+
+pub column_number : (test : Cmp) (left right : Expr) (n : ℤ) → IsColumn left → IsConstant right (Int n) → IsTest (Both (Compare test) left right) (Compares test n)
+column_number test left right n (name, is) number =
+    let compared = column-first test left right name (Int n) is number in record {
+      name = name;
+      names = compared.0;
+      same = compared.1;
+    }
+
+pub number_column : (test : Cmp) (left right : Expr) (n : ℤ) → IsConstant left (Int n) → IsColumn right → IsTest (Both (Compare test) left right) (Compares (turned test) n)
+number_column test left right n number (name, is) =
+    let compared = constant-first test left right (Int n) name number is in record {
+      name = name;
+      names = compared.0;
+      same = λ env. compared.1 env ∙ ap is_true (test-turned test n (env name));
+    }
+
+-- ---- tests for NULL
+
+pub null_column : (inner : Expr) (negative : Bool) → IsColumn inner → negative ≡ false → IsTest (IsNull inner negative) TestsNull
+null_column inner true column is = cc
+null_column inner false (name, at) is =
+    let tested = column-null inner false name at in record {
+      name = name;
+      names = tested.0;
+      same = tested.1;
+    }
+
+pub known_column : (inner : Expr) (negative : Bool) → IsColumn inner → negative ≡ true → IsTest (IsNull inner negative) IsNotNull
+known_column inner false column is = cc
+known_column inner true (name, at) is =
+    let tested = column-null inner true name at in record {
+      name = name;
+      names = tested.0;
+      same = tested.1;
+    }
+
+pub ruleset null_tests = (null_column, known_column)
+
+-- ---- masks
+
+pub mask-found : (cond : Placed) (before column place : ℕ) (more : List ℕ) (columns : List Column) (test : MaskTest) (mask : Mask)
+    → IsTest cond.expr test → cond.places ≡ place ∷ more → before + column ≡ place → mask ≡ record { column = column; test = test } → fits columns mask ≡ true
+    → IsFound cond before columns mask
+mask-found cond before column place more columns test mask is places at made suit = record {
+  fits = suit;
+  is = λ scope row placed holds.
+      ap (λ (m : Mask). passes m.test (value_at row (before + m.column))) made
+      ∙ ap (λ (i : ℕ). passes test (value_at row i)) (at ∙ sym (first-place scope cond is.name place more is.names placed places))
+      ∙ sym (is.same (environment scope row))
+      ∙ holds;
+}
+
+masks-joined : (P : Mask → Type 0) (masks : List Mask) (found : Option Mask) → AllByRecursion P masks → IfSome found P → AllByRecursion P (masks ++ option_to_list found)
+masks-joined P [] None all one = tt
+masks-joined P [] (Some mask) all one = (one, tt)
+masks-joined P (m ∷ masks) found all one = (all.0, masks-joined P masks found all.1 one)
+
+-- the mask of one condition is one of all conditions
+pub masks-more : (conds rest : List Placed) (i before : ℕ) (cond : Placed) (columns : List Column) (masks : List Mask) (found : Option Mask) → drop i conds ≡ cond ∷ rest
+    → IfSome found (IsFound cond before columns) → AreMasks conds before columns masks → AreMasks conds before columns (masks ++ option_to_list found)
+masks-more conds rest i before cond columns masks found split is all =
+    masks-joined (λ mask. (fits columns mask ≡ true) × IsMask conds before mask) masks found all (found-one found is)
+  where
+    found-one : (o : Option Mask) → IfSome o (IsFound cond before columns) → IfSome o (λ mask. (fits columns mask ≡ true) × IsMask conds before mask)
+    found-one None one = tt
+    found-one (Some mask) one = (
+      one.fits,
+      (λ scope row placed met.
+          let here = at-index scope row cond rest conds i split placed met in
+          one.is scope row here.0 here.1),
+    )
+
+pub masks-fit : (conds : List Placed) (before : ℕ) (columns : List Column) (masks : List Mask) → AreMasks conds before columns masks → AllByRecursion (λ mask. fits columns mask ≡ true) masks
+masks-fit conds before columns [] are = tt
+masks-fit conds before columns (mask ∷ masks) are = (are.0.0, masks-fit conds before columns masks are.1)
+
+-- ---- a row passes the masks
+
+within : (columns : List Column) (mask : Mask) → fits columns mask ≡ true → mask.column < length columns
+within columns mask is = got columns mask.column is
+  where
+    got : (cs : List Column) (i : ℕ) → option_map_or (suits mask.test) (slice_get cs i) false ≡ true → i < length cs
+    got [] i h = cc
+    got (c ∷ cs) zero h = omega arith
+    got (c ∷ cs) (suc i) h = let below : i < length cs = got cs i h in omega (arith, below)
+
+-- the row is a part of a whole over which the conditions are True, after its first values
+module _ (scope : List InScope) (conds : List Placed) (placed : AllPlaced scope conds) (before : ℕ) (columns : List Column) (whole row : List Value)
+    (there : (column : ℕ) → column < length columns → value_at whole (before + column) ≡ value_at row column) (met : meets scope conds whole ≡ true) where
+  pub masks-pass : (masks : List Mask) → AreMasks conds before columns masks → passes_all masks row ≡ true
+  masks-pass [] are = refl
+  masks-pass (mask ∷ masks) are =
+      let one : passes mask.test (value_at row mask.column) ≡ true =
+      ap (passes mask.test) (sym (there mask.column (within columns mask are.0.0))) ∙ are.0.1 scope whole placed met in
+      λ j. one j && masks-pass masks are.1 j

@@ -1,0 +1,79 @@
+-- Tests of single columns of a source that hold where conditions are True.
+use Rattle.std.specs.Prelude.{◌≡◌, ◌+◌, ℕ, List, [], ◌∷◌, Bool, true, false, not, slice_get}
+use Rattle.std.specs.List.{list_all, AllByRecursion}
+use Rattle.std.specs.Option.{option_map_or}
+use Rattle.core_parts.specs.Conditions.{meets}
+use Rattle.core_parts.specs.Placing.{IsPlaced, AllPlaced}
+use Rattle.core_parts.specs.Types.{Column, ColumnName, Expr, Int, Value}
+use Rattle.core_parts.specs.declared.masking.Mask.{Mask}
+use Rattle.core_parts.specs.declared.masking.MaskTest.{MaskTest}
+use Rattle.core_parts.specs.declared.masking.MaskTest.TheVariants.{Compares, IsNull, IsNotNull}
+use Rattle.core_parts.specs.declared.placed.Placed.{Placed}
+use Rattle.ldv_value.specs.Order.{test_of}
+use Rattle.ldv_value.specs.declared.value.Cmp.{Cmp}
+use Rattle.ldv_value.specs.declared.value.Cmp.TheVariants.{Eq, Ne, Lt, Le, Gt, Ge}
+use Rattle.sql_model.specs.Kinds.{names_in}
+use Rattle.sql_model.specs.Meaning.{Environment, is_null, is_true, truth}
+use Rattle.sql_model.specs.Scope.{InScope, environment, value_at}
+
+-- ---- masks
+
+-- a value passes: its comparison with the number is True, or it is NULL, or it isn't NULL
+abbrev pub passes : MaskTest → Value → Bool
+passes (Compares op constant) value = is_true (test_of op value (Int constant))
+passes IsNull value = is_null value
+passes IsNotNull value = not (is_null value)
+
+-- a comparison is of a column of numbers, and a test for NULL of any column
+abbrev pub suits : MaskTest → Column → Bool
+suits (Compares op constant) column = not column.text
+suits IsNull column = true
+suits IsNotNull column = true
+
+abbrev pub fits : List Column → Mask → Bool
+fits columns mask = option_map_or (suits mask.test) (slice_get columns mask.column) false
+
+-- the values of a row pass each mask
+abbrev pub passes_all : List Mask → List Value → Bool
+passes_all masks values = list_all (λ mask. passes mask.test (value_at values mask.column)) masks
+
+-- ---- the masks of a source, whose columns come after so many values of the joined row
+
+-- where all conditions are True, the value of the column passes
+abbrev pub IsMask : List Placed → ℕ → Mask → Type 0
+IsMask conds before mask = (scope : List InScope) (row : List Value) → AllPlaced scope conds
+    → meets scope conds row ≡ true
+    → passes mask.test (value_at row (before + mask.column)) ≡ true
+
+-- and each is of a column that it suits
+abbrev pub AreMasks : List Placed → ℕ → List Column → List Mask → Type 0
+AreMasks conds before columns masks =
+    AllByRecursion (λ mask. (fits columns mask ≡ true) × IsMask conds before mask) masks
+
+-- ---- conditions
+
+-- the operator with its sides exchanged
+abbrev pub turned : Cmp → Cmp
+turned Eq = Eq
+turned Ne = Ne
+turned Lt = Gt
+turned Le = Ge
+turned Gt = Lt
+turned Ge = Le
+
+-- the expression tests a column, which alone it names
+pub record IsTest (expr : Expr) (test : MaskTest) : Type 0 where
+  pub name : ColumnName
+  pub names : names_in expr ≡ name ∷ []
+  pub same : (env : Environment) → is_true (truth expr env) ≡ passes test (env name)
+
+-- where the condition is True, the value of the column passes
+abbrev pub IsMaskOf : Placed → ℕ → Mask → Type 0
+IsMaskOf cond before mask = (scope : List InScope) (row : List Value) → IsPlaced scope cond
+    → is_true (truth cond.expr (environment scope row)) ≡ true
+    → passes mask.test (value_at row (before + mask.column)) ≡ true
+
+-- and the column suits
+pub record IsFound (cond : Placed) (before : ℕ) (columns : List Column) (mask : Mask) : Type 0 where
+  pub fits : fits columns mask ≡ true
+  pub is : IsMaskOf cond before mask

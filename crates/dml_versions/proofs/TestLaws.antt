@@ -1,0 +1,121 @@
+-- The tests of single columns that WHERE makes, and the slots that they leave.
+use Rattle.std.proofs.Common.{◌≡◌, ◌∙◌, ap, sym, refl, ℕ, zero, suc, ◌+◌, ◌-◌, ◌*◌, ◌/◌, ◌<◌, ◌≤◌, arith, Bool, true, false, ◌&&◌, List, [], ◌∷◌, ◌++◌, map, length, get_or, drop, append_assoc, append-nil, inl, inr, Option, Some, None}
+use Rattle.std.specs.Prelude.{filter, slice_get}
+use Rattle.std.specs.List.{AllByRecursion}
+use Rattle.std.specs.Option.{option_map_or, option_to_list}
+use Rattle.std.proofs.lemmas.Bool.{cases_Bool, cases_lt}
+use Rattle.std.proofs.Math.ListN.{drop_of_length-le}
+use Rattle.core_parts.proofs.MaskLaws.{masks-fit, masks-pass}
+use Rattle.core_parts.specs.Conditions.{AreConditions}
+use Rattle.core_parts.specs.Masking.{AreMasks, fits, passes, passes_all, suits as suits_mask}
+use Rattle.core_parts.specs.declared.masking.Mask.{Mask}
+use Rattle.core_parts.specs.declared.masking.MaskTest.{MaskTest}
+use Rattle.core_parts.specs.declared.masking.MaskTest.TheVariants as mask_test
+use Rattle.core_parts.specs.declared.placed.Placed.{Placed}
+use Rattle.lanes.proofs.SetLaws.{no_member}
+use Rattle.lanes.specs.Sets.{member, IsNext}
+use Rattle.ldv_value.proofs.Booleans.{true≢false}
+use Rattle.sql_model.specs.Kinds.{names_in}
+use Rattle.sql_model.specs.Scope.{InScope, places_in, value_at}
+use Rattle.table_store.proofs.GridLaws.{place_index}
+use Rattle.table_store.specs.CellTests.{AllFitColumns, cell_passes, fits_column, passes_column, passes_columns, slot_chosen, suits}
+use Rattle.table_store.specs.Histories.{RowHistory, no_history, row_now, rows_now}
+use Rattle.table_store.specs.declared.cell_test.ColumnTest.{ColumnTest}
+use Rattle.dml_versions.proofs.FoundLaws.{found-step}
+use Rattle.dml_versions.specs.Finding.{CoverFound, found_at, found_from, found_row}
+use Rattle.dml_versions.specs.Testing.{AreTests, cell_test, column_test}
+use Rattle.dml_versions.specs.Types.{Column, Expr, TableRow, Value}
+use Rattle.dml_versions.specs.declared.found.Found.{Found}
+
+-- ---- tests
+
+pub no_tests : (places : List ℕ) (columns : List Column) (tests : List ColumnTest) → tests ≡ [] → AreTests None places columns tests
+no_tests places columns [] none = record { fit = tt; pass = λ scope placed row hit. refl }
+no_tests places columns (test ∷ tests) none = cc
+
+suits_same : (test : MaskTest) (column : Column) → suits_mask test column ≡ suits (cell_test test) column
+suits_same (mask_test.Compares op constant) column = refl
+suits_same mask_test.IsNull column = refl
+suits_same mask_test.IsNotNull column = refl
+
+passes_same : (test : MaskTest) (value : Value) → passes test value ≡ cell_passes (cell_test test) value
+passes_same (mask_test.Compares op constant) value = refl
+passes_same mask_test.IsNull value = refl
+passes_same mask_test.IsNotNull value = refl
+
+fits_by : (test : MaskTest) (o : Option Column) → option_map_or (suits_mask test) o false ≡ true → option_map_or (suits (cell_test test)) o false ≡ true
+fits_by test None is = is
+fits_by test (Some column) is = sym (suits_same test column) ∙ is
+
+all_fit : (columns : List Column) (masks : List Mask) → AllByRecursion (λ mask. fits columns mask ≡ true) masks → AllFitColumns columns (map column_test masks)
+all_fit columns [] fit = tt
+all_fit columns (mask ∷ masks) fit = (fits_by mask.test (slice_get columns mask.column) fit.0, all_fit columns masks fit.1)
+
+all_pass : (row : TableRow) (masks : List Mask) → passes_all masks row.values ≡ passes_columns (map column_test masks) row
+all_pass row [] = refl
+all_pass row (mask ∷ masks) =
+    λ j. (passes_same mask.test (value_at row.values mask.column) ∙ ap (cell_passes (cell_test mask.test)) (place_index row.values mask.column)) j && all_pass row masks j
+
+pub tests-are : (expr : Expr) (places : List ℕ) (columns : List Column) (conds : List Placed) (masks : List Mask)
+    → ((scope : List InScope) → places ≡ places_in scope (names_in expr) → AreConditions scope (expr ∷ []) conds)
+    → AreMasks conds 0 columns masks → AreTests (Some expr) places columns (map column_test masks)
+tests-are expr places columns conds masks are found = record {
+  fit = all_fit columns masks (masks-fit conds 0 columns masks found);
+  pass = λ scope placed row hit.
+      let conditions = are scope (sym placed) in
+      sym (all_pass row masks)
+      ∙ masks-pass scope conds conditions.placed 0 columns row.values row.values (from-start row.values) (conditions.same row.values ∙ hit) masks found;
+} where
+  from-start : (row : List Value) (column : ℕ) → column < length columns → value_at row (0 + column) ≡ value_at row column
+  from-start row column below = let same : 0 + column ≡ column = omega arith in ap (value_at row) same
+
+-- ---- slots
+
+-- the rows that are found are in the slots that tests leave
+pub covered : (tests : List ColumnTest) (test : TableRow → Bool) (slots : List RowHistory) (words : List ℕ)
+    → ((n : ℕ) → member words n ≡ slot_chosen tests (get_or slots n no_history))
+    → ((row : TableRow) → test row ≡ true → passes_columns tests row ≡ true) → CoverFound words test slots
+covered tests test slots words chosen pass n miss = by (row_now (get_or slots n no_history)) (sym (chosen n) ∙ miss) where
+  by : (o : Option TableRow) → option_map_or (passes_columns tests) o false ≡ false → map (found_row slots) (filter test (option_to_list o)) ≡ []
+  by None is = refl
+  by (Some row) is = elim (cases_Bool (test row)) [
+    | inl hit ↦ absurd (true≢false (sym (pass row hit) ∙ is))
+    | inr gone ↦ rw gone refl
+  ]
+
+module _ (words : List ℕ) (test : TableRow → Bool) (slots : List RowHistory) (cover : CoverFound words test slots) where
+  -- nothing is found between
+  found_skip : (k at : ℕ) → ((n : ℕ) → at ≤ n → n < at + k → member words n ≡ false) → found_from test slots at ≡ found_from test slots (at + k)
+  found_skip zero at miss = let same : at ≡ at + 0 = omega arith in ap (found_from test slots) same
+  found_skip (suc k) at miss =
+      let next : (at + 1) + k ≡ at + suc k = omega arith in
+      found-step test slots at
+      ∙ ap (λ (l : List Found). l ++ found_from test slots (at + 1)) (cover at (miss at (omega arith) (omega arith)))
+      ∙ found_skip k (at + 1) (λ n from below. miss n (omega (arith, from)) (omega (arith, below)))
+      ∙ ap (found_from test slots) next
+
+  pub found_next : (found new : List Found) (at slot next : ℕ) (all : List Found) → IsNext words at (Some slot) → new ≡ found ++ found_at test slots slot → next ≡ slot + 1
+      → found ++ found_from test slots at ≡ all → new ++ found_from test slots next ≡ all
+  found_next found new at slot next all is made after same =
+      let there : at + (slot - at) ≡ slot = omega (arith, is.0) in
+      let onward : found_from test slots at ≡ found_at test slots slot ++ found_from test slots (slot + 1) =
+      found_skip (slot - at) at (λ n from below. is.2 n from (omega (arith, below, there))) ∙ ap (found_from test slots) there ∙ found-step test slots slot in
+      ap (λ (l : List Found). l ++ found_from test slots next) made
+      ∙ append_assoc found (found_at test slots slot) (found_from test slots next)
+      ∙ ap (λ (n : ℕ). found ++ (found_at test slots slot ++ found_from test slots n)) after
+      ∙ ap (λ (l : List Found). found ++ l) (sym onward)
+      ∙ same
+
+  pub found_end : (found : List Found) (at : ℕ) (all : List Found) → IsNext words at None → found ++ found_from test slots at ≡ all → found ≡ all
+  found_end found at all none same =
+      let past : drop (at + length slots) slots ≡ [] = drop_of_length-le slots (omega arith) in
+      let end : found_from test slots at ≡ [] =
+      found_skip (length slots) at (λ n from below. none n from) ∙ ap (λ (l : List RowHistory). map (found_row slots) (filter test (rows_now l))) past in
+      sym (append-nil found) ∙ ap (λ (l : List Found). found ++ l) (sym end) ∙ same
+
+-- a slot that is set has its word
+pub slot_within : (words : List ℕ) (slot : ℕ) → member words slot ≡ true → slot < 64 * length words
+slot_within words slot set = elim (cases_lt (slot / 64) (length words)) [
+  | inl below ↦ omega (arith, below)
+  | inr over ↦ absurd (true≢false (sym set ∙ no_member words slot (omega (arith, over))))
+]

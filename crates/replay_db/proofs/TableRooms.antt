@@ -1,0 +1,38 @@
+-- A table by the rules has room in the format.
+use Rattle.std.proofs.Common.{◌≡◌, ℕ, ◌<◌, ◌≤◌, List, length, true, not, arith}
+use Rattle.std.specs.Prelude.{nat_lt, nat_eq}
+use Rattle.std.specs.List.{list_all}
+use Rattle.std.proofs.lemmas.Bool.{lt-ltb, ltb-true, leb-true}
+use Rattle.ldv_value.proofs.Booleans.{and-parts, and-from, and-first, and-second}
+use Rattle.ldv_value.proofs.Lists.{list_all-weaker}
+use Rattle.ldv_value.specs.Limits.{max_columns}
+use Rattle.sql_model.specs.Keys.{repeats}
+use Rattle.sql_model.specs.Tables.{key_places_test, is_row}
+use Rattle.sql_model.specs.declared.table.Column.{Column}
+use Rattle.run_model.proofs.KeyPlaces.{key_within}
+use Rattle.run_model.proofs.ValidWorlds.{RuledList, ruled_list}
+use Rattle.run_model.specs.ValidPackage.{table_rule, tables_rule}
+use Rattle.package_layout.specs.Room.{key_room, row_room, table_room}
+use Rattle.replay_db.specs.Types.{PackedRow, PackedTable}
+
+key_room_met : (columns : List Column) (key : List ℕ) → length columns ≤ max_columns → key_places_test columns key ≡ true → key_room key ≡ true
+key_room_met columns key few met =
+    let parts = and-parts (list_all (λ p. nat_lt p (length columns)) key) (not (repeats nat_eq key)) met in
+    let count : length key ≤ length columns = key_within columns key met in
+    and-from (nat_lt (length key) 256) (list_all (λ p. nat_lt p 256) key) (lt-ltb (length key) 256 (omega arith))
+    (list_all-weaker (λ p. nat_lt p (length columns)) (λ p. nat_lt p 256) (λ p below. let less : p < length columns = ltb-true p (length columns) below in lt-ltb p 256 (omega arith)) key parts.0)
+
+room_met : (t : PackedTable) → table_rule t ≡ true → table_room t ≡ true
+room_met t met =
+    let columns : List Column = t.schema.columns in
+    let parts = and-parts _ _ (and-first _ _ met) in
+    let schema = and-parts _ _ (and-first _ _ (and-second _ _ parts.0)) in
+    let few : length columns ≤ max_columns = leb-true _ _ (and-second _ _ (and-first _ _ schema.0)) in
+    let wide : list_all (row_room (length columns)) t.rows ≡ true =
+    list_all-weaker (λ (r : PackedRow). is_row columns r.values) (row_room (length columns)) (λ r fits. and-first _ _ fits) t.rows (and-second _ _ (and-first _ _ parts.1)) in
+    and-from _ _ (lt-ltb (length columns) 256 (omega arith)) (and-from _ _ (key_room_met columns t.schema.key few schema.1) wide)
+
+pub rooms_met : (tables : List PackedTable) → tables_rule tables ≡ true → list_all table_room tables ≡ true
+rooms_met tables met =
+    let list : RuledList tables = ruled_list tables met in
+    list_all-weaker table_rule table_room room_met tables list.each
