@@ -1,27 +1,12 @@
 //! Stores of the table t.
 
-<<<<<<< ours
 ghost use Rattle.std.specs.Prelude.{◌≡◌, IfOk, true};
-ghost use Rattle.sql_model.specs.Tables.{is_database};
-
-use crate::rows::joined;
-use crate::statements::schema;
-use crate::validity::is_one_table;
-use ldv_value::Utf8;
-=======
-ghost use Rattle.std.specs.Prelude.{◌≡◌, ◌==◌, [], ◌∷◌, IfOk, IfSome, IsSome, IsTrue, true};
-ghost use Rattle.std.specs.List.{list_any};
-ghost use Rattle.std.specs.Option.{option_map};
-ghost use Rattle.sql_model.specs.Scope.{table_at};
 ghost use Rattle.sql_model.specs.Tables.{have_distinct_columns, is_database};
-ghost use Rattle.table_store.specs.Histories.{tables_now};
-ghost use Rattle.table_store.specs.Stops.{all_stand, has_number};
 
 use crate::rows::joined;
 use crate::statements::schema;
 use crate::validity::{have_distinct_columns, is_one_table};
-use ldv_value::{Numbers, Utf8};
->>>>>>> theirs
+use ldv_value::Utf8;
 use sql_model::{Table, TableRow, TableRows, Tables};
 use std::alloc::{AllocError, Global};
 use std::process::Abort;
@@ -56,7 +41,12 @@ pub(crate) fn tables(alloc: Global) -> Result<Tables, AllocError> {
     Ok(tables)
 }
 
-fn expect_database(rt: &impl Abort, alloc: Global, tables: &[Table]) -> Result<(), AllocError>
+/// Ends the test where the tables are no database, or two columns of one have one name.
+pub(crate) fn expect_database(
+    rt: &impl Abort,
+    alloc: Global,
+    tables: &[Table],
+) -> Result<(), AllocError>
     ensures database { IfOk result (λ none. is_database tables.now ≡ true) }
     ensures distinct { IfOk result (λ none. have_distinct_columns tables.now ≡ true) }
 {
