@@ -3,8 +3,8 @@
 ghost use Rattle.std.specs.Prelude.{◌≡◌, ◌&&◌, IfOk, IsTrue, nat_le, nat_lt, true};
 ghost use Rattle.std.specs.List.{list_all};
 ghost use Rattle.ldv_value.specs.Limits.{max_next};
-ghost use Rattle.sql_model.specs.Tables.{have_distinct_columns};
-ghost use Rattle.sql_model.specs.Tables.{are_distinct, is_database, is_row, is_valid_table, numbers_test};
+ghost use Rattle.sql_model.specs.Tables.{are_distinct, have_distinct_columns, is_database, is_row};
+ghost use Rattle.sql_model.specs.Tables.{is_valid_table, numbers_test};
 
 use ldv_value::is_strictly_sorted;
 use sql_model::{Columns, Table, TableRow, are_rows, has_key_twice, meets_column_names};
