@@ -1,9 +1,10 @@
-"""The cases of what statements reply and need: of each script the outcome, and the package of its run. Replies, needed rows
-and versions were worked out by hand. package_cases.py writes them.
+"""The cases of what statements reply and need: of each script the outcome, and the package of its run. Replies, needed
+rows and versions were worked out by hand. package_cases.py writes them.
 
 A script is a name, its statements, and how many of the rows below its table has. Of a statement there are its text, its
-reply, and the rows that it needs with their rules: by their lineage (L), hidden by HAVING or LIMIT (H), or by a refused key
-(K). A row that was changed before has its version there, and a statement that changes rows says which versions it makes."""
+reply, and the rows that it needs with their rules: by their lineage (L), hidden by HAVING or LIMIT (H), or by a refused
+key (K). A row that was changed before has its version there, and a statement that changes rows says which versions it
+makes."""
 from packages import *
 
 GREATEST_NUMBER, LEAST_NUMBER = 2 ** 63 - 1, -2 ** 63
@@ -15,7 +16,7 @@ def asks(text, reply, L=(), H=(), K=(), made=(), versions={}):
     """A reply is a list of rows, a number of changed rows, or the key that a refusal names."""
     rules = {**dict.fromkeys(K, 'K'), **dict.fromkeys(H, 'H'), **dict.fromkeys(L, 'L')}
     return dict(text=text, reply=reply, reads=[read(row, versions.get(row, 0), rules[row]) for row in sorted(rules)],
-                made=[made_row for made_row in made])
+                made=list(made))
 
 
 def query(text, rows, L=(), H=(), of=5):
@@ -74,12 +75,14 @@ QUERIES = [
     query('SELECT k FROM t WHERE v > -5', [1, 2, 3, 5], [0, 1, 2, 4]),
     query('SELECT k FROM t WHERE -10 = -v', [1, 5], [0, 4]),
     query('SELECT * FROM t WHERE NOT (v > 5 OR g IS NULL)', [T[2]], [2]),
-    query('SELECT k FROM t WHERE v IS NULL', [4], [3]), query('SELECT k FROM t WHERE v IS NOT NULL AND k > 3', [5], [4]),
+    query('SELECT k FROM t WHERE v IS NULL', [4], [3]),
+    query('SELECT k FROM t WHERE v IS NOT NULL AND k > 3', [5], [4]),
     query('SELECT k FROM t WHERE g IS NULL AND v < 0', [8], [7], of=8),
     query('SELECT * FROM t WHERE v * 922337203685477581 = 0', []),
     query('SELECT v * 2 + k, g FROM t WHERE k >= 3', [(13, 'b'), (None, 'b'), (25, 'c')], [2, 3, 4]),
     query('SELECT k FROM t WHERE v <> 10', [2, 3], [1, 2]),
-    query('SELECT k FROM t WHERE 10 <= v AND v <> 20', [1, 5], [0, 4]), query('SELECT g FROM t WHERE 5 >= v', ['b'], [2]),
+    query('SELECT k FROM t WHERE 10 <= v AND v <> 20', [1, 5], [0, 4]),
+    query('SELECT g FROM t WHERE 5 >= v', ['b'], [2]),
     query("SELECT k FROM t WHERE v = 10 AND g = 'c'", [5], [4]), query('SELECT k FROM t WHERE v = NULL', []),
     query('SELECT g, v FROM t WHERE k = 4', [('b', None)], [3]), query('SELECT g FROM t WHERE 6 = k', []),
     query('SELECT g FROM t WHERE k = -5', []), query('SELECT g FROM t WHERE k = 2 AND v > 20', []),
@@ -114,7 +117,8 @@ CHANGES = [
         asks("SELECT x.k, y.k FROM t x JOIN t y ON x.g = y.g AND x.g = 'a'", [(1, 1)], [0])], 5),
     ('all keys moved by one', [
         asks('UPDATE t SET k = k + 1', 5, ALL, made=[made(n) for n in ALL]),
-        asks('SELECT v FROM t WHERE k = 6', [(10,)], [4], versions={4: 1}), asks('SELECT v FROM t WHERE k = 1', [])], 5),
+        asks('SELECT v FROM t WHERE k = 6', [(10,)], [4], versions={4: 1}),
+        asks('SELECT v FROM t WHERE k = 1', [])], 5),
     ('a key moved to one that stands', [asks('UPDATE t SET k = 3 WHERE k = 1', ('t', 3), [0], K=[0, 2])], 5),
     ('all keys made one', [asks('UPDATE t SET k = 3', ('t', 3), ALL)], 5),
     ('changes, a refusal and a key that is free again', [
@@ -178,6 +182,7 @@ def recorded(version, statements, of):
 def need_cases(version):
     """For each script its outcome, and its package in a version."""
     for name, statements, of in QUERIES + CHANGES:
-        for word, output in (('run', outcome_of(statements)), ('record', {'hex': recorded(version, statements, of).hex()})):
+        outputs = {'run': outcome_of(statements), 'record': {'hex': recorded(version, statements, of).hex()}}
+        for word, output in outputs.items():
             yield {'name': '%s: %s' % (word, name), 'words': [word], 'input': document(statements, of), 'status': 0,
                    'output': output, 'error': ''}

@@ -2,8 +2,8 @@
 """Packages of one version as packages of the other. packages.py says what both are; nothing is taken from the program.
 
     python3 tools/package_versions.py 2 <in >out         spells the package on standard input in this version
-    python3 tools/package_versions.py --cases FILE..     in files of cases, a line each, spells each output that is a package in
-                                                         version 2
+    python3 tools/package_versions.py --cases FILE..     in files of cases, a line each, spells each output that is a
+                                                         package in version 2
     python3 tools/package_versions.py --migrated         writes crates/conformance/data/migrate.json: valid packages of
                                                          both versions, and the one that `migrate` makes of each
 

@@ -80,7 +80,7 @@ def group(table, *rows):
 
 
 def run(first, count=1, stride=0):
-    """Events of version 2 that differ in their steps alone: the first one, how many there are, and from step to step."""
+    """Events that differ in their steps alone: the first, how many there are, and from step to step."""
     return dict(first=first, count=count, stride=stride)
 
 
@@ -116,7 +116,8 @@ MAGIC = {1: b'LDVPACK1', 2: b'LDVPACK2'}
 
 
 def package(version=1, **parts):
-    given = dict(version=version, magic=MAGIC[version], runs=None, mode=1, start=['main'], seed=0, steps=1, files=[file('main', 'exit 0')], tables=[],
+    given = dict(version=version, magic=MAGIC[version], runs=None, mode=1, start=['main'], seed=0, steps=1,
+                 files=[file('main', 'exit 0')], tables=[],
                  logs=[], trace=[started(), ended()], digest=lambda body: hashlib.sha256(body).digest(),
                  body=lambda body: body, whole=lambda all: all, output=None)
     given.update(parts)

@@ -1,4 +1,5 @@
-"""The cases of packages whose traces stand in runs: version 2. package_cases.py writes them, and says what a rule is."""
+"""The cases of packages whose traces stand in runs: version 2. package_cases.py writes them, and says what a rule
+is."""
 from packages import *
 
 RUNS = []
@@ -84,8 +85,10 @@ run_rule('Behind the key of a table stands the number of its foreign keys, which
     ('no foreign key', {'seed': 17}), ('no key and no foreign key', {'tables.0.key': []}),
 ], base='rows in runs')
 run_rule('In version 2 the rule of a row is 1 to 3, and a code 1 to 7.', [
-    ('version 2: a row by rule 0', {'tables.0.rows.0.rule': 0}), ('version 2: a row by rule 4', {'tables.0.rows.0.rule': 4}),
-    ('version 2: a row by rule 5', {'tables.0.rows.0.rule': 5}), ('version 2: a row by rule 6', {'tables.0.rows.0.rule': 6}),
+    ('version 2: a row by rule 0', {'tables.0.rows.0.rule': 0}),
+    ('version 2: a row by rule 4', {'tables.0.rows.0.rule': 4}),
+    ('version 2: a row by rule 5', {'tables.0.rows.0.rule': 5}),
+    ('version 2: a row by rule 6', {'tables.0.rows.0.rule': 6}),
     ('version 2: a read by rule 4', {'trace.1.reads.0.rows.1.rule': 4}),
     ('version 2: a read by rule 5', {'trace.1.reads.0.rows.1.rule': 5}),
     ('version 2: a reply of code 0', 'logs in runs', {'logs.0.entries.2.reply': dict(refused=0)}),
@@ -135,7 +138,8 @@ run_rule('The count of a run is at least 1.', [
     ('no start, and a start that has the count 0 behind it', in_runs(run(started()), run(started(), 0))),
     ('a run of another path and no event between two reads', in_runs(reading(1), reading(2, 0, 0, 'g'), reading(3))),
 ], [
-    ('a run of one event', in_runs(reading(1))), ('a run of one event before the end', in_runs(reading(1), run(ended(9)))),
+    ('a run of one event', in_runs(reading(1))),
+    ('a run of one event before the end', in_runs(reading(1), run(ended(9)))),
 ])
 run_rule('The stride of a run of one event is 0.', [
     ('a last stride of 1', {'runs': [run(started()), run(ended(), 1, 1)]}),

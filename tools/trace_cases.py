@@ -13,8 +13,8 @@ def traced(*events):
 
 
 def twice_reached(write, ask):
-    """Of `f` at step 9. `a` goes there by a read at step 2, and by another process and `x` by one at step 5: what came to
-    `a` until then counts, if the writer of `a` wrote before that read."""
+    """Of `f` at step 9. `a` goes there by a read at step 2, and by another process and `x` by one at step 5: what came
+    to `a` until then counts, if the writer of `a` wrote before that read."""
     return traced(
         act('wrote', 'f', 1), spawned(1, 0, 'c'), spawned(1, 0, 'c'), act('read', 'a', 2), act('read', 'b', 3, 2),
         *([write, ask] if write['step'] < ask['step'] else [ask, write]),
@@ -35,7 +35,8 @@ EARLIER = act('wrote', 'a', 4, 2), act('read', 'a', 5, 1)
 READ_LATER = traced(act('opened write', 'g', 1), act('wrote', 'g', 2), act('opened read', 'f', 3), act('read', 'f', 4),
                     ended(5))
 REMOVED = traced(act('removed', 'f', 1), ended(2))
-COPIED = traced(act('opened read', 'f', 1), act('opened new', 'g', 2), act('read', 'f', 3), act('wrote', 'g', 3), ended(4))
+COPIED = traced(act('opened read', 'f', 1), act('opened new', 'g', 2), act('read', 'f', 3), act('wrote', 'g', 3),
+                ended(4))
 
 TRACES = [
     ('a path written before another is read', READ_LATER, 'g', lines_of('path main, process 0')),
@@ -43,8 +44,8 @@ TRACES = [
     ('a path found and changed in one step', REMOVED, 'f', lines_of('path f, path main, process 0')),
     ('a path that is a copy', COPIED, 'g', lines_of('path f, path g, path main, process 0')),
     ('a row at version 2 comes from version 1', VERSIONS, 'f', lines_of(
-        'path c, path main, process 0, process 0.0, process 0.2, row t 7 0, row t 7 1, row t 7 2, ask 0, ask 1, ask 2, ask 3,'
-        'ask 4, ask 5, reply 0, reply 1, reply 2, reply 3, reply 4, reply 5')),
+        'path c, path main, process 0, process 0.0, process 0.2, row t 7 0, row t 7 1, row t 7 2, ask 0, ask 1, ask 2,'
+        'ask 3, ask 4, ask 5, reply 0, reply 1, reply 2, reply 3, reply 4, reply 5')),
     ('a reply comes from its statement at the same step', VERSIONS, 'g', lines_of(
         'path c, path main, process 0, process 0.2, ask 4, reply 4')),
     ('a path reached again by a later time', twice_reached(*EARLIER), 'f', lines_of(

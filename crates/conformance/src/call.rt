@@ -1,7 +1,7 @@
 //! The program, called over streams in memory.
 
-ghost use Rattle.std.specs.Prelude.{◌≢◌, IfOk};
-ghost use Rattle.ldv_top.specs.declared.exit.Exit.{Exit};
+ghost use Rattle.std.specs.Prelude.{IfOk, ℕ, List, map, string_bytes};
+ghost use Rattle.conformance.specs.Runs.{EndsAs, EndsSteadily, IsRunOf};
 
 use crate::case::Case;
 use crate::compare::Ended;
@@ -19,23 +19,47 @@ const SPARE: usize = 65_536;
 
 /// Calls the program with the words and the input of a case. Of what the case wants it takes the lengths
 /// alone, for the room of the sinks.
-pub(crate) fn call(alloc: Global, case: &Case) -> Result<Ended, AllocError> {
+pub(crate) fn call(alloc: Global, case: &Case) -> Result<Ended, AllocError>
+    ensures { IfOk result (λ ended. IsRunOf case.now ended) }
+{
+    let written = written_by(alloc, case)?;
+    let steady = steady_exit(alloc, case)?;
+    Ok(Ended {
+        status: written.status,
+        steady_status: status(&steady),
+        output: written.output,
+        error: written.error,
+    })
+}
+
+/// A status, and the bytes of the output and of the error stream.
+#[derive(Drop)]
+struct Written {
+    status: u8,
+    output: Bytes,
+    error: Bytes,
+}
+
+// The program over streams in memory.
+fn written_by(alloc: Global, case: &Case) -> Result<Written, AllocError>
+    ensures { IfOk result (λ written. EndsAs (map string_bytes case.now.words.items) case.now.input
+        written.status written.output written.error) }
+{
     let output_room = case.output.len().saturating_add(SPARE);
     let error_room = case.error.len().saturating_add(SPARE);
     let none = Calls::new(alloc);
     let mut source = MemorySource::new(case.input.copy()?, INPUT_PIECE, none);
     let mut output = MemorySink::new(alloc, output_room, OUTPUT_PIECE, Calls::new(alloc))?;
     let mut error = MemorySink::new(alloc, error_room, OUTPUT_PIECE, Calls::new(alloc))?;
-    let ended = ldv_main(
+    let status = ldv_main(
         alloc,
         case.words.as_slice(),
         &mut source,
         &mut output,
         &mut error,
     );
-    Ok(Ended {
-        status: ended,
-        steady_status: status(&steady_exit(alloc, case)?),
+    Ok(Written {
+        status,
         output: Bytes::of_slice(alloc, output.taken())?,
         error: Bytes::of_slice(alloc, error.taken())?,
     })
@@ -43,8 +67,7 @@ pub(crate) fn call(alloc: Global, case: &Case) -> Result<Ended, AllocError> {
 
 // The exit of the program over a source and a sink that never fail: no fault is its exit.
 fn steady_exit(alloc: Global, case: &Case) -> Result<Exit, AllocError>
-    ensures read { IfOk result (λ exit. exit ≢ Exit.ReadFault) }
-    ensures write { IfOk result (λ exit. exit ≢ Exit.WriteFault) }
+    ensures { IfOk result (λ exit. EndsSteadily (map string_bytes case.now.words.items) case.now.input exit) }
 {
     let mut source = SteadySource::new(case.input.copy()?, INPUT_PIECE);
     let mut sink = DropSink::new();

@@ -2,6 +2,7 @@
 
 ghost use Rattle.std.specs.Prelude.{◌≡◌, ◌≢◌, ◌<◌, ◌≤◌, ◌↔◌, ◌-◌, ◌^◌, ◌+◌, if◌then◌else◌, min, []};
 ghost use Rattle.std.specs.Prelude.{option_map, IsErr, IfOk, OnOk};
+ghost use Rattle.conformance.specs.Runs.{IsAsWanted, IsJudged};
 ghost use Rattle.conformance.specs.Same.{is_same};
 ghost use Rattle.conformance.specs.Wanted.{is_wanted, wanted_count};
 ghost use Rattle.conformance.specs.Counts.{CountsCases};
@@ -134,13 +135,17 @@ fn check_name(
 fn check_case<R: Print + AllocGlobal>(rt: &R, case: &Case, tally: &mut Tally) -> io::Result<()>
     ensures cases { tally.new.cases ≡ min (tally.old.cases + 1) (2 ^ 64 - 1) }
     ensures kept { tally.old.differences ≤ tally.new.differences }
+    ensures same { tally.new.differences ≡ 0 → IsAsWanted case.now }
 {
     let judged = judge(rt.alloc(), case);
     count_judged(&judged, tally);
     tell(rt, case.name.as_str(), &judged)
 }
 
-fn judge(alloc: Global, case: &Case) -> Result<Differences, AllocError> {
+// What a run of a case differs in from what the case wants.
+fn judge(alloc: Global, case: &Case) -> Result<Differences, AllocError>
+    ensures { IfOk result (λ differences. IsJudged case.now differences) }
+{
     let ended = call(alloc, case)?;
     Ok(compare(&ended, case))
 }

@@ -1,14 +1,12 @@
 //! An engine that is asked statement by statement.
 
-ghost use Rattle.std.specs.Prelude.{◌≡◌, IfOk, true};
-ghost use Rattle.sql_model.specs.Tables.{have_distinct_columns};
-ghost use Rattle.sql_model.specs.Tables.{is_database};
+ghost use Rattle.std.specs.Prelude.{◌≡◌};
 
-use crate::validity::{have_distinct_columns, is_one_table};
+use crate::stored::expect_database;
 use ldv_value::{Parts, Utf8, Values};
 use run_model::{Asker, Database, ProcName, Tracer};
 use sql_engine::Engine;
-use sql_model::{Reply, Table, Tables};
+use sql_model::{Reply, Tables};
 use std::alloc::{AllocError, Global};
 use std::marker::Model;
 use std::process::Abort;
@@ -40,20 +38,6 @@ pub(crate) struct Asked {
     pub reply: Reply,
 }
 
-fn expect_database(rt: &impl Abort, alloc: Global, tables: &[Table]) -> Result<(), AllocError>
-    ensures { IfOk result (λ none. is_database tables.now ≡ true) }
-{
-    assert!(rt; is_one_table(alloc, tables)?);
-    Ok(())
-}
-
-fn expect_distinct(rt: &impl Abort, alloc: Global, tables: &[Table]) -> Result<(), AllocError>
-    ensures { IfOk result (λ none. have_distinct_columns tables.now ≡ true) }
-{
-    assert!(rt; have_distinct_columns(alloc, tables)?);
-    Ok(())
-}
-
 fn asker(alloc: Global, step: u32) -> Asker
     ensures { result.step ≡ step }
 {
@@ -75,7 +59,6 @@ impl Session {
         tables: Tables,
     ) -> Result<Session, AllocError> {
         expect_database(rt, alloc, tables.items())?;
-        expect_distinct(rt, alloc, tables.items())?;
         let engine = Engine::of_tables(alloc, tables)?;
         Ok(Session {
             alloc,

@@ -41,7 +41,12 @@ pub(crate) fn tables(alloc: Global) -> Result<Tables, AllocError> {
     Ok(tables)
 }
 
-fn expect_database(rt: &impl Abort, alloc: Global, tables: &[Table]) -> Result<(), AllocError>
+/// Ends the test where the tables are no database, or two columns of one have one name.
+pub(crate) fn expect_database(
+    rt: &impl Abort,
+    alloc: Global,
+    tables: &[Table],
+) -> Result<(), AllocError>
     ensures database { IfOk result (λ none. is_database tables.now ≡ true) }
     ensures distinct { IfOk result (λ none. have_distinct_columns tables.now ≡ true) }
 {
