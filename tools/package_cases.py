@@ -2,8 +2,8 @@
 """Writes the cases of packages: for each rule of a valid package some that break this rule only, each with a right
 digest, beside some that come as close and are valid. packages.py makes the bytes.
 
-    python3 tools/package_cases.py                writes packages.json, traces.json and needs.json into
-                                                  crates/conformance/data
+    python3 tools/package_cases.py                writes packages.json, packages_in_runs.json, traces.json, needs.json
+                                                  and migrate.json into crates/conformance/data
     python3 tools/package_cases.py --check        fails where one of them isn't what this script would write
     python3 tools/package_cases.py --list         each rule with the names of its cases
     python3 tools/package_cases.py --large DIR    writes the packages that are too long to be stored, each as a file in
@@ -18,6 +18,8 @@ import sys
 
 from packages import *      # the parts of packages, by which the cases below are described
 from need_cases import need_cases
+from package_versions import migrations
+from packages_in_runs import RUNS
 from trace_cases import TRACES, trace_case
 
 HERE = os.path.dirname(os.path.abspath(__file__))
@@ -767,8 +769,9 @@ def replayed(rules):
 
 def stored():
     """The text of each file, by its name."""
-    return {'packages.json': replayed(RULES), 'traces.json': lines([trace_case(*given) for given in TRACES]),
-            'needs.json': lines(list(need_cases(1)))}
+    return {'packages.json': replayed(RULES), 'packages_in_runs.json': replayed(RUNS),
+            'traces.json': lines([trace_case(*given) for given in TRACES]), 'needs.json': lines(list(need_cases(2))),
+            'migrate.json': lines(list(migrations()))}
 
 
 def differing():
@@ -798,7 +801,7 @@ def write_large(folder):
 
 def main(words):
     if words == ['--list']:
-        return tell(RULES + LARGE)
+        return tell(RULES + RUNS + LARGE)
     if len(words) == 2 and words[0] == '--large':
         return write_large(words[1])
     if words == ['--check']:

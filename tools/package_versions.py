@@ -4,19 +4,15 @@
     python3 tools/package_versions.py 2 <in >out         spells the package on standard input in this version
     python3 tools/package_versions.py --cases FILE..     in files of cases, a line each, spells each output that is a
                                                          package in version 2
-    python3 tools/package_versions.py --migrated         writes crates/conformance/data/migrate.json: valid packages of
-                                                         both versions, and the one that `migrate` makes of each
 
+package_cases.py writes its `migrations`: valid packages of both versions, and the one that `migrate` makes of each.
 No rule of a valid package is tested here: what is read is a package that a run has given, or one of packages.py.
 """
 import json
-import os
 import sys
 
 from packages import *
 
-HERE = os.path.dirname(os.path.abspath(__file__))
-MIGRATED = os.path.join(HERE, '..', 'crates', 'conformance', 'data', 'migrate.json')
 KIND_OF = {number: kind for kind, number in KINDS.items()}
 RULE_OF = {number: rule for rule, number in REASONS.items()}
 
@@ -167,17 +163,10 @@ def migrations():
     yield migration('migrate: a file read three times, in runs', encode(BASES['loop']), encode(BASES['loop']))
 
 
-def rewrite(path, cases):
-    with open(path, 'w') as out:
-        out.write(lines(cases))
-
-
 def main(words):
     check_encoder()
     if words in (['1'], ['2']):
         sys.stdout.buffer.write(in_version(int(words[0]), sys.stdin.buffer.read()))
-    elif words == ['--migrated']:
-        rewrite(MIGRATED, list(migrations()))
     elif len(words) > 1 and words[0] == '--cases':
         for path in words[1:]:
             with open(path) as there:
