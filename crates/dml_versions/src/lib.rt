@@ -14,8 +14,9 @@
 //!
 //! The way of a change: `finding` finds the rows for which WHERE is True, by the table's key where WHERE
 //! compares each of its columns by `=` with a constant (`keys`), and else among the rows that pass the tests
-//! of single columns that WHERE makes (`tested`); `rows` or `updates` makes the new values, `needs` the lists, all before the store changes; `inserting`, `updating` and
-//! `deleting` put them together.
+//! of single columns that WHERE makes (`tested`, `specs/Testing.antt`); `rows` or `updates` makes the new
+//! values, `needs` the lists, all before the store changes; `inserting`, `updating` and `deleting` put them
+//! together.
 #![tactic(auto)]
 
 mod change;

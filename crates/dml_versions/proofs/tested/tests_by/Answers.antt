@@ -16,5 +16,5 @@ returns c =
     let masks = c.in_ok-masks.masks.items in
     let found = subst (λ (l : List Placed). AreMasks l 0 columns masks) c.items.ensures c.in_ok-masks.ensures in
     subst (AreTests (Some expr) places columns) (sym c.in_ok-tests.ensures)
-    (subst (λ (l : List Mask). AreTests (Some expr) places columns (map column_test l)) (search rules)
+    (subst (λ (l : List Mask). AreTests (Some expr) places columns (map column_test l)) (sym c.as_slice.ensures.value)
     (tests-are expr places columns c.in_ok-conds.conds masks c.in_ok-conds.ensures found))
