@@ -1,8 +1,7 @@
-use Rattle.std.proofs.Common.{ap, sym, subst, List, map}
+use Rattle.std.proofs.Common.{sym, subst, List, map}
 use Rattle.core_parts.specs.Masking.{AreMasks}
 use Rattle.core_parts.specs.declared.placed.Placed.{Placed}
 use Rattle.core_parts.specs.declared.masking.Mask.{Mask}
-use Rattle.table_store.specs.declared.cell_test.ColumnTest.{ColumnTest}
 use Rattle.std.specs.Prelude.{Some}
 use Rattle.dml_versions.proofs.TestLaws.{tests-are}
 use Rattle.dml_versions.specs.Testing.{AreTests, column_test}
