@@ -18,7 +18,7 @@ use Rattle.ldv_value.proofs.Booleans.{true≢false}
 use Rattle.sql_model.specs.Kinds.{names_in}
 use Rattle.sql_model.specs.Scope.{InScope, places_in, value_at}
 use Rattle.table_store.proofs.GridLaws.{place_index}
-use Rattle.table_store.specs.CellTests.{AllFitColumns, cell_passes, fits_column, passes_column, passes_columns, slot_chosen, suits}
+use Rattle.table_store.specs.CellTests.{AllFitColumns, cell_passes, passes_columns, slot_chosen, suits}
 use Rattle.table_store.specs.Histories.{RowHistory, no_history, row_now, rows_now}
 use Rattle.table_store.specs.declared.cell_test.ColumnTest.{ColumnTest}
 use Rattle.dml_versions.proofs.FoundLaws.{found-step}

@@ -3,8 +3,8 @@
 ghost use Rattle.std.specs.Prelude.{◌≡◌, ◌+◌, ◌<◌, ◌^◌, Some, IfOk, length, map, nat_lt, false};
 ghost use Rattle.std.specs.List.{AllByRecursion};
 ghost use Rattle.ldv_value.specs.Limits.{max_next};
-ghost use Rattle.dml_versions.specs.Changing.{matched_change, inserted_change, refused_change, refused_by, told};
-ghost use Rattle.dml_versions.specs.Changing.{reply_alone};
+ghost use Rattle.dml_versions.specs.Changing.{matched_change, inserted_change, refused_change};
+ghost use Rattle.dml_versions.specs.Changing.{refused_by, reply_alone, told};
 ghost use Rattle.dml_versions.specs.Needing.{made_new};
 ghost use Rattle.sql_model.specs.Changes.{numbered};
 

@@ -1,9 +1,9 @@
 //! INSERT, UPDATE and DELETE over a store, with the rows that they need and the versions that they make.
 //!
 //! It promises to the layers above, by the definitions of `sql_model` over the tables that the store has:
-//! - `insert`, `update` and `delete` return the reply of the statement and, where they are kept, the versions
-//!   that it makes and the rows that it needs at their versions (`specs/Changing.antt`, `IsChange`), refused or
-//!   not;
+//! - `insert`, `update` and `delete` return the reply of the statement, refused or not, and, where they are
+//!   kept, the versions that it makes and the rows that it needs at their versions (`specs/Changing.antt`,
+//!   `IsChange`);
 //! - the tables of the store afterwards are those after the statement, and so are the versions of its rows
 //!   (`IsStoreAfter`); what they were at earlier times stays;
 //! - where memory is out, the store is as it was.
@@ -14,8 +14,9 @@
 //!
 //! The way of a change: `finding` finds the rows for which WHERE is True, by the table's key where WHERE
 //! compares each of its columns by `=` with a constant (`keys`), and else among the rows that pass the tests
-//! of single columns that WHERE makes (`tested`); `rows` or `updates` makes the new values, `needs` the lists, all before the store changes; `inserting`, `updating` and
-//! `deleting` put them together.
+//! of single columns that WHERE makes (`tested`, `specs/Testing.antt`); `rows` or `updates` makes the new
+//! values, `needs` the lists, all before the store changes; `inserting`, `updating` and `deleting` put them
+//! together.
 #![tactic(auto)]
 
 mod change;

@@ -11,7 +11,6 @@ use table_store::{CellTest, ColumnTest};
 
 /// Tests of columns that each row passes for which WHERE is True; none where it is missing. `places` are
 /// those of WHERE's columns.
-#[tactic(auto, using(crate::proofs::TestLaws::no_tests))]
 pub(crate) fn picked_tests(
     alloc: Global,
     columns: &Columns,

@@ -1,4 +1,4 @@
-use Rattle.std.proofs.Common.{rules, ◌≡◌, subst, List, ℕ}
+use Rattle.std.proofs.Common.{subst, sym, List, ℕ}
 use Rattle.dml_versions.proofs.TestLaws.{covered}
 use Rattle.dml_versions.specs.Finding.{CoverFound, scope_in, test_in}
 use Rattle.dml_versions.proofs.finding.found_by_tests.Goals as goal
@@ -10,6 +10,5 @@ pub found_among-requires-clause-cover : goal.found_among-requires-clause-cover
 found_among-requires-clause-cover c =
     let table = c.args.table.now in
     let test = test_in table c.args.pick.now in
-    let same : c.in_ok-words.words.items ≡ c.as_slice.result.now = search rules in
-    subst (λ (words : List ℕ). CoverFound words test table.slots) same
+    subst (λ (words : List ℕ). CoverFound words test table.slots) (sym c.as_slice.ensures.value)
     (covered c.args.tests.now test table.slots c.in_ok-words.words.items c.in_ok-words.ensures.members (c.requires.tests.pass (scope_in table) c.requires.placed))

@@ -1,4 +1,4 @@
-use Rattle.std.proofs.Common.{rules, ◌≡◌, subst, List}
+use Rattle.std.proofs.Common.{subst, sym, List}
 use Rattle.table_store.specs.declared.cell_test.ColumnTest.{ColumnTest}
 use Rattle.dml_versions.specs.Testing.{AreTests}
 use Rattle.dml_versions.specs.Types.{Schema}
@@ -8,6 +8,5 @@ pub found_by_tests-requires-clause-tests : goal.found_by_tests-requires-clause-t
 found_by_tests-requires-clause-tests c =
     let pick = c.args.pick.now in
     let places = c.args.places.now in
-    let same : c.in_ok-tests.tests.items ≡ c.as_slice.result.now = search rules in
-    subst (λ (l : List ColumnTest). AreTests pick places c.args.table.now.schema.columns l) same
+    subst (λ (l : List ColumnTest). AreTests pick places c.args.table.now.schema.columns l) (sym c.as_slice.ensures.value)
     (subst (λ (s : Schema). AreTests pick places s.columns c.in_ok-tests.tests.items) c.schema.ensures c.in_ok-tests.ensures)
