@@ -342,8 +342,9 @@ def check_many(table: Table, names: Sequence[str]) -> None:
     tidied = tidy_names([column.old for column in table.columns])
     words = " ".join(f'--rename "{table.name}.#{place + 1}={tidied[place]}"' for place in bad[:8])
     shown_names = ", ".join(f"{place + 1} {names[place]!r}" for place in bad[:8])
-    raise Refused(f"{table.name}: {len(bad)} columns need another name, column {shown_names}{', ..' if len(bad) > 8 else ''}: a "
-                  f"letter a to z or _, then such letters, digits and _, no reserved word, and none twice; give --tidy, or {words}")
+    rest = ", .." if len(bad) > 8 else ""
+    raise Refused(f"{table.name}: {len(bad)} columns need another name, column {shown_names}{rest}: a letter a to z or _, then "
+                  f"such letters, digits and _, no reserved word, and none twice; give --tidy, or {words}")
 
 
 def settle_kind(table: Table, column: Column, settings: Settings) -> bool:

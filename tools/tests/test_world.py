@@ -96,8 +96,8 @@ class CsvFiles(InFolder):
     def test_tidy(self):
         """Headers that aren't names are named at once, and made names on demand."""
         text = "Pat.Nr;Größe (cm);Dose;Dose;order;;2nd\n1;2;3;4;5;6;7\n"
-        self.csv_refused('t: 6 columns need another name, column 1 \'pat.nr\', 2 \'größe (cm)\', 4 \'dose\', 5 \'order\', 6 \'\', 7 '
-                         '\'2nd\': ', text, "--delimiter", ";", "--lower")
+        self.csv_refused("t: 6 columns need another name, column 1 'pat.nr', 2 'größe (cm)', 4 'dose', 5 'order', 6 '', "
+                         "7 '2nd': ", text, "--delimiter", ";", "--lower")
         self.csv_refused('give --tidy, or --rename "t.#1=pat_nr" --rename "t.#2=grosse_cm" --rename "t.#4=dose_4" --rename '
                          '"t.#5=order_" --rename "t.#6=column" --rename "t.#7=_2nd"', text, "--delimiter", ";", "--lower")
         table = self.table(text, "--delimiter", ";", "--tidy", "--rename", "t.#6=note")
