@@ -51,11 +51,12 @@ def world_tables(words: argparse.Namespace, notes: List[str], hints: List[str], 
     tables: List[Table] = []
     for word in words.csv:
         tables.append(read_csv(word, settings, delimiter, words.encoding, hints, progress))
-        settle(tables[-1], settings, hints)
+        settle(tables[-1:], settings, hints)
         progress.tell(f"{tables[-1].name}: {tables[-1].count:,} rows are settled")
     for path in words.sqlite:
-        for table in read_database(path, words.table, settings, notes):
-            settle(table, settings, hints)
+        found = read_database(path, words.table, settings, notes)
+        settle(found, settings, hints)
+        for table in found:
             note_types(table, notes)
             tables.append(table)
             progress.tell(f"{table.name}: {table.count:,} rows are settled")
