@@ -6,11 +6,12 @@
 //! - `Placed` is an expression with the places of its columns in the joined row. `placed_at`, `placed_items`,
 //!   `take_places` and `take_place` take the places of expressions from the front of a list
 //!   (`specs/Placing.antt`);
-//! - `conjuncts` and `conjuncts_of` take conditions apart at their ANDs (`specs/Conditions.antt`). `fixed_key`
-//!   has the constants to which conditions fix the columns of a key (`specs/Fixing.antt`), and `masks_of` the
-//!   tests of single columns by which the rows of a source may be chosen (`specs/Masking.antt`). `constant_of`
-//!   has the value of an expression that names no column (`specs/Constants.antt`); `is_column` and
-//!   `is_equal_test` tell comparisons of columns (`specs/Equality.antt`);
+//! - `conjuncts` and `conjuncts_of` take conditions apart at their ANDs (`specs/Conditions.antt`);
+//! - `fixed_key` has the constants to which conditions fix the columns of a key (`specs/Fixing.antt`), and
+//!   `masks_of` the tests of single columns by which the rows of a source may be chosen
+//!   (`specs/Masking.antt`). `constant_of` has the value of an expression that names no column
+//!   (`specs/Constants.antt`); `is_column` and `is_equal_test` tell comparisons of columns
+//!   (`specs/Equality.antt`);
 //! - `Refs` is a list of references, which contracts see as the list of what they refer to, and `RefsBy` has
 //!   such lists under keys (`specs/Listing.antt`);
 //! - `ByOrder` is a reference to a value or to the values of a row, as a key of a set or a map;

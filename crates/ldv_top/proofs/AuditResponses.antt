@@ -1,43 +1,74 @@
 -- What an audit comes to is what is due.
-use Rattle.std.proofs.Common.{◌≡◌, ℕ, ◌<◌, List, length, refl, sym, ap, ◌∙◌, true, false}
-use Rattle.std.specs.Prelude.{Ok}
+use Rattle.std.proofs.Common.{◌≡◌, ℕ, ◌<◌, List, length, refl, sym, ap, ◌∙◌, subst, true, false}
+use Rattle.std.specs.Prelude.{Option, Some, None, Result, Ok, Err, IsSome}
 use Rattle.ldv_value.specs.Limits.{input_limit}
 use Rattle.run_model.specs.declared.package.Package.{Package}
 use Rattle.run_model.specs.Package.{own_world}
 use Rattle.run_model.specs.WorldRun.{ends_within}
 use Rattle.replay_db.proofs.BudgetLaw.{ended_outcome, going_outcome}
 use Rattle.replay_db.specs.Auditing.{Audits, own_spelling}
+use Rattle.replay_db.specs.declared.soundness.AuditStop.{AuditStop}
+use Rattle.replay_db.specs.declared.soundness.AuditStop.TheVariants as stops
 use Rattle.replay_db.specs.declared.soundness.Verdict.{Verdict}
+use Rattle.package_layout.specs.Valid.{IsSpelled}
+use Rattle.package_layout.specs.Version.{version_of}
+use Rattle.package_layout.specs.declared.version.Version.{Version}
 use Rattle.ldv_top.specs.declared.exit.Exit.TheVariants.{NotEnded, PackageTooLong}
-use Rattle.ldv_top.specs.DueOfAudits.{verdict_text, verdict_due, included_audit}
+use Rattle.ldv_top.specs.DueOfAudits.{verdict_text, verdict_due, audit_as, audit_by_version, included_audit}
 use Rattle.ldv_top.specs.DueParts.{Due, refused, done, due_outcome}
 use Rattle.ldv_top.proofs.RecordLaws.{not_too_long, too_long}
 
--- of a run that ends, it is said of the package
-ended_due : (budget : ℕ) (input : List ℕ) (p : Package) (due : Due) → ends_within budget (own_world p) ≡ true
-    → ((outcome : _) → verdict_due input (own_spelling budget p) outcome ≡ due)
-    → due ≡ included_audit budget input p
-ended_due budget input p due ended is =
-    let outcome = ended_outcome budget (own_world p) ended in
-    sym (ap (due_outcome budget (verdict_due input (own_spelling budget p))) outcome.1 ∙ is outcome.0)
+-- the version is one of the input's
+module _ (budget : ℕ) (input : List ℕ) (p : Package) (version : Version) (versioned : version_of input ≡ Some version) where
+  abbrev due : List ℕ
+  due = own_spelling budget version p
 
-pub audit_done : (budget : ℕ) (input : List ℕ) (p : Package) (verdict : Verdict) → Audits budget p input (Ok verdict)
-    → done (verdict_text verdict) ≡ included_audit budget input p
-audit_done budget input p verdict audits =
-    ended_due budget input p (done (verdict_text verdict)) audits.0
-    (λ outcome.
-    rw (not_too_long (own_spelling budget p) audits.1.0)
-    (ap (λ (v : Verdict). done (verdict_text v)) (sym audits.1.1)))
+  audit_is : audit_as version budget input p ≡ included_audit budget input p
+  audit_is = sym (ap (λ (o : Option Version). audit_by_version o budget input p) versioned)
 
-pub audit_long : (budget : ℕ) (input : List ℕ) (p : Package) → ends_within budget (own_world p) ≡ true
-    → input_limit < length (own_spelling budget p)
-    → refused PackageTooLong ≡ included_audit budget input p
-audit_long budget input p ended long =
-    ended_due budget input p (refused PackageTooLong) ended (λ outcome. rw (too_long (own_spelling budget p) long) refl)
+  -- of a run that ends, it is said of the package
+  ended_due : (written : Due) → ends_within budget (own_world p) ≡ true → ((outcome : _) → verdict_due input due outcome ≡ written)
+      → written ≡ included_audit budget input p
+  ended_due written ended is =
+      let outcome = ended_outcome budget (own_world p) ended in
+      sym (ap (due_outcome budget (verdict_due input due)) outcome.1 ∙ is outcome.0) ∙ audit_is
 
-pub audit_late : (budget : ℕ) (input : List ℕ) (p : Package) → ends_within budget (own_world p) ≡ false
-    → refused (NotEnded budget) ≡ included_audit budget input p
-audit_late budget input p going =
-    sym (ap (due_outcome budget (verdict_due input (own_spelling budget p))) (going_outcome budget (own_world p) going))
+  done_due : (verdict : Verdict) → Audits budget version p input (Ok verdict) → done (verdict_text verdict) ≡ included_audit budget input p
+  done_due verdict audits =
+      ended_due (done (verdict_text verdict)) audits.0
+      (λ outcome. rw (not_too_long due audits.1.0) (ap (λ (v : Verdict). done (verdict_text v)) (sym audits.1.1)))
 
-pub ruleset audit_ends = (audit_done, audit_long, audit_late)
+  long_due : ends_within budget (own_world p) ≡ true → input_limit < length due → refused PackageTooLong ≡ included_audit budget input p
+  long_due ended long = ended_due (refused PackageTooLong) ended (λ outcome. rw (too_long due long) refl)
+
+  late_due : ends_within budget (own_world p) ≡ false → refused (NotEnded budget) ≡ included_audit budget input p
+  late_due going = sym (ap (due_outcome budget (verdict_due input due)) (going_outcome budget (own_world p) going)) ∙ audit_is
+
+-- an audit that comes to something in the version of the input, which has one
+abbrev pub AuditedAs : ℕ → List ℕ → Package → Result Verdict AuditStop → Type 0
+AuditedAs budget input p result = (version : Version) → version_of input ≡ Some version → Audits budget version p input result
+
+some_version : (o : Option Version) → IsSome o → (version : Version) × (o ≡ Some version)
+some_version None some = absurd some
+some_version (Some version) some = (version, refl)
+
+module _ (budget : ℕ) (input : List ℕ) (p : Package) (some : IsSome (version_of input)) where
+  pub audit_done : (verdict : Verdict) → AuditedAs budget input p (Ok verdict) → done (verdict_text verdict) ≡ included_audit budget input p
+  audit_done verdict audits =
+      let found = some_version (version_of input) some in
+      done_due budget input p found.0 found.1 verdict (audits found.0 found.1)
+
+  pub audit_long : AuditedAs budget input p (Err stops.TooLong) → refused PackageTooLong ≡ included_audit budget input p
+  audit_long audits =
+      let found = some_version (version_of input) some in
+      let long = audits found.0 found.1 in
+      long_due budget input p found.0 found.1 long.0 long.1
+
+  pub audit_late : AuditedAs budget input p (Err stops.NotEnded) → refused (NotEnded budget) ≡ included_audit budget input p
+  audit_late audits =
+      let found = some_version (version_of input) some in
+      late_due budget input p found.0 found.1 (audits found.0 found.1)
+
+-- bytes that are spelled have a version
+pub is_versioned : (input : List ℕ) (p : Package) → IsSpelled input p → IsSome (version_of input)
+is_versioned input p spelled = subst IsSome (sym spelled.1) tt

@@ -1,9 +1,6 @@
 -- A package that was recorded is replayed as its world is run.
-use Rattle.std.proofs.Common.{◌≡◌, ℕ, ◌≤◌, List, [], length, refl, sym, ap, ◌∙◌, subst, true, false, arith, inl, inr}
-use Rattle.std.specs.Prelude.{Some, Ok}
-use Rattle.std.proofs.lemmas.Bool.{cases_Bool}
-use Rattle.std.proofs.lemmas.Bool.Decides.{nat_tests}
-use Rattle.ldv_value.proofs.Cases.{cases-option}
+use Rattle.std.proofs.Common.{◌≡◌, ℕ, ◌≤◌, List, [], length, refl, sym, ap, ◌∙◌, subst, true}
+use Rattle.std.specs.Prelude.{Some, Ok, codes}
 use Rattle.ldv_value.specs.Limits.{input_limit, max_steps}
 use Rattle.run_model.specs.declared.outcome.Outcome.{Outcome}
 use Rattle.run_model.specs.declared.package.Mode.{Mode}
@@ -15,68 +12,34 @@ use Rattle.run_model.specs.Package.{package_of, own_world}
 use Rattle.run_model.specs.WorldRun.{ends_within, outcome_within, steps_by}
 use Rattle.sql_model.specs.Tables.{tables_test}
 use Rattle.package_layout.specs.Valid.{Valid, reading}
-use Rattle.package_layout.specs.Whole.{spelling, IsTyped}
+use Rattle.package_layout.specs.Counted.{IsCounted}
+use Rattle.package_layout.specs.Version.{version_of}
+use Rattle.package_layout.specs.declared.version.Version.{Version}
+use Rattle.package_layout.specs.declared.version.Version.TheVariants.{Two}
+use Rattle.package_layout.specs.Whole.{spelling_as, spelling, IsTyped}
 use Rattle.replay_db.proofs.BudgetLaw.{outcome_ends, ended_outcome, enough_outcome}
 use Rattle.replay_db.proofs.EndedLaw.{ended_starts}
 use Rattle.replay_db.proofs.TraceValid.{steps_at_most}
-use Rattle.replay_db.specs.Auditing.{SoundLaw, RecordedSoundLaw, IsOwn, verdict_on, own_spelling}
-use Rattle.replay_db.specs.declared.soundness.Verdict.{Verdict}
-use Rattle.replay_db.specs.declared.soundness.Verdict.TheVariants.{Sound}
+use Rattle.replay_db.specs.Auditing.{SoundLaw, RecordedSoundLaw, IsOwn}
 use Rattle.replay_db.specs.Laws.{SameRun, ReplayLaw}
 use Rattle.replay_db.specs.LogLaws.{PickedLogLaw}
 use Rattle.replay_db.specs.Worlds.{TypedFor, TypedWorld, ValidWorld, WorldTablesLaw, ValidPackageLaw, TypedPackageLaw}
 use Rattle.world_json.specs.Reading.{world_reading}
-use Rattle.ldv_top.specs.declared.exit.Exit.TheVariants.{Done, NotEnded, PackageTooLong}
-use Rattle.ldv_top.specs.Due.{Due, due_of_run, due_outcome, outcome_due, due_world, due_reading, due_run, is_too_long, due_spelling, package_due, recorded_world, recorded_reading, due_record, due_divergence, due_log, replayed_as, replayed_reading, due_replay}
-use Rattle.ldv_top.specs.DueOfAudits.{verdict_text, verdict_due, audited_package, due_audit}
-use Rattle.ldv_top.specs.DueParts.{done, due_of_reading}
+use Rattle.ldv_top.specs.declared.exit.Exit.TheVariants.{Done}
+use Rattle.ldv_top.specs.Due.{Due, due_outcome, outcome_due, due_world, due_reading, due_run, due_spelling, package_due, recorded_world, recorded_reading, due_record, due_divergence, due_log, replayed_as, replayed_reading, due_replay}
+use Rattle.ldv_top.specs.DueOfAudits.{due_audit}
+use Rattle.ldv_top.specs.DueParts.{done}
 use Rattle.ldv_top.specs.Headline.{IsPackageOf, Recorded}
-use Rattle.ldv_top.proofs.RecordLaws.{not_too_long}
+use Rattle.ldv_top.proofs.RecordLaws.{not_too_long, Spelled, spelling_done}
+use Rattle.ldv_top.proofs.SoundLaws.{Written, run_written, version_spelled, sound_from}
 
--- ---- runs that are written
-
--- what is written of a run is that of its outcome
-pub record Written (n : ℕ) (w : World) (written : Outcome → Due) : Type 0 where
-  pub outcome : Outcome
-  pub comes : outcome_within n w ≡ Some outcome
-  pub due : due_of_run n w written ≡ written outcome
-  pub finished : (written outcome).exit ≡ Done
-
-run_written : (n : ℕ) (w : World) (written : Outcome → Due) → (due_of_run n w written).exit ≡ Done → Written n w written
-run_written n w written finished = elim (cases-option (outcome_within n w)) [
-  | inl none ↦
-      let never : NotEnded n ≡ Done = ap (λ (d : Due). d.exit) (sym (ap (due_outcome n written) none)) ∙ finished in
-      cc
-  | inr some ↦
-      let due : due_of_run n w written ≡ written some.0 = ap (due_outcome n written) some.1 in
-      record {
-        outcome = some.0;
-        comes = some.1;
-        due = due;
-        finished = ap (λ (d : Due). d.exit) (sym due) ∙ finished;
-      }
-]
+-- ---- runs
 
 -- two worlds with one outcome give the same
 same_due : (n m : ℕ) (v w : World) (outcome : Outcome) → outcome_within n v ≡ Some outcome → outcome_within m w ≡ Some outcome
     → due_world n v ≡ due_world m w
 same_due n m v w outcome of_v of_w =
     ap (due_outcome n outcome_due) of_v ∙ sym (ap (due_outcome m outcome_due) of_w)
-
--- ---- limits
-
-not_long : (bytes : List ℕ) → is_too_long bytes ≡ false → length bytes ≤ input_limit
-not_long bytes is = grind (arith, nat_tests)
-
--- bytes that are due are the spelling, within the limit
-abbrev Spelled : Due → List ℕ → Type 0
-Spelled due bytes = (length bytes ≤ input_limit) × (due.bytes ≡ bytes)
-
-spelling_done : (bytes : List ℕ) → (due_spelling bytes).exit ≡ Done → Spelled (due_spelling bytes) bytes
-spelling_done bytes done = elim (cases_Bool (is_too_long bytes)) [
-  | inl long ↦ let never : PackageTooLong ≡ Done = rw long at done in cc
-  | inr short ↦ (not_long bytes short, rw short refl)
-]
 
 -- ---- the laws
 
@@ -85,13 +48,16 @@ typed_for : (mode : Mode) (w : World) → TypedWorld w → TypedFor mode w
 typed_for Included w typed = tt
 typed_for Excluded w typed = typed
 
-module _ (again : (p : Package) → IsTyped p → Valid p → length (spelling p) ≤ 67108864 → reading (spelling p) ≡ Ok p) (valid : ValidPackageLaw) (typed : TypedPackageLaw) (valid_tables : WorldTablesLaw) (replay : ReplayLaw) (logs : PickedLogLaw) (sound : SoundLaw) (own_sound : RecordedSoundLaw) where
+module _ (again : (version : Version) (p : Package) → IsTyped p → Valid p → IsCounted version p → reading (spelling_as version p) ≡ Ok p)
+    (counted : (version : Version) (p : Package) → length (spelling_as version p) ≤ input_limit → IsCounted version p)
+    (valid : ValidPackageLaw) (typed : TypedPackageLaw) (valid_tables : WorldTablesLaw) (replay : ReplayLaw) (logs : PickedLogLaw) (sound : SoundLaw) (own_sound : RecordedSoundLaw) where
   read_back : (mode : Mode) (n : ℕ) (w : World) → ValidWorld w → n ≤ max_steps → ends_within n w ≡ true
       → length (spelling (package_of mode n w)) ≤ input_limit
       → reading (spelling (package_of mode n w)) ≡ Ok (package_of mode n w)
   read_back mode n w valid_world bounded ended short =
-      again (package_of mode n w) (typed mode n w valid_world bounded ended)
-      (valid mode n w valid_world.ruled (valid_tables w valid_world) (typed_for mode w valid_world.typed) bounded ended) short
+      again Two (package_of mode n w) (typed mode n w valid_world bounded ended)
+      (valid mode n w valid_world.ruled (valid_tables w valid_world) (typed_for mode w valid_world.typed) bounded ended)
+      (counted Two (package_of mode n w) short)
 
   -- over the needed rows
   own_due : (n budget : ℕ) (w : World) → ends_within n w ≡ true → tables_test w.tables ≡ true → steps_by n [] w ≤ budget
@@ -140,26 +106,21 @@ module _ (again : (p : Package) → IsTyped p → Valid p → length (spelling p
       → length (spelling (package_of Included n w)) ≤ input_limit
       → steps_by n [] w ≤ budget
       → bytes ≡ spelling (package_of Included n w)
-      → due_audit budget bytes ≡ done (verdict_text Sound)
+      → due_audit budget bytes ≡ done (codes "sound\n")
   sound_due n budget w bytes valid_world bounded ended short enough is =
       let p : Package = package_of Included n w in
       let script = ended_starts n [] w ended in
       let own : IsOwn budget p = own_sound n budget w script.0 script.1 (valid_tables w valid_world) ended enough in
-      let outcome = ended_outcome budget (own_world p) own.ends in
-      let verdict : verdict_on (spelling p) (own_spelling budget p) ≡ Sound = (sound (spelling p) (own_spelling budget p)).1 (sym own.due) in
-      let within : length (own_spelling budget p) ≤ input_limit = subst (λ (due : List ℕ). length due ≤ input_limit) (sym own.due) short in
-      ap (due_audit budget) is
-      ∙ rw (not_too_long (spelling p) short)
-      (ap (due_of_reading (audited_package budget (spelling p))) (read_back Included n w valid_world bounded ended short)
-      ∙ ap (due_outcome budget (verdict_due (spelling p) (own_spelling budget p))) outcome.1
-      ∙ rw (not_too_long (own_spelling budget p) within) (ap (λ (v : Verdict). done (verdict_text v)) verdict))
+      let short_bytes : length bytes ≤ input_limit = subst (λ (l : List ℕ). length l ≤ input_limit) (sym is) short in
+      sound_from budget Two bytes p short_bytes (ap reading is ∙ read_back Included n w valid_world bounded ended short) refl
+      (ap version_of is ∙ version_spelled Two p) sound own.ends (is ∙ sym (ap spelling own.same))
 
   -- the same by the mode, which is that one
   mode_sound : (mode : Mode) (n budget : ℕ) (w : World) (bytes : List ℕ) → mode ≡ Included → ValidWorld w → n ≤ max_steps → ends_within n w ≡ true
       → length (spelling (package_of mode n w)) ≤ input_limit
       → steps_by n [] w ≤ budget
       → bytes ≡ spelling (package_of mode n w)
-      → due_audit budget bytes ≡ done (verdict_text Sound)
+      → due_audit budget bytes ≡ done (codes "sound\n")
   mode_sound Included n budget w bytes included = sound_due n budget w bytes
   mode_sound Excluded n budget w bytes included = absurd cc
 

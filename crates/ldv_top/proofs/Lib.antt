@@ -1,9 +1,13 @@
 pub mod AuditResponses
+pub mod BareLaws
 pub mod GenerateLaws
 pub mod HeadlineLaw
 pub mod LogResponses
+pub mod MigrationLaws
 pub mod RecordLaws
+pub mod ReportLaws
 pub mod ResponseLaws
+pub mod SoundLaws
 pub mod TopLaws
 pub mod Traces
 pub mod WordLaws

@@ -1,6 +1,6 @@
 -- What recording a world comes to.
-use Rattle.std.proofs.Common.{◌≡◌, ℕ, ◌≤◌, ◌<◌, List, [], length, refl, sym, ap, ◌∙◌, true, false, arith, inl, inr}
-use Rattle.std.specs.Prelude.{Some, None, if◌then◌else◌, Result, Ok, Err, OnOk}
+use Rattle.std.proofs.Common.{◌≡◌, ℕ, ◌≤◌, ◌<◌, List, length, refl, sym, ap, ◌∙◌, true, false, arith, inl, inr}
+use Rattle.std.specs.Prelude.{Some, None, Result, Ok, Err, OnOk}
 use Rattle.std.proofs.lemmas.Bool.{cases_Bool}
 use Rattle.std.proofs.lemmas.Bool.Decides.{nat_tests}
 use Rattle.ldv_value.specs.Limits.{input_limit}
@@ -13,8 +13,8 @@ use Rattle.package_layout.specs.Whole.{spelling}
 use Rattle.replay_db.specs.Runs.{package_within}
 use Rattle.replay_db.proofs.BudgetLaw.{ended_outcome, going_outcome}
 use Rattle.replay_db.proofs.RecordedRuns.{package_is, package_none}
-use Rattle.ldv_top.specs.declared.exit.Exit.TheVariants.{NotEnded, PackageTooLong}
-use Rattle.ldv_top.specs.Due.{refused, done, due_outcome, is_too_long, due_spelling, package_due, recorded_world}
+use Rattle.ldv_top.specs.declared.exit.Exit.TheVariants.{Done, NotEnded, PackageTooLong}
+use Rattle.ldv_top.specs.Due.{Due, refused, done, due_outcome, is_too_long, due_spelling, package_due, recorded_world}
 
 -- ---- the limit of a spelling
 
@@ -31,6 +31,19 @@ pub spelled_long : (bytes : List ℕ) → input_limit < length bytes → due_spe
 spelled_long bytes long = rw (too_long bytes long) refl
 
 pub ruleset spelling_ends = (spelled_whole, spelled_long)
+
+pub not_long : (bytes : List ℕ) → is_too_long bytes ≡ false → length bytes ≤ input_limit
+not_long bytes is = grind (arith, nat_tests)
+
+-- bytes that are due are the spelling, within the limit
+abbrev pub Spelled : Due → List ℕ → Type 0
+Spelled due bytes = (length bytes ≤ input_limit) × (due.bytes ≡ bytes)
+
+pub spelling_done : (bytes : List ℕ) → (due_spelling bytes).exit ≡ Done → Spelled (due_spelling bytes) bytes
+spelling_done bytes done = elim (cases_Bool (is_too_long bytes)) [
+  | inl long ↦ let never : PackageTooLong ≡ Done = rw long at done in cc
+  | inr short ↦ (not_long bytes short, rw short refl)
+]
 
 -- ---- the package of a run
 

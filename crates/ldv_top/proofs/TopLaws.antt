@@ -8,11 +8,16 @@ use Rattle.run_model.specs.declared.world.World.{World}
 use Rattle.run_model.specs.WorldRun.{steps_by}
 use Rattle.ldv_top.specs.Comes.{Comes, IsQuiet}
 use Rattle.ldv_top.specs.Due.{Due, due_of, due_record, due_replay, due_world, is_too_long}
+use Rattle.ldv_top.specs.DueOfMigrations.{due_migrate}
+use Rattle.ldv_top.specs.DueOfReports.{due_inspect}
 use Rattle.ldv_top.specs.Ends.{Ends, Responds}
 use Rattle.ldv_top.specs.Headline.{IsPackageOf, Recorded}
+use Rattle.ldv_top.specs.Migrated.{Migrated}
+use Rattle.ldv_top.specs.Reported.{Depends}
 use Rattle.ldv_top.specs.Words.{command_of, reads}
 use Rattle.ldv_top.specs.declared.command.Command.{Command}
-use Rattle.ldv_top.specs.declared.command.Command.TheVariants.{Run, Record, Replay, Audit, Table, Inspect, Generate}
+use Rattle.ldv_top.specs.declared.command.Command.TheVariants.{Run, Record, Replay, Audit, Table, Inspect, Generate, Migrate}
+use Rattle.ldv_top.specs.declared.command.Report.TheVariants.{Depends as DependsOn}
 use Rattle.ldv_top.specs.declared.exit.Exit.{Exit}
 use Rattle.ldv_top.specs.declared.exit.Exit.TheVariants.{Done, Usage, ReadFault, WriteFault, TooLong, NotWorld, NotEnded, Damaged, Diverged, NoSuch, NoMemory, PackageTooLong}
 
@@ -48,6 +53,7 @@ due_unread (Audit budget) unread given input = let never : true ≡ false = unre
 due_unread (Table name step budget) unread given input = let never : true ≡ false = unread in cc
 due_unread (Inspect report) unread given input = let never : true ≡ false = unread in cc
 due_unread (Generate orders) unread given input = refl
+due_unread Migrate unread given input = let never : true ≡ false = unread in cc
 
 -- an input that is too long is due to be refused, whichever command reads it
 pub too_long_due : (command : Command) → reads (Some command) ≡ true → (input : List ℕ) → is_too_long input ≡ true
@@ -59,6 +65,7 @@ too_long_due (Audit budget) reading input long = rw long refl
 too_long_due (Table name step budget) reading input long = rw long refl
 too_long_due (Inspect report) reading input long = rw long refl
 too_long_due (Generate orders) reading input long = let never : false ≡ true = reading in cc
+too_long_due Migrate reading input long = rw long refl
 
 -- what a source has is longer than a limit
 pub longer : (left : Option (List ℕ)) (limit : ℕ) (input : List ℕ) → left ≡ Some input → IfSome left (λ bytes. limit < length bytes)
@@ -90,6 +97,8 @@ module _ {Reader Writer : Type 0} (left : Reader → Option (List ℕ)) (read_fa
     recorded = λ mode budget document is told done. let never : Usage ≡ Done = done in cc;
     headline = λ mode n budget w input is told packed enough.
         let never : None ≡ Some (Replay budget) = sym none ∙ is in cc;
+    migrated = λ input is told done. let never : Usage ≡ Done = done in cc;
+    depends = λ path input is told done. let never : Usage ≡ Done = done in cc;
   }
 
   -- words that are a command, where memory ran out while they were read
@@ -109,6 +118,8 @@ module _ {Reader Writer : Type 0} (left : Reader → Option (List ℕ)) (read_fa
     complete = λ input is done no_read no_write. inr refl;
     recorded = λ mode budget document is told done. let never : NoMemory ≡ Done = done in cc;
     headline = λ mode n budget w input is told packed enough. tt;
+    migrated = λ input is told done. let never : NoMemory ≡ Done = done in cc;
+    depends = λ path input is told done. let never : NoMemory ≡ Done = done in cc;
   }
 
   -- a command that reads nothing
@@ -136,6 +147,8 @@ module _ {Reader Writer : Type 0} (left : Reader → Option (List ℕ)) (read_fa
             let never : false ≡ true = sym none_read ∙ ap reads named in cc;
         headline = λ mode n budget w input named told packed enough.
             let never : false ≡ true = sym none_read ∙ ap reads named in cc;
+        migrated = λ input named told done. let never : false ≡ true = sym none_read ∙ ap reads named in cc;
+        depends = λ path input named told done. let never : false ≡ true = sym none_read ∙ ap reads named in cc;
       }
 
   -- a command that reads its input, of which the parts are known
@@ -147,11 +160,15 @@ module _ {Reader Writer : Type 0} (left : Reader → Option (List ℕ)) (read_fa
       (recorded : (mode : Mode) (budget : ℕ) (document : List ℕ) → command ≡ Record mode budget
       → left source ≡ Some document → exit ≡ Done
       → Recorded mode budget document (due_record mode budget document).bytes)
+      (migrated : (input : List ℕ) → command ≡ Migrate → left source ≡ Some input → exit ≡ Done
+      → Migrated input (due_migrate input).bytes)
       (unwritten : IsQuiet exit → sink_after ≡ sink)
       (at_end : exit ≡ Done → IsAtEnd (left source_after))
       (not_usage : exit ≢ Usage)
       (replayed : (mode : Mode) (n budget : ℕ) (w : World) (input : List ℕ) → IsPackageOf mode n w input
-      → steps_by n [] w ≤ budget → due_replay budget input ≡ due_world n w) where
+      → steps_by n [] w ≤ budget → due_replay budget input ≡ due_world n w)
+      (reported : (path input : List ℕ) → (due_inspect (DependsOn path) input).exit ≡ Done
+      → Depends path input (due_inspect (DependsOn path) input).bytes) where
     reads_input : reads (command_of words) ≡ true
     reads_input = ap reads is ∙ reading
 
@@ -178,4 +195,12 @@ module _ {Reader Writer : Type 0} (left : Reader → Option (List ℕ)) (read_fa
           subst (λ (d : Due). Comes d exit (taken sink) (taken sink_after))
           (ap (λ (k : Command). due_of (Some k) input) (some_same same) ∙ replayed mode n budget w input packed enough)
           (due input told);
+      migrated = λ input named told done.
+          let same : Some command ≡ Some Migrate = sym is ∙ named in
+          migrated input (some_same same) told done;
+      depends = λ path input named told done.
+          let same : Some command ≡ Some (Inspect (DependsOn path)) = sym is ∙ named in
+          let comes : Comes (due_of (Some command) input) Done (taken sink) (taken sink_after) =
+          subst (λ (e : Exit). Comes (due_of (Some command) input) e (taken sink) (taken sink_after)) done (due input told) in
+          reported path input (sym (ap (λ (k : Command). (due_of (Some k) input).exit) (some_same same)) ∙ comes.0);
     }

@@ -18,15 +18,16 @@ use Rattle.ldv_top.specs.declared.response.Response.{Response}
 use Rattle.ldv_top.specs.declared.response.Response.TheVariants as responses
 use Rattle.ldv_top.specs.declared.command.Command.{Command}
 use Rattle.ldv_top.specs.declared.command.Command.TheVariants.{Run, Record, Replay, Audit, Table, Inspect}
-use Rattle.ldv_top.specs.declared.command.Command.TheVariants.{Generate}
+use Rattle.ldv_top.specs.declared.command.Command.TheVariants.{Generate, Migrate}
 use Rattle.ldv_top.specs.declared.exit.Exit.TheVariants.{Usage, TooLong, NotWorld, NotEnded, Damaged}
 use Rattle.ldv_top.specs.declared.exit.Exit.TheVariants.{Diverged, NoSuch, PackageTooLong}
 use Rattle.ldv_top.specs.DueOfAudits.{due_audit}
 use Rattle.ldv_top.specs.DueOfGenerate.{due_generate}
+use Rattle.ldv_top.specs.DueOfMigrations.{due_migrate}
 use Rattle.ldv_top.specs.DueOfReports.{due_inspect}
 use Rattle.ldv_top.specs.DueOfTables.{due_table}
 use Rattle.ldv_top.specs.Words.{command_of}
-pub use Rattle.ldv_top.specs.DueParts.{Due, refused, done, due_outcome, due_of_run, is_too_long}
+pub use Rattle.ldv_top.specs.DueParts.{Due, refused, done, due_outcome, due_of_run, due_spelling, is_too_long}
 
 -- ---- run: the outcome
 
@@ -44,9 +45,6 @@ abbrev pub due_run : ℕ → List ℕ → Due
 due_run budget input = if is_too_long input then refused TooLong else due_reading budget (world_reading input)
 
 -- ---- record: the package of the run
-
-abbrev pub due_spelling : List ℕ → Due
-due_spelling bytes = if is_too_long bytes then refused PackageTooLong else done bytes
 
 abbrev pub package_due : Mode → ℕ → World → Outcome → Due
 package_due mode budget w outcome = due_spelling (spelling (package_of mode budget w))
@@ -100,6 +98,7 @@ due_of (Some (Audit budget)) input = due_audit budget input
 due_of (Some (Table name step budget)) input = due_table name step budget input
 due_of (Some (Inspect report)) input = due_inspect report input
 due_of (Some (Generate orders)) input = due_generate orders
+due_of (Some Migrate) input = due_migrate input
 
 abbrev pub due : List (List ℕ) → List ℕ → Due
 due words input = due_of (command_of words) input

@@ -1,5 +1,5 @@
--- What is due for `audit`: whether the input is the included package of its own world's run.
-use Rattle.std.specs.Prelude.{ℕ, List, ◌++◌, codes, if◌then◌else◌}
+-- What is due for `audit`: whether the input is the included package of its own world's run, in its own version.
+use Rattle.std.specs.Prelude.{ℕ, List, ◌++◌, codes, if◌then◌else◌, Option, Some, None}
 use Rattle.std.specs.Fmt.{decimal}
 use Rattle.run_model.specs.declared.outcome.Outcome.{Outcome}
 use Rattle.run_model.specs.declared.package.Mode.{Mode}
@@ -7,10 +7,13 @@ use Rattle.run_model.specs.declared.package.Mode.TheVariants.{Included, Excluded
 use Rattle.run_model.specs.declared.package.Package.{Package}
 use Rattle.run_model.specs.OutcomeText.{line}
 use Rattle.run_model.specs.Package.{own_world}
+use Rattle.package_layout.specs.Version.{version_of}
+use Rattle.package_layout.specs.declared.version.Version.{Version}
+use Rattle.package_layout.specs.declared.damage.DamageKind.TheVariants.{Magic}
 use Rattle.replay_db.specs.Auditing.{verdict_on, own_spelling}
 use Rattle.replay_db.specs.declared.soundness.Verdict.{Verdict}
 use Rattle.replay_db.specs.declared.soundness.Verdict.TheVariants.{Sound, Unsound}
-use Rattle.ldv_top.specs.declared.exit.Exit.TheVariants.{NoSuch, PackageTooLong}
+use Rattle.ldv_top.specs.declared.exit.Exit.TheVariants.{Damaged, NoSuch, PackageTooLong}
 use Rattle.ldv_top.specs.DueParts.{Due, refused, done, due_of_run, due_of_package, is_too_long}
 
 -- `sound`, or `unsound` and the first place at which the bytes differ
@@ -23,8 +26,17 @@ abbrev pub verdict_due : List ℕ → List ℕ → Outcome → Due
 verdict_due input due outcome =
     if is_too_long due then refused PackageTooLong else done (verdict_text (verdict_on input due))
 
+abbrev pub audit_as : Version → ℕ → List ℕ → Package → Due
+audit_as version budget input p =
+    due_of_run budget (own_world p) (verdict_due input (own_spelling budget version p))
+
+-- what has no version isn't a package
+abbrev pub audit_by_version : Option Version → ℕ → List ℕ → Package → Due
+audit_by_version (Some version) budget input p = audit_as version budget input p
+audit_by_version None budget input p = refused (Damaged Magic)
+
 abbrev pub included_audit : ℕ → List ℕ → Package → Due
-included_audit budget input p = due_of_run budget (own_world p) (verdict_due input (own_spelling budget p))
+included_audit budget input p = audit_by_version (version_of input) budget input p
 
 abbrev pub audit_by_mode : Mode → ℕ → List ℕ → Package → Due
 audit_by_mode Included budget input p = included_audit budget input p

@@ -9,7 +9,7 @@ use Rattle.run_model.specs.WorldRun.{outcome_within}
 use Rattle.package_layout.specs.declared.damage.DamageKind.{DamageKind}
 use Rattle.package_layout.specs.Valid.{reading}
 use Rattle.ldv_top.specs.declared.exit.Exit.{Exit}
-use Rattle.ldv_top.specs.declared.exit.Exit.TheVariants.{Done, TooLong, NotEnded, Damaged}
+use Rattle.ldv_top.specs.declared.exit.Exit.TheVariants.{Done, TooLong, NotEnded, Damaged, PackageTooLong}
 
 pub record Due : Type 0 where
   pub exit : Exit
@@ -31,10 +31,15 @@ due_outcome budget written (Some outcome) = written outcome
 abbrev pub due_of_run : ℕ → World → (Outcome → Due) → Due
 due_of_run budget w written = due_outcome budget written (outcome_within budget w)
 
--- ---- an input
+-- ---- a package to be spelled
 
 abbrev pub is_too_long : List ℕ → Bool
 is_too_long bytes = nat_lt input_limit (length bytes)
+
+abbrev pub due_spelling : List ℕ → Due
+due_spelling bytes = if is_too_long bytes then refused PackageTooLong else done bytes
+
+-- ---- an input
 
 abbrev pub due_of_reading : (Package → Due) → Result Package DamageKind → Due
 due_of_reading due_of_package (Ok p) = due_of_package p

@@ -9,11 +9,16 @@ use Rattle.run_model.specs.declared.package.Mode.{Mode}
 use Rattle.run_model.specs.declared.world.World.{World}
 use Rattle.run_model.specs.WorldRun.{steps_by}
 use Rattle.ldv_top.specs.Comes.{IsInput, Comes, IsQuiet}
-use Rattle.ldv_top.specs.declared.command.Command.TheVariants.{Record, Replay}
+use Rattle.ldv_top.specs.declared.command.Command.TheVariants.{Record, Replay, Inspect, Migrate}
+use Rattle.ldv_top.specs.declared.command.Report.TheVariants.{Depends as DependsOn}
 use Rattle.ldv_top.specs.declared.exit.Exit.{Exit}
 use Rattle.ldv_top.specs.declared.exit.Exit.TheVariants.{Done, Usage, ReadFault, WriteFault, NoMemory}
 use Rattle.ldv_top.specs.Due.{Due, due_of, due_record, due_world}
+use Rattle.ldv_top.specs.DueOfMigrations.{due_migrate}
+use Rattle.ldv_top.specs.DueOfReports.{due_inspect}
 use Rattle.ldv_top.specs.Headline.{IsPackageOf, Recorded}
+use Rattle.ldv_top.specs.Migrated.{Migrated}
+use Rattle.ldv_top.specs.Reported.{Depends}
 use Rattle.ldv_top.specs.Words.{command_of, reads}
 
 -- What comes of a response that is due, in a sink before and after it is written.
@@ -62,3 +67,9 @@ pub record Ends {Reader Writer : Type 0}
   pub headline : (mode : Mode) (n budget : ℕ) (w : World) (input : List ℕ)
       → command_of words ≡ Some (Replay budget) → left source ≡ Some input → IsPackageOf mode n w input
       → steps_by n [] w ≤ budget → Comes (due_world n w) exit (taken sink) (taken sink_after)
+  -- what was migrated is the same package in the version that is written
+  pub migrated : (input : List ℕ) → command_of words ≡ Some Migrate → left source ≡ Some input → exit ≡ Done
+      → Migrated input (due_migrate input).bytes
+  -- what a path depends on are the nodes from which a path of the graph leads to it, and no others
+  pub depends : (path input : List ℕ) → command_of words ≡ Some (Inspect (DependsOn path))
+      → left source ≡ Some input → exit ≡ Done → Depends path input (due_inspect (DependsOn path) input).bytes

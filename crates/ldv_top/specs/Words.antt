@@ -4,8 +4,9 @@ use Rattle.std.specs.Prelude.{Option, Some, None, option_map}
 use Rattle.ldv_value.specs.Limits.{max_steps, default_steps}
 use Rattle.ldv_top.specs.declared.command.Command.{Command}
 use Rattle.ldv_top.specs.declared.command.Command.TheVariants.{Run, Record, Replay, Audit, Table, Inspect}
-use Rattle.ldv_top.specs.declared.command.Command.TheVariants.{Generate}
+use Rattle.ldv_top.specs.declared.command.Command.TheVariants.{Generate, Migrate}
 use Rattle.ldv_top.specs.WordsOfGenerate.{generate_of}
+use Rattle.ldv_top.specs.WordsOfMigrations.{migrate_of}
 use Rattle.ldv_top.specs.WordsOfReports.{report_of}
 use Rattle.ldv_top.specs.WordsOfRuns.{run_of}
 use Rattle.ldv_top.specs.WordsOfTables.{table_of}
@@ -19,7 +20,8 @@ command_of [] = None
 command_of (word ∷ words) =
     if bytes_eq word (codes "table") then table_of words
     else (if bytes_eq word (codes "inspect") then inspect_of words
-    else (if bytes_eq word (codes "gen") then generate_of words else run_of word words))
+    else (if bytes_eq word (codes "gen") then generate_of words
+    else (if bytes_eq word (codes "migrate") then migrate_of words else run_of word words)))
 
 -- whether the command reads its input
 abbrev pub reads : Option Command → Bool
@@ -31,8 +33,9 @@ reads (Some (Audit budget)) = true
 reads (Some (Table name step budget)) = true
 reads (Some (Inspect report)) = true
 reads (Some (Generate orders)) = false
+reads (Some Migrate) = true
 
--- the steps that a run of the command may take; `inspect` makes no run
+-- the steps that a run of the command may take; `inspect` and `migrate` make no run
 abbrev pub budget_of : Command → ℕ
 budget_of (Run budget) = budget
 budget_of (Record mode budget) = budget
@@ -41,6 +44,7 @@ budget_of (Audit budget) = budget
 budget_of (Table name step budget) = budget
 budget_of (Inspect report) = 0
 budget_of (Generate orders) = default_steps
+budget_of Migrate = 0
 
 -- the words give a budget that a run can have
 abbrev pub IsBounded : Command → Type 0

@@ -1,7 +1,8 @@
 //! `audit`: from a package to what is found of it.
 
-ghost use Rattle.std.specs.Prelude.{◌≡◌, ◌≤◌, length, IfOk};
+ghost use Rattle.std.specs.Prelude.{◌≡◌, ◌≤◌, length, IfOk, IsSome};
 ghost use Rattle.ldv_value.specs.Limits.{input_limit, max_steps};
+ghost use Rattle.package_layout.specs.Version.{version_of};
 ghost use Rattle.run_model.specs.Package.{own_world};
 ghost use Rattle.replay_db.specs.Runs.{CanRun};
 ghost use Rattle.replay_db.specs.declared.soundness.Verdict.TheVariants.{Unsound};
@@ -10,12 +11,13 @@ ghost use Rattle.ldv_top.specs.DueOfAudits.{audited_package, due_audit, included
 
 use crate::response::Response;
 use ldv_value::{Bytes, append_number};
-use package_layout::{PackageStop, read_package};
+use package_layout::{PackageStop, read_runs};
 use replay_db::{AuditStop, Verdict, audit, package_law};
 use run_model::{Mode, Package};
 use std::alloc::{AllocError, Global};
 
-/// The response of `audit` to an input.
+/// The response of `audit` to an input. The trace isn't looked at but by its bytes, and no list of its events is
+/// made.
 pub(crate) fn audit_response(
     alloc: Global,
     budget: u32,
@@ -25,9 +27,17 @@ pub(crate) fn audit_response(
     requires bounded { budget ≤ max_steps }
     ensures { IfOk result (λ response. response_due response ≡ due_audit budget input.now) }
 {
+    bytes_response(alloc, budget, input.as_slice())
+}
+
+fn bytes_response(alloc: Global, budget: u32, input: &[u8]) -> Result<Response, AllocError>
+    requires short { length input.now ≤ input_limit }
+    requires bounded { budget ≤ max_steps }
+    ensures { IfOk result (λ response. response_due response ≡ due_audit budget input.now) }
+{
     package_law();
-    match read_package(alloc, input.as_slice()) {
-        Ok(package) => audited_response(alloc, budget, input.as_slice(), &package),
+    match read_runs(alloc, input) {
+        Ok(package) => audited_response(alloc, budget, input, &package.bare),
         Err(PackageStop::Damaged(kind)) => Ok(Response::Damaged(kind)),
         Err(PackageStop::NoMemory) => Err(AllocError),
     }
@@ -41,6 +51,7 @@ fn audited_response(
 ) -> Result<Response, AllocError>
     requires can_run { CanRun (own_world «package».now) }
     requires bounded { budget ≤ max_steps }
+    requires versioned { IsSome (version_of input.now) }
     ensures { IfOk result (λ response. response_due response
         ≡ audited_package budget input.now «package».now) }
 {
@@ -50,7 +61,7 @@ fn audited_response(
     }
 }
 
-#[tactic(auto, using(crate::proofs::AuditResponses::audit_ends))]
+#[tactic(auto, using(crate::proofs::AuditResponses::audit_done))]
 fn included_response(
     alloc: Global,
     budget: u32,
@@ -59,6 +70,7 @@ fn included_response(
 ) -> Result<Response, AllocError>
     requires can_run { CanRun (own_world «package».now) }
     requires bounded { budget ≤ max_steps }
+    requires versioned { IsSome (version_of input.now) }
     ensures { IfOk result (λ response. response_due response
         ≡ included_audit budget input.now «package».now) }
 {

@@ -9,6 +9,7 @@ ghost use Rattle.ldv_top.specs.WordsOfRuns.{budget_in, command_flagged, command_
 
 use crate::generating::generate_of;
 use crate::inspecting::report_of;
+use crate::migrating::migrate_of;
 use crate::numbers::positive_within;
 use crate::tabling::table_of;
 use crate::word_stop::WordStop;
@@ -48,6 +49,9 @@ pub enum Command {
     Inspect { report: Report },
     /// `gen`: nothing is read, and the output sums up the record and the replay of a world of so many orders.
     Generate { orders: u32 },
+    /// `migrate`: the input is a package of either version, the output the same package in the version that is
+    /// written.
+    Migrate,
 }
 
 /// The command that the words are. `Usage` exactly where they are none.
@@ -72,6 +76,8 @@ fn command_of(alloc: Global, word: &str, others: &[String]) -> Result<Command, W
         inspect_of(alloc, others)
     } else if word == "gen" {
         known(generate_of(others))
+    } else if word == "migrate" {
+        known(migrate_of(others))
     } else {
         known(run_of(word, others))
     }

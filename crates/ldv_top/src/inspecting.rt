@@ -5,23 +5,21 @@ ghost use Rattle.std.specs.Prelude.{option_map, string_bytes, IfOk};
 ghost use Rattle.ldv_value.specs.Gives.{Gives};
 ghost use Rattle.ldv_value.specs.Limits.{input_limit};
 ghost use Rattle.inspect.specs.Stopping.{Stops as StopsReport};
-ghost use Rattle.run_model.specs.ValidTrace.{IsTrace};
 ghost use Rattle.ldv_top.specs.Due.{response_due};
-ghost use Rattle.ldv_top.specs.DueOfReports.{due_inspect, item_due, report_due};
+ghost use Rattle.ldv_top.specs.DueOfReports.{due_inspect, item_due};
 ghost use Rattle.ldv_top.specs.WordNumbers.{number_within};
 ghost use Rattle.ldv_top.specs.WordStops.{Stops};
 ghost use Rattle.ldv_top.specs.WordsOfReports.{depends_named, report_named, report_of, why_named};
-ghost use Rattle.ldv_top.specs.declared.command.Report.TheVariants.{Depends, Why};
+ghost use Rattle.ldv_top.specs.declared.command.Report.TheVariants.{Depends, Files, Rows, Trace, Why};
 
 use crate::command::Report;
 use crate::numbers::number_within;
-use crate::reading::read_input;
+use crate::reading::{read_input, read_runs_of};
 use crate::response::Response;
 use crate::word_stop::WordStop;
 use inspect::{InspectStop, depends_text, files_text, rows_text, trace_text, why_text};
 use ldv_value::{Bytes, Utf8, is_path};
 use package_layout::PackageStop;
-use run_model::Package;
 use sql_model::is_sql_name;
 use std::alloc::{AllocError, Global};
 
@@ -111,8 +109,7 @@ fn why_row(alloc: Global, table: &str, row: u32) -> Result<Report, WordStop>
     }
 }
 
-/// The response of `inspect` to an input.
-#[tactic(auto, using(crate::proofs::Traces::valid_trace))]
+/// The response of `inspect` to an input. Only a report that is about events makes the list of them.
 pub(crate) fn inspect_response(
     alloc: Global,
     report: &Report,
@@ -121,29 +118,70 @@ pub(crate) fn inspect_response(
     requires short { length input ≤ input_limit }
     ensures { IfOk result (λ response. response_due response ≡ due_inspect report.now input) }
 {
-    match read_input(alloc, input) {
-        Ok(package) => report_response(alloc, report, &package),
+    match report {
+        Report::Rows => rows_response(alloc, input),
+        Report::Files => files_response(alloc, input),
+        Report::Trace => trace_response(alloc, input),
+        Report::Why { table, row } => why_response(alloc, table.as_str(), *row, input),
+        Report::Depends { path } => depends_response(alloc, path.as_str(), input),
+    }
+}
+
+fn rows_response(alloc: Global, input: Bytes) -> Result<Response, AllocError>
+    requires short { length input ≤ input_limit }
+    ensures { IfOk result (λ response. response_due response ≡ due_inspect Rows input) }
+{
+    match read_runs_of(alloc, input) {
+        Ok(package) => Ok(Response::Written(rows_text(alloc, &package.bare)?)),
         Err(PackageStop::Damaged(kind)) => Ok(Response::Damaged(kind)),
         Err(PackageStop::NoMemory) => Err(AllocError),
     }
 }
 
-fn report_response(
-    alloc: Global,
-    report: &Report,
-    package: &Package,
-) -> Result<Response, AllocError>
-    requires { IsTrace «package».now.events }
-    ensures { IfOk result (λ response. response_due response ≡ report_due report.now «package».now) }
+fn files_response(alloc: Global, input: Bytes) -> Result<Response, AllocError>
+    requires short { length input ≤ input_limit }
+    ensures { IfOk result (λ response. response_due response ≡ due_inspect Files input) }
 {
-    match report {
-        Report::Rows => Ok(Response::Written(rows_text(alloc, package)?)),
-        Report::Files => Ok(Response::Written(files_text(alloc, package)?)),
-        Report::Trace => Ok(Response::Written(trace_text(alloc, package)?)),
-        Report::Why { table, row } => {
-            item_response(why_text(alloc, package, table.as_str(), *row))
-        }
-        Report::Depends { path } => { item_response(depends_text(alloc, package, path.as_str())) }
+    match read_runs_of(alloc, input) {
+        Ok(package) => Ok(Response::Written(files_text(alloc, &package.bare)?)),
+        Err(PackageStop::Damaged(kind)) => Ok(Response::Damaged(kind)),
+        Err(PackageStop::NoMemory) => Err(AllocError),
+    }
+}
+
+#[tactic(auto, using(crate::proofs::Traces::valid_trace))]
+fn trace_response(alloc: Global, input: Bytes) -> Result<Response, AllocError>
+    requires short { length input ≤ input_limit }
+    ensures { IfOk result (λ response. response_due response ≡ due_inspect Trace input) }
+{
+    match read_input(alloc, input) {
+        Ok(package) => Ok(Response::Written(trace_text(alloc, &package)?)),
+        Err(PackageStop::Damaged(kind)) => Ok(Response::Damaged(kind)),
+        Err(PackageStop::NoMemory) => Err(AllocError),
+    }
+}
+
+#[tactic(auto, using(crate::proofs::Traces::valid_trace))]
+fn why_response(alloc: Global, table: &str, row: u32, input: Bytes) -> Result<Response, AllocError>
+    requires short { length input ≤ input_limit }
+    ensures { IfOk result (λ response. response_due response ≡ due_inspect (Why table.now row) input) }
+{
+    match read_input(alloc, input) {
+        Ok(package) => item_response(why_text(alloc, &package, table, row)),
+        Err(PackageStop::Damaged(kind)) => Ok(Response::Damaged(kind)),
+        Err(PackageStop::NoMemory) => Err(AllocError),
+    }
+}
+
+#[tactic(auto, using(crate::proofs::Traces::valid_trace))]
+fn depends_response(alloc: Global, path: &str, input: Bytes) -> Result<Response, AllocError>
+    requires short { length input ≤ input_limit }
+    ensures { IfOk result (λ response. response_due response ≡ due_inspect (Depends path.now) input) }
+{
+    match read_input(alloc, input) {
+        Ok(package) => item_response(depends_text(alloc, &package, path)),
+        Err(PackageStop::Damaged(kind)) => Ok(Response::Damaged(kind)),
+        Err(PackageStop::NoMemory) => Err(AllocError),
     }
 }
 

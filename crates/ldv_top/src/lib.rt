@@ -3,8 +3,8 @@
 //! The commands `run`, `record` and `replay` run every script within a budget of steps, by the calls of
 //! `replay_db` and, for a package that holds the recorded replies in place of the needed rows, of
 //! `replay_log`. `audit` says whether a package is that of its own world's run, `table` shows a table after a
-//! step of such a run, `inspect` reports on a package, by the calls of `inspect`, and `gen` sums up the record
-//! and the replay of a world that it makes.
+//! step of such a run, `inspect` reports on a package, by the calls of `inspect`, `gen` sums up the record
+//! and the replay of a world that it makes, and `migrate` writes a package of either version in the second one.
 //!
 //! It promises, in the clauses of `ldv`:
 //! - the exit and the bytes are those that are due for the words and the input (`specs/Due.antt`); only a
@@ -17,6 +17,10 @@
 //!   over the recorded replies, is run again, and its trace isn't asked;
 //! - a package of recorded replies, whoever made it, is said to diverge exactly where a statement of its run
 //!   isn't the recorded one, by the process and the number of the statement;
+//! - what `migrate` wrote is the same package, so that its replays, tables and reports are the same, and the
+//!   audit of both finds them sound or of neither (`specs/Migrated.antt`);
+//! - what `inspect depends` lists are the nodes of the trace's graph from which a path leads to the path that was
+//!   asked for, in time, and no others (`specs/Reported.antt`);
 //! - bytes that are no package and a package that would be too long are refused, and then nothing is written.
 //!
 //! `ldv_main` says the same of the exit of which it tells the line and gives the status.
@@ -29,10 +33,13 @@ mod generating;
 mod headline;
 mod inspecting;
 mod messages;
+mod migrating;
+mod migration;
 mod numbers;
 mod reading;
 mod record;
 mod replay;
+mod report_law;
 mod response;
 mod tabling;
 mod top;

@@ -1,14 +1,16 @@
 //! From the input to a world or a package.
 
 ghost use Rattle.std.specs.Prelude.{◌≡◌, Ok, IfOk, IfErr};
-ghost use Rattle.package_layout.specs.ReadResult.{ReadsAs};
-ghost use Rattle.package_layout.specs.Valid.{Valid, reading};
+ghost use Rattle.package_layout.specs.ReadResult.{ReadsAs, RunsReadAs};
+ghost use Rattle.package_layout.specs.RunPackages.{whole};
+ghost use Rattle.package_layout.specs.Runs.{IsCut};
+ghost use Rattle.package_layout.specs.Valid.{IsSpelled, Valid, reading};
 ghost use Rattle.package_layout.specs.Whole.{IsTyped};
 ghost use Rattle.run_model.specs.ValidWorld.{CanRun, ValidWorld};
 ghost use Rattle.world_json.specs.Reading.{world_reading, IsFaultOf};
 
 use ldv_value::Bytes;
-use package_layout::{PackageStop, read_package};
+use package_layout::{PackageStop, RunPackage, read_package, read_runs};
 use run_model::{Package, World};
 use std::alloc::Global;
 use world_json::{WorldStop, world_of};
@@ -25,8 +27,26 @@ pub(crate) fn read_document(alloc: Global, input: Bytes) -> Result<World, WorldS
 
 /// The package that the input is. The input isn't kept.
 pub(crate) fn read_input(alloc: Global, input: Bytes) -> Result<Package, PackageStop>
-    ensures found { IfOk result (λ p. IsTyped p × Valid p) }
+    ensures found { IfOk result (λ p. IsTyped p × Valid p × IsSpelled input p) }
     ensures reading { ReadsAs result (reading input) }
 {
     read_package(alloc, input.as_slice())
+}
+
+/// The package without its trace.
+pub(crate) fn bare_of(package: RunPackage) -> Package
+    ensures { result ≡ «package».bare }
+{
+    let RunPackage { bare, runs: _ } = package;
+    bare
+}
+
+/// The package that the input is, with its trace kept as runs: no list of its events is made, which may be far
+/// larger than the input. The input isn't kept.
+pub(crate) fn read_runs_of(alloc: Global, input: Bytes) -> Result<RunPackage, PackageStop>
+    ensures found { IfOk result (λ r. IsTyped (whole r) × Valid (whole r) × IsSpelled input (whole r)) }
+    ensures cut { IfOk result (λ r. IsCut r.runs) }
+    ensures reading { RunsReadAs result (reading input) }
+{
+    read_runs(alloc, input.as_slice())
 }

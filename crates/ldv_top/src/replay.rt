@@ -8,7 +8,7 @@ ghost use Rattle.replay_db.specs.Runs.{CanRun};
 ghost use Rattle.replay_log.specs.Replays.{CanReplay, Replays};
 ghost use Rattle.ldv_top.specs.Due.{response_due, due_world, due_log, replayed_package, due_replay};
 
-use crate::reading::read_input;
+use crate::reading::{bare_of, read_runs_of};
 use crate::response::{Response, ended_response};
 use ldv_value::Bytes;
 use package_layout::PackageStop;
@@ -66,7 +66,7 @@ fn replay_package(alloc: Global, budget: u32, package: Package) -> Result<Respon
     }
 }
 
-/// The response of `replay` to an input.
+/// The response of `replay` to an input. The trace isn't looked at, and no list of its events is made.
 pub(crate) fn replay_response(
     alloc: Global,
     budget: u32,
@@ -77,8 +77,8 @@ pub(crate) fn replay_response(
     ensures { IfOk result (λ response. response_due response ≡ due_replay budget input) }
 {
     can_replay_law();
-    match read_input(alloc, input) {
-        Ok(package) => replay_package(alloc, budget, package),
+    match read_runs_of(alloc, input) {
+        Ok(package) => replay_package(alloc, budget, bare_of(package)),
         Err(PackageStop::Damaged(kind)) => Ok(Response::Damaged(kind)),
         Err(PackageStop::NoMemory) => Err(AllocError),
     }

@@ -15,7 +15,7 @@ ghost use Rattle.ldv_top.specs.declared.command.Command.TheVariants.{Table as Ta
 
 use crate::command::{Command, budget_in};
 use crate::numbers::number_within;
-use crate::reading::read_input;
+use crate::reading::read_runs_of;
 use crate::response::Response;
 use crate::word_stop::WordStop;
 use ldv_value::{Bytes, DEFAULT_STEPS, MAX_STEPS, Utf8};
@@ -105,7 +105,7 @@ fn table_words(alloc: Global, name: &str, step: u32, budget: u32) -> Result<Comm
     }
 }
 
-/// The response of `table` to an input.
+/// The response of `table` to an input. The trace isn't looked at, and no list of its events is made.
 pub(crate) fn table_response(
     alloc: Global,
     name: &str,
@@ -118,8 +118,8 @@ pub(crate) fn table_response(
     ensures { IfOk result (λ response. response_due response ≡ due_table name.now step budget input) }
 {
     package_law();
-    match read_input(alloc, input) {
-        Ok(package) => tabled_response(alloc, name, step, budget, &package),
+    match read_runs_of(alloc, input) {
+        Ok(package) => tabled_response(alloc, name, step, budget, &package.bare),
         Err(PackageStop::Damaged(kind)) => Ok(Response::Damaged(kind)),
         Err(PackageStop::NoMemory) => Err(AllocError),
     }

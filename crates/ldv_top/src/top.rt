@@ -9,6 +9,8 @@ ghost use Rattle.ldv_top.specs.Exits.{status_of, line_of};
 ghost use Rattle.ldv_top.specs.declared.exit.Exit.{Exit};
 ghost use Rattle.ldv_top.specs.Due.{due_of, due_record, done, response_due};
 ghost use Rattle.ldv_top.specs.Ends.{Ends, Responds};
+ghost use Rattle.ldv_top.specs.DueOfMigrations.{due_migrate};
+ghost use Rattle.ldv_top.specs.Migrated.{Migrated};
 ghost use Rattle.ldv_top.specs.Words.{IsBounded, reads};
 ghost use Rattle.ldv_top.specs.Headline.{Recorded};
 ghost use Rattle.ldv_value.specs.Limits.{input_limit};
@@ -21,8 +23,10 @@ use crate::generating::generate_response;
 use crate::headline::headline_law;
 use crate::inspecting::inspect_response;
 use crate::messages::exit_line;
+use crate::migrating::migrate_response;
 use crate::record::record_response;
 use crate::replay::replay_response;
+use crate::report_law::report_law;
 use crate::response::{Response, run_response};
 use crate::tabling::table_response;
 use crate::word_stop::WordStop;
@@ -63,6 +67,9 @@ fn respond(alloc: Global, command: Command, input: Bytes) -> Result<Response, Al
     ensures recorded { (mode : Mode) (budget : ℕ) → command ≡ Command.Record mode budget
         → OnOk result ((due_record mode budget input).exit ≡ Exit.Done
         → Recorded mode budget input (due_record mode budget input).bytes) }
+    ensures migrated { command ≡ Command.Migrate
+        → OnOk result ((due_migrate input).exit ≡ Exit.Done
+        → Migrated input (due_migrate input).bytes) }
 {
     match command {
         Command::Run { budget } => run_response(alloc, budget, input),
@@ -74,6 +81,7 @@ fn respond(alloc: Global, command: Command, input: Bytes) -> Result<Response, Al
         }
         Command::Inspect { report } => inspect_response(alloc, &report, input),
         Command::Generate { orders } => generate_response(alloc, orders),
+        Command::Migrate => migrate_response(alloc, input),
     }
 }
 
@@ -84,6 +92,8 @@ fn respond_and_write<K: Sink>(alloc: Global, command: Command, input: Bytes, sin
     ensures responds { Responds K.taken K.faults (due_of (Some command) input) sink.old sink.new result }
     ensures recorded { (mode : Mode) (budget : ℕ) → command ≡ Command.Record mode budget → result ≡ Exit.Done
         → Recorded mode budget input (due_record mode budget input).bytes }
+    ensures migrated { command ≡ Command.Migrate → result ≡ Exit.Done
+        → Migrated input (due_migrate input).bytes }
 {
     match respond(alloc, command, input) {
         Ok(response) => write_response(sink, response),
@@ -107,6 +117,7 @@ fn reads(command: &Command) -> bool
         } => true,
         Command::Inspect { report: _ } => true,
         Command::Generate { orders: _ } => false,
+        Command::Migrate => true,
     }
 }
 
@@ -137,6 +148,8 @@ fn run_command<S: Source, K: Sink>(
     ensures recorded { (mode : Mode) (budget : ℕ) (document : List ℕ) → command ≡ Command.Record mode budget
         → S.left source.old ≡ Some document → result ≡ Exit.Done
         → Recorded mode budget document (due_record mode budget document).bytes }
+    ensures migrated { (input : List ℕ) → command ≡ Command.Migrate → S.left source.old ≡ Some input
+        → result ≡ Exit.Done → Migrated input (due_migrate input).bytes }
     ensures unwritten { IsQuiet result → sink.new ≡ sink.old }
     ensures all_read { result ≡ Exit.Done → IsAtEnd (S.left source.new) }
     ensures not_usage { result ≢ Exit.Usage }
@@ -164,6 +177,7 @@ pub fn ldv<S: Source, K: Sink>(
         sink.old sink.new result }
 {
     headline_law();
+    report_law();
     match read_words(alloc, words) {
         Ok(command) => {
             if reads(&command) {

@@ -1,8 +1,13 @@
-pub mod Bits
+pub mod BlockLaws
+pub mod BlockOrder
 pub mod Laws
+pub mod Lent
 pub mod Listed
+pub mod ListedBlocks
 pub mod Maps
 pub mod Origins
+pub mod RoomLaws
 pub mod RowLaws
-pub mod Undone
+pub mod Seen
 pub mod Unions
+pub mod VersionLaws

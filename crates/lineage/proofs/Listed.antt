@@ -59,7 +59,7 @@ name_got [] place = refl
 name_got (x ∷ xs) zero = refl
 name_got (x ∷ xs) (suc place) = name_got xs place
 
-then_less : (r s : Ordering) → ordering_then r s ≡ Less → (r ≡ Less) ⊎ ((r ≡ Equal) × (s ≡ Less))
+pub then_less : (r s : Ordering) → ordering_then r s ≡ Less → (r ≡ Less) ⊎ ((r ≡ Equal) × (s ≡ Less))
 then_less Less s h = inl refl
 then_less Equal s h = inr (refl, h)
 then_less Greater s h = cc

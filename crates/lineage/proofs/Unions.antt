@@ -10,7 +10,7 @@ cond_or : (b : Bool) (v : ℕ) (x y : Option ℕ) → cond b (Some v) (option_or
 cond_or true v x y = refl
 cond_or false v x y = refl
 
-find_append : (xs ys : List (Row × ℕ)) (q : Row) → find row_cmp q (xs ++ ys) ≡ option_or (find row_cmp q xs) (find row_cmp q ys)
+pub find_append : (xs ys : List (Row × ℕ)) (q : Row) → find row_cmp q (xs ++ ys) ≡ option_or (find row_cmp q xs) (find row_cmp q ys)
 find_append [] ys q = refl
 find_append (x ∷ xs) ys q =
     ap (cond (eq_by_cmp row_cmp q x.0) (Some x.1)) (find_append xs ys q)
@@ -64,3 +64,13 @@ rows_joined rows more q =
     get-from_entries row_total (rows ++ more) q
     ∙ find_append rows more q
     ∙ (λ j. option_or (sym (get-from_entries row_total rows q) j) (sym (get-from_entries row_total more q) j))
+
+pub row_pushed_to : (rows new : List (Row × ℕ)) (row : Row) (version : ℕ) → new ≡ rows ++ (row, version) ∷ [] → ◌≡◌ {A = Lineage} (from_entries new) (added (from_entries rows) row version)
+row_pushed_to rows new row version is = ap (λ (es : List (Row × ℕ)). from_entries es) is ∙ row_pushed rows row version
+
+pub rows_joined_to : (rows more new : List (Row × ℕ)) → new ≡ rows ++ more → IsUnion (from_entries rows) (from_entries more) (from_entries new)
+rows_joined_to rows more new is q = ap (λ (es : List (Row × ℕ)). version_at (from_entries es) q) is ∙ rows_joined rows more q
+
+-- what is added to no row
+pub union_alone : (none other both : Lineage) → none ≡ empty → IsUnion none other both → both ≡ other
+union_alone none other both is union = union_is none other both union ∙ ap (λ (s : Lineage). union_of s other) is ∙ union_none other

@@ -1,25 +1,31 @@
 //! Rows as bits: blocks of 1,024 words, each for 65,536 rows of one table.
 
-ghost use Rattle.std.specs.Prelude.{◌≡◌, ◌==◌, ◌||◌, ◌&&◌, ◌/◌, ◌%◌, ◌<◌, ◌^◌, ℕ, length, not, true, false};
-ghost use Rattle.std.specs.Prelude.{IsSome, OnOk, IfOk, MatchOption};
-ghost use Rattle.std.specs.Ordering.{eq_by_cmp};
-ghost use Rattle.std.specs.BTreeMap as tree;
+ghost use Rattle.std.specs.Prelude.{◌≡◌, ◌==◌, ◌||◌, ◌&&◌, ◌/◌, ◌<◌, ℕ, length, not, false, cond};
+ghost use Rattle.std.specs.Prelude.{OnOk, IfOk, MatchOption, true, ◌^◌};
 ghost use Rattle.lanes.specs.Sets.{member};
-ghost use Rattle.lineage.specs.Lineage.{Row as Place, row_cmp};
-ghost use Rattle.lineage.specs.Blocks.{block_of, has_bit, AreLong};
+ghost use Rattle.lineage.specs.Blocks.{block_of, version_of, HasRoomIn, HasPlace, IsRoomier};
 
-use lanes::next_one;
+use crate::versions::{Versions, make_places, set_version};
+use lanes::{next_one, or_into};
 use ldv_value::List;
 use std::alloc::{AllocError, Global};
 use std::collections::BTreeMap;
 
 /// A row: the place of its table among the names of all tables, and its number.
 pub(crate) type Row = (u32, u32);
-/// A table and a block of it, and the words of the block.
-pub(crate) type Blocks = BTreeMap<(u32, u32), List<u64>>;
+
+/// The rows of a table in one block, as bits, and their versions.
+#[derive(Drop)]
+pub(crate) struct Block {
+    pub(crate) words: Vec<u64>,
+    pub(crate) versions: Versions,
+}
+
+/// Blocks by their table and their number.
+pub(crate) type Blocks = BTreeMap<(u32, u32), Block>;
 
 /// The words of a block.
-pub(crate) const BLOCK_WORDS: usize = 1024;
+const BLOCK_WORDS: usize = 1024;
 
 /// The table and the block of a row.
 pub(crate) fn block_of(row: Row) -> (u32, u32)
@@ -29,81 +35,161 @@ pub(crate) fn block_of(row: Row) -> (u32, u32)
 }
 
 // Words without a member.
-fn no_members(alloc: Global, count: usize) -> Result<List<u64>, AllocError>
-    ensures long { IfOk result (λ words. length words ≡ count) }
-    ensures none { IfOk result (λ words. (n : ℕ) → member words n ≡ false) }
+fn no_members(alloc: Global, count: usize) -> Result<Vec<u64>, AllocError>
+    ensures long { IfOk result (λ words. length words.items ≡ count) }
+    ensures none { IfOk result (λ words. (n : ℕ) → member words.items n ≡ false) }
 {
-    let words = vec![in alloc; 0; count]?;
-    Ok(List::of_vec(words))
+    vec![in alloc; 0; count]
 }
 
-/// Makes a block, where there is none.
-pub(crate) fn make_block(
-    alloc: Global,
-    blocks: &mut Blocks,
-    block: (u32, u32),
-) -> Result<(), AllocError>
-    ensures there { OnOk result (IsSome (tree.get row_cmp blocks.new block)) }
-    ensures bits { (row : Place) → has_bit blocks.new row ≡ has_bit blocks.old row }
-    ensures long { AreLong blocks.old → AreLong blocks.new }
+/// A block of no row.
+pub(crate) fn no_rows(alloc: Global) -> Result<Block, AllocError>
+    ensures long { IfOk result (λ block. length block.words.items ≡ 1024) }
+    ensures words { IfOk result (λ block. (n : ℕ) → member block.words.items n ≡ false) }
+    ensures versions { IfOk result (λ block. (n : ℕ) → version_of block.versions n ≡ 0) }
 {
-    if blocks.contains_key(&block) {
-        return Ok(());
+    Ok(Block {
+        words: no_members(alloc, BLOCK_WORDS)?,
+        versions: Versions {
+            first: 0,
+            numbers: List::new(alloc),
+        },
+    })
+}
+
+/// Whether a number is in a set.
+pub(crate) fn has_bit(words: &[u64], number: usize) -> bool
+    ensures { result ≡ member words.now number }
+{
+    let place = number / 64;
+    if place >= words.len() {
+        return false;
     }
-    let words = no_members(alloc, BLOCK_WORDS)?;
-    blocks.insert(block, words)?;
-    Ok(())
+    (words[place] >> (number % 64)) & 1 == 1
 }
 
 // Adds a number to a set.
-fn set_bit(words: &mut List<u64>, number: usize)
+fn set_bit(words: &mut [u64], number: usize)
     requires { number / 64 < length words.old }
     ensures bits { (n : ℕ) → member words.new n ≡ (n == number || member words.old n) }
     ensures long { length words.new ≡ length words.old }
 {
-    let place = number / 64;
-    let word = words.items()[place];
-    words.replace(place, word | (1 << (number % 64)));
+    words[number / 64] |= 1 << (number % 64);
 }
 
-// Removes a number from a set.
-fn clear_bit(words: &mut List<u64>, number: usize)
-    requires { number / 64 < length words.old }
-    ensures bits { (n : ℕ) → member words.new n ≡ (not (n == number) && member words.old n) }
-    ensures long { length words.new ≡ length words.old }
+/// Makes room for the version of a row.
+#[tactic(auto, using(crate::proofs::BlockLaws::room_here))]
+pub(crate) fn make_room(
+    alloc: Global,
+    block: &mut Block,
+    n: usize,
+    version: u32,
+) -> Result<(), AllocError>
+    requires { n < 65536 }
+    ensures roomier { IsRoomier block.old block.new }
+    ensures room { OnOk result (HasRoomIn block.new.versions n version) }
 {
-    let place = number / 64;
-    let word = words.items()[place];
-    words.replace(place, word & !(1 << (number % 64)));
+    if version == 0 {
+        return Ok(());
+    }
+    make_places(alloc, &mut block.versions, n, n + 1)
 }
 
-/// Sets the bit of a row.
-pub(crate) fn set_row(blocks: &mut Blocks, row: Row)
-    requires there { IsSome (tree.get row_cmp blocks.old (block_of row)) }
-    requires long { AreLong blocks.old }
-    ensures bits { (other : Place)
-        → has_bit blocks.new other ≡ (eq_by_cmp row_cmp other row || has_bit blocks.old other) }
-    ensures long { AreLong blocks.new }
+/// Makes room for the versions of all rows of another block.
+#[tactic(auto, using(crate::proofs::BlockLaws::room_like, crate::proofs::BlockLaws::room_of_none))]
+pub(crate) fn make_room_like(
+    alloc: Global,
+    block: &mut Block,
+    other: &Block,
+) -> Result<(), AllocError>
+    ensures roomier { IsRoomier block.old block.new }
+    ensures room { OnOk result ((n : ℕ)
+        → HasRoomIn block.new.versions n (version_of other.now.versions n)) }
 {
-    let block = block_of(row);
-    match blocks.get_mut(&block) {
-        Some(words) => set_bit(words, (row.1 % 65_536) as usize),
-        None => {}
+    let from = other.versions.first as usize;
+    let count = other.versions.numbers.items().len();
+    if count == 0 {
+        return Ok(());
+    }
+    make_places(alloc, &mut block.versions, from, from + count)
+}
+
+// Notes the version of a row that has 0.
+fn note(versions: &mut Versions, n: usize, version: u32)
+    requires room { HasRoomIn versions.old n version }
+    requires clear { version_of versions.old n ≡ 0 }
+    ensures same { (m : ℕ) → version_of versions.new m
+        ≡ cond (m == n) version (version_of versions.old m) }
+    ensures stays { (m : ℕ) → HasPlace versions.old m → HasPlace versions.new m }
+{
+    if version > 0 {
+        set_version(versions, n, version);
     }
 }
 
-/// Clears the bit of a row.
-pub(crate) fn clear_row(blocks: &mut Blocks, row: Row)
-    requires { AreLong blocks.old }
-    ensures bits { (other : Place)
-        → has_bit blocks.new other ≡ (not (eq_by_cmp row_cmp other row) && has_bit blocks.old other) }
-    ensures long { AreLong blocks.new }
+/// Adds a row that isn't in the block.
+pub(crate) fn put_in(block: &mut Block, n: usize, version: u32)
+    requires long { length block.old.words.items ≡ 1024 }
+    requires within { n < 65536 }
+    requires room { HasRoomIn block.old.versions n version }
+    requires clear { version_of block.old.versions n ≡ 0 }
+    ensures words { (m : ℕ) → member block.new.words.items m
+        ≡ (m == n || member block.old.words.items m) }
+    ensures versions { (m : ℕ) → version_of block.new.versions m
+        ≡ cond (m == n) version (version_of block.old.versions m) }
+    ensures long { length block.new.words.items ≡ 1024 }
+    ensures stays { (m : ℕ) → HasPlace block.old.versions m → HasPlace block.new.versions m }
 {
-    let block = block_of(row);
-    match blocks.get_mut(&block) {
-        Some(words) => clear_bit(words, (row.1 % 65_536) as usize),
-        None => {}
+    set_bit(&mut block.words, n);
+    note(&mut block.versions, n, version);
+}
+
+// Notes the version of a row of another block, unless the row is here.
+fn take_version(words: &[u64], versions: &mut Versions, n: usize, version: u32)
+    requires room { HasRoomIn versions.old n version }
+    requires clear { member words.now n ≡ false → version_of versions.old n ≡ 0 }
+    ensures same { (m : ℕ) → version_of versions.new m
+        ≡ cond (m == n && not (member words.now n)) version (version_of versions.old m) }
+    ensures stays { (m : ℕ) → HasPlace versions.old m → HasPlace versions.new m }
+{
+    if !has_bit(words, n) {
+        note(versions, n, version);
     }
+}
+
+// Notes the versions of the rows of another block that aren't here.
+#[tactic(auto, using(crate::proofs::BlockLaws::taken_none, crate::proofs::BlockLaws::taken_more, crate::proofs::BlockLaws::taken_all))]
+fn take_versions(words: &[u64], versions: &mut Versions, others: &Versions)
+    requires room { (n : ℕ) → HasRoomIn versions.old n (version_of others.now n) }
+    requires clear { (n : ℕ) → member words.now n ≡ false → version_of versions.old n ≡ 0 }
+    ensures same { (m : ℕ) → version_of versions.new m
+        ≡ cond (member words.now m) (version_of versions.old m) (version_of others.now m) }
+    ensures stays { (m : ℕ) → HasPlace versions.old m → HasPlace versions.new m }
+{
+    let first = others.first as usize;
+    let numbers = others.numbers.items();
+    for place in 0..numbers.len() {
+        take_version(words, versions, first + place, numbers[place]);
+    }
+}
+
+/// Adds the rows of another block. A row that is in both keeps the version that it has here.
+pub(crate) fn unite_in(block: &mut Block, other: &Block)
+    requires long { length block.old.words.items ≡ 1024 }
+    requires also_long { length other.now.words.items ≡ 1024 }
+    requires room { (n : ℕ) → HasRoomIn block.old.versions n (version_of other.now.versions n) }
+    requires clear { (n : ℕ) → member block.old.words.items n ≡ false
+        → version_of block.old.versions n ≡ 0 }
+    ensures words { (n : ℕ) → member block.new.words.items n
+        ≡ (member block.old.words.items n || member other.now.words.items n) }
+    ensures versions { (n : ℕ) → version_of block.new.versions n
+        ≡ cond (member block.old.words.items n) (version_of block.old.versions n)
+        (version_of other.now.versions n) }
+    ensures long { length block.new.words.items ≡ 1024 }
+    ensures stays { (m : ℕ) → HasPlace block.old.versions m → HasPlace block.new.versions m }
+{
+    take_versions(&block.words, &mut block.versions, &other.versions);
+    or_into(&mut block.words, &other.words);
 }
 
 /// The words themselves, where there is a member among them.

@@ -8,8 +8,8 @@
 //! - `block` lends the rows of a table, 65,536 at a time, as bits (`specs/Blocks.antt`);
 //! - where memory is out, a set is as it was.
 //!
-//! `LineageRows` is the same finite map in a list, twelve bytes a row. Each pick and each answer row has its
-//! own, and `LineageSet::add_rows` adds them to a set.
+//! `LineageRows` is the same finite map, in a list of twelve bytes a row while it has few rows. Each pick and
+//! each answer row has its own, and `LineageSet::add_rows` adds them to a set.
 //!
 //! `Picks` and `Answers` are what evaluators of queries hand to one another. `specs/StandsFor.antt` says how
 //! a set stands for the lineage of an answer row, and `specs/Rows.antt` how `Picks` and `Answers` stand for
@@ -21,8 +21,12 @@
 
 mod answer;
 mod blocks;
+mod held;
 mod lineage_rows;
+mod listing;
 mod set;
+mod table_blocks;
+mod versions;
 
 pub use answer::{Answer, Answers, Pick, Picks};
 pub use lineage_rows::LineageRows;

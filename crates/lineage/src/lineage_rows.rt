@@ -1,31 +1,32 @@
-//! The rows that one pick or one answer row comes from, in a list.
+//! The rows that one pick or one answer row comes from, in a list while they are few.
 
 ghost use Rattle.std.specs.Prelude.{◌≡◌, OnOk, OnErr};
 ghost use Rattle.std.specs.FinMap as finmap;
+ghost use Rattle.lineage.specs.Held.{rows_held};
 ghost use Rattle.lineage.specs.Lineage.{added, IsUnion};
 
-use crate::blocks::Row;
+use crate::held::{Held, add_to, unite_with};
 use std::alloc::{AllocError, Global};
 use std::marker::Model;
 
-/// Rows of tables, each at one version, as in a `LineageSet`. They take twelve bytes a row, where a set takes
+/// Rows of tables, each at one version, as in a `LineageSet`. A few take twelve bytes each, where a set takes
 /// a block of words for each 65,536 rows that it touches: so each of many picks or answer rows has its own.
-///
-/// A row may lie in the list more than once. The first tells its version.
+/// More than 16,384 that come together lie as in a set.
 #[derive(Drop)]
 pub struct LineageRows {
-    rows: Vec<(Row, u32)>,
+    alloc: Global,
+    held: Held,
 }
 
 impl Model for LineageRows {
-    ghost use Rattle.std.specs.FinMap as finmap;
+    ghost use Rattle.lineage.specs.Held.{rows_held};
     ghost use Rattle.lineage.specs.Lineage.{Lineage, lineage_code};
 
     ghost Value = { Lineage };
 
     ghost coded = { lineage_code };
 
-    ghost view = { λ a. finmap.from_entries a.rows.items };
+    ghost view = { λ a. rows_held a.held };
 }
 
 impl LineageRows {
@@ -34,7 +35,8 @@ impl LineageRows {
         ensures { result ≡ finmap.empty }
     {
         LineageRows {
-            rows: Vec::new(alloc),
+            alloc,
+            held: Held::Few(Vec::new(alloc)),
         }
     }
 
@@ -44,8 +46,7 @@ impl LineageRows {
         ensures ok { OnOk result (self.new ≡ added self.old (table, row) version) }
         ensures err { OnErr result (self.new ≡ self.old) }
     {
-        self.rows.push(((table, row), version))?;
-        Ok(())
+        add_to(&mut self.held, (table, row), version)
     }
 
     /// Adds other rows. A row that is in both keeps the version that it has here. On `AllocError` the rows
@@ -54,14 +55,13 @@ impl LineageRows {
         ensures ok { OnOk result (IsUnion self.old other.now self.new) }
         ensures err { OnErr result (self.new ≡ self.old) }
     {
-        self.rows.extend_from_slice(other.rows.as_slice())?;
-        Ok(())
+        unite_with(self.alloc, &mut self.held, &other.held)
     }
 
-    /// The rows with their versions, for loops. The first of a row tells its version.
-    pub(crate) fn items(&self) -> &[(Row, u32)]
-        ensures { self.now ≡ finmap.from_entries result.now }
+    /// The rows, as they are held.
+    pub(crate) fn held(&self) -> &Held
+        ensures { self.now ≡ rows_held result.now }
     {
-        self.rows.as_slice()
+        &self.held
     }
 }

@@ -1,18 +1,22 @@
 //! The set of rows that an answer row comes from.
 
-ghost use Rattle.std.specs.Prelude.{◌≡◌, ◌<◌, length, IfOk, OnOk, OnErr, IfSome, MatchOption};
+ghost use Rattle.std.specs.Prelude.{◌≡◌, ◌<◌, IfOk, OnOk, OnErr, IfSome, MatchOption};
 ghost use Rattle.std.specs.List.Sorted.{IsStrictlySortedBy};
 ghost use Rattle.std.specs.Ordering.{nat_cmp};
 ghost use Rattle.std.specs.Cmp.Lexicographic.{slice_cmp};
 ghost use Rattle.std.specs.FinMap as finmap;
-ghost use Rattle.lineage.specs.Lineage.{has_row, added, IsUnion, IsNamed, member, members_of, member_cmp};
-ghost use Rattle.lineage.specs.Undo.{without};
+ghost use Rattle.lineage.specs.Lineage.{added, IsUnion, IsNamed, members_of, member_cmp};
 ghost use Rattle.lineage.specs.Blocks.{HasNone, IsBlock};
 
-use crate::blocks::{Blocks, Row, block_of, clear_row, make_block, set_row, with_member};
+use crate::blocks::{Blocks, Row, with_member};
+use crate::held::Held;
 use crate::lineage_rows::LineageRows;
+use crate::listing::list_blocks;
+use crate::table_blocks::{
+    add_row, add_rows, make_blocks_room, make_row_room, make_rows_room, unite,
+};
 use ldv_value::Names;
-use sql_model::{Member, Members};
+use sql_model::Members;
 use std::alloc::{AllocError, Global};
 use std::collections::BTreeMap;
 use std::marker::Model;
@@ -20,27 +24,26 @@ use std::marker::Model;
 /// Rows of tables, each at one version. A table is given by its place, from 0, among the names of all
 /// tables.
 ///
-/// The rows lie as bits in blocks of words, with the versions of the rows beside them. A block without a
-/// row is kept only where memory was out while it was filled.
+/// The rows lie as bits in blocks of words, with the versions above 0 beside them. A block without a row is
+/// kept only where memory was out before it was filled.
 #[derive(Drop)]
 pub struct LineageSet {
     alloc: Global,
-    versions: BTreeMap<Row, u32>,
-    words: Blocks,
+    blocks: Blocks,
 }
 
 impl Model for LineageSet {
     ghost use Rattle.std.specs.FinMap as finmap;
     ghost use Rattle.lineage.specs.Lineage.{Lineage, lineage_code};
-    ghost use Rattle.lineage.specs.Blocks.{Keeps};
+    ghost use Rattle.lineage.specs.Blocks.{AreKept, all_rows};
 
     ghost Value = { Lineage };
 
     ghost coded = { lineage_code };
 
-    ghost view = { λ a. finmap.from_entries a.versions.entries };
+    ghost view = { λ a. finmap.from_entries (all_rows a.blocks) };
 
-    ghost invariant = { λ a. Keeps a.versions a.words };
+    ghost invariant = { λ a. AreKept a.blocks };
 }
 
 impl LineageSet {
@@ -50,54 +53,56 @@ impl LineageSet {
     {
         LineageSet {
             alloc,
-            versions: BTreeMap::new(alloc),
-            words: BTreeMap::new(alloc),
+            blocks: BTreeMap::new(alloc),
         }
     }
 
     /// Adds a row of a table at a version. A row that is in the set keeps its version. On
     /// `AllocError` the set is as it was.
+    #[tactic(auto, using(crate::proofs::Seen::roomier_seen))]
     pub fn add(&mut self, table: u32, row: u32, version: u32) -> Result<(), AllocError>
         ensures ok { OnOk result (self.new ≡ added self.old (table, row) version) }
         ensures err { OnErr result (self.new ≡ self.old) }
     {
-        if self.has((table, row)) {
-            Ok(())
-        } else {
-            self.put((table, row), version)
-        }
+        make_row_room(self.alloc, &mut self.blocks, (table, row), version)?;
+        add_row(&mut self.blocks, (table, row), version);
+        Ok(())
     }
 
     /// Adds the rows of another set. A row that is in both keeps the version that it has here. On
     /// `AllocError` the set is as it was.
+    #[tactic(auto, using(crate::proofs::Seen::roomier_seen))]
     pub fn union(&mut self, other: &LineageSet) -> Result<(), AllocError>
         ensures ok { OnOk result (IsUnion self.old other.now self.new) }
         ensures err { OnErr result (self.new ≡ self.old) }
     {
-        let mut new_rows = Vec::new(self.alloc);
-        match self.add_all(&mut new_rows, other) {
-            Ok(()) => Ok(()),
-            Err(stop) => {
-                self.take_back(new_rows);
-                Err(stop)
-            }
+        make_blocks_room(self.alloc, &mut self.blocks, &other.blocks)?;
+        unite(&mut self.blocks, &other.blocks);
+        Ok(())
+    }
+
+    /// Adds other rows. A row that is in both keeps the version that it has here. On `AllocError` the set is as
+    /// it was.
+    pub fn add_rows(&mut self, other: &LineageRows) -> Result<(), AllocError>
+        ensures ok { OnOk result (IsUnion self.old other.now self.new) }
+        ensures err { OnErr result (self.new ≡ self.old) }
+    {
+        match other.held() {
+            Held::Few(rows) => self.add_list(rows.as_slice()),
+            Held::Many(set) => self.union(set),
         }
     }
 
     /// Adds the rows of a list. A row that is in both keeps the version that it has here. On `AllocError` the
     /// set is as it was.
-    pub fn add_rows(&mut self, other: &LineageRows) -> Result<(), AllocError>
-        ensures ok { OnOk result (IsUnion self.old other.now self.new) }
+    #[tactic(auto, using(crate::proofs::Seen::roomier_seen))]
+    pub(crate) fn add_list(&mut self, rows: &[(Row, u32)]) -> Result<(), AllocError>
+        ensures ok { OnOk result (IsUnion self.old (finmap.from_entries rows.now) self.new) }
         ensures err { OnErr result (self.new ≡ self.old) }
     {
-        let mut came = Vec::new(self.alloc);
-        match self.add_listed(&mut came, other) {
-            Ok(()) => Ok(()),
-            Err(stop) => {
-                self.take_back(came);
-                Err(stop)
-            }
-        }
+        make_rows_room(self.alloc, &mut self.blocks, rows)?;
+        add_rows(&mut self.blocks, rows);
+        Ok(())
     }
 
     /// The members of the set with the names of their tables, sorted by name and row. The names are those
@@ -108,7 +113,7 @@ impl LineageSet {
         ensures members { IfOk result (λ members. members ≡ members_of names.now self.now) }
         ensures sorted { IfOk result (IsStrictlySortedBy member_cmp) }
     {
-        self.list(names)
+        list_blocks(self.alloc, names, &self.blocks)
     }
 
     /// The rows of a table from 65,536 * `block` on as 1,024 words: bit i of word j is set exactly where the
@@ -119,118 +124,9 @@ impl LineageSet {
             (λ _. ¬ HasNone self.now table block) }
         ensures words { IfSome result (λ words. IsBlock self.now table block words.now) }
     {
-        match self.words.get(&(table, block)) {
+        match self.blocks.get(&(table, block)) {
             None => None,
-            Some(words) => with_member(words.items()),
+            Some(block) => with_member(block.words.as_slice()),
         }
-    }
-
-    // Whether a row is in the set.
-    fn has(&self, row: Row) -> bool
-        ensures { result ≡ has_row self.now row }
-    {
-        self.versions.contains_key(&row)
-    }
-
-    // Puts a row at a version into the set.
-    fn put(&mut self, row: Row, version: u32) -> Result<(), AllocError>
-        ensures ok { OnOk result (self.new ≡ finmap.insert self.old row version) }
-        ensures err { OnErr result (self.new ≡ self.old) }
-    {
-        make_block(self.alloc, &mut self.words, block_of(row))?;
-        self.versions.insert(row, version)?;
-        set_row(&mut self.words, row);
-        Ok(())
-    }
-
-    // Takes a row out of the set.
-    fn remove(&mut self, row: Row)
-        ensures { self.new ≡ finmap.remove self.old row }
-    {
-        self.versions.remove(&row);
-        clear_row(&mut self.words, row);
-    }
-
-    // Adds a row, and notes it where it is new.
-    fn add_noted(
-        &mut self,
-        new_rows: &mut Vec<Row>,
-        row: Row,
-        version: u32,
-    ) -> Result<(), AllocError>
-        ensures ok { OnOk result (self.new ≡ added self.old row version) }
-        ensures undo { without self.new new_rows.new.items ≡ without self.old new_rows.old.items }
-    {
-        if self.has(row) {
-            Ok(())
-        } else {
-            new_rows.push(row)?;
-            self.put(row, version)
-        }
-    }
-
-    // Adds the rows of another set, and notes those that are new.
-    fn add_all(&mut self, new_rows: &mut Vec<Row>, other: &LineageSet) -> Result<(), AllocError>
-        ensures ok { OnOk result (IsUnion self.old other.now self.new) }
-        ensures undo { without self.new new_rows.new.items ≡ without self.old new_rows.old.items }
-    {
-        for (row, version) in other.versions.iter() {
-            match self.add_noted(new_rows, *row, *version) {
-                Ok(()) => {}
-                Err(stop) => return Err(stop),
-            }
-        }
-        Ok(())
-    }
-
-    // Adds the rows of a list, and notes those that are new.
-    fn add_listed(&mut self, new_rows: &mut Vec<Row>, other: &LineageRows) -> Result<(), AllocError>
-        ensures ok { OnOk result (IsUnion self.old other.now self.new) }
-        ensures undo { without self.new new_rows.new.items ≡ without self.old new_rows.old.items }
-    {
-        for entry in other.items() {
-            let (row, version) = *entry;
-            match self.add_noted(new_rows, row, version) {
-                Ok(()) => {}
-                Err(stop) => return Err(stop),
-            }
-        }
-        Ok(())
-    }
-
-    // Takes rows out of the set.
-    fn take_back(&mut self, new_rows: Vec<Row>)
-        ensures { self.new ≡ without self.old new_rows.items }
-    {
-        for row in new_rows {
-            self.remove(row);
-        }
-    }
-
-    // The members, in the order of their rows.
-    fn list(&self, names: &Names) -> Result<Members, AllocError>
-        requires named { IsNamed names.now self.now }
-        ensures members { IfOk result (λ members. members ≡ members_of names.now self.now) }
-    {
-        let mut members = Members::new(self.alloc);
-        for (row, version) in self.versions.iter() {
-            members.push(member_of(names, *row, *version)?)?;
-        }
-        Ok(members)
-    }
-}
-
-// A row at a version, with the name of its table.
-fn member_of(names: &Names, row: Row, version: u32) -> Result<Member, AllocError>
-    requires { row.0 < length names.now }
-    ensures { IfOk result (λ made. made ≡ member names.now (row, version)) }
-{
-    match names.get(row.0 as usize) {
-        Some(name) => Ok(Member {
-            table: name.copy()?,
-            row: row.1,
-            version,
-        }),
-        None => unreachable!(),
     }
 }

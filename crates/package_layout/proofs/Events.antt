@@ -1,5 +1,5 @@
 -- Events: what is spelled is read, and what is read was spelled so.
-use Rattle.std.proofs.Common.{◌≡◌, ℕ, zero, suc, ◌^◌, ◌<◌, Bool, true, false, List, ◌++◌, length, Some, refl, subst, arith, ◌&&◌}
+use Rattle.std.proofs.Common.{◌≡◌, ℕ, zero, suc, ◌^◌, ◌<◌, Bool, true, false, List, ◌++◌, length, Some, refl, arith, ◌&&◌}
 use Rattle.std.specs.List.{list_all, AllByRecursion}
 use Rattle.std.specs.Str.{IsUtf8}
 use Rattle.std.specs.Int.{w8, w32, to_be_bytes}
@@ -21,7 +21,7 @@ use Rattle.package_layout.specs.Groups.{TypedGroup}
 use Rattle.package_layout.specs.Parts.{read_part_spelling, made_part_spelling, TypedReadPart, TypedMadePart, read_part_at, made_part_at, need_table, need_part, need_of, member_table, member_part, member_of}
 use Rattle.package_layout.specs.Counts.{IsCountable, CountedGroup, CountedAct, CountedEvent}
 use Rattle.package_layout.specs.Events.{flag_number, flag_spelling, flag_of, flag_at, need_groups, member_groups, needs_spelling, members_spelling, names_spelling, flagged_spelling, act_spelling, event_spelling, TypedNeed, TypedMember, TypedAct, TypedEvent, needs_room, members_room, act_room, event_room, names_at, needs_at, members_at, act_of_tag, act_at, event_at}
-use Rattle.package_layout.proofs.Laws.{number_is, IsBytes, IsField, just, always, list_all-always, Uncounted, restate, recount, made_law, then_law, struct_law}
+use Rattle.package_layout.proofs.Laws.{number_is, IsBytes, IsField, always, list_all-always, Uncounted, restate, recount, made_law, then_law, struct_law}
 use Rattle.package_layout.proofs.Numbers.{wide8, number_law, text_law, short_list_law}
 use Rattle.package_layout.proofs.Tags.{TookTagged, tagged_law, case_took, case_again}
 use Rattle.package_layout.proofs.Tables.{Anything, u32_law, rule_law}

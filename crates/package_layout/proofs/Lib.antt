@@ -1,3 +1,4 @@
+pub mod Cuts
 pub mod Events
 pub mod Grouped
 pub mod Groups
@@ -6,8 +7,12 @@ pub mod Lists
 pub mod Logs
 pub mod Numbers
 pub mod Package
+pub mod RunReading
+pub mod RunTraces
+pub mod Runs
 pub mod Tables
 pub mod Tags
 pub mod Texts
 pub mod Values
+pub mod Versions
 pub mod Whole

@@ -1,5 +1,5 @@
 -- Packages and their bytes.
-use Rattle.std.proofs.Common.{◌≡◌, ℕ, ◌+◌, ◌-◌, ◌<◌, ◌≤◌, Bool, true, false, cond, List, ◌++◌, length, take, drop, Option, Some, None, Result, Ok, Err, refl, sym, ap, subst, ◌∙◌, arith}
+use Rattle.std.proofs.Common.{◌≡◌, ℕ, ◌+◌, ◌-◌, ◌<◌, ◌≤◌, Bool, true, false, cond, List, ◌++◌, length, take, drop, Option, Some, None, Result, Ok, Err, refl, sym, ap, subst, ◌∙◌, arith, IsSome}
 use Rattle.std.specs.Prelude.{bytes_eq, nat_le, IfOk, IfSome, ◌↔◌}
 use Rattle.std.proofs.lemmas.Bool.{leb-true, le-leb}
 use Rattle.std.proofs.lemmas.Slice.Eq.{bytes_eq-Decides}
@@ -12,13 +12,18 @@ use Rattle.run_model.specs.declared.package.Package.{Package}
 use Rattle.package_layout.specs.declared.damage.DamageKind.{DamageKind}
 use Rattle.package_layout.specs.declared.damage.DamageKind.TheVariants.{Magic, Digest, Form}
 use Rattle.package_layout.specs.declared.layout.PackageStop.{PackageStop}
-use Rattle.package_layout.specs.declared.layout.PackageStop.TheVariants.{Damaged}
-use Rattle.package_layout.specs.Version.{Version, One, magic}
+use Rattle.package_layout.specs.declared.layout.PackageStop.TheVariants.{Damaged, NoMemory}
+use Rattle.package_layout.specs.declared.run_package.RunPackage.{RunPackage}
+use Rattle.package_layout.specs.Counted.{IsCounted}
+use Rattle.package_layout.specs.ReadResult.{ReadsAs, RunsReadAs, damage_by, damage_before}
+use Rattle.package_layout.specs.RunPackages.{whole}
+use Rattle.package_layout.specs.Runs.{IsCut, are_runs}
+use Rattle.package_layout.specs.Valid.{rules, Valid, HasDigest, IsSpelling, IsSpelled, IsNoSpelling, IsUnspelled, before_digest, middle, kept_if, package_in, has_digest, form_of, reading_as, reading_by, reading}
+use Rattle.package_layout.specs.Version.{Version, One, Two, magic, HasMagic, version_of}
 use Rattle.package_layout.specs.Whole.{sections, body, spelling_as, IsTyped, has_room, all_of}
-use Rattle.package_layout.specs.Counts.{IsCounted}
-use Rattle.package_layout.specs.Valid.{rules, Valid, HasMagic, HasDigest, IsSpelling, IsNoSpelling, before_digest, middle, kept_if, package_in, has_magic, has_digest, form_of, reading_as}
-use Rattle.package_layout.specs.ReadResult.{ReadsAs, damage_before}
 use Rattle.package_layout.proofs.Laws.{IsBytes, IsBytes-take, IsBytes-drop, just}
+use Rattle.package_layout.proofs.Runs.{is_cut}
+use Rattle.package_layout.proofs.Versions.{magic_length, version_is, version_fact}
 use Rattle.package_layout.proofs.Whole.{sections_law, all_again, all_took}
 
 -- ---- tests
@@ -41,11 +46,11 @@ not_true false h = refl
 
 -- ---- cases
 
-abbrev cases_of : Bool → Bool → Option Package → Result Package DamageKind
-cases_of m d o = cond m (cond d (form_of o) (Err Digest)) (Err Magic)
+abbrev cases_of : Bool → Option Package → Result Package DamageKind
+cases_of d o = cond d (form_of o) (Err Digest)
 
-from_tests : (m d : Bool) (o : Option Package) (p : Package) → m ≡ true → d ≡ true → o ≡ Some p → cases_of m d o ≡ Ok p
-from_tests m d o p a b c = rw (a, b, c) refl
+from_tests : (d : Bool) (o : Option Package) (p : Package) → d ≡ true → o ≡ Some p → cases_of d o ≡ Ok p
+from_tests d o p b c = rw (b, c) refl
 
 abbrev read_as : {E : Type 0} → Package → Result Package E
 read_as p = Ok p
@@ -60,29 +65,25 @@ kept_is : (b : Bool) (p q : Package) → kept_if b p ≡ Some q → (b ≡ true)
 kept_is true p q e = (refl, same-some p q e)
 kept_is false p q e = absurd cc
 
--- what the tests were where a package was read
-ok_tests : (m d : Bool) (o : Option Package) (p : Package) → cases_of m d o ≡ Ok p → (m ≡ true) × (d ≡ true) × (o ≡ Some p)
-ok_tests true true (Some q) p e = (refl, refl, ap just (ok_is q p e))
-ok_tests true true None p e = absurd cc
-ok_tests true false o p e = absurd cc
-ok_tests false d o p e = absurd cc
+-- what the tests were where a package was read, and where none was
+ok_tests : (d : Bool) (o : Option Package) (p : Package) → cases_of d o ≡ Ok p → (d ≡ true) × (o ≡ Some p)
+ok_tests true (Some q) p e = (refl, ap just (ok_is q p e))
+ok_tests true None p e = absurd cc
+ok_tests false o p e = absurd cc
 
-form_tests : (m d : Bool) (o : Option Package) → cases_of m d o ≡ Err Form → (m ≡ true) × (d ≡ true)
-form_tests true true o e = (refl, refl)
-form_tests true false o e = absurd cc
-form_tests false d o e = absurd cc
+form_tests : (d : Bool) (o : Option Package) → cases_of d o ≡ Err Form → d ≡ true
+form_tests true o e = refl
+form_tests false o e = absurd cc
 
-magic_seen : (m d : Bool) (o : Option Package) → cases_of m d o ≡ Err Magic → m ≡ false
-magic_seen true true (Some p) e = absurd cc
-magic_seen true true None e = absurd cc
-magic_seen true false o e = absurd cc
-magic_seen false d o e = refl
+no_magic : {Z : Type 0} (d : Bool) (o : Option Package) → cases_of d o ≡ Err Magic → Z
+no_magic true (Some p) e = absurd cc
+no_magic true None e = absurd cc
+no_magic false o e = absurd cc
 
-digest_seen : (m d : Bool) (o : Option Package) → cases_of m d o ≡ Err Digest → (m ≡ true) × (d ≡ false)
-digest_seen true true (Some p) e = absurd cc
-digest_seen true true None e = absurd cc
-digest_seen true false o e = (refl, refl)
-digest_seen false d o e = absurd cc
+digest_seen : (d : Bool) (o : Option Package) → cases_of d o ≡ Err Digest → d ≡ false
+digest_seen true (Some p) e = absurd cc
+digest_seen true None e = absurd cc
+digest_seen false o e = refl
 
 -- ---- a package that was read
 
@@ -91,23 +92,9 @@ pub record IsRead (v : Version) (bytes : List ℕ) (p : Package) : Type 0 where
   pub is_valid : Valid p
   pub spells : IsSpelling v p bytes
 
-abbrev damaged : DamageKind → Result Package PackageStop
-damaged kind = Err (Damaged kind)
-
 -- ---- each version
 
-magic_length : (v : Version) → length (magic v) ≡ 8
-magic_length One = refl
-
 module _ (version : Version) where
-  -- ---- what the tests say
-
-  magic_fact : (bytes : List ℕ) → has_magic version bytes ≡ true → HasMagic version bytes
-  magic_fact bytes h = (bytes_eq-Decides (take 8 bytes) (magic version)).0 h
-
-  magic_test : (bytes : List ℕ) → HasMagic version bytes → has_magic version bytes ≡ true
-  magic_test bytes h = (bytes_eq-Decides (take 8 bytes) (magic version)).1 h
-
   -- ---- a spelling and its parts
 
   long_body : (p : Package) → 8 ≤ length (body version p)
@@ -135,33 +122,30 @@ module _ (version : Version) where
   spelled_middle : (p : Package) → middle (spelling_as version p) ≡ sections version p
   spelled_middle p = ap (drop 8) (body_before p) ∙ drop_at (magic version) (sections version p) 8 (magic_length version)
 
-  -- how long a spelling is
-  pub too_long_is : (p : Package) (b : List ℕ) (n : ℕ) → b ≡ body version p → n ≡ length b → 67108832 < n → 67108864 < length (spelling_as version p)
-  too_long_is p b n e len lt = omega (arith, spelling_length p, ap length e)
-
-  pub within_limit : (b d : List ℕ) (n : ℕ) → n ≡ length b → n ≤ 67108832 → d ≡ b ++ sha256 b → length d ≤ 67108864
-  within_limit b d n len le e = omega (arith, ap length e, length-append b (sha256 b), length-sha256 b)
-
   -- ---- what is spelled is read
 
-  section_again : (p : Package) → IsTyped p → Valid p → IsCounted p → package_in version (sections version p) ≡ Some p
+  section_again : (p : Package) → IsTyped p → Valid p → IsCounted version p → package_in version (sections version p) ≡ Some p
   section_again p t v n =
       let both = and-parts (has_room p) (rules p) v in
       let one : all_of version (sections version p) ≡ Some p = all_again version p t both.0 n in
       rw one (kept (rules p) p both.1)
 
-  pub read_again : (p : Package) → IsTyped p → Valid p → IsCounted p → reading_as version (spelling_as version p) ≡ Ok p
+  read_again : (p : Package) → IsTyped p → Valid p → IsCounted version p → reading_as version (spelling_as version p) ≡ Ok p
   read_again p t v n =
-      let m : has_magic version (spelling_as version p) ≡ true = magic_test (spelling_as version p) (spelled_magic p) in
       let d : has_digest (spelling_as version p) ≡ true = digest_test (spelling_as version p) (spelled_digest p) in
       let i : package_in version (middle (spelling_as version p)) ≡ Some p = ap (package_in version) (spelled_middle p) ∙ section_again p t v n in
-      from_tests (has_magic version (spelling_as version p)) (has_digest (spelling_as version p)) (package_in version (middle (spelling_as version p))) p m d i
+      from_tests (has_digest (spelling_as version p)) (package_in version (middle (spelling_as version p))) p d i
 
-  pub one_spelling : (p q : Package) → IsTyped p → IsTyped q → Valid p → Valid q → IsCounted p → IsCounted q → spelling_as version p ≡ spelling_as version q → p ≡ q
+  pub reads_back : (p : Package) → IsTyped p → Valid p → IsCounted version p → reading (spelling_as version p) ≡ Ok p
+  reads_back p t v n =
+      let bytes : List ℕ = spelling_as version p in
+      ap (λ (o : Option Version). reading_by o bytes) (version_is version bytes (spelled_magic p)) ∙ read_again p t v n
+
+  pub one_spelling : (p q : Package) → IsTyped p → IsTyped q → Valid p → Valid q → IsCounted version p → IsCounted version q → spelling_as version p ≡ spelling_as version q → p ≡ q
   one_spelling p q t u v w n m e = ok_is p q (sym (read_again p t v n) ∙ ap (reading_as version) e ∙ read_again q u w m)
 
   -- each item has a byte at least, so that all counts of a short spelling fit
-  pub counted_within : (p : Package) → length (spelling_as version p) ≤ 67108864 → IsCounted p
+  pub counted_within : (p : Package) → length (spelling_as version p) ≤ 67108864 → IsCounted version p
   counted_within p within = (sections_law version).short p (omega (arith, spelling_length p, length-append (magic version) (sections version p)))
 
   -- ---- what is read was spelled so
@@ -173,52 +157,171 @@ module _ (version : Version) where
       let whole : before_digest bytes ≡ magic version ++ middle bytes = sym (take-append-drop 8 (before_digest bytes)) ∙ ap (λ (l : List ℕ). l ++ middle bytes) front in
       sym (take-append-drop (length bytes - 32) bytes) ∙ ap (λ (l : List ℕ). before_digest bytes ++ l) d.same ∙ ap (λ (l : List ℕ). l ++ sha256 l) whole
 
-  read_is : (bytes : List ℕ) (p : Package) → IsBytes bytes → reading_as version bytes ≡ Ok p → IsRead version bytes p
-  read_is bytes p h e =
-      let tests = ok_tests (has_magic version bytes) (has_digest bytes) (package_in version (middle bytes)) p e in
-      let first = bind-some (all_of version (middle bytes)) (λ q. kept_if (rules q) q) p tests.2 in
+  read_is : (bytes : List ℕ) (p : Package) → IsBytes bytes → HasMagic version bytes → reading_as version bytes ≡ Ok p → IsRead version bytes p
+  read_is bytes p h m e =
+      let tests = ok_tests (has_digest bytes) (package_in version (middle bytes)) p e in
+      let first = bind-some (all_of version (middle bytes)) (λ q. kept_if (rules q) q) p tests.1 in
       let q = first.0 in
       let clean : IsBytes (middle bytes) = IsBytes-drop 8 (before_digest bytes) (IsBytes-take (length bytes - 32) bytes h) in
       let k = all_took version (middle bytes) q clean first.1 in
       let l = kept_is (rules q) q p first.2 in
-      let whole : bytes ≡ spelling_as version q = parts_of bytes (magic_fact bytes tests.0) (digest_fact bytes tests.1) ∙ ap (λ (s : List ℕ). (magic version ++ s) ++ sha256 (magic version ++ s)) k.0 in
+      let whole : bytes ≡ spelling_as version q = parts_of bytes m (digest_fact bytes tests.0) ∙ ap (λ (s : List ℕ). (magic version ++ s) ++ sha256 (magic version ++ s)) k.0 in
       subst (IsRead version bytes) l.1 (record { is_typed = k.1; is_valid = and-from (has_room q) (rules q) k.2 l.0; spells = record { room = k.2; counted = k.3; same = sym whole } })
 
-  -- ---- the answers
-
-  pub found : (bytes : List ℕ) (r : Result Package PackageStop) → IsBytes bytes → ReadsAs r (reading_as version bytes) → IfOk r (λ p. IsTyped p × Valid p × IsSpelling version p bytes)
-  found bytes (Ok p) h e = let k = read_is bytes p h e in (k.is_typed, k.is_valid, k.spells)
-  found bytes (Err stop) h e = tt
-
-  no_form : (bytes : List ℕ) → reading_as version bytes ≡ Err Form → HasMagic version bytes × HasDigest bytes × IsNoSpelling version bytes
-  no_form bytes e =
-      let tests = form_tests (has_magic version bytes) (has_digest bytes) (package_in version (middle bytes)) e in (
-        magic_fact bytes tests.0,
-        digest_fact bytes tests.1,
-        λ p t v is.
-            let no : read_as p ≡ Err Form = sym (read_again p t v is.counted) ∙ ap (reading_as version) is.same ∙ e in
-            cc,
-      )
-
-  pub form_is : (bytes : List ℕ) (r : Result Package PackageStop) → ReadsAs r (reading_as version bytes) → r ≡ damaged Form → HasMagic version bytes × HasDigest bytes × IsNoSpelling version bytes
-  form_is bytes r a e = no_form bytes (subst (λ z. ReadsAs z (reading_as version bytes)) e a)
-
-  at_once_magic : (bytes : List ℕ) (r : Result Package PackageStop) → has_magic version bytes ≡ false → IfSome (damage_before version bytes) (λ kind. r ≡ damaged kind) → r ≡ damaged Magic
-  at_once_magic bytes r m a = rw m at a
-
-  at_once_digest : (bytes : List ℕ) (r : Result Package PackageStop) → has_magic version bytes ≡ true → has_digest bytes ≡ false → IfSome (damage_before version bytes) (λ kind. r ≡ damaged kind) → r ≡ damaged Digest
-  at_once_digest bytes r m d a = rw (m, d) at a
-
-  pub magic_is : (bytes : List ℕ) (r : Result Package PackageStop) → ReadsAs r (reading_as version bytes) → IfSome (damage_before version bytes) (λ kind. r ≡ damaged kind) → (r ≡ damaged Magic) ↔ (¬ HasMagic version bytes)
-  magic_is bytes r a once = (
-    λ e h. true_not_false (has_magic version bytes) (magic_test bytes h) (magic_seen (has_magic version bytes) (has_digest bytes) (package_in version (middle bytes)) (subst (λ z. ReadsAs z (reading_as version bytes)) e a)),
-    λ no. at_once_magic bytes r (not_true (has_magic version bytes) (λ m. no (magic_fact bytes m))) once,
+  no_form : (bytes : List ℕ) → reading_as version bytes ≡ Err Form → HasDigest bytes × IsNoSpelling version bytes
+  no_form bytes e = (
+    digest_fact bytes (form_tests (has_digest bytes) (package_in version (middle bytes)) e),
+    λ p t v is.
+        let no : read_as p ≡ Err Form = sym (read_again p t v is.counted) ∙ ap (reading_as version) is.same ∙ e in
+        cc,
   )
 
-  pub digest_is : (bytes : List ℕ) (r : Result Package PackageStop) → ReadsAs r (reading_as version bytes) → IfSome (damage_before version bytes) (λ kind. r ≡ damaged kind) → (r ≡ damaged Digest) ↔ (HasMagic version bytes × (¬ HasDigest bytes))
-  digest_is bytes r a once = (
-    λ e.
-        let seen = digest_seen (has_magic version bytes) (has_digest bytes) (package_in version (middle bytes)) (subst (λ z. ReadsAs z (reading_as version bytes)) e a) in
-        (magic_fact bytes seen.0, λ h. true_not_false (has_digest bytes) (digest_test bytes h) seen.1),
-    λ no. at_once_digest bytes r (magic_test bytes no.0) (not_true (has_digest bytes) (λ d. no.1 (digest_fact bytes d))) once,
-  )
+-- ---- both versions
+
+-- no bytes have both magics
+pub no_both : (p q : Package) → ¬ (spelling_as One p ≡ spelling_as Two q)
+no_both p q e =
+    let two : HasMagic Two (spelling_as One p) = ap (take 8) e ∙ spelled_magic Two q in
+    let same : Some One ≡ Some Two = sym (version_is One (spelling_as One p) (spelled_magic One p)) ∙ version_is Two (spelling_as One p) two in
+    cc
+
+-- ---- what reading says of bytes
+
+module _ (bytes : List ℕ) where
+  read_as_is : (o : Option Version) (p : Package) → version_of bytes ≡ o → IsBytes bytes → reading_by o bytes ≡ Ok p → IsTyped p × Valid p × IsSpelled bytes p
+  read_as_is (Some v) p is h e = let k = read_is v bytes p h (version_fact v bytes is) e in (k.is_typed, k.is_valid, (v, is, k.spells))
+  read_as_is None p is h e = absurd cc
+
+  ok_read : (p : Package) → IsBytes bytes → reading bytes ≡ Ok p → IsTyped p × Valid p × IsSpelled bytes p
+  ok_read p h e = read_as_is (version_of bytes) p refl h e
+
+  form_by : (o : Option Version) → version_of bytes ≡ o → reading_by o bytes ≡ Err Form → HasDigest bytes × IsUnspelled bytes
+  form_by (Some v) is e = let k = no_form v bytes e in (k.0, (v, is, k.1))
+  form_by None is e = absurd cc
+
+  magic_by : (o : Option Version) → reading_by o bytes ≡ Err Magic → o ≡ None
+  magic_by (Some v) e = no_magic (has_digest bytes) (package_in v (middle bytes)) e
+  magic_by None e = refl
+
+  digest_by : (o : Option Version) → reading_by o bytes ≡ Err Digest → IsSome o × (¬ HasDigest bytes)
+  digest_by (Some v) e =
+      (refl, λ h. true_not_false (has_digest bytes) (digest_test bytes h) (digest_seen (has_digest bytes) (package_in v (middle bytes)) e))
+  digest_by None e = absurd cc
+
+  some_damage : (o : Option Version) → IsSome o → ¬ HasDigest bytes → damage_by o bytes ≡ Some Digest
+  some_damage (Some v) some h = rw (not_true (has_digest bytes) (λ d. h (digest_fact bytes d))) refl
+  some_damage None some h = let no : false ≡ true = some in absurd cc
+
+-- ---- what an answer says, which tells what reading gives
+
+abbrev damaged : {X : Type 0} → DamageKind → Result X PackageStop
+damaged kind = Err (Damaged kind)
+
+module _ {X : Type 0} (bytes : List ℕ) (r : Result X PackageStop) (says : (kind : DamageKind) → r ≡ damaged kind → reading bytes ≡ Err kind) (once : IfSome (damage_before bytes) (λ kind. r ≡ damaged kind)) where
+  at_once : (kind : DamageKind) → damage_before bytes ≡ Some kind → r ≡ damaged kind
+  at_once kind is = subst (λ (o : Option DamageKind). IfSome o (λ kind. r ≡ damaged kind)) is once
+
+  magic_answer : (r ≡ damaged Magic) ↔ (version_of bytes ≡ None)
+  magic_answer = (λ e. magic_by bytes (version_of bytes) (says Magic e), λ none. at_once Magic (ap (λ (o : Option Version). damage_by o bytes) none))
+
+  digest_answer : (r ≡ damaged Digest) ↔ (IsSome (version_of bytes) × (¬ HasDigest bytes))
+  digest_answer = (λ e. digest_by bytes (version_of bytes) (says Digest e), λ no. at_once Digest (some_damage bytes (version_of bytes) no.0 no.1))
+
+  form_answer : r ≡ damaged Form → HasDigest bytes × IsUnspelled bytes
+  form_answer e = form_by bytes (version_of bytes) refl (says Form e)
+
+read_says : (bytes : List ℕ) (r : Result Package PackageStop) → ReadsAs r (reading bytes) → (kind : DamageKind) → r ≡ damaged kind → reading bytes ≡ Err kind
+read_says bytes r due kind e = subst (λ z. ReadsAs z (reading bytes)) e due
+
+runs_say : (bytes : List ℕ) (r : Result RunPackage PackageStop) → RunsReadAs r (reading bytes) → (kind : DamageKind) → r ≡ damaged kind → reading bytes ≡ Err kind
+runs_say bytes r due kind e = subst (λ z. RunsReadAs z (reading bytes)) e due
+
+pub found : (bytes : List ℕ) (r : Result Package PackageStop) → IsBytes bytes → ReadsAs r (reading bytes) → IfOk r (λ p. IsTyped p × Valid p × IsSpelled bytes p)
+found bytes (Ok p) h due = ok_read bytes p h due
+found bytes (Err stop) h due = tt
+
+pub magic_is : (bytes : List ℕ) (r : Result Package PackageStop) → ReadsAs r (reading bytes) → IfSome (damage_before bytes) (λ kind. r ≡ damaged kind) → (r ≡ damaged Magic) ↔ (version_of bytes ≡ None)
+magic_is bytes r due once = magic_answer bytes r (read_says bytes r due) once
+
+pub digest_is : (bytes : List ℕ) (r : Result Package PackageStop) → ReadsAs r (reading bytes) → IfSome (damage_before bytes) (λ kind. r ≡ damaged kind) → (r ≡ damaged Digest) ↔ (IsSome (version_of bytes) × (¬ HasDigest bytes))
+digest_is bytes r due once = digest_answer bytes r (read_says bytes r due) once
+
+pub form_is : (bytes : List ℕ) (r : Result Package PackageStop) → ReadsAs r (reading bytes) → IfSome (damage_before bytes) (λ kind. r ≡ damaged kind) → r ≡ damaged Form → HasDigest bytes × IsUnspelled bytes
+form_is bytes r due once = form_answer bytes r (read_says bytes r due) once
+
+pub runs_found : (bytes : List ℕ) (r : Result RunPackage PackageStop) → IsBytes bytes → RunsReadAs r (reading bytes) → IfOk r (λ r. IsTyped (whole r) × Valid (whole r) × IsSpelled bytes (whole r))
+runs_found bytes (Ok r) h due = ok_read bytes (whole r) h due
+runs_found bytes (Err stop) h due = tt
+
+pub runs_magic : (bytes : List ℕ) (r : Result RunPackage PackageStop) → RunsReadAs r (reading bytes) → IfSome (damage_before bytes) (λ kind. r ≡ damaged kind) → (r ≡ damaged Magic) ↔ (version_of bytes ≡ None)
+runs_magic bytes r due once = magic_answer bytes r (runs_say bytes r due) once
+
+pub runs_digest : (bytes : List ℕ) (r : Result RunPackage PackageStop) → RunsReadAs r (reading bytes) → IfSome (damage_before bytes) (λ kind. r ≡ damaged kind) → (r ≡ damaged Digest) ↔ (IsSome (version_of bytes) × (¬ HasDigest bytes))
+runs_digest bytes r due once = digest_answer bytes r (runs_say bytes r due) once
+
+pub runs_form : (bytes : List ℕ) (r : Result RunPackage PackageStop) → RunsReadAs r (reading bytes) → IfSome (damage_before bytes) (λ kind. r ≡ damaged kind) → r ≡ damaged Form → HasDigest bytes × IsUnspelled bytes
+runs_form bytes r due once = form_answer bytes r (runs_say bytes r due) once
+
+-- ---- the answer by the version
+
+by_digest : (d : Bool) (r : Result RunPackage PackageStop) → (d ≡ false → r ≡ damaged Digest) → IfSome (cond d None (Some Digest)) (λ kind. r ≡ damaged kind)
+by_digest true r h = tt
+by_digest false r h = h refl
+
+pub some_due : (bytes : List ℕ) (v : Version) (r : Result RunPackage PackageStop) → Some v ≡ version_of bytes → RunsReadAs r (reading_as v bytes) → RunsReadAs r (reading bytes)
+some_due bytes v r is due = subst (λ (o : Option Version). RunsReadAs r (reading_by o bytes)) is due
+
+pub some_once : (bytes : List ℕ) (v : Version) (r : Result RunPackage PackageStop) → Some v ≡ version_of bytes → (has_digest bytes ≡ false → r ≡ damaged Digest)
+    → IfSome (damage_before bytes) (λ kind. r ≡ damaged kind)
+some_once bytes v r is h = subst (λ (o : Option Version). IfSome (damage_by o bytes) (λ kind. r ≡ damaged kind)) is (by_digest (has_digest bytes) r h)
+
+pub none_due : (bytes : List ℕ) → None ≡ version_of bytes → reading bytes ≡ Err Magic
+none_due bytes is = ap (λ (o : Option Version). reading_by o bytes) (sym is)
+
+pub none_once : (bytes : List ℕ) (r : Result RunPackage PackageStop) → None ≡ version_of bytes → r ≡ damaged Magic → IfSome (damage_before bytes) (λ kind. r ≡ damaged kind)
+none_once bytes r is e = subst (λ (o : Option Version). IfSome (damage_by o bytes) (λ kind. r ≡ damaged kind)) is e
+
+-- ---- the answer with all events
+
+pub whole_due : (bytes : List ℕ) (r : RunPackage) (o : Result Package PackageStop) → reading bytes ≡ Ok (whole r) → IfOk o (λ p. p ≡ whole r) → ((stop : PackageStop) → o ≡ Err stop → stop ≡ NoMemory)
+    → ReadsAs o (reading bytes)
+whole_due bytes r (Ok p) due is none = due ∙ (λ j. Ok (sym is j))
+whole_due bytes r (Err NoMemory) due is none = tt
+whole_due bytes r (Err (Damaged kind)) due is none = let no : Damaged kind ≡ NoMemory = none (Damaged kind) refl in absurd cc
+
+-- nothing was seen before where a package was read
+pub not_damaged : (bytes : List ℕ) (r : RunPackage) (o : Result Package PackageStop) → IfSome (damage_before bytes) (λ kind. Ok r ≡ damaged {X = RunPackage} kind) → IfSome (damage_before bytes) (λ kind. o ≡ damaged kind)
+not_damaged bytes r o once = by (damage_before bytes) once
+  where
+    by : (d : Option DamageKind) → IfSome d (λ kind. Ok r ≡ damaged {X = RunPackage} kind) → IfSome d (λ kind. o ≡ damaged kind)
+    by None h = tt
+    by (Some kind) h = absurd cc
+
+abbrev stopped : {X : Type 0} → PackageStop → Result X PackageStop
+stopped stop = Err stop
+
+same_stop : (stop other : PackageStop) → stopped {X = RunPackage} stop ≡ stopped {X = RunPackage} other → stop ≡ other
+same_stop stop other e = cc
+
+pub stop_once : (bytes : List ℕ) (stop : PackageStop) (o : Result Package PackageStop) → o ≡ Err stop → IfSome (damage_before bytes) (λ kind. Err stop ≡ damaged {X = RunPackage} kind) → IfSome (damage_before bytes) (λ kind. o ≡ damaged kind)
+stop_once bytes stop o is once = by (damage_before bytes) once
+  where
+    by : (d : Option DamageKind) → IfSome d (λ kind. Err stop ≡ damaged {X = RunPackage} kind) → IfSome d (λ kind. o ≡ damaged kind)
+    by None h = tt
+    by (Some kind) h = is ∙ ap (stopped {X = Package}) (same_stop stop (Damaged kind) h)
+
+pub stop_due : (bytes : List ℕ) (stop : PackageStop) → RunsReadAs (Err stop) (reading bytes) → ReadsAs (Err stop) (reading bytes)
+stop_due bytes (Damaged kind) due = due
+stop_due bytes NoMemory due = tt
+
+-- ---- how long a spelling is
+
+pub too_long_is : (b : List ℕ) (n : ℕ) → n ≡ length b → 67108832 < n → 67108864 < length (b ++ sha256 b)
+too_long_is b n len lt = omega (arith, length-append b (sha256 b), length-sha256 b)
+
+pub within_limit : (b d : List ℕ) (n : ℕ) → n ≡ length b → n ≤ 67108832 → d ≡ b ++ sha256 b → length d ≤ 67108864
+within_limit b d n len le e = omega (arith, ap length e, length-append b (sha256 b), length-sha256 b)
+
+pub runs_cut : (r : Result RunPackage PackageStop) → IfOk r (λ r. are_runs r.runs ≡ true) → IfOk r (λ r. IsCut r.runs)
+runs_cut (Ok r) h = is_cut r.runs h
+runs_cut (Err stop) h = tt

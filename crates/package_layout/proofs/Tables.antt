@@ -1,10 +1,12 @@
 -- Tables: what is spelled is read, and what is read was spelled so.
-use Rattle.std.proofs.Common.{◌≡◌, ℕ, zero, suc, ◌^◌, ◌<◌, Bool, true, false, List, [], ◌∷◌, ◌++◌, length, Some, refl, subst, arith, ◌&&◌}
+use Rattle.std.proofs.Common.{◌≡◌, ℕ, zero, suc, ◌^◌, ◌<◌, Bool, true, false, cond, List, [], ◌∷◌, ◌++◌, length, Some, None, refl, sym, ap, ◌∙◌, arith, ◌&&◌}
+use Rattle.ldv_value.proofs.Options.{same-some}
+use Rattle.package_layout.specs.Version.{Version, One, Two}
 use Rattle.std.specs.Prelude.{nat_lt, ◌==◌}
-use Rattle.std.specs.List.{flat_map, list_all, AllByRecursion}
+use Rattle.std.specs.List.{list_all, AllByRecursion}
 use Rattle.std.specs.Str.{IsUtf8}
 use Rattle.std.specs.Int.{w8, w32, to_be_bytes}
-use Rattle.std.proofs.lemmas.Bool.{ltb-true}
+use Rattle.std.proofs.lemmas.Bool.{ltb-true, eqb-true}
 use Rattle.ldv_value.specs.declared.value.Value.{Value}
 use Rattle.ldv_value.proofs.Booleans.{and-parts, and-from}
 use Rattle.sql_model.specs.declared.need.Rule.{Rule}
@@ -13,13 +15,13 @@ use Rattle.sql_model.specs.declared.table.Column.{Column}
 use Rattle.sql_model.specs.declared.table.Schema.{Schema}
 use Rattle.run_model.specs.declared.package.PackedRow.{PackedRow}
 use Rattle.run_model.specs.declared.package.PackedTable.{PackedTable}
-use Rattle.package_layout.specs.Fields.{Found, then_at, both_at, number_at, text_spelling, list_spelling, items_at, list_at, text_at}
-use Rattle.package_layout.specs.Spelling.{value_spelling, kind_number, rule_number, column_spelling, number_spelling, reason_spelling, cells_spelling, row_spelling, schema_spelling, table_spelling}
+use Rattle.package_layout.specs.Fields.{Found, then_at, both_at, number_at, text_spelling, list_spelling, list_at, text_at}
+use Rattle.package_layout.specs.Spelling.{value_spelling, kind_number, rule_number, column_spelling, number_spelling, reason_spelling, cells_spelling, row_spelling, key_spelling, schema_spelling, table_spelling}
 use Rattle.package_layout.specs.Typed.{IsU32, TypedValue, TypedValues, TypedColumn, TypedRow, TypedTable}
 use Rattle.package_layout.specs.Room.{few, key_room, row_room, table_room}
 use Rattle.package_layout.specs.Counts.{CountedList, CountedValue, CountedColumn, CountedRow, CountedTable}
-use Rattle.package_layout.specs.Reading.{value_at, kind_of, kind_at, column_at, rule_of, rule_at, reason_at, cells_at, row_at, rows_at, key_at, schema_at, table_at}
-use Rattle.package_layout.proofs.Laws.{number_is, IsField, just, always, list_all-always, Uncounted, all_uncounted, restate, recount, made_law, then_law, struct_law}
+use Rattle.package_layout.specs.Reading.{value_at, kind_of, kind_at, column_at, rule_of, rule_at, reason_at, cells_at, row_at, rows_at, places_at, without_foreign, key_at, schema_at, table_at}
+use Rattle.package_layout.proofs.Laws.{number_is, IsField, always, list_all-always, Uncounted, all_uncounted, restate, recount, made_law, then_law, struct_law}
 use Rattle.package_layout.proofs.Numbers.{wide8, wide32, number_law, text_law, items_law, byte_list_law, long_law, ltb_from}
 use Rattle.package_layout.proofs.Values.{value_law}
 
@@ -147,11 +149,24 @@ bytes_fact : (key : List ℕ) → list_all (λ place. nat_lt place 256) key ≡ 
 bytes_fact [] h = tt
 bytes_fact (k ∷ key) h = let both = and-parts (nat_lt k 256) (list_all (λ place. nat_lt place 256) key) h in (ltb-true k 256 both.0, bytes_fact key both.1)
 
-key_law : IsField (list_spelling w8 (to_be_bytes w8)) Anything key_room Uncounted key_at
-key_law = recount Uncounted (restate (list_spelling w8 (to_be_bytes w8)) (AllByRecursion (λ n. n < 256)) Anything (λ key. few key && list_all always key) key_room key_at (byte_list_law (to_be_bytes w8) (λ n. n < 256) always (number_at w8) (number_law w8 256 wide8))
+places_law : IsField (list_spelling w8 (to_be_bytes w8)) Anything key_room Uncounted places_at
+places_law = recount Uncounted (restate (list_spelling w8 (to_be_bytes w8)) (AllByRecursion (λ n. n < 256)) Anything (λ key. few key && list_all always key) key_room places_at (byte_list_law (to_be_bytes w8) (λ n. n < 256) always (number_at w8) (number_law w8 256 wide8))
     (λ key t h. let both = and-parts (few key) (list_all (λ place. nat_lt place 256) key) h in (bytes_fact key both.1, and-from (few key) (list_all always key) both.0 (list_all-always key)))
     (λ key t h. (tt, and-from (few key) (list_all (λ place. nat_lt place 256) key) (and-parts (few key) (list_all always key) h).0 (bytes_test key t))))
     (λ key n. all_uncounted key) (λ key n. tt)
+
+-- no foreign key
+without_is : (p : List ℕ × ℕ) (key : List ℕ) (b : Bool) → (p.1 == 0) ≡ b → cond b (Some p.0) None ≡ Some key → p ≡ (key, 0)
+without_is p key true is e = λ j. (same-some p.0 key e j, eqb-true p.1 0 is j)
+without_is p key false is e = absurd cc
+
+key_law : (v : Version) → IsField (key_spelling v) Anything key_room Uncounted (key_at v)
+key_law One = places_law
+key_law Two = recount Uncounted (made_law (λ (p : List ℕ × ℕ). list_spelling w8 (to_be_bytes w8) p.0 ++ to_be_bytes w8 p.1) (λ (p : List ℕ × ℕ). Unit {0} × (p.1 < 256)) (λ (p : List ℕ × ℕ). key_room p.0 && true) (both_at places_at (number_at w8)) Anything key_room without_foreign (λ key. (key, 0))
+    (then_law (list_spelling w8 (to_be_bytes w8)) Anything key_room places_at (to_be_bytes w8) (λ n. n < 256) (λ a. always) (λ a. number_at w8) places_law (λ a. number_law w8 256 wide8))
+    (λ key t h. ((tt, omega arith), and-from (key_room key) true h refl, refl))
+    (λ p key t h e. let is = without_is p key (p.1 == 0) refl e in (is, tt, ap key_room (ap (λ (q : List ℕ × ℕ). q.0) (sym is)) ∙ (and-parts (key_room p.0) true h).0)))
+    (λ key n. (tt, tt)) (λ key n. tt)
 
 abbrev SchemaParts : Type 0
 SchemaParts = List Column × List ℕ
@@ -159,11 +174,11 @@ SchemaParts = List Column × List ℕ
 abbrev schema_room : Schema → Bool
 schema_room s = few s.columns && key_room s.key
 
-schema_law : IsField schema_spelling (λ s. AllByRecursion TypedColumn s.columns) schema_room (λ s. AllByRecursion CountedColumn s.columns) schema_at
-schema_law = recount (λ s. AllByRecursion CountedColumn s.columns) (restate schema_spelling (λ s. AllByRecursion TypedColumn s.columns × Unit {0}) (λ s. AllByRecursion TypedColumn s.columns) (λ s. (few s.columns && list_all always s.columns) && key_room s.key) schema_room schema_at
-    (struct_law (λ (p : SchemaParts). list_spelling w8 column_spelling p.0 ++ list_spelling w8 (to_be_bytes w8) p.1) (λ (p : SchemaParts). AllByRecursion TypedColumn p.0 × Unit {0}) (λ (p : SchemaParts). (few p.0 && list_all always p.0) && key_room p.1) (both_at (list_at w8 column_at) key_at)
+schema_law : (v : Version) → IsField (schema_spelling v) (λ s. AllByRecursion TypedColumn s.columns) schema_room (λ s. AllByRecursion CountedColumn s.columns) (schema_at v)
+schema_law v = recount (λ s. AllByRecursion CountedColumn s.columns) (restate (schema_spelling v) (λ s. AllByRecursion TypedColumn s.columns × Unit {0}) (λ s. AllByRecursion TypedColumn s.columns) (λ s. (few s.columns && list_all always s.columns) && key_room s.key) schema_room (schema_at v)
+    (struct_law (λ (p : SchemaParts). list_spelling w8 column_spelling p.0 ++ key_spelling v p.1) (λ (p : SchemaParts). AllByRecursion TypedColumn p.0 × Unit {0}) (λ (p : SchemaParts). (few p.0 && list_all always p.0) && key_room p.1) (both_at (list_at w8 column_at) (key_at v))
     (λ (p : SchemaParts). record { columns = p.0; key = p.1 }) (λ (s : Schema). (s.columns, s.key))
-    (then_law (list_spelling w8 column_spelling) (AllByRecursion TypedColumn) (λ cs. few cs && list_all always cs) (list_at w8 column_at) (list_spelling w8 (to_be_bytes w8)) Anything (λ a. key_room) (λ a. key_at) (byte_list_law column_spelling TypedColumn always column_at column_law) (λ a. key_law))
+    (then_law (list_spelling w8 column_spelling) (AllByRecursion TypedColumn) (λ cs. few cs && list_all always cs) (list_at w8 column_at) (key_spelling v) Anything (λ a. key_room) (λ a. key_at v) (byte_list_law column_spelling TypedColumn always column_at column_law) (λ a. key_law v))
     (λ s. refl) (λ p. refl))
     (λ s t h.
     let both = and-parts (few s.columns) (key_room s.key) h in
@@ -182,8 +197,8 @@ TableTail = Schema × TableEnd
 abbrev TableParts : Type 0
 TableParts = List ℕ × TableTail
 
-abbrev tail_spelling : TableTail → List ℕ
-tail_spelling p = schema_spelling p.0 ++ (to_be_bytes w32 p.1.0 ++ list_spelling w32 row_spelling p.1.1)
+abbrev tail_spelling : Version → TableTail → List ℕ
+tail_spelling v p = schema_spelling v p.0 ++ (to_be_bytes w32 p.1.0 ++ list_spelling w32 row_spelling p.1.1)
 
 abbrev TypedTail : TableTail → Type 0
 TypedTail p = AllByRecursion TypedColumn p.0.columns × (IsU32 p.1.0 × AllByRecursion TypedRow p.1.1)
@@ -194,21 +209,21 @@ CountedTail p = AllByRecursion CountedColumn p.0.columns × (Unit {0} × Counted
 abbrev tail_room : TableTail → Bool
 tail_room p = schema_room p.0 && list_all (row_room (length p.0.columns)) p.1.1
 
-abbrev tail_at : List ℕ → Found TableTail
-tail_at = then_at schema_at (λ s. both_at (number_at w32) (rows_at (length s.columns)))
+abbrev tail_at : Version → List ℕ → Found TableTail
+tail_at v = then_at (schema_at v) (λ s. both_at (number_at w32) (rows_at (length s.columns)))
 
 table_end_law : (s : Schema) → IsField (λ (p : TableEnd). to_be_bytes w32 p.0 ++ list_spelling w32 row_spelling p.1) (λ (p : TableEnd). IsU32 p.0 × AllByRecursion TypedRow p.1) (λ (p : TableEnd). list_all (row_room (length s.columns)) p.1) (λ (p : TableEnd). Unit {0} × CountedList CountedRow p.1) (both_at (number_at w32) (rows_at (length s.columns)))
 table_end_law s = then_law (to_be_bytes w32) IsU32 always (number_at w32) (list_spelling w32 row_spelling) (AllByRecursion TypedRow) (λ a. list_all (row_room (length s.columns))) (λ a. rows_at (length s.columns)) u32_law (λ a. rows_law (length s.columns))
 
-table_tail_law : IsField tail_spelling TypedTail tail_room CountedTail tail_at
-table_tail_law = then_law schema_spelling (λ s. AllByRecursion TypedColumn s.columns) schema_room schema_at (λ (p : TableEnd). to_be_bytes w32 p.0 ++ list_spelling w32 row_spelling p.1) (λ (p : TableEnd). IsU32 p.0 × AllByRecursion TypedRow p.1)
-    (λ s (p : TableEnd). list_all (row_room (length s.columns)) p.1) (λ s. both_at (number_at w32) (rows_at (length s.columns))) schema_law table_end_law
+table_tail_law : (v : Version) → IsField (tail_spelling v) TypedTail tail_room CountedTail (tail_at v)
+table_tail_law v = then_law (schema_spelling v) (λ s. AllByRecursion TypedColumn s.columns) schema_room (schema_at v) (λ (p : TableEnd). to_be_bytes w32 p.0 ++ list_spelling w32 row_spelling p.1) (λ (p : TableEnd). IsU32 p.0 × AllByRecursion TypedRow p.1)
+    (λ s (p : TableEnd). list_all (row_room (length s.columns)) p.1) (λ s. both_at (number_at w32) (rows_at (length s.columns))) (schema_law v) table_end_law
 
-pub table_law : IsField table_spelling TypedTable table_room CountedTable table_at
-table_law = recount CountedTable (restate table_spelling TypedTable TypedTable (λ t. tail_room (t.schema, (t.next, t.rows))) table_room table_at
-    (struct_law (λ (p : TableParts). text_spelling p.0 ++ tail_spelling p.1) (λ (p : TableParts). IsUtf8 p.0 × TypedTail p.1) (λ (p : TableParts). tail_room p.1) (both_at text_at tail_at)
+pub table_law : (v : Version) → IsField (table_spelling v) TypedTable table_room CountedTable (table_at v)
+table_law v = recount CountedTable (restate (table_spelling v) TypedTable TypedTable (λ t. tail_room (t.schema, (t.next, t.rows))) table_room (table_at v)
+    (struct_law (λ (p : TableParts). text_spelling p.0 ++ tail_spelling v p.1) (λ (p : TableParts). IsUtf8 p.0 × TypedTail p.1) (λ (p : TableParts). tail_room p.1) (both_at text_at (tail_at v))
     (λ (p : TableParts). record { name = p.0; schema = p.1.0; next = p.1.1.0; rows = p.1.1.1 }) (λ (t : PackedTable). (t.name, (t.schema, (t.next, t.rows))))
-    (then_law text_spelling IsUtf8 always text_at tail_spelling TypedTail (λ a. tail_room) (λ a. tail_at) text_law (λ a. table_tail_law)) (λ t. refl) (λ p. refl))
+    (then_law text_spelling IsUtf8 always text_at (tail_spelling v) TypedTail (λ a. tail_room) (λ a. tail_at v) text_law (λ a. table_tail_law v)) (λ t. refl) (λ p. refl))
     (λ t h k.
     let a = and-parts (few t.schema.columns) (key_room t.schema.key && list_all (row_room (length t.schema.columns)) t.rows) k in
     let b = and-parts (key_room t.schema.key) (list_all (row_room (length t.schema.columns)) t.rows) a.1 in
@@ -219,5 +234,5 @@ table_law = recount CountedTable (restate table_spelling TypedTable TypedTable (
     (h, and-from (few t.schema.columns) (key_room t.schema.key && list_all (row_room (length t.schema.columns)) t.rows) b.0 (and-from (key_room t.schema.key) (list_all (row_room (length t.schema.columns)) t.rows) b.1 a.1))))
     (λ t n. (n.0, (n.1.0, (tt, n.1.1)))) (λ t n. (n.0, (n.1.0, n.1.1.1)))
 
-pub table_filled : (t : PackedTable) → 0 < length (table_spelling t)
-table_filled t = omega arith
+pub table_filled : (v : Version) (t : PackedTable) → 0 < length (table_spelling v t)
+table_filled v t = omega arith

@@ -16,14 +16,20 @@ use Rattle.run_model.specs.declared.event.Event.{Event}
 use Rattle.run_model.specs.declared.package.Package.{Package}
 use Rattle.package_layout.specs.Fields.{Found, both_at, number_at, list_at, list_spelling}
 use Rattle.package_layout.specs.Spelling.{file_spelling, table_spelling, log_spelling}
+use Rattle.package_layout.specs.Bare.{BareTyped}
 use Rattle.package_layout.specs.Typed.{IsU32, TypedFile, TypedTable, TypedLog}
 use Rattle.package_layout.specs.Room.{some_thousands, table_room, log_room}
-use Rattle.package_layout.specs.Counts.{IsCountable, CountedList, CountedFile, CountedTable, CountedLog, CountedEvent, IsCounted}
+use Rattle.package_layout.specs.Counts.{IsCountable, CountedList, CountedFile, CountedTable, CountedLog}
+use Rattle.package_layout.specs.Counted.{CountedTrace, IsCounted}
+use Rattle.package_layout.specs.Runs.{max_events, few_events, trace_room}
+use Rattle.package_layout.proofs.Runs.{runs_law}
+use Rattle.std.specs.Prelude.{nat_le}
+use Rattle.ldv_value.proofs.Booleans.{and-parts, and-from}
 use Rattle.package_layout.specs.Reading.{file_at, table_at, log_at}
 use Rattle.package_layout.specs.Events.{names_spelling, names_at, event_spelling, TypedEvent, event_room, event_at}
-use Rattle.package_layout.specs.Version.{Version, One}
-use Rattle.package_layout.specs.Whole.{mode_number, mode_spelling, mode_of, mode_at, trace_spelling, trace_at, sections, IsTyped, has_room, sections_at, all_of}
-use Rattle.package_layout.proofs.Laws.{number_is, IsBytes, IsField, just, always, list_all-always, Uncounted, restate, recount, made_law, then_law, struct_law}
+use Rattle.package_layout.specs.Version.{Version, One, Two}
+use Rattle.package_layout.specs.Whole.{mode_number, mode_spelling, mode_of, mode_at, trace_spelling, trace_at, bare, bare_at, sections, with_events, IsTyped, tables_room, has_room, sections_at, all_of}
+use Rattle.package_layout.proofs.Laws.{number_is, IsBytes, IsBytes-rest, IsField, just, always, list_all-always, Uncounted, restate, recount, made_law, then_law}
 use Rattle.package_layout.proofs.Numbers.{wide8, wide64, number_law, short_list_law, long_law}
 use Rattle.package_layout.proofs.Tables.{Anything, u32_law, table_law}
 use Rattle.package_layout.proofs.Values.{file_law, file_filled}
@@ -51,22 +57,29 @@ files_law = restate (list_spelling w32 file_spelling) (AllByRecursion TypedFile)
 abbrev tables_fit : List PackedTable → Bool
 tables_fit ts = some_thousands ts && list_all table_room ts
 
-tables_law : IsField (list_spelling w16 table_spelling) (AllByRecursion TypedTable) tables_fit (AllByRecursion CountedTable) (list_at w16 table_at)
-tables_law = short_list_law table_spelling TypedTable table_room table_at table_law
+tables_law : (v : Version) → IsField (list_spelling w16 (table_spelling v)) (AllByRecursion TypedTable) tables_fit (AllByRecursion CountedTable) (list_at w16 (table_at v))
+tables_law v = short_list_law (table_spelling v) TypedTable table_room (table_at v) (table_law v)
 
 logs_law : IsField (list_spelling w32 log_spelling) (AllByRecursion TypedLog) (list_all log_room) (CountedList CountedLog) (list_at w32 log_at)
 logs_law = long_law log_spelling TypedLog log_room log_at log_law log_filled
 
-events_law : (v : Version) → IsField (trace_spelling v) (AllByRecursion TypedEvent) (list_all event_room) (CountedList CountedEvent) (trace_at v)
-events_law One = long_law event_spelling TypedEvent event_room event_at event_law event_filled
+few_is : (es fs : List Event) (b : Bool) → nat_le (length es) max_events ≡ b → cond b (Some es) None ≡ Some fs → (es ≡ fs) × (nat_le (length fs) max_events ≡ true)
+few_is es fs true is e = let same : es ≡ fs = same-some es fs e in (same, ap (λ (l : List Event). nat_le (length l) max_events) (sym same) ∙ is)
+few_is es fs false is e = absurd cc
 
--- ---- the sections, from the last to the first
+events_law : (v : Version) → IsField (trace_spelling v) (AllByRecursion TypedEvent) trace_room (CountedTrace v) (trace_at v)
+events_law One = made_law (list_spelling w32 event_spelling) (AllByRecursion TypedEvent) (list_all event_room) (list_at w32 event_at) (AllByRecursion TypedEvent) trace_room few_events (λ es. es)
+    (long_law event_spelling TypedEvent event_room event_at event_law event_filled)
+    (λ es t h. let both = and-parts (nat_le (length es) max_events) (list_all event_room es) h in (t, both.1, rw both.0 refl))
+    (λ es fs t h e.
+    let is = few_is es fs (nat_le (length es) max_events) refl e in
+    (is.0, subst (AllByRecursion TypedEvent) is.0 t, and-from (nat_le (length fs) max_events) (list_all event_room fs) is.1 (ap (list_all event_room) (sym is.0) ∙ h)))
+events_law Two = runs_law
 
-abbrev P7 : Type 0
-P7 = List Log × List Event
+-- ---- all but the trace, from the last to the first
 
 abbrev P6 : Type 0
-P6 = List PackedTable × P7
+P6 = List PackedTable × List Log
 
 abbrev P5 : Type 0
 P5 = List PackedFile × P6
@@ -83,11 +96,8 @@ P2 = List (List ℕ) × P3
 abbrev P1 : Type 0
 P1 = Mode × P2
 
-abbrev s7 : Version → P7 → List ℕ
-s7 v p = list_spelling w32 log_spelling p.0 ++ trace_spelling v p.1
-
 abbrev s6 : Version → P6 → List ℕ
-s6 v p = list_spelling w16 table_spelling p.0 ++ s7 v p.1
+s6 v p = list_spelling w16 (table_spelling v) p.0 ++ list_spelling w32 log_spelling p.1
 
 abbrev s5 : Version → P5 → List ℕ
 s5 v p = list_spelling w32 file_spelling p.0 ++ s6 v p.1
@@ -104,11 +114,8 @@ s2 v p = names_spelling p.0 ++ s3 v p.1
 abbrev s1 : Version → P1 → List ℕ
 s1 v p = mode_spelling p.0 ++ s2 v p.1
 
-abbrev t7 : P7 → Type 0
-t7 p = AllByRecursion TypedLog p.0 × AllByRecursion TypedEvent p.1
-
 abbrev t6 : P6 → Type 0
-t6 p = AllByRecursion TypedTable p.0 × t7 p.1
+t6 p = AllByRecursion TypedTable p.0 × AllByRecursion TypedLog p.1
 
 abbrev t5 : P5 → Type 0
 t5 p = AllByRecursion TypedFile p.0 × t6 p.1
@@ -125,11 +132,8 @@ t2 p = AllByRecursion IsUtf8 p.0 × t3 p.1
 abbrev t1 : P1 → Type 0
 t1 p = Unit {0} × t2 p.1
 
-abbrev c7 : P7 → Type 0
-c7 p = CountedList CountedLog p.0 × CountedList CountedEvent p.1
-
 abbrev c6 : P6 → Type 0
-c6 p = AllByRecursion CountedTable p.0 × c7 p.1
+c6 p = AllByRecursion CountedTable p.0 × CountedList CountedLog p.1
 
 abbrev c5 : P5 → Type 0
 c5 p = CountedList CountedFile p.0 × c6 p.1
@@ -146,11 +150,8 @@ c2 p = AllByRecursion IsCountable p.0 × c3 p.1
 abbrev c1 : P1 → Type 0
 c1 p = Unit {0} × c2 p.1
 
-abbrev f7 : P7 → Bool
-f7 p = list_all log_room p.0 && list_all event_room p.1
-
 abbrev f6 : P6 → Bool
-f6 p = tables_fit p.0 && f7 p.1
+f6 p = tables_fit p.0 && list_all log_room p.1
 
 abbrev f5 : P5 → Bool
 f5 p = f6 p.1
@@ -167,11 +168,8 @@ f2 p = some_thousands p.0 && f3 p.1
 abbrev f1 : P1 → Bool
 f1 p = f2 p.1
 
-abbrev r7 : Version → List ℕ → Found P7
-r7 v = both_at (list_at w32 log_at) (trace_at v)
-
 abbrev r6 : Version → List ℕ → Found P6
-r6 v = both_at (list_at w16 table_at) (r7 v)
+r6 v = both_at (list_at w16 (table_at v)) (list_at w32 log_at)
 
 abbrev r5 : Version → List ℕ → Found P5
 r5 v = both_at (list_at w32 file_at) (r6 v)
@@ -188,11 +186,8 @@ r2 v = both_at names_at (r3 v)
 abbrev r1 : Version → List ℕ → Found P1
 r1 v = both_at mode_at (r2 v)
 
-l7 : (v : Version) → IsField (s7 v) t7 f7 c7 (r7 v)
-l7 v = then_law (list_spelling w32 log_spelling) (AllByRecursion TypedLog) (list_all log_room) (list_at w32 log_at) (trace_spelling v) (AllByRecursion TypedEvent) (λ a. list_all event_room) (λ a. trace_at v) logs_law (λ a. events_law v)
-
 l6 : (v : Version) → IsField (s6 v) t6 f6 c6 (r6 v)
-l6 v = then_law (list_spelling w16 table_spelling) (AllByRecursion TypedTable) tables_fit (list_at w16 table_at) (s7 v) t7 (λ a. f7) (λ a. r7 v) tables_law (λ a. l7 v)
+l6 v = then_law (list_spelling w16 (table_spelling v)) (AllByRecursion TypedTable) tables_fit (list_at w16 (table_at v)) (list_spelling w32 log_spelling) (AllByRecursion TypedLog) (λ a. list_all log_room) (λ a. list_at w32 log_at) (tables_law v) (λ a. logs_law)
 
 l5 : (v : Version) → IsField (s5 v) t5 f5 c5 (r5 v)
 l5 v = then_law (list_spelling w32 file_spelling) (AllByRecursion TypedFile) always (list_at w32 file_at) (s6 v) t6 (λ a. f6) (λ a. r6 v) files_law (λ a. l6 v)
@@ -210,19 +205,91 @@ l1 : (v : Version) → IsField (s1 v) t1 f1 c1 (r1 v)
 l1 v = then_law mode_spelling Anything always mode_at (s2 v) t2 (λ a. f2) (λ a. r2 v) mode_law (λ a. l2 v)
 
 abbrev make : P1 → Package
-make p = record { mode = p.0; start = p.1.0; seed = p.1.1.0; steps = p.1.1.1.0; files = p.1.1.1.1.0; tables = p.1.1.1.1.1.0; logs = p.1.1.1.1.1.1.0; events = p.1.1.1.1.1.1.1 }
+make p = record { mode = p.0; start = p.1.0; seed = p.1.1.0; steps = p.1.1.1.0; files = p.1.1.1.1.0; tables = p.1.1.1.1.1.0; logs = p.1.1.1.1.1.1; events = [] }
 
 abbrev back : Package → P1
-back p = (p.mode, (p.start, (p.seed, (p.steps, (p.files, (p.tables, (p.logs, p.events)))))))
+back p = (p.mode, (p.start, (p.seed, (p.steps, (p.files, (p.tables, p.logs))))))
 
-pub sections_law : (v : Version) → IsField (sections v) IsTyped has_room IsCounted (sections_at v)
-sections_law v = recount IsCounted (restate (sections v) (λ p. Unit {0} × IsTyped p) IsTyped has_room has_room (sections_at v) (struct_law (s1 v) t1 f1 (r1 v) make back (l1 v) (λ p. refl) (λ p. refl))
-    (λ p t h. ((tt, t), h)) (λ p t h. (t.1, h)))
-    (λ p n. (tt, (n.0, (tt, (tt, n.1))))) (λ p n. (n.1.0, n.1.1.1.1))
+-- a package without events
+abbrev IsBare : Package → Type 0
+IsBare p = BareTyped p × (p.events ≡ [])
+
+abbrev bare_room : Package → Bool
+bare_room p = f1 (back p)
+
+abbrev BareCounted : Package → Type 0
+BareCounted p = c1 (back p)
+
+made_again : (p : Package) → p.events ≡ [] → make (back p) ≡ p
+made_again p none = λ j. with_events p (sym none j)
+
+bare_law : (v : Version) → IsField (bare v) IsBare bare_room BareCounted (bare_at v)
+bare_law v = made_law (s1 v) t1 f1 (r1 v) IsBare bare_room (λ p. Some (make p)) back (l1 v)
+    (λ p t h. ((tt, t.0), h, ap just (made_again p t.1)))
+    (λ a p t h e.
+    let is : make a ≡ p = same-some (make a) p e in
+    subst (λ (q : Package). (a ≡ back q) × IsBare q × (bare_room q ≡ true)) is (refl, (t.1, refl), h))
+
+-- ---- the trace behind it
+
+abbrev Sections : Type 0
+Sections = Package × List Event
+
+abbrev apart : Package → Sections
+apart p = (with_events p [], p.events)
+
+room_apart : (p : Package) → has_room p ≡ true → (bare_room p && trace_room p.events) ≡ true
+room_apart p h =
+    let one = and-parts (some_thousands p.start) (tables_room p && (list_all log_room p.logs && trace_room p.events)) h in
+    let two = and-parts (tables_room p) (list_all log_room p.logs && trace_room p.events) one.1 in
+    let three = and-parts (list_all log_room p.logs) (trace_room p.events) two.1 in
+    and-from (bare_room p) (trace_room p.events)
+    (and-from (some_thousands p.start) (tables_room p && list_all log_room p.logs) one.0 (and-from (tables_room p) (list_all log_room p.logs) two.0 three.0))
+    three.1
+
+room_joined : (p : Package) → bare_room p ≡ true → trace_room p.events ≡ true → has_room p ≡ true
+room_joined p h k =
+    let one = and-parts (some_thousands p.start) (tables_room p && list_all log_room p.logs) h in
+    let two = and-parts (tables_room p) (list_all log_room p.logs) one.1 in
+    and-from (some_thousands p.start) (tables_room p && (list_all log_room p.logs && trace_room p.events)) one.0
+    (and-from (tables_room p) (list_all log_room p.logs && trace_room p.events) two.0 (and-from (list_all log_room p.logs) (trace_room p.events) two.1 k))
+
+typed_joined : (p : Package) → BareTyped p → AllByRecursion TypedEvent p.events → IsTyped p
+typed_joined p t e = (t.0, (t.1.0, (t.1.1.0, (t.1.1.1.0, (t.1.1.1.1.0, (t.1.1.1.1.1, e))))))
+
+typed_apart : (p : Package) → IsTyped p → BareTyped p × AllByRecursion TypedEvent p.events
+typed_apart p t = ((t.0, (t.1.0, (t.1.1.0, (t.1.1.1.0, (t.1.1.1.1.0, t.1.1.1.1.1.0))))), t.1.1.1.1.1.1)
+
+parts_again : (q : Sections) (p : Package) → q.0.events ≡ [] → with_events q.0 q.1 ≡ p → q ≡ apart p
+parts_again q p none is = subst (λ (r : Package). q ≡ apart r) is (λ j. (with_events q.0 (none j), q.1))
+
+pub sections_law : (v : Version) → IsField (sections v) IsTyped has_room (IsCounted v) (sections_at v)
+sections_law v = recount (IsCounted v) (made_law (λ (q : Sections). bare v q.0 ++ trace_spelling v q.1) (λ (q : Sections). IsBare q.0 × AllByRecursion TypedEvent q.1) (λ (q : Sections). bare_room q.0 && trace_room q.1) (both_at (bare_at v) (trace_at v))
+    IsTyped has_room (λ q. Some (with_events q.0 q.1)) apart
+    (then_law (bare v) IsBare bare_room (bare_at v) (trace_spelling v) (AllByRecursion TypedEvent) (λ a. trace_room) (λ a. trace_at v) (bare_law v) (λ a. events_law v))
+    (λ p t h. let both = typed_apart p t in (((both.0, refl), both.1), room_apart p h, refl))
+    (λ q p t h e.
+    let is : with_events q.0 q.1 ≡ p = same-some (with_events q.0 q.1) p e in
+    let room = and-parts (bare_room q.0) (trace_room q.1) h in (
+      parts_again q p t.0.1 is,
+      subst IsTyped is (typed_joined (with_events q.0 q.1) t.0.0 t.1),
+      subst (λ (r : Package). has_room r ≡ true) is (room_joined (with_events q.0 q.1) room.0 room.1),
+    )))
+    (λ p n. ((tt, (n.0, (tt, (tt, (n.1.0, (n.1.1.0, n.1.1.1.0)))))), n.1.1.1.1))
+    (λ p n. (n.0.1.0, (n.0.1.1.1.1.0, (n.0.1.1.1.1.1.0, (n.0.1.1.1.1.1.1, n.1)))))
+
+-- what is left behind the bare package, and that it has no events
+pub bare_took : (v : Version) (bytes : List ℕ) (p : Package) (rest : List ℕ) → IsBytes bytes → bare_at v bytes ≡ Some (p, rest) → (p.events ≡ []) × IsBytes rest
+bare_took v bytes p rest h e =
+    let k = (bare_law v).took bytes p rest h e in
+    (k.is_typed.1, IsBytes-rest (bare v p) rest (subst IsBytes k.parts h))
+
+pub events_took : (bytes : List ℕ) (es : List Event) (rest : List ℕ) → IsBytes bytes → list_at w32 event_at bytes ≡ Some (es, rest) → AllByRecursion TypedEvent es
+events_took bytes es rest h e = ((long_law event_spelling TypedEvent event_room event_at event_law event_filled).took bytes es rest h e).is_typed
 
 -- ---- all of the bytes
 
-pub all_again : (v : Version) (p : Package) → IsTyped p → has_room p ≡ true → IsCounted p → all_of v (sections v p) ≡ Some p
+pub all_again : (v : Version) (p : Package) → IsTyped p → has_room p ≡ true → IsCounted v p → all_of v (sections v p) ≡ Some p
 all_again v p t h n =
     let one : sections_at v (sections v p ++ []) ≡ Some (p, []) = (sections_law v).again p [] t h n in
     let two : sections_at v (sections v p) ≡ Some (p, []) = ap (sections_at v) (sym (append-nil (sections v p))) ∙ one in
@@ -235,11 +302,11 @@ ended_is : (x : Package × List ℕ) (p : Package) (b : Bool) → (length x.1 ==
 ended_is x p true e h = (same-some x.0 p h, nil_from_length x.1 (eqb-true _ _ e))
 ended_is x p false e h = absurd cc
 
-pub all_took : (v : Version) (bytes : List ℕ) (p : Package) → IsBytes bytes → all_of v bytes ≡ Some p → (bytes ≡ sections v p) × IsTyped p × (has_room p ≡ true) × IsCounted p
+pub all_took : (v : Version) (bytes : List ℕ) (p : Package) → IsBytes bytes → all_of v bytes ≡ Some p → (bytes ≡ sections v p) × IsTyped p × (has_room p ≡ true) × IsCounted v p
 all_took v bytes p h e =
     let first = bind-some (sections_at v bytes) ended p e in
     let x = first.0 in
     let k = (sections_law v).took bytes x.0 x.1 h first.1 in
     let end = ended_is x p (length x.1 == 0) refl first.2 in
     let parts : bytes ≡ sections v x.0 = k.parts ∙ ap (λ (l : List ℕ). sections v x.0 ++ l) end.1 ∙ append-nil (sections v x.0) in
-    subst (λ (q : Package). (bytes ≡ sections v q) × IsTyped q × (has_room q ≡ true) × IsCounted q) end.0 (parts, k.is_typed, k.is_fit, k.is_counted)
+    subst (λ (q : Package). (bytes ≡ sections v q) × IsTyped q × (has_room q ≡ true) × IsCounted v q) end.0 (parts, k.is_typed, k.is_fit, k.is_counted)

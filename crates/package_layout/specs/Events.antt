@@ -1,7 +1,6 @@
 -- The bytes of an event, what its values meet in memory, what the format has room for, and how it is read.
-use Rattle.std.specs.Prelude.{ℕ, zero, suc, ◌<◌, List, ◌∷◌, ◌++◌, Bool, true, false, ◌&&◌, Option, Some, None}
-use Rattle.std.specs.List.{list_all, AllByRecursion}
-use Rattle.std.specs.Str.{IsUtf8}
+use Rattle.std.specs.Prelude.{ℕ, zero, suc, List, ◌∷◌, ◌++◌, Bool, true, false, ◌&&◌, Option, Some, None}
+use Rattle.std.specs.List.{list_all}
 use Rattle.std.specs.Int.{w8, w16, w32, to_be_bytes}
 use Rattle.sql_model.specs.SqlNames.{sql_name_test}
 use Rattle.sql_model.specs.declared.need.Member.{Member}

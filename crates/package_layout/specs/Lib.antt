@@ -1,4 +1,7 @@
+pub mod Bare
+pub mod Counted
 pub mod Counts
+pub mod Cutting
 pub mod Events
 pub mod Fields
 pub mod Groups
@@ -7,6 +10,9 @@ pub mod Parts
 pub mod ReadResult
 pub mod Reading
 pub mod Room
+pub mod RunPackages
+pub mod RunTrace
+pub mod Runs
 pub mod Spelling
 pub mod Trace
 pub mod Typed

@@ -5,8 +5,10 @@ use Rattle.package_layout.specs.declared.damage.DamageKind.{DamageKind}
 use Rattle.package_layout.specs.declared.damage.DamageKind.TheVariants.{Magic, Digest}
 use Rattle.package_layout.specs.declared.layout.PackageStop.{PackageStop}
 use Rattle.package_layout.specs.declared.layout.PackageStop.TheVariants.{Damaged, NoMemory}
-use Rattle.package_layout.specs.Valid.{has_magic, has_digest}
-use Rattle.package_layout.specs.Version.{Version}
+use Rattle.package_layout.specs.declared.run_package.RunPackage.{RunPackage}
+use Rattle.package_layout.specs.RunPackages.{whole}
+use Rattle.package_layout.specs.Valid.{has_digest}
+use Rattle.package_layout.specs.Version.{Version, version_of}
 
 -- the result is the one that is due, or memory ran out
 abbrev pub ReadsAs : Result Package PackageStop → Result Package DamageKind → Type 0
@@ -14,7 +16,16 @@ ReadsAs (Ok p) due = due ≡ Ok p
 ReadsAs (Err (Damaged kind)) due = due ≡ Err kind
 ReadsAs (Err NoMemory) due = Unit {0}
 
+-- the same of a package whose trace is kept as runs
+abbrev pub RunsReadAs : Result RunPackage PackageStop → Result Package DamageKind → Type 0
+RunsReadAs (Ok r) due = due ≡ Ok (whole r)
+RunsReadAs (Err (Damaged kind)) due = due ≡ Err kind
+RunsReadAs (Err NoMemory) due = Unit {0}
+
+abbrev pub damage_by : Option Version → List ℕ → Option DamageKind
+damage_by (Some version) bytes = if has_digest bytes then None else Some Digest
+damage_by None bytes = Some Magic
+
 -- the damage that is seen before anything is read
-abbrev pub damage_before : Version → List ℕ → Option DamageKind
-damage_before version bytes =
-    if has_magic version bytes then (if has_digest bytes then None else Some Digest) else Some Magic
+abbrev pub damage_before : List ℕ → Option DamageKind
+damage_before bytes = damage_by (version_of bytes) bytes

@@ -1,5 +1,7 @@
 -- How the parts of a package are read from the front of bytes.
-use Rattle.std.specs.Prelude.{ℕ, zero, suc, List, length, Bool, true, false, Option, Some, None}
+use Rattle.std.specs.Prelude.{ℕ, zero, suc, List, length, Bool, true, false, Option, Some, None, ◌==◌}
+use Rattle.std.specs.Prelude.{if◌then◌else◌}
+use Rattle.package_layout.specs.Version.{Version, One, Two}
 use Rattle.std.specs.Int.{w8, w16, w32, w64}
 use Rattle.ldv_value.specs.declared.value.Value.{Value}
 use Rattle.ldv_value.specs.declared.value.Value.TheVariants.{Null, Int, Text}
@@ -91,16 +93,26 @@ row_at columns =
 abbrev pub rows_at : ℕ → List ℕ → Found (List PackedRow)
 rows_at columns = list_at w32 (row_at columns)
 
-abbrev pub key_at : List ℕ → Found (List ℕ)
-key_at = list_at w8 (number_at w8)
+abbrev pub places_at : List ℕ → Found (List ℕ)
+places_at = list_at w8 (number_at w8)
 
-abbrev pub schema_at : List ℕ → Found Schema
-schema_at = made_at (λ s. Some (record { columns = s.0; key = s.1 })) (both_at (list_at w8 column_at) key_at)
+abbrev pub without_foreign : List ℕ × ℕ → Option (List ℕ)
+without_foreign p = if p.1 == 0 then Some p.0 else None
 
-abbrev pub table_at : List ℕ → Found PackedTable
-table_at =
+abbrev pub key_at : Version → List ℕ → Found (List ℕ)
+key_at One = places_at
+key_at Two = made_at without_foreign (both_at places_at (number_at w8))
+
+abbrev pub schema_at : Version → List ℕ → Found Schema
+schema_at version =
+    made_at (λ s. Some (record { columns = s.0; key = s.1 }))
+    (both_at (list_at w8 column_at) (key_at version))
+
+abbrev pub table_at : Version → List ℕ → Found PackedTable
+table_at version =
     made_at (λ t. Some (record { name = t.0; schema = t.1.0; next = t.1.1.0; rows = t.1.1.1 }))
-    (both_at text_at (then_at schema_at (λ s. both_at (number_at w32) (rows_at (length s.columns)))))
+    (both_at text_at
+    (then_at (schema_at version) (λ s. both_at (number_at w32) (rows_at (length s.columns)))))
 
 -- ---- logs
 

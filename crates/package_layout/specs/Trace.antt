@@ -1,5 +1,5 @@
 -- Traces: the definitions of run_model, and how far the events have come as the code counts it.
-use Rattle.run_model.specs.ValidTrace.{Progress}
+pub use Rattle.run_model.specs.ValidTrace.{Progress}
 use Rattle.package_layout.specs.declared.trace.Progress.{Progress as Counted}
 pub use Rattle.run_model.specs.ValidTrace.{act_rule, event_rule, made_after, is_asked, asked_after}
 pub use Rattle.run_model.specs.ValidTrace.{progress_after}

@@ -6,10 +6,10 @@ use Rattle.run_model.specs.declared.package.Package.{Package}
 use Rattle.run_model.specs.ValidPackage.{rules}
 use Rattle.package_layout.specs.declared.damage.DamageKind.{DamageKind}
 use Rattle.package_layout.specs.declared.damage.DamageKind.TheVariants.{Magic, Digest, Form}
-use Rattle.package_layout.specs.Counts.{IsCounted}
+use Rattle.package_layout.specs.Counted.{IsCounted}
 use Rattle.package_layout.specs.Fields.{◌>>=◌}
 use Rattle.package_layout.specs.Typed.{IsTyped}
-use Rattle.package_layout.specs.Version.{Version, One, magic}
+use Rattle.package_layout.specs.Version.{Version, version_of}
 use Rattle.package_layout.specs.Whole.{spelling_as, has_room, all_of}
 pub use Rattle.run_model.specs.ValidPackage.{is_short_text, start_rule, content_rule, file_rule, files_rule}
 pub use Rattle.run_model.specs.ValidPackage.{are_files, rows_rule, table_rule, are_tables}
@@ -28,9 +28,6 @@ Valid p = IsTrue (valid_test p)
 
 -- ---- bytes and the packages that they spell
 
-abbrev pub HasMagic : Version → List ℕ → Type 0
-HasMagic version bytes = take 8 bytes ≡ magic version
-
 -- all but the digest
 abbrev pub before_digest : List ℕ → List ℕ
 before_digest bytes = take (length bytes - 32) bytes
@@ -44,12 +41,20 @@ pub record HasDigest (bytes : List ℕ) : Type 0 where
 -- fit their fields.
 pub record IsSpelling (version : Version) (p : Package) (bytes : List ℕ) : Type 0 where
   pub room : IsTrue (has_room p)
-  pub counted : IsCounted p
+  pub counted : IsCounted version p
   pub same : spelling_as version p ≡ bytes
+
+-- the bytes are the spelling of a package in the version that they begin as
+abbrev pub IsSpelled : List ℕ → Package → Type 0
+IsSpelled bytes p = (version : Version) × (version_of bytes ≡ Some version) × IsSpelling version p bytes
 
 -- the bytes spell no valid package
 abbrev pub IsNoSpelling : Version → List ℕ → Type 0
 IsNoSpelling version bytes = (p : Package) → IsTyped p → Valid p → ¬ IsSpelling version p bytes
+
+-- they begin as a version, and spell no valid package of it
+abbrev pub IsUnspelled : List ℕ → Type 0
+IsUnspelled bytes = (version : Version) × (version_of bytes ≡ Some version) × IsNoSpelling version bytes
 
 -- the bytes between the magic and the digest
 abbrev pub middle : List ℕ → List ℕ
@@ -65,9 +70,6 @@ package_in version bytes = do
   p ← all_of version bytes
   kept_if (rules p) p
 
-abbrev pub has_magic : Version → List ℕ → Bool
-has_magic version bytes = bytes_eq (take 8 bytes) (magic version)
-
 abbrev pub has_digest : List ℕ → Bool
 has_digest bytes =
     nat_le 40 (length bytes) && bytes_eq (drop (length bytes - 32) bytes) (sha256 (before_digest bytes))
@@ -76,13 +78,15 @@ abbrev pub form_of : Option Package → Result Package DamageKind
 form_of (Some p) = Ok p
 form_of None = Err Form
 
--- the package that bytes spell in a version, or how they are damaged
+-- the package of a version that bytes spell behind its magic, or how they are damaged
 abbrev pub reading_as : Version → List ℕ → Result Package DamageKind
 reading_as version bytes =
-    if has_magic version bytes
-    then (if has_digest bytes then form_of (package_in version (middle bytes)) else Err Digest)
-    else Err Magic
+    if has_digest bytes then form_of (package_in version (middle bytes)) else Err Digest
+
+abbrev pub reading_by : Option Version → List ℕ → Result Package DamageKind
+reading_by (Some version) bytes = reading_as version bytes
+reading_by None bytes = Err Magic
 
 -- the package that bytes spell, or how they are damaged
 abbrev pub reading : List ℕ → Result Package DamageKind
-reading bytes = reading_as One bytes
+reading bytes = reading_by (version_of bytes) bytes

@@ -1,8 +1,7 @@
 -- The bytes of a package of each version, of which the digest is the last part.
-use Rattle.std.specs.Prelude.{ℕ, zero, suc, ◌<◌, ◌^◌, List, ◌++◌, length, Bool, ◌&&◌, ◌==◌, Option, Some}
+use Rattle.std.specs.Prelude.{ℕ, zero, suc, List, [], ◌++◌, length, Bool, ◌&&◌, ◌==◌, Option, Some}
 use Rattle.std.specs.Prelude.{None, if◌then◌else◌}
-use Rattle.std.specs.List.{list_all, AllByRecursion}
-use Rattle.std.specs.Str.{IsUtf8}
+use Rattle.std.specs.List.{list_all}
 use Rattle.std.specs.Int.{w8, w16, w32, w64, to_be_bytes}
 use Rattle.sha2.specs.Sha256.{sha256}
 use Rattle.run_model.specs.declared.event.Event.{Event}
@@ -14,8 +13,9 @@ use Rattle.package_layout.specs.Spelling.{file_spelling, table_spelling, log_spe
 pub use Rattle.package_layout.specs.Typed.{TypedParts, TypedNumbers, IsTyped}
 use Rattle.package_layout.specs.Room.{some_thousands, table_room, log_room}
 use Rattle.package_layout.specs.Reading.{file_at, table_at, log_at}
-use Rattle.package_layout.specs.Events.{names_spelling, names_at, event_spelling, event_room, event_at}
-use Rattle.package_layout.specs.Version.{Version, One, magic}
+use Rattle.package_layout.specs.Events.{names_spelling, names_at, event_spelling, event_at}
+use Rattle.package_layout.specs.Version.{Version, One, Two, magic}
+use Rattle.package_layout.specs.Runs.{runs_spelling, runs_at, trace_room, few_events}
 
 -- ---- spelling
 
@@ -28,24 +28,27 @@ mode_spelling mode = to_be_bytes w8 (mode_number mode)
 
 abbrev pub trace_spelling : Version → List Event → List ℕ
 trace_spelling One = list_spelling w32 event_spelling
+trace_spelling Two = runs_spelling
 
--- the files, tables, logs and events
+-- the files, tables and logs
 abbrev pub parts : Version → Package → List ℕ
 parts version p =
     list_spelling w32 file_spelling p.files
-    ++ (list_spelling w16 table_spelling p.tables
-    ++ (list_spelling w32 log_spelling p.logs
-    ++ trace_spelling version p.events))
+    ++ (list_spelling w16 (table_spelling version) p.tables
+    ++ list_spelling w32 log_spelling p.logs)
 
--- all after the start words
+-- all after the start words but the trace
 abbrev pub numbers : Version → Package → List ℕ
 numbers version p = to_be_bytes w64 p.seed ++ (to_be_bytes w32 p.steps ++ parts version p)
 
+-- all between the magic and the trace
+abbrev pub bare : Version → Package → List ℕ
+bare version p = mode_spelling p.mode ++ (names_spelling p.start ++ numbers version p)
+
 -- all between the magic and the digest
 abbrev pub sections : Version → Package → List ℕ
-sections version p = mode_spelling p.mode ++ (names_spelling p.start ++ numbers version p)
+sections version p = bare version p ++ trace_spelling version p.events
 
--- all before the digest
 abbrev pub body : Version → Package → List ℕ
 body version p = magic version ++ sections version p
 
@@ -54,7 +57,20 @@ spelling_as version p = body version p ++ sha256 (body version p)
 
 -- of the version that is written
 abbrev pub spelling : Package → List ℕ
-spelling p = spelling_as One p
+spelling p = spelling_as Two p
+
+-- a package with another trace
+abbrev pub with_events : Package → List Event → Package
+with_events p events = record {
+  mode = p.mode;
+  start = p.start;
+  seed = p.seed;
+  steps = p.steps;
+  files = p.files;
+  tables = p.tables;
+  logs = p.logs;
+  events = events;
+}
 
 -- ---- what the format has room for
 
@@ -64,7 +80,7 @@ tables_room p = some_thousands p.tables && list_all table_room p.tables
 abbrev pub has_room : Package → Bool
 has_room p =
     some_thousands p.start
-    && (tables_room p && (list_all log_room p.logs && list_all event_room p.events))
+    && (tables_room p && (list_all log_room p.logs && trace_room p.events))
 
 -- ---- reading
 
@@ -78,10 +94,12 @@ abbrev pub mode_at : List ℕ → Found Mode
 mode_at = made_at mode_of (number_at w8)
 
 abbrev pub trace_at : Version → List ℕ → Found (List Event)
-trace_at One = list_at w32 event_at
+trace_at One = made_at few_events (list_at w32 event_at)
+trace_at Two = runs_at
 
-abbrev pub sections_at : Version → List ℕ → Found Package
-sections_at version =
+-- all but the trace
+abbrev pub bare_at : Version → List ℕ → Found Package
+bare_at version =
     made_at
     (λ p. Some (record {
       mode = p.0;
@@ -90,12 +108,14 @@ sections_at version =
       steps = p.1.1.1.0;
       files = p.1.1.1.1.0;
       tables = p.1.1.1.1.1.0;
-      logs = p.1.1.1.1.1.1.0;
-      events = p.1.1.1.1.1.1.1;
+      logs = p.1.1.1.1.1.1;
+      events = [];
     }))
     (both_at mode_at (both_at names_at (both_at (number_at w64) (both_at (number_at w32)
-    (both_at (list_at w32 file_at) (both_at (list_at w16 table_at)
-    (both_at (list_at w32 log_at) (trace_at version))))))))
+    (both_at (list_at w32 file_at) (both_at (list_at w16 (table_at version)) (list_at w32 log_at)))))))
+
+abbrev pub sections_at : Version → List ℕ → Found Package
+sections_at version = made_at (λ p. Some (with_events p.0 p.1)) (both_at (bare_at version) (trace_at version))
 
 -- all of the bytes
 abbrev pub all_of : Version → List ℕ → Option Package

@@ -1,31 +1,25 @@
-//! A package and its bytes.
+//! From bytes to packages.
 
-ghost use Rattle.std.specs.Prelude.{◌≡◌, ◌<◌, ◌≤◌, ◌-◌, ◌↔◌, ◌++◌, None, Ok, Err, IfOk, IfSome, OnOk};
-ghost use Rattle.std.specs.Prelude.{IsErrOf, length, take, drop, bytes_eq};
-ghost use Rattle.sha2.specs.Sha256.{sha256};
-ghost use Rattle.ldv_value.specs.Limits.{input_limit};
-ghost use Rattle.package_layout.specs.Counts.{IsCounted};
+ghost use Rattle.std.specs.Prelude.{◌≡◌, ◌↔◌, [], true, false, Some, None, Ok, Err, IfOk, IfSome, IsSome};
+ghost use Rattle.package_layout.specs.ReadResult.{ReadsAs, RunsReadAs, damage_before};
+ghost use Rattle.package_layout.specs.RunPackages.{whole, run_rules, runs_in};
+ghost use Rattle.package_layout.specs.Runs.{IsCut, are_runs};
 ghost use Rattle.package_layout.specs.Fields.{Makes};
-ghost use Rattle.package_layout.specs.Whole.{body, spelling, IsTyped};
-ghost use Rattle.package_layout.specs.Valid.{Valid, HasMagic, HasDigest, IsSpelling, IsNoSpelling};
-ghost use Rattle.package_layout.specs.Valid.{before_digest, middle, package_in, has_magic, has_digest};
-ghost use Rattle.package_layout.specs.Valid.{reading};
-ghost use Rattle.package_layout.specs.ReadResult.{damage_before, ReadsAs};
-ghost use Rattle.package_layout.specs.Version.{One};
-ghost use Rattle.run_model.specs.declared.package.Package.{Package};
+ghost use Rattle.package_layout.specs.Valid.{Valid, HasDigest, IsSpelled, IsUnspelled, has_digest};
+ghost use Rattle.package_layout.specs.Valid.{reading, reading_as};
+ghost use Rattle.package_layout.specs.Version.{version_of};
+ghost use Rattle.package_layout.specs.Whole.{IsTyped};
 
 use crate::damage::DamageKind;
 use crate::decode_error::DecodeError;
-use crate::sections::{decode_all, encode_sections};
+use crate::digest::{has_digest, middle};
+use crate::expanding::whole;
+use crate::run_package::RunPackage;
+use crate::sections::decode_all;
 use crate::validity::is_valid_package;
-use ldv_value::{Bytes, INPUT_LIMIT};
+use crate::version::{Version, version_of};
 use run_model::Package;
-use sha2::{Digest, Sha256};
 use std::alloc::{AllocError, Global};
-
-const MAGIC: &[u8; 8] = b"LDVPACK1";
-
-const DIGEST_LENGTH: usize = 32;
 
 /// Why a package isn't spelled.
 #[derive(Clone, Copy, Debug, PartialEq, Eq)]
@@ -56,151 +50,109 @@ impl From<AllocError> for SpellStop {
     }
 }
 
-/// The one spelling of a package. `TooLong` exactly where it has more than 67,108,864 bytes, its digest
-/// counted.
-pub fn spell(alloc: Global, package: &Package) -> Result<Bytes, SpellStop>
-    ensures bytes { IfOk result (λ bytes. bytes ≡ spelling «package».now) }
-    ensures within { IfOk result (λ bytes. length bytes ≤ input_limit) }
-    ensures too_long { IsErrOf result SpellStop.TooLong → input_limit < length (spelling «package».now) }
-    // What every package in memory meets, and a law over all packages asks for.
-    ensures typed { OnOk result (IsTyped «package».now) }
-{
-    let body = body_of(alloc, package)?;
-    if body.len() > INPUT_LIMIT - DIGEST_LENGTH {
-        return Err(SpellStop::TooLong);
-    }
-    Ok(with_digest(body)?)
-}
-
-fn body_of(alloc: Global, package: &Package) -> Result<Bytes, AllocError>
-    ensures bytes { IfOk result (λ bytes. bytes ≡ body One «package».now) }
-    ensures typed { OnOk result (IsTyped «package».now) }
-{
-    let mut bytes = Bytes::of_slice(alloc, MAGIC)?;
-    encode_sections(package, &mut bytes)?;
-    Ok(bytes)
-}
-
-fn with_digest(body: Bytes) -> Result<Bytes, AllocError>
-    ensures { IfOk result (λ bytes. bytes ≡ body ++ sha256 body) }
-{
-    let mut bytes = body;
-    let digest = Sha256::digest(bytes.as_slice());
-    bytes.extend(&digest)?;
-    Ok(bytes)
-}
-
-/// The valid package that bytes spell. They are `Damaged` where there is none: by `Magic` where they
-/// don't begin with the magic, else by `Digest` where they are too short for a digest or end with another
-/// one, else by `Form`.
+/// The valid package that bytes spell, in the version that they begin as. They are `Damaged` where there is
+/// none: by `Magic` where they begin with no version's magic, else by `Digest` where they are too short for a
+/// digest or end with another one, else by `Form`.
+///
+/// A list of its events is made last, once all else is judged. It may be far larger than the bytes: where no
+/// events are wanted, take `read_runs`.
 pub fn read_package(alloc: Global, bytes: &[u8]) -> Result<Package, PackageStop>
-    ensures found { IfOk result (λ p. IsTyped p × Valid p × IsSpelling One p bytes.now) }
-    ensures magic { (result ≡ Err (PackageStop.Damaged DamageKind.Magic)) ↔ (¬ HasMagic One bytes.now) }
+    ensures found { IfOk result (λ p. IsTyped p × Valid p × IsSpelled bytes.now p) }
+    ensures magic { (result ≡ Err (PackageStop.Damaged DamageKind.Magic)) ↔ (version_of bytes.now ≡ None) }
     ensures digest { (result ≡ Err (PackageStop.Damaged DamageKind.Digest))
-        ↔ (HasMagic One bytes.now × (¬ HasDigest bytes.now)) }
+        ↔ (IsSome (version_of bytes.now) × (¬ HasDigest bytes.now)) }
     ensures form { result ≡ Err (PackageStop.Damaged DamageKind.Form) →
-        HasMagic One bytes.now × HasDigest bytes.now × IsNoSpelling One bytes.now }
+        HasDigest bytes.now × IsUnspelled bytes.now }
     // The same as one function of the bytes.
     ensures reading { ReadsAs result (reading bytes.now) }
 {
     answer(alloc, bytes)
 }
 
+/// The same package, with its trace kept as runs. It takes memory by the bytes that are read, and none by
+/// the number of events. The answers are those of `read_package`.
+pub fn read_runs(alloc: Global, bytes: &[u8]) -> Result<RunPackage, PackageStop>
+    ensures found { IfOk result (λ r. IsTyped (whole r) × Valid (whole r) × IsSpelled bytes.now (whole r)) }
+    ensures cut { IfOk result (λ r. IsCut r.runs) }
+    ensures bare { IfOk result (λ r. r.bare.events ≡ []) }
+    ensures magic { (result ≡ Err (PackageStop.Damaged DamageKind.Magic)) ↔ (version_of bytes.now ≡ None) }
+    ensures digest { (result ≡ Err (PackageStop.Damaged DamageKind.Digest))
+        ↔ (IsSome (version_of bytes.now) × (¬ HasDigest bytes.now)) }
+    ensures form { result ≡ Err (PackageStop.Damaged DamageKind.Form) →
+        HasDigest bytes.now × IsUnspelled bytes.now }
+    // The same as one function of the bytes.
+    ensures reading { RunsReadAs result (reading bytes.now) }
+{
+    runs_answer(alloc, bytes)
+}
+
 fn answer(alloc: Global, bytes: &[u8]) -> Result<Package, PackageStop>
     ensures due { ReadsAs result (reading bytes.now) }
-    ensures at_once { IfSome (damage_before One bytes.now) (λ kind. result ≡ Err (PackageStop.Damaged kind)) }
+    ensures at_once { IfSome (damage_before bytes.now) (λ kind. result ≡ Err (PackageStop.Damaged kind)) }
 {
-    match damage_before(bytes) {
-        Some(kind) => Err(PackageStop::Damaged(kind)),
-        None => read_middle(alloc, bytes),
+    match runs_answer(alloc, bytes) {
+        Ok(package) => whole_answer(alloc, package),
+        Err(stop) => Err(stop),
     }
 }
 
-// Whether bytes have a magic and a digest, which takes no memory.
-fn damage_before(bytes: &[u8]) -> Option<DamageKind>
-    ensures { result ≡ damage_before One bytes.now }
+fn whole_answer(alloc: Global, package: RunPackage) -> Result<Package, PackageStop>
+    requires { are_runs «package».runs ≡ true }
+    ensures ok { IfOk result (λ p. p ≡ whole «package») }
+    ensures err { (stop : PackageStop) → result ≡ Err stop → stop ≡ PackageStop.NoMemory }
 {
-    if has_magic(bytes) {
-        if has_digest(bytes) {
-            None
-        } else {
-            Some(DamageKind::Digest)
-        }
+    match whole(alloc, package) {
+        Ok(package) => Ok(package),
+        Err(_) => Err(PackageStop::NoMemory),
+    }
+}
+
+fn runs_answer(alloc: Global, bytes: &[u8]) -> Result<RunPackage, PackageStop>
+    ensures due { RunsReadAs result (reading bytes.now) }
+    ensures at_once { IfSome (damage_before bytes.now) (λ kind. result ≡ Err (PackageStop.Damaged kind)) }
+    ensures runs { IfOk result (λ r. are_runs r.runs ≡ true) }
+    ensures bare { IfOk result (λ r. r.bare.events ≡ []) }
+{
+    match version_of(bytes) {
+        Some(version) => answer_as(alloc, version, bytes),
+        None => Err(PackageStop::Damaged(DamageKind::Magic)),
+    }
+}
+
+fn answer_as(alloc: Global, version: Version, bytes: &[u8]) -> Result<RunPackage, PackageStop>
+    ensures due { RunsReadAs result (reading_as version bytes.now) }
+    ensures at_once { has_digest bytes.now ≡ false → result ≡ Err (PackageStop.Damaged DamageKind.Digest) }
+    ensures runs { IfOk result (λ r. are_runs r.runs ≡ true) }
+    ensures bare { IfOk result (λ r. r.bare.events ≡ []) }
+{
+    if has_digest(bytes) {
+        middle_answer(alloc, version, bytes)
     } else {
-        Some(DamageKind::Magic)
+        Err(PackageStop::Damaged(DamageKind::Digest))
     }
 }
 
-fn has_magic(bytes: &[u8]) -> bool
-    ensures { result ≡ has_magic One bytes.now }
+fn middle_answer(alloc: Global, version: Version, bytes: &[u8]) -> Result<RunPackage, PackageStop>
+    requires { has_digest bytes.now ≡ true }
+    ensures due { RunsReadAs result (reading_as version bytes.now) }
+    ensures runs { IfOk result (λ r. are_runs r.runs ≡ true) }
+    ensures bare { IfOk result (λ r. r.bare.events ≡ []) }
 {
-    first_eight(bytes) == MAGIC.as_slice()
-}
-
-// The first eight bytes, or all where there are fewer.
-fn first_eight(bytes: &[u8]) -> &[u8]
-    ensures { result.now ≡ take 8 bytes.now }
-{
-    if bytes.len() < 8 { bytes } else { &bytes[..8] }
-}
-
-fn has_digest(bytes: &[u8]) -> bool
-    ensures { result ≡ has_digest bytes.now }
-{
-    if bytes.len() >= 40 {
-        ends_with_digest(bytes)
-    } else {
-        false
-    }
-}
-
-fn ends_with_digest(bytes: &[u8]) -> bool
-    requires { 40 ≤ length bytes.now }
-    ensures { result ≡ bytes_eq (drop (length bytes.now - 32) bytes.now) (sha256 (before_digest bytes.now)) }
-{
-    let (front, digest) = bytes.split_at(bytes.len() - DIGEST_LENGTH);
-    let made = Sha256::digest(front);
-    digest == made.as_slice()
-}
-
-fn read_middle(alloc: Global, bytes: &[u8]) -> Result<Package, PackageStop>
-    requires { damage_before One bytes.now ≡ None }
-    ensures { ReadsAs result (reading bytes.now) }
-{
-    match package_in(alloc, middle(bytes)) {
+    match runs_in(alloc, version, middle(bytes)) {
         Ok(package) => Ok(package),
         Err(DecodeError::Malformed) => Err(PackageStop::Damaged(DamageKind::Form)),
         Err(DecodeError::NoMemory) => Err(PackageStop::NoMemory),
     }
 }
 
-fn middle(bytes: &[u8]) -> &[u8]
-    requires { 40 ≤ length bytes.now }
-    ensures { result.now ≡ middle bytes.now }
+// Nothing is expanded before all is judged: a few bytes can stand for 20,000,001 events.
+fn runs_in(alloc: Global, version: Version, middle: &[u8]) -> Result<RunPackage, DecodeError>
+    ensures { Makes result (runs_in version middle.now) }
 {
-    let (front, _digest) = bytes.split_at(bytes.len() - DIGEST_LENGTH);
-    let (_magic, middle) = front.split_at(8);
-    middle
-}
-
-fn package_in(alloc: Global, middle: &[u8]) -> Result<Package, DecodeError>
-    ensures { Makes result (package_in One middle.now) }
-{
-    let package = decode_all(alloc, middle)?;
+    let package = decode_all(alloc, version, middle)?;
     if is_valid_package(alloc, &package)? {
         Ok(package)
     } else {
         Err(DecodeError::Malformed)
     }
 }
-
-/// The law of the layout, over all packages that memory can hold: two valid packages with one spelling are
-/// equal, and the spelling of a valid one is read as that package, where it isn't too long. A count of four
-/// bytes that doesn't fit its field comes only where it is.
-pub fn round_trip_law()
-    ensures unique { (p q : Package) → IsTyped p → IsTyped q → Valid p → Valid q →
-        length (spelling p) ≤ input_limit → spelling p ≡ spelling q → p ≡ q }
-    ensures again { (p : Package) → IsTyped p → Valid p →
-        length (spelling p) ≤ input_limit → reading (spelling p) ≡ Ok p }
-    ensures counted { (p : Package) → length (spelling p) ≤ input_limit → IsCounted p }
-{}

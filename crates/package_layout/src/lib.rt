@@ -1,17 +1,26 @@
 //! The bytes of a package: `spell` gives them, `read_package` reads them.
 //!
 //! It promises to the layers above:
-//! - a package has one spelling, which `spell` gives unless it has more than 67,108,864 bytes
-//!   (`specs/Whole.antt`, `spelling`; its parts in `specs/Spelling.antt` and `specs/Events.antt`);
-//! - `read_package` gives the valid package that bytes spell, and where there is none says how they are
-//!   damaged: by their magic, else by their digest, else by their form, each exactly there;
+//! - there are two versions of the layout, and `version_of` says by the magic which one bytes begin as. A
+//!   package has one spelling in each, which `spell_as` gives unless it has more than 67,108,864 bytes
+//!   (`specs/Whole.antt`, `spelling_as`; its parts in `specs/Spelling.antt` and `specs/Events.antt`); `spell`
+//!   gives that of the second;
+//! - the second writes the trace in runs, as long as the events let them be (`specs/Runs.antt`, `runs_of`).
+//!   Every list of events has exactly one such cut (`runs_law`), and another one isn't read;
+//! - `read_package` gives the valid package that bytes spell in their version, and where there is none says
+//!   how they are damaged: by their magic, else by their digest, else by their form, each exactly there;
 //! - what a package meets to be valid is `valid_test` of `specs/Valid.antt`: the rules of `run_model`
 //!   (`ValidPackage` and `ValidTrace`, a test for each rule), and that the format has room for it
-//!   (`specs/Room.antt`);
+//!   (`specs/Room.antt`, and at most 20,000,001 events in `specs/Runs.antt`);
 //! - a count of four bytes that its field can't hold (`specs/Counts.antt`) is only in a package that is too
 //!   long (`round_trip_law`), and one with such a count has no spelling (`IsSpelling` of `specs/Valid.antt`);
-//! - two valid packages with one spelling are equal, and the spelling of a valid one is read as that
-//!   package (`round_trip_law`).
+//! - two valid packages with one spelling of a version are equal, the spelling of a valid one is read as that
+//!   package, and no bytes are a spelling of both versions (`round_trip_law`).
+//!
+//! A run of a few bytes can stand for millions of events. So both versions are read into runs and judged
+//! there (`specs/RunPackages.antt`, `specs/RunTrace.antt`), and `read_package` makes the events last, of a
+//! package that is valid. `read_runs` gives the package with its runs and never makes them, and `spell_runs`
+//! writes it: their memory goes by the bytes that are read.
 //!
 //! Clauses range over all numbers and lists, so `IsTyped` of `run_model` says what every package in
 //! memory meets: its numbers are those of their types, its texts are UTF-8. `spell` and `read_package` give
@@ -24,23 +33,39 @@
 
 mod codec;
 mod cursor;
+mod cutting;
 mod damage;
 mod decode_error;
+mod digest;
 mod event;
+mod expanding;
 mod file;
 mod group;
+mod law;
 mod layout;
 mod log;
 mod number;
 mod part;
 mod rules;
+mod run;
+mod run_package;
+mod run_tests;
+mod same_act;
 mod sections;
+mod spelling;
 mod table;
 mod text;
 mod trace;
 mod validity;
 mod value;
+mod version;
 mod width;
+mod writing;
 
 pub use damage::DamageKind;
-pub use layout::{PackageStop, SpellStop, read_package, round_trip_law, spell};
+pub use law::{round_trip_law, runs_law};
+pub use layout::{PackageStop, SpellStop, read_package, read_runs};
+pub use run::{Run, Runs};
+pub use run_package::RunPackage;
+pub use spelling::{spell, spell_as, spell_runs};
+pub use version::{Version, version_of};

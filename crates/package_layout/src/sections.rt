@@ -1,18 +1,29 @@
 //! All of a package between its magic and its digest.
 
-ghost use Rattle.std.specs.Prelude.{◌≡◌, ◌++◌, OnOk};
+ghost use Rattle.std.specs.Prelude.{◌≡◌, ◌++◌, [], OnOk};
+ghost use Rattle.std.specs.List.{AllByRecursion};
+ghost use Rattle.package_layout.specs.Bare.{BareParts, BareNumbers, BareTyped};
 ghost use Rattle.package_layout.specs.Fields.{Gives, Makes};
-ghost use Rattle.package_layout.specs.Version.{One};
-ghost use Rattle.package_layout.specs.Whole.{mode_number, mode_of, mode_at, parts, numbers, sections};
-ghost use Rattle.package_layout.specs.Whole.{sections_at, TypedParts, TypedNumbers, IsTyped, all_of};
+ghost use Rattle.package_layout.specs.RunPackages.{cut_at, run_sections_at, run_sections_of, whole};
+ghost use Rattle.package_layout.specs.Runs.{IsCut};
+ghost use Rattle.package_layout.specs.Typed.{TypedEvent};
+ghost use Rattle.package_layout.specs.Version.{Two};
+ghost use Rattle.package_layout.specs.Whole.{mode_number, mode_of, mode_at, parts, numbers, bare, bare_at};
+ghost use Rattle.package_layout.specs.Whole.{sections, trace_spelling, IsTyped};
 
 use crate::codec::{decode_list, encode_list};
 use crate::cursor::Cursor;
+use crate::cutting::decode_cut;
 use crate::decode_error::DecodeError;
 use crate::number::{decode_u8, decode_u32, decode_u64, encode_u8, encode_u32, encode_u64};
+use crate::run::Runs;
+use crate::run_package::RunPackage;
+use crate::table::{decode_tables, encode_tables};
+use crate::version::Version;
 use crate::width::Width;
-use ldv_value::Bytes;
-use run_model::{Mode, Package};
+use crate::writing::encode_trace;
+use ldv_value::{Bytes, List};
+use run_model::{Events, Mode, Package};
 use std::alloc::{AllocError, Global};
 
 fn number_of_mode(mode: Mode) -> u8
@@ -42,45 +53,74 @@ fn mode_of(number: u8) -> Result<Mode, DecodeError>
 }
 
 /// Appends the sections of a package.
-pub(crate) fn encode_sections(package: &Package, to: &mut Bytes) -> Result<(), AllocError>
-    ensures bytes { OnOk result (to.new ≡ to.old ++ sections One «package».now) }
+pub(crate) fn encode_sections(
+    package: &Package,
+    version: Version,
+    to: &mut Bytes,
+) -> Result<(), AllocError>
+    ensures bytes { OnOk result (to.new ≡ to.old ++ sections version «package».now) }
     ensures typed { OnOk result (IsTyped «package».now) }
+{
+    encode_bare(package, version, to)?;
+    encode_events(version, &package.events, to)
+}
+
+/// Appends the sections of a package whose trace is kept as runs, in the second version.
+pub(crate) fn encode_run_sections(package: &RunPackage, to: &mut Bytes) -> Result<(), AllocError>
+    requires { IsCut «package».now.runs }
+    ensures { OnOk result (to.new ≡ to.old ++ sections Two (whole «package».now)) }
+{
+    encode_bare(&package.bare, Version::Two, to)?;
+    encode_list(Width::Four, &package.runs, to)
+}
+
+fn encode_events(version: Version, events: &Events, to: &mut Bytes) -> Result<(), AllocError>
+    ensures bytes { OnOk result (to.new ≡ to.old ++ trace_spelling version events.now) }
+    ensures typed { OnOk result (AllByRecursion TypedEvent events.now) }
+{
+    match version {
+        Version::One => encode_list(Width::Four, events, to),
+        Version::Two => encode_trace(events.items(), to),
+    }
+}
+
+fn encode_bare(package: &Package, version: Version, to: &mut Bytes) -> Result<(), AllocError>
+    ensures bytes { OnOk result (to.new ≡ to.old ++ bare version «package».now) }
+    ensures typed { OnOk result (BareTyped «package».now) }
 {
     encode_u8(number_of_mode(package.mode), to)?;
     encode_list(Width::Two, &package.start, to)?;
-    encode_numbers(package, to)
+    encode_numbers(package, version, to)
 }
 
-fn encode_numbers(package: &Package, to: &mut Bytes) -> Result<(), AllocError>
-    ensures bytes { OnOk result (to.new ≡ to.old ++ numbers One «package».now) }
-    ensures typed { OnOk result (TypedNumbers «package».now) }
+fn encode_numbers(package: &Package, version: Version, to: &mut Bytes) -> Result<(), AllocError>
+    ensures bytes { OnOk result (to.new ≡ to.old ++ numbers version «package».now) }
+    ensures typed { OnOk result (BareNumbers «package».now) }
 {
     encode_u64(package.seed, to)?;
     encode_u32(package.steps, to)?;
-    encode_parts(package, to)
+    encode_parts(package, version, to)
 }
 
-fn encode_parts(package: &Package, to: &mut Bytes) -> Result<(), AllocError>
-    ensures bytes { OnOk result (to.new ≡ to.old ++ parts One «package».now) }
-    ensures typed { OnOk result (TypedParts «package».now) }
+fn encode_parts(package: &Package, version: Version, to: &mut Bytes) -> Result<(), AllocError>
+    ensures bytes { OnOk result (to.new ≡ to.old ++ parts version «package».now) }
+    ensures typed { OnOk result (BareParts «package».now) }
 {
     encode_list(Width::Four, &package.files, to)?;
-    encode_list(Width::Two, &package.tables, to)?;
-    encode_list(Width::Four, &package.logs, to)?;
-    encode_list(Width::Four, &package.events, to)
+    encode_tables(version, &package.tables, to)?;
+    encode_list(Width::Four, &package.logs, to)
 }
 
-fn decode_sections(alloc: Global, cursor: &mut Cursor) -> Result<Package, DecodeError>
-    ensures { Gives result cursor.new (sections_at One cursor.old) }
+fn decode_bare(alloc: Global, version: Version, cursor: &mut Cursor) -> Result<Package, DecodeError>
+    ensures { Gives result cursor.new (bare_at version cursor.old) }
 {
     let mode = decode_mode(cursor)?;
     let start = decode_list(alloc, Width::Two, cursor)?;
     let seed = decode_u64(cursor)?;
     let steps = decode_u32(cursor)?;
     let files = decode_list(alloc, Width::Four, cursor)?;
-    let tables = decode_list(alloc, Width::Two, cursor)?;
+    let tables = decode_tables(alloc, version, cursor)?;
     let logs = decode_list(alloc, Width::Four, cursor)?;
-    let events = decode_list(alloc, Width::Four, cursor)?;
     Ok(Package {
         mode,
         start,
@@ -89,16 +129,41 @@ fn decode_sections(alloc: Global, cursor: &mut Cursor) -> Result<Package, Decode
         files,
         tables,
         logs,
-        events,
+        events: List::new(alloc),
     })
 }
 
-/// Reads the sections of a package, which are all of the bytes.
-pub(crate) fn decode_all(alloc: Global, bytes: &[u8]) -> Result<Package, DecodeError>
-    ensures { Makes result (all_of One bytes.now) }
+fn decode_runs(alloc: Global, version: Version, cursor: &mut Cursor) -> Result<Runs, DecodeError>
+    ensures { Gives result cursor.new (cut_at version cursor.old) }
+{
+    match version {
+        Version::One => decode_cut(alloc, cursor),
+        Version::Two => decode_list(alloc, Width::Four, cursor),
+    }
+}
+
+fn decode_sections(
+    alloc: Global,
+    version: Version,
+    cursor: &mut Cursor,
+) -> Result<RunPackage, DecodeError>
+    ensures { Gives result cursor.new (run_sections_at version cursor.old) }
+{
+    let bare = decode_bare(alloc, version, cursor)?;
+    let runs = decode_runs(alloc, version, cursor)?;
+    Ok(RunPackage { bare, runs })
+}
+
+/// Reads the sections of a package, which are all of the bytes, with its trace as runs.
+pub(crate) fn decode_all(
+    alloc: Global,
+    version: Version,
+    bytes: &[u8],
+) -> Result<RunPackage, DecodeError>
+    ensures { Makes result (run_sections_of version bytes.now) }
 {
     let mut cursor = Cursor::of(bytes);
-    let package = decode_sections(alloc, &mut cursor)?;
+    let package = decode_sections(alloc, version, &mut cursor)?;
     if cursor.is_empty() {
         Ok(package)
     } else {

@@ -1,22 +1,25 @@
 //! Tables of a package.
 
 ghost use Rattle.std.specs.Prelude.{◌≡◌, ◌++◌, length, OnOk};
-ghost use Rattle.std.specs.Int.{w8, to_be_bytes};
-ghost use Rattle.std.specs.List.{AllByRecursion};
-ghost use Rattle.package_layout.specs.Fields.{Gives, Makes, number_at, items_at, list_spelling};
-ghost use Rattle.package_layout.specs.Reading.{kind_of, kind_at, rule_of, rule_at, reason_at, key_at, row_at};
-ghost use Rattle.package_layout.specs.Reading.{rows_at, schema_at};
-ghost use Rattle.package_layout.specs.Spelling.{kind_number, rule_number, reason_spelling, schema_spelling};
-ghost use Rattle.package_layout.specs.Typed.{TypedColumn};
+ghost use Rattle.std.specs.Int.{w8, w16, to_be_bytes};
+ghost use Rattle.std.specs.List.{flat_map, AllByRecursion};
+ghost use Rattle.package_layout.specs.Fields.{Gives, Makes, number_at, items_at, list_at, list_spelling};
+ghost use Rattle.package_layout.specs.Reading.{kind_of, kind_at, rule_of, rule_at, reason_at, places_at};
+ghost use Rattle.package_layout.specs.Reading.{without_foreign, key_at, row_at, rows_at, schema_at, table_at};
+ghost use Rattle.package_layout.specs.Spelling.{kind_number, rule_number, reason_spelling, key_spelling};
+ghost use Rattle.package_layout.specs.Spelling.{schema_spelling, table_spelling};
+ghost use Rattle.package_layout.specs.Typed.{TypedColumn, TypedTable};
+ghost use Rattle.package_layout.specs.Version.{Two};
 
 use crate::codec::{Decode, Encode, decode_items, decode_list, encode_items, encode_list};
 use crate::cursor::Cursor;
 use crate::decode_error::DecodeError;
-use crate::number::{decode_count, decode_u8, decode_u32, encode_count, encode_u8, encode_u32};
+use crate::number::{decode_u8, decode_u16, decode_u32, encode_count, encode_u8, encode_u32};
 use crate::text::{decode_text, encode_text};
+use crate::version::Version;
 use crate::width::Width;
 use ldv_value::{Bytes, List, Places};
-use run_model::{PackedRow, PackedRows, PackedTable};
+use run_model::{PackedRow, PackedRows, PackedTable, PackedTables};
 use sql_model::{Column, Columns, Rule, Schema};
 use std::alloc::{AllocError, Global};
 
@@ -180,8 +183,8 @@ fn decode_some_rows(
     Ok(rows)
 }
 
-/// The places of a key are below 64, so each has one byte.
-fn encode_key(key: &Places, to: &mut Bytes) -> Result<(), AllocError>
+// The places of a key are below 64, so each has one byte.
+fn encode_places(key: &Places, to: &mut Bytes) -> Result<(), AllocError>
     ensures { OnOk result (to.new ≡ to.old ++ list_spelling w8 (to_be_bytes w8) key.now) }
 {
     encode_count(Width::One, key.len(), to)?;
@@ -191,8 +194,46 @@ fn encode_key(key: &Places, to: &mut Bytes) -> Result<(), AllocError>
     Ok(())
 }
 
-fn decode_key(alloc: Global, cursor: &mut Cursor) -> Result<Places, DecodeError>
-    ensures { Gives result cursor.new (key_at cursor.old) }
+fn encode_key(version: Version, key: &Places, to: &mut Bytes) -> Result<(), AllocError>
+    ensures { OnOk result (to.new ≡ to.old ++ key_spelling version key.now) }
+{
+    encode_places(key, to)?;
+    match version {
+        Version::One => Ok(()),
+        Version::Two => encode_u8(0, to),
+    }
+}
+
+fn decode_key(alloc: Global, version: Version, cursor: &mut Cursor) -> Result<Places, DecodeError>
+    ensures { Gives result cursor.new (key_at version cursor.old) }
+{
+    match version {
+        Version::One => decode_place_list(alloc, cursor),
+        Version::Two => decode_plain_key(alloc, cursor),
+    }
+}
+
+// A key, and that no foreign key follows it.
+fn decode_plain_key(alloc: Global, cursor: &mut Cursor) -> Result<Places, DecodeError>
+    ensures { Gives result cursor.new (key_at Two cursor.old) }
+{
+    let key = decode_place_list(alloc, cursor)?;
+    let foreign = decode_u8(cursor)?;
+    without_foreign(key, foreign)
+}
+
+fn without_foreign(key: Places, foreign: u8) -> Result<Places, DecodeError>
+    ensures { Makes result (without_foreign (key, foreign)) }
+{
+    if foreign == 0 {
+        Ok(key)
+    } else {
+        Err(DecodeError::Malformed)
+    }
+}
+
+fn decode_place_list(alloc: Global, cursor: &mut Cursor) -> Result<Places, DecodeError>
+    ensures { Gives result cursor.new (places_at cursor.old) }
 {
     let count = decode_u8(cursor)?;
     decode_places(alloc, count, cursor)
@@ -209,53 +250,106 @@ fn decode_places(alloc: Global, count: u8, cursor: &mut Cursor) -> Result<Places
     Ok(places)
 }
 
-impl Encode for PackedTable {
-    ghost use Rattle.package_layout.specs.Spelling.{table_spelling};
-    ghost use Rattle.package_layout.specs.Typed.{TypedTable};
-
-    ghost spelling = { table_spelling };
-
-    ghost typed = { TypedTable };
-
-    fn encode(&self, to: &mut Bytes) -> Result<(), AllocError> {
-        encode_text(&self.name, to)?;
-        encode_schema(&self.schema, to)?;
-        self.next.encode(to)?;
-        encode_list(Width::Four, &self.rows, to)
-    }
-}
-
-fn encode_schema(schema: &Schema, to: &mut Bytes) -> Result<(), AllocError>
-    ensures bytes { OnOk result (to.new ≡ to.old ++ schema_spelling schema.now) }
+fn encode_schema(version: Version, schema: &Schema, to: &mut Bytes) -> Result<(), AllocError>
+    ensures bytes { OnOk result (to.new ≡ to.old ++ schema_spelling version schema.now) }
     ensures typed { OnOk result (AllByRecursion TypedColumn schema.now.columns) }
 {
     encode_list(Width::One, &schema.columns, to)?;
-    encode_key(&schema.key, to)
+    encode_key(version, &schema.key, to)
 }
 
-fn decode_schema(alloc: Global, cursor: &mut Cursor) -> Result<Schema, DecodeError>
-    ensures { Gives result cursor.new (schema_at cursor.old) }
+fn decode_schema(
+    alloc: Global,
+    version: Version,
+    cursor: &mut Cursor,
+) -> Result<Schema, DecodeError>
+    ensures { Gives result cursor.new (schema_at version cursor.old) }
 {
     let columns = decode_list(alloc, Width::One, cursor)?;
-    let key = decode_key(alloc, cursor)?;
+    let key = decode_key(alloc, version, cursor)?;
     Ok(Schema { columns, key })
 }
 
-impl Decode for PackedTable {
-    ghost use Rattle.package_layout.specs.Reading.{table_at};
+fn encode_table(version: Version, table: &PackedTable, to: &mut Bytes) -> Result<(), AllocError>
+    ensures bytes { OnOk result (to.new ≡ to.old ++ table_spelling version table.now) }
+    ensures typed { OnOk result (TypedTable table.now) }
+{
+    encode_text(&table.name, to)?;
+    encode_schema(version, &table.schema, to)?;
+    table.next.encode(to)?;
+    encode_list(Width::Four, &table.rows, to)
+}
 
-    ghost reading = { table_at };
+fn decode_table(
+    alloc: Global,
+    version: Version,
+    cursor: &mut Cursor,
+) -> Result<PackedTable, DecodeError>
+    ensures { Gives result cursor.new (table_at version cursor.old) }
+{
+    let name = decode_text(alloc, cursor)?;
+    let schema = decode_schema(alloc, version, cursor)?;
+    let next = decode_u32(cursor)?;
+    let rows = decode_rows(alloc, &schema.columns, cursor)?;
+    Ok(PackedTable {
+        name,
+        schema,
+        next,
+        rows,
+    })
+}
 
-    fn decode(alloc: Global, cursor: &mut Cursor) -> Result<PackedTable, DecodeError> {
-        let name = decode_text(alloc, cursor)?;
-        let schema = decode_schema(alloc, cursor)?;
-        let next = decode_u32(cursor)?;
-        let rows = decode_rows(alloc, &schema.columns, cursor)?;
-        Ok(PackedTable {
-            name,
-            schema,
-            next,
-            rows,
-        })
+/// Appends tables: their number and the tables.
+pub(crate) fn encode_tables(
+    version: Version,
+    tables: &PackedTables,
+    to: &mut Bytes,
+) -> Result<(), AllocError>
+    ensures bytes { OnOk result (to.new ≡ to.old ++ list_spelling w16 (table_spelling version) tables.now) }
+    ensures typed { OnOk result (AllByRecursion TypedTable tables.now) }
+{
+    encode_count(Width::Two, tables.len(), to)?;
+    encode_each_table(version, tables, to)
+}
+
+fn encode_each_table(
+    version: Version,
+    tables: &PackedTables,
+    to: &mut Bytes,
+) -> Result<(), AllocError>
+    ensures bytes { OnOk result (to.new ≡ to.old ++ flat_map (table_spelling version) tables.now) }
+    ensures typed { OnOk result (AllByRecursion TypedTable tables.now) }
+{
+    for table in tables.items() {
+        encode_table(version, table, to)?;
     }
+    Ok(())
+}
+
+/// Reads tables. The list grows with the tables that are read.
+pub(crate) fn decode_tables(
+    alloc: Global,
+    version: Version,
+    cursor: &mut Cursor,
+) -> Result<PackedTables, DecodeError>
+    ensures { Gives result cursor.new (list_at w16 (table_at version) cursor.old) }
+{
+    let count = decode_u16(cursor)?;
+    decode_some_tables(alloc, version, count, cursor)
+}
+
+fn decode_some_tables(
+    alloc: Global,
+    version: Version,
+    count: u16,
+    cursor: &mut Cursor,
+) -> Result<PackedTables, DecodeError>
+    ensures { Gives result cursor.new (items_at (table_at version) count cursor.old) }
+{
+    let mut tables = List::new(alloc);
+    for _turn in 0..count {
+        let table = decode_table(alloc, version, cursor)?;
+        tables.push(table)?;
+    }
+    Ok(tables)
 }

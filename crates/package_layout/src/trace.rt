@@ -1,16 +1,23 @@
 //! Traces.
 
-ghost use Rattle.std.specs.Prelude.{◌≡◌, ◌<◌, ◌≤◌, ◌^◌, ◌+◌, [], ◌∷◌};
+ghost use Rattle.std.specs.Prelude.{◌≡◌, ◌<◌, ◌≤◌, ◌^◌, ◌+◌, [], ◌∷◌, true, Some, None, IfSome};
+ghost use Rattle.std.specs.Prelude.{◌&&◌, ◌==◌, if◌then◌else◌};
+ghost use Rattle.std.specs.Option.{option_map};
 ghost use Rattle.std.specs.List.{list_all};
 ghost use Rattle.sql_model.specs.SqlNames.{sql_name_test};
 ghost use Rattle.ldv_value.specs.Sorted.{is_strictly_sorted, text_precedes};
 ghost use Rattle.run_model.specs.ValidTrace.{need_precedes, member_precedes};
-ghost use Rattle.package_layout.specs.Trace.{act_rule, event_rule, made_after, is_asked, asked_after};
-ghost use Rattle.package_layout.specs.Trace.{progress_after, follows, at_start, starts_on, starts};
+ghost use Rattle.package_layout.specs.Runs.{events_in, is_run};
+ghost use Rattle.package_layout.specs.RunTrace.{is_spawned, made_by, progress_by, run_rule, spawns_fit};
+ghost use Rattle.package_layout.specs.Trace.{act_rule, event_rule, asked_after};
+ghost use Rattle.package_layout.specs.Trace.{follows, at_start, starts_on, starts};
 ghost use Rattle.package_layout.specs.Trace.{trace_test, asked_count, progress_of};
 
+use crate::run::Run;
+use crate::run_tests::last_step;
+use crate::same_act::is_asked;
 use ldv_value::{Names, Utf8, is_path, is_strictly_sorted};
-use run_model::{Act, Event, Events};
+use run_model::{Act, Event};
 use sql_model::{Members, Needs, is_sql_name};
 
 /// How far the events have come: how many processes are made and how many statements were asked, and the
@@ -22,14 +29,24 @@ pub(crate) struct Progress {
     step: u32,
 }
 
-/// Whether events are those of a run that starts with a path and has the given number of steps.
-pub(crate) fn is_trace(path: &Utf8, steps: u32, events: &Events) -> bool
-    ensures { result ≡ trace_test path.now steps events.now }
+/// Whether runs stand for the events of a run that starts with a path and has the given number of steps.
+pub(crate) fn is_trace(path: &Utf8, steps: u32, runs: &[Run]) -> bool
+    requires { list_all is_run runs.now ≡ true }
+    ensures { result ≡ trace_test path.now steps (events_in runs.now) }
 {
-    match events.items() {
+    match runs {
         [] => false,
-        [first, rest @ ..] => starts(path, first) && follows(steps, rest),
+        [first, rest @ ..] => is_start_of(path, steps, first, rest),
     }
+}
+
+// The first event is in a run of its own: no other one starts anything.
+fn is_start_of(path: &Utf8, steps: u32, first: &Run, rest: &[Run]) -> bool
+    requires { list_all is_run rest.now ≡ true }
+    ensures { result ≡ (starts path.now first.now.first && (first.now.count == 1)
+        && follows steps at_start (events_in rest.now)) }
+{
+    starts(path, &first.first) && first.count == 1 && follows(steps, rest)
 }
 
 fn starts(path: &Utf8, event: &Event) -> bool
@@ -47,21 +64,64 @@ fn starts_on(path: &Utf8, act: &Act) -> bool
     }
 }
 
-fn follows(steps: u32, events: &[Event]) -> bool
-    ensures { result ≡ follows steps at_start events.now }
+fn follows(steps: u32, runs: &[Run]) -> bool
+    requires { list_all is_run runs.now ≡ true }
+    ensures { result ≡ follows steps at_start (events_in runs.now) }
 {
     let mut progress = Progress {
         made: 1,
         asked: 0,
         step: 1,
     };
-    for event in events {
-        if !is_valid_event(steps, progress, event) {
-            return false;
+    let mut left = runs;
+    loop {
+        match left {
+            [] => return true,
+            [run, rest @ ..] => {
+                let Some(after) = after_run(steps, progress, run) else {
+                    return false;
+                };
+                progress = after;
+                left = rest;
+            }
         }
-        progress = progress_after(progress, event);
     }
-    true
+}
+
+// How far the events have come after those of a run, where they are valid.
+fn after_run(steps: u32, before: Progress, run: &Run) -> Option<Progress>
+    requires run { is_run run.now ≡ true }
+    requires made { before.made ≤ 65535 }
+    requires asked { before.asked + 1 < 2 ^ 64 }
+    ensures after { option_map progress_of result ≡ (if run_rule steps (progress_of before) run.now
+        then Some (progress_by (progress_of before) run.now) else None) }
+    ensures made { IfSome result (λ after. after.made ≤ 65535) }
+    ensures asked { IfSome result (λ after. after.asked ≤ before.asked + 1) }
+{
+    if is_valid_run(steps, before, run) {
+        Some(progress_by(before, run))
+    } else {
+        None
+    }
+}
+
+fn is_valid_run(steps: u32, before: Progress, run: &Run) -> bool
+    requires { is_run run.now ≡ true }
+    ensures { result ≡ run_rule steps (progress_of before) run.now }
+{
+    is_valid_event(steps, before, &run.first)
+        && last_step(run) <= u64::from(steps)
+        && spawns_fit(before.made, &run.first.act, run.count)
+}
+
+fn spawns_fit(made: u32, act: &Act, times: u32) -> bool
+    ensures { result ≡ spawns_fit made act.now times }
+{
+    if is_spawned(act) {
+        u64::from(made) + u64::from(times) <= 65535
+    } else {
+        true
+    }
 }
 
 fn is_valid_event(steps: u32, before: Progress, event: &Event) -> bool
@@ -112,56 +172,62 @@ fn are_names(names: &Names) -> bool
     names.items().iter().all(|name| is_sql_name(name.as_str()))
 }
 
-fn progress_after(before: Progress, event: &Event) -> Progress
+fn progress_by(before: Progress, run: &Run) -> Progress
+    requires run { is_run run.now ≡ true }
     requires made { before.made ≤ 65535 }
+    requires fits { spawns_fit before.made run.now.first.act run.now.count ≡ true }
     requires asked { before.asked + 1 < 2 ^ 64 }
-    ensures { progress_of result ≡ progress_after (progress_of before) event.now }
+    ensures after { progress_of result ≡ progress_by (progress_of before) run.now }
+    ensures made { result.made ≤ 65535 }
+    ensures asked { result.asked ≤ before.asked + 1 }
 {
     Progress {
-        made: made_after(before.made, &event.act),
-        asked: asked_after(before.asked, is_asked(&event.act)),
-        step: event.step,
+        made: made_after(before.made, &run.first.act, run.count),
+        asked: asked_after(before.asked, is_asked(&run.first.act)),
+        step: last_step(run) as u32,
     }
 }
 
-fn made_after(made: u32, act: &Act) -> u32
-    requires { made ≤ 65535 }
-    ensures { result ≡ made_after made act.now }
+fn made_after(made: u32, act: &Act, times: u32) -> u32
+    requires made { made ≤ 65535 }
+    requires fits { spawns_fit made act.now times ≡ true }
+    ensures after { result ≡ made + made_by act.now times }
+    ensures made { result ≤ 65535 }
+{
+    if is_spawned(act) { made + times } else { made }
+}
+
+fn is_spawned(act: &Act) -> bool
+    ensures { result ≡ is_spawned act.now }
 {
     match act {
-        Act::Spawned { path: _ } => made + 1,
-        _ => made,
+        Act::Spawned { path: _ } => true,
+        _ => false,
     }
 }
 
 fn asked_after(asked: u64, one_more: bool) -> u64
     requires { asked + 1 < 2 ^ 64 }
-    ensures { result ≡ asked_after asked one_more }
+    ensures after { result ≡ asked_after asked one_more }
+    ensures more { result ≤ asked + 1 }
 {
     if one_more { asked + 1 } else { asked }
 }
 
-fn is_asked(act: &Act) -> bool
-    ensures { result ≡ is_asked act.now }
-{
-    match act {
-        Act::Asked {
-            statement: _,
-            tables: _,
-            reads: _,
-            made: _,
-        } => true,
-        _ => false,
-    }
-}
-
-/// How many statements were asked.
-pub(crate) fn asked_count(events: &Events) -> u64
-    ensures { result ≡ asked_count events.now }
+/// How many statements were asked by the events that runs stand for.
+pub(crate) fn asked_count(runs: &[Run]) -> u64
+    requires { list_all is_run runs.now ≡ true }
+    ensures { result ≡ asked_count (events_in runs.now) }
 {
     let mut asked = 0;
-    for event in events.items() {
-        asked = asked_after(asked, is_asked(&event.act));
+    let mut left = runs;
+    loop {
+        match left {
+            [] => return asked,
+            [run, rest @ ..] => {
+                asked = asked_after(asked, is_asked(&run.first.act));
+                left = rest;
+            }
+        }
     }
-    asked
 }

@@ -1,31 +1,48 @@
 //! The rules for a whole package.
 
-ghost use Rattle.std.specs.Prelude.{◌≡◌, IfOk, bytes_eq, find, nat_lt};
+ghost use Rattle.std.specs.Prelude.{◌≡◌, true, IfOk, bytes_eq, find, nat_lt};
 ghost use Rattle.std.specs.List.{list_all};
 ghost use Rattle.std.specs.Option.{option_map, is_some};
 ghost use Rattle.script_parse.specs.Script.{script_of};
+ghost use Rattle.package_layout.specs.RunPackages.{run_rules, whole};
+ghost use Rattle.package_layout.specs.Runs.{are_runs, events_in, is_run};
 ghost use Rattle.package_layout.specs.Valid.{mode_rule, steps_rule, is_script, is_script_file, script_rule};
 ghost use Rattle.package_layout.specs.Valid.{trace_rule, reasons_rule, parts_rule, whole_rule, rules};
+ghost use Rattle.package_layout.specs.Whole.{with_events};
 
 use crate::rules::{is_valid_files, is_valid_logs, is_valid_start, is_valid_tables};
+use crate::run::Run;
+use crate::run_package::RunPackage;
+use crate::run_tests::are_runs;
 use crate::trace::{asked_count, is_trace};
 use ldv_value::{Bytes, FILE_LIMIT, MAX_STEPS, Utf8, Words};
-use run_model::{Events, Logs, Mode, Package, PackedFile, PackedFiles, PackedTable, PackedTables};
+use run_model::{Logs, Mode, Package, PackedFile, PackedFiles, PackedTable, PackedTables};
 use script_parse::{ScriptStop, parse_script};
 use std::alloc::{AllocError, Global};
 
-/// Whether a package that was read meets the rules for valid packages. `AllocError` means out of memory
-/// and nothing else.
-pub(crate) fn is_valid_package(alloc: Global, package: &Package) -> Result<bool, AllocError>
-    ensures { IfOk result (λ holds. holds ≡ rules «package».now) }
+/// Whether the runs of a package are those of a trace, and all of it meets the rules for valid packages. No
+/// list of events is made. `AllocError` means out of memory and nothing else.
+pub(crate) fn is_valid_package(alloc: Global, package: &RunPackage) -> Result<bool, AllocError>
+    ensures { IfOk result (λ holds. holds ≡ run_rules «package».now) }
 {
-    if !is_valid_parts(alloc, package)? {
+    if !are_runs(package.runs.items()) {
         return Ok(false);
     }
-    if !is_valid_whole(package) {
+    meets_rules(alloc, package)
+}
+
+#[tactic(auto, using(crate::proofs::Runs::are_all_runs))]
+fn meets_rules(alloc: Global, package: &RunPackage) -> Result<bool, AllocError>
+    requires { are_runs «package».now.runs ≡ true }
+    ensures { IfOk result (λ holds. holds ≡ rules (whole «package».now)) }
+{
+    if !is_valid_parts(alloc, &package.bare)? {
         return Ok(false);
     }
-    starts_script(alloc, &package.start, &package.files)
+    if !is_valid_whole(&package.bare, package.runs.items()) {
+        return Ok(false);
+    }
+    starts_script(alloc, &package.bare.start, &package.bare.files)
 }
 
 fn is_valid_parts(alloc: Global, package: &Package) -> Result<bool, AllocError>
@@ -43,13 +60,14 @@ fn is_valid_parts(alloc: Global, package: &Package) -> Result<bool, AllocError>
     Ok(is_valid_logs(&package.logs))
 }
 
-fn is_valid_whole(package: &Package) -> bool
-    ensures { result ≡ whole_rule «package».now }
+fn is_valid_whole(bare: &Package, runs: &[Run]) -> bool
+    requires { list_all is_run runs.now ≡ true }
+    ensures { result ≡ whole_rule (with_events bare.now (events_in runs.now)) }
 {
-    is_valid_mode(package.mode, &package.tables, &package.logs)
-        && is_valid_steps(package.steps)
-        && is_valid_trace(&package.start, package.steps, &package.events)
-        && is_valid_reasons(asked_count(&package.events), &package.tables)
+    is_valid_mode(bare.mode, &bare.tables, &bare.logs)
+        && is_valid_steps(bare.steps)
+        && is_valid_trace(&bare.start, bare.steps, runs)
+        && is_valid_reasons(asked_count(runs), &bare.tables)
 }
 
 fn is_valid_mode(mode: Mode, tables: &PackedTables, logs: &Logs) -> bool
@@ -67,12 +85,13 @@ fn is_valid_steps(steps: u32) -> bool
     1 <= steps && steps <= MAX_STEPS
 }
 
-fn is_valid_trace(words: &Words, steps: u32, events: &Events) -> bool
-    ensures { result ≡ trace_rule words.now steps events.now }
+fn is_valid_trace(words: &Words, steps: u32, runs: &[Run]) -> bool
+    requires { list_all is_run runs.now ≡ true }
+    ensures { result ≡ trace_rule words.now steps (events_in runs.now) }
 {
     match words.items() {
         [] => false,
-        [word, ..] => is_trace(word, steps, events),
+        [word, ..] => is_trace(word, steps, runs),
     }
 }
 

@@ -1,62 +1,69 @@
 -- The rows that masks leave, slot by slot.
-use Rattle.std.proofs.Common.{◌≡◌, ◌∙◌, sym, ap, subst, refl, ℕ, zero, suc, ◌+◌, ◌-◌, ◌*◌, ◌/◌, ◌<◌, ◌≤◌, Bool, true, false, ◌&&◌, List, [], ◌∷◌, ◌++◌, map, drop, length, get_or, drop-cons, add-one, append_assoc, append-nil, not, inl, inr, arith, Option, Some, None}
+use Rattle.std.proofs.Common.{◌≡◌, ◌∙◌, sym, ap, subst, refl, ℕ, zero, suc, ◌+◌, ◌-◌, ◌*◌, ◌/◌, ◌<◌, ◌≤◌, Bool, true, false, ◌&&◌, List, [], ◌∷◌, ◌++◌, map, drop, length, get_or, append_assoc, append-nil, inl, inr, arith, Option, Some, None}
 use Rattle.std.specs.Prelude.{filter, cond, unwrap_or, slice_get, is_some, IfSome, IsSome}
-use Rattle.std.specs.List.{cons_option, filter_map, list_all, AllByRecursion}
-use Rattle.std.proofs.lemmas.List.{drop-drop, drop_all, get_or-drop, get_or_past}
+use Rattle.std.specs.List.{cons_option, filter_map, AllByRecursion}
+use Rattle.std.proofs.lemmas.List.{drop-drop, get_or-drop, get_or_past}
 use Rattle.std.specs.Option.{option_map, option_map_or, option_to_list}
 use Rattle.std.proofs.lemmas.Bool.{cases_Bool, cases_lt}
-use Rattle.ldv_value.proofs.Booleans.{and-parts, true≢false}
+use Rattle.ldv_value.proofs.Booleans.{true≢false}
 use Rattle.lanes.proofs.SetLaws.{no_member}
-use Rattle.ldv_value.specs.Order.{test_of}
 use Rattle.lanes.specs.Sets.{member, IsNext}
-use Rattle.query_eval.specs.Leaving.{has_numbers, is_own, own_masks, passes_all, slot_passes, slot_passes_all, chosen, with_version, source_row, rows_in}
-use Rattle.query_eval.specs.Masking.{row_passes}
+use Rattle.core_parts.specs.Masking.{passes, passes_all, suits}
+use Rattle.core_parts.specs.declared.masking.Mask.{Mask}
+use Rattle.core_parts.specs.declared.masking.MaskTest.{MaskTest}
+use Rattle.core_parts.specs.declared.masking.MaskTest.TheVariants.{Compares, IsNull, IsNotNull}
+use Rattle.query_eval.specs.Leaving.{AllFit, cell_test, column_tests, row_passes, slot_passes, chosen, with_version, source_row, rows_in}
 use Rattle.query_eval.specs.Sourcing.{table_row}
 use Rattle.query_eval.specs.Stored.{HasVersion}
-use Rattle.query_eval.specs.declared.masking.Mask.{Mask}
 use Rattle.query_eval.specs.declared.source.SourceRow.{SourceRow}
-use Rattle.sql_model.specs.Meaning.{is_true}
 use Rattle.sql_model.specs.Scope.{value_at}
-use Rattle.query_eval.specs.Types.{Column, Int, Null, TableRow, Value}
+use Rattle.query_eval.specs.Types.{Column, Null, TableRow, Value}
 use Rattle.table_store.proofs.TableLaws.{history_here}
-use Rattle.table_store.specs.Cells.{passes_test}
+use Rattle.table_store.specs.CellTests.{AllFitColumns, cell_passes, passes_columns, slot_chosen, suits as suits_cell}
+use Rattle.table_store.specs.declared.cell_test.ColumnTest.{ColumnTest}
 use Rattle.table_store.specs.Histories.{RowHistory, TableHistory, no_history, row_now, rows_now, numbered_row, history_of_row, version_now}
 use Rattle.table_store.specs.RowOrder.{AreInOrder}
 use Rattle.row_version.specs.History.{current, version}
 
--- ---- own masks are of columns with numbers
+-- ---- masks, as a table makes them
 
-own-parts : (source : ℕ) (columns : List Column) (mask : Mask) → is_own source columns mask ≡ true → has_numbers columns mask.column ≡ true
-own-parts source columns mask is = (and-parts _ (has_numbers columns mask.column) is).1
+cells-fit : (test : MaskTest) (column : Option Column) → option_map_or (suits test) column false ≡ true → option_map_or (suits_cell (cell_test test)) column false ≡ true
+cells-fit test None is = cc
+cells-fit (Compares op constant) (Some column) is = is
+cells-fit IsNull (Some column) is = refl
+cells-fit IsNotNull (Some column) is = refl
 
-pub own-numbers : (source : ℕ) (columns : List Column) (masks : List Mask)
-    → AllByRecursion (λ mask. has_numbers columns mask.column ≡ true) (own_masks source columns masks)
-own-numbers source columns [] = tt
-own-numbers source columns (mask ∷ masks) = elim (cases_Bool (is_own source columns mask)) [
-  | inl own ↦ rw own (own-parts source columns mask own, own-numbers source columns masks)
-  | inr other ↦ rw other (own-numbers source columns masks)
-]
-
-pub own_numbers : (source : ℕ) (columns : List Column) (masks own : List Mask) → own ≡ own_masks source columns masks
-    → AllByRecursion (λ mask. has_numbers columns mask.column ≡ true) own
-own_numbers source columns masks own is = subst (AllByRecursion (λ (mask : Mask). has_numbers columns mask.column ≡ true)) (sym is) (own-numbers source columns masks)
-
--- ---- a scan and a row
+pub tests_fit : (columns : List Column) (masks : List Mask) (tests : List ColumnTest) → tests ≡ column_tests masks → AllFit columns masks → AllFitColumns columns tests
+tests_fit columns masks tests is all = subst (AllFitColumns columns) (sym is) (each masks all)
+  where
+    each : (ms : List Mask) → AllFit columns ms → AllFitColumns columns (column_tests ms)
+    each [] fit = tt
+    each (mask ∷ ms) fit = (cells-fit mask.test (slice_get columns mask.column) fit.0, each ms fit.1)
 
 got-at : (row : List Value) (place : ℕ) → get_or row place Null ≡ value_at row place
 got-at [] place = refl
 got-at (v ∷ row) zero = refl
 got-at (v ∷ row) (suc place) = got-at row place
 
-seen-row : (masks : List Mask) (row : TableRow) → list_all (λ mask. passes_test mask.op mask.constant (get_or row.values mask.column Null)) masks ≡ passes_all masks row
-seen-row [] row = refl
-seen-row (mask ∷ masks) row =
-    λ j. is_true (test_of mask.op (got-at row.values mask.column j) (Int mask.constant)) && seen-row masks row j
+cell-alike : (test : MaskTest) (v : Value) → cell_passes (cell_test test) v ≡ passes test v
+cell-alike (Compares op constant) v = refl
+cell-alike IsNull v = refl
+cell-alike IsNotNull v = refl
 
-passes-alike : (masks : List Mask) (slot : RowHistory) (row : TableRow) → row_now slot ≡ Some row → slot_passes_all masks slot ≡ passes_all masks row
-passes-alike masks slot row is =
-    ap (λ (o : Option TableRow). list_all (λ mask. option_map_or (λ (r : TableRow). passes_test mask.op mask.constant (get_or r.values mask.column Null)) o false) masks) is
-    ∙ seen-row masks row
+row-alike : (masks : List Mask) (row : TableRow) → passes_columns (column_tests masks) row ≡ passes_all masks row.values
+row-alike [] row = refl
+row-alike (mask ∷ masks) row =
+    λ j. (ap (cell_passes (cell_test mask.test)) (got-at row.values mask.column) ∙ cell-alike mask.test (value_at row.values mask.column)) j && row-alike masks row j
+
+slot-alike : (masks : List Mask) (o : Option TableRow) → option_map_or (passes_columns (column_tests masks)) o false ≡ option_map_or (λ (row : TableRow). passes_all masks row.values) o false
+slot-alike masks None = refl
+slot-alike masks (Some row) = row-alike masks row
+
+pub tested_alike : (masks : List Mask) (tests : List ColumnTest) (slot : RowHistory) (here : Bool) → tests ≡ column_tests masks → here ≡ slot_chosen tests slot → here ≡ slot_passes masks slot
+tested_alike masks tests slot here is same = same ∙ ap (λ (ts : List ColumnTest). slot_chosen ts slot) is ∙ slot-alike masks (row_now slot)
+
+passes-alike : (masks : List Mask) (slot : RowHistory) (row : TableRow) → row_now slot ≡ Some row → slot_passes masks slot ≡ passes_all masks row.values
+passes-alike masks slot row is = ap (λ (o : Option TableRow). option_map_or (λ (r : TableRow). passes_all masks r.values) o false) is
 
 -- ---- rows of slots
 
@@ -82,9 +89,9 @@ module _ {A B C : Type 0} (now : A → Option B) (f : B → C) (back : C → B) 
       ]
 
 -- the rows of the slots that are left are those of the table that pass
-pub rows-left : (masks : List Mask) (all slots : List RowHistory) → map table_row (rows_in all (filter (slot_passes_all masks) slots)) ≡ filter (passes_all masks) (rows_now slots)
+pub rows-left : (masks : List Mask) (all slots : List RowHistory) → map table_row (rows_in all (filter (slot_passes masks) slots)) ≡ filter (row_passes masks) (rows_now slots)
 rows-left masks all slots =
-    filter-before row_now (with_version all) table_row (slot_passes_all masks) (passes_all masks) (λ row. refl) (passes-alike masks) slots
+    filter-before row_now (with_version all) table_row (slot_passes masks) (row_passes masks) (λ row. refl) (passes-alike masks) slots
 
 -- ---- slots that are chosen by bits
 
@@ -97,9 +104,9 @@ chosen-is words p at (slot ∷ slots) same =
     chosen-is words p (suc at) slots (λ n. let next : suc at + n ≡ at + suc n = omega arith in ap (member words) next ∙ same (suc n)) in
     λ j. cond (here j) (slot ∷ rest j) (rest j)
 
-pub chosen-left : (masks : List Mask) (words : List ℕ) (slots : List RowHistory) → ((n : ℕ) → member words n ≡ slot_passes_all masks (get_or slots n no_history))
-    → chosen words 0 slots ≡ filter (slot_passes_all masks) slots
-chosen-left masks words slots same = chosen-is words (slot_passes_all masks) 0 slots (λ n. let whole : 0 + n ≡ n = omega arith in ap (member words) whole ∙ same n)
+pub chosen-left : (masks : List Mask) (words : List ℕ) (slots : List RowHistory) → ((n : ℕ) → member words n ≡ slot_passes masks (get_or slots n no_history))
+    → chosen words 0 slots ≡ filter (slot_passes masks) slots
+chosen-left masks words slots same = chosen-is words (slot_passes masks) 0 slots (λ n. let whole : 0 + n ≡ n = omega arith in ap (member words) whole ∙ same n)
 
 -- a slot that is set has its word
 pub slot_within : (words : List ℕ) (slot : ℕ) → member words slot ≡ true → slot < 64 * length words
@@ -210,9 +217,9 @@ module _ (table : TableHistory) (next : ℕ) (order : AreInOrder table.slots nex
     | inr miss ↦ rw miss (rows-known p slots known.1)
   ]
 
-  pub left_known : (masks : List Mask) (rows : List SourceRow) → rows ≡ rows_in table.slots (filter (slot_passes_all masks) table.slots) → AllByRecursion (HasVersion (Some table)) rows
+  pub left_known : (masks : List Mask) (rows : List SourceRow) → rows ≡ rows_in table.slots (filter (slot_passes masks) table.slots) → AllByRecursion (HasVersion (Some table)) rows
   left_known masks rows is =
-      subst (AllByRecursion (HasVersion (Some table))) (sym is) (rows-known (slot_passes_all masks) table.slots (each-known table.slots known-at))
+      subst (AllByRecursion (HasVersion (Some table))) (sym is) (rows-known (slot_passes masks) table.slots (each-known table.slots known-at))
 
 -- a slot with a row that stands has values
 pub stands-row : (slot : RowHistory) (number : ℕ) → option_map (λ (row : TableRow). row.number) (row_now slot) ≡ Some number → IsSome (current slot.changes)
@@ -243,41 +250,6 @@ no-row-made all slot is = by_row (row_now slot) is
 
 -- ---- steps of the code
 
--- a column with numbers can be scanned
-pub numbers_scan : (columns : List Column) (place : ℕ) → has_numbers columns place ≡ true → option_map (λ (column : Column). column.text) (slice_get columns place) ≡ Some false
-numbers_scan columns place is = by_column (slice_get columns place) is
-  where
-    is_false : (b : Bool) → not b ≡ true → b ≡ false
-    is_false true is = cc
-    is_false false is = refl
-
-    by_column : (o : Option Column) → option_map_or (λ (column : Column). not column.text) o false ≡ true → option_map (λ (column : Column). column.text) o ≡ Some false
-    by_column None is = cc
-    by_column (Some column) is = ap Some (is_false column.text is)
-
--- one more mask is tested
-pub passes_step : (before after one rest all : Bool) → after ≡ (before && one) → (before && (one && rest)) ≡ all → (after && rest) ≡ all
-passes_step true after one rest all is same = ap (λ (b : Bool). b && rest) is ∙ same
-passes_step false after one rest all is same = ap (λ (b : Bool). b && rest) is ∙ same
-
-row-first : (o : Option SourceRow) (rows : List SourceRow) → cons_option o rows ≡ option_to_list o ++ rows
-row-first None rows = refl
-row-first (Some row) rows = refl
-
--- the row of the next slot is added
-pub row_next : (all slots : List RowHistory) (rows new total : List SourceRow) (i : ℕ) → i < length slots
-    → new ≡ rows ++ option_to_list (source_row all (get_or slots i no_history))
-    → rows ++ rows_in all (drop i slots) ≡ total → new ++ rows_in all (drop (i + 1) slots) ≡ total
-row_next all slots rows new total i below is same =
-    ap (λ (l : List SourceRow). l ++ rows_in all (drop (i + 1) slots)) is
-    ∙ append_assoc rows (option_to_list (source_row all (get_or slots i no_history))) (rows_in all (drop (i + 1) slots))
-    ∙ ap (λ (l : List SourceRow). rows ++ l) (sym (row-first (source_row all (get_or slots i no_history)) (rows_in all (drop (i + 1) slots))))
-    ∙ ap (λ (l : List RowHistory). rows ++ rows_in all l) (sym (drop-cons slots i no_history below ∙ ap (λ (n : ℕ). get_or slots i no_history ∷ drop n slots) (sym (add-one i))))
-    ∙ same
-
-pub all_end : (all slots : List RowHistory) (rows total : List SourceRow) (i : ℕ) → length slots ≤ i → rows ++ rows_in all (drop i slots) ≡ total → rows ≡ total
-all_end all slots rows total i over same = sym (append-nil rows) ∙ ap (λ (l : List RowHistory). rows ++ rows_in all l) (sym (drop_all i slots over)) ∙ same
-
 -- the row of the next slot that is set is added
 pub chosen_next : (all : List RowHistory) (words : List ℕ) (slots : List RowHistory) (rows new total : List SourceRow) (at slot next : ℕ) → IsNext words at (Some slot)
     → new ≡ rows ++ option_to_list (source_row all (get_or slots slot no_history)) → next ≡ slot + 1
@@ -293,20 +265,20 @@ pub chosen_end : (all : List RowHistory) (words : List ℕ) (slots : List RowHis
     → rows ++ rows_in all (chosen words at (drop at slots)) ≡ total → rows ≡ total
 chosen_end all words slots rows total at none same = sym (append-nil rows) ∙ ap (λ (l : List SourceRow). rows ++ l) (sym (no-row all words slots at none)) ∙ same
 
--- the rows that are left, by all slots or by those that are set
-pub left_all : (all slots : List RowHistory) (masks : List Mask) (rows : List SourceRow) → masks ≡ [] → rows ≡ rows_in all slots → rows ≡ rows_in all (filter (slot_passes_all masks) slots)
-left_all all slots masks rows none is =
-    is ∙ ap (rows_in all) (sym (whole slots) ∙ ap (λ (ms : List Mask). filter (slot_passes_all ms) slots) (sym none))
-  where
-    whole : (l : List RowHistory) → filter (slot_passes_all []) l ≡ l
-    whole [] = refl
-    whole (slot ∷ l) = ap (λ (r : List RowHistory). slot ∷ r) (whole l)
-
+-- the rows that are left are those of the slots that are set
 pub left_chosen : (all slots : List RowHistory) (masks : List Mask) (words : List ℕ) (rows : List SourceRow)
-    → ((n : ℕ) → member words n ≡ slot_passes_all masks (get_or slots n no_history)) → rows ≡ rows_in all (chosen words 0 slots)
-    → rows ≡ rows_in all (filter (slot_passes_all masks) slots)
+    → ((n : ℕ) → member words n ≡ slot_passes masks (get_or slots n no_history)) → rows ≡ rows_in all (chosen words 0 slots)
+    → rows ≡ rows_in all (filter (slot_passes masks) slots)
 left_chosen all slots masks words rows same is = is ∙ ap (rows_in all) (chosen-left masks words slots same)
 
-pub ruleset left_laws = (left_all, left_chosen)
+-- a slot whose row stands is one for which no mask fails
+none-fails : (o : Option TableRow) → is_some o ≡ option_map_or (λ (row : TableRow). passes_all [] row.values) o false
+none-fails None = refl
+none-fails (Some row) = refl
+
+pub left_standing : (all slots : List RowHistory) (words : List ℕ) (rows : List SourceRow)
+    → ((n : ℕ) → member words n ≡ is_some (row_now (get_or slots n no_history))) → rows ≡ rows_in all (chosen words 0 slots)
+    → rows ≡ rows_in all (filter (slot_passes []) slots)
+left_standing all slots words rows same is = left_chosen all slots [] words rows (λ n. same n ∙ none-fails (row_now (get_or slots n no_history))) is
 
 pub ruleset made_rows = (stands-row, row-made, no-row-made)

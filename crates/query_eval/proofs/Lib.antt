@@ -4,8 +4,6 @@ pub mod Indexes
 pub mod KeyedLaws
 pub mod LeavingLaws
 pub mod Levels
-pub mod ColumnTests
-pub mod MaskLaws
 pub mod Merges
 pub mod Onces
 pub mod Picks
@@ -13,3 +11,4 @@ pub mod Probes
 pub mod Product
 pub mod Projections
 pub mod StoredLaws
+pub mod Widths

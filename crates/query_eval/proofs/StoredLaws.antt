@@ -1,5 +1,5 @@
 -- The sources of a core from a store, as the definitions want them.
-use Rattle.std.proofs.Common.{◌≡◌, ◌==◌, ◌∙◌, sym, ap, subst, refl, ℕ, zero, suc, ◌+◌, ◌<◌, ◌≤◌, Bool, true, false, ◌&&◌, ◌||◌, not, List, [], ◌∷◌, ◌++◌, map, length, drop, get_or, append_assoc, append-nil, inl, inr, arith, Option, Some, None}
+use Rattle.std.proofs.Common.{◌≡◌, ◌==◌, ◌∙◌, sym, ap, subst, refl, ℕ, zero, suc, ◌+◌, ◌<◌, ◌≤◌, Bool, true, false, ◌&&◌, ◌||◌, List, [], ◌∷◌, ◌++◌, map, length, drop, get_or, append_assoc, append-nil, inl, inr, arith, Option, Some, None}
 use Rattle.std.specs.Prelude.{filter, find, is_none, option_map, slice_get, zip, IfSome}
 use Rattle.std.specs.Cmp.Lexicographic.{slice_cmp, nat_list_cmp_total}
 use Rattle.std.specs.List.{flat_map, list_all, list_any, AllByRecursion}
@@ -21,10 +21,13 @@ use Rattle.ldv_value.specs.Sorted.{is_strictly_sorted, precedes_first}
 use Rattle.lineage.specs.Lineage.{name_at}
 use Rattle.lineage.specs.declared.answer.Pick.{Pick}
 use Rattle.core_parts.proofs.FixingLaws.{fixed-key}
+use Rattle.core_parts.proofs.MaskLaws.{masks-pass}
+use Rattle.core_parts.specs.Masking.{AreMasks}
+use Rattle.core_parts.specs.declared.masking.Mask.{Mask}
 use Rattle.query_eval.proofs.Agree.{value_first}
 use Rattle.query_eval.proofs.KeyedLaws.{keyed-rows}
 use Rattle.query_eval.proofs.LeavingLaws.{rows-left}
-use Rattle.query_eval.proofs.MaskLaws.{all-wide, masks-keep}
+use Rattle.query_eval.proofs.Widths.{all-wide}
 use Rattle.query_eval.proofs.Picks.{all-stand}
 use Rattle.query_eval.proofs.Probes.{value-next}
 use Rattle.query_eval.proofs.Projections.{some-same}
@@ -33,12 +36,10 @@ use Rattle.query_eval.specs.Conditions.{AreOfCore}
 use Rattle.core_parts.specs.Fixing.{FixesKey}
 use Rattle.core_parts.specs.Conditions.{meets}
 use Rattle.query_eval.specs.Joining.{combos, tests}
-use Rattle.query_eval.specs.Leaving.{own_masks, is_own, passes_all, has_numbers}
+use Rattle.query_eval.specs.Leaving.{row_passes}
 use Rattle.query_eval.specs.Picking.{pick_of, ArePicked}
-use Rattle.query_eval.specs.Masking.{AreMasks, HaveWidths, kept_by, keeps_from, row_passes, TablesAreWide}
-use Rattle.query_eval.specs.Sourcing.{table_row, source_rows, all_kept, AreSources, AreWide, SourcesAreWide, LeavesPicked}
+use Rattle.query_eval.specs.Sourcing.{table_row, source_rows, HaveWidths, TablesAreWide, all_kept, AreSources, AreWide, SourcesAreWide, LeavesPicked}
 use Rattle.query_eval.specs.Stored.{table_names, TellVersions, HasVersion, AreChosenOf, IsTaken, chosen_rows, columns_in, width_at, is_name, IsPlace, IsStored, AreStored}
-use Rattle.query_eval.specs.declared.masking.Mask.{Mask}
 use Rattle.query_eval.specs.declared.source.Source.{Source}
 use Rattle.query_eval.specs.declared.source.SourceRow.{SourceRow}
 use Rattle.sql_model.proofs.ValidTables.{table-parts}
@@ -46,8 +47,8 @@ use Rattle.sql_model.specs.Needs.{Versions}
 use Rattle.sql_model.specs.QueryAnswer.{Combination, combinations, joined_values, meets_all, row_environment}
 use Rattle.sql_model.specs.Refusals.{cores_of, doubles_source, is_missing, tables_of_core}
 use Rattle.sql_model.specs.Scope.{InScope, catalog_of, is_schema, rows_of, same_text, schema_in, scope_of, table_at, value_at}
-use Rattle.sql_model.specs.Tables.{is_database, is_row, is_valid_table, table_precedes}
-use Rattle.query_eval.specs.Types.{Catalog, Checked, Column, Core, FromItem, Query, Schema, Statement, Table, TableRow, Value}
+use Rattle.sql_model.specs.Tables.{AreWellFormed, is_database, is_row, is_valid_table, table_precedes}
+use Rattle.query_eval.specs.Types.{Catalog, Checked, Core, FromItem, Query, Schema, Statement, Table, TableRow, Value}
 use Rattle.table_store.specs.Histories.{TableHistory, StoreHistory, history_at, is_history, rows_now, table_now, tables_now}
 use Rattle.table_store.specs.KeyIndex.{has_key}
 
@@ -75,83 +76,71 @@ all-found p q (x ∷ xs) all = elim (cases_Bool (p x)) [
 -- which rows of a table stay
 abbrev keep_by : List Mask → Option (List Value) → TableHistory → TableRow → Bool
 keep_by masks (Some key) table = has_key table.schema.key key
-keep_by masks None table = passes_all masks
+keep_by masks None table = row_passes masks
 
-module _ (conds : List Placed) (masks : List Mask) (place before : ℕ) where
-  abbrev pub keep_of : (table : Option TableHistory) (rows : List SourceRow) → AreChosenOf conds masks place before table rows → TableRow → Bool
+module _ (conds : List Placed) (before : ℕ) where
+  abbrev pub keep_of : (table : Option TableHistory) (rows : List SourceRow) → AreChosenOf conds before table rows → TableRow → Bool
   keep_of None rows chosen = λ row. true
-  keep_of (Some table) rows chosen = keep_by (own_masks place table.schema.columns masks) chosen.key table
+  keep_of (Some table) rows chosen = keep_by chosen.masks chosen.key table
 
-  by-key : (table : TableHistory) (key : Option (List Value)) → IfSome key (FixesKey conds before (length table.schema.columns) table.schema.key) → IsValid table
-      → map table_row (chosen_rows (own_masks place table.schema.columns masks) key table) ≡ filter (keep_by (own_masks place table.schema.columns masks) key table) (rows_now table.slots)
-  by-key table None fixed valid = rows-left (own_masks place table.schema.columns masks) table.slots table.slots
-  by-key table (Some key) fixed valid = keyed-rows table key fixed.some (table-parts (table_now table) valid).keys
+  by-key : (table : TableHistory) (masks : List Mask) (key : Option (List Value)) → IfSome key (FixesKey conds before (length table.schema.columns) table.schema.key) → IsValid table
+      → map table_row (chosen_rows masks key table) ≡ filter (keep_by masks key table) (rows_now table.slots)
+  by-key table masks None fixed valid = rows-left masks table.slots table.slots
+  by-key table masks (Some key) fixed valid = keyed-rows table key fixed.some (table-parts (table_now table) valid).keys
 
   -- the rows of a source are those of its table that stay
-  pub chosen-are : (table : Option TableHistory) (rows : List SourceRow) (chosen : AreChosenOf conds masks place before table rows) → IfSome table IsValid
+  pub chosen-are : (table : Option TableHistory) (rows : List SourceRow) (chosen : AreChosenOf conds before table rows) → IfSome table IsValid
       → map table_row rows ≡ filter (keep_of table rows chosen) (rows_of (option_map table_now table))
   chosen-are None rows chosen valid = ap (map table_row) chosen
-  chosen-are (Some table) rows chosen valid = ap (map table_row) chosen.are ∙ by-key table chosen.key chosen.fixed valid
+  chosen-are (Some table) rows chosen valid = ap (map table_row) chosen.are ∙ by-key table chosen.masks chosen.key chosen.fixed valid
 
 -- ---- only rows are left out that are in no picked combination
 
-one-own : (place : ℕ) (columns : List Column) (row : TableRow) (masks : List Mask) → kept_by masks place row ≡ true → passes_all (own_masks place columns masks) row ≡ true
-one-own place columns row [] kept = refl
-one-own place columns row (mask ∷ masks) kept =
-    let both = and-parts (not (mask.source == place) || row_passes mask row) (kept_by masks place row) kept in
-    elim (cases_Bool (is_own place columns mask)) [
-      | inl own ↦
-          let source : (mask.source == place) ≡ true = (and-parts (mask.source == place) (has_numbers columns mask.column) own).0 in
-          let passed : row_passes mask row ≡ true = sym (ap (λ (b : Bool). not b || row_passes mask row) source) ∙ both.0 in
-          rw own (λ j. passed j && one-own place columns row masks both.1 j)
-      | inr other ↦ rw other (one-own place columns row masks both.1)
-    ]
-
 -- which rows of each source stay
-module _ (store : StoreHistory) (conds : List Placed) (masks : List Mask) where
-  abbrev pub keeps_of : (from : List FromItem) (place before : ℕ) (sources : List Source) → AreStored store conds masks from place before sources → List (TableRow → Bool)
-  keeps_of [] place before sources are = []
-  keeps_of (item ∷ from) place before [] are = []
-  keeps_of (item ∷ from) place before (source ∷ sources) are =
-      keep_of conds masks place before (history_at item.table store) source.rows are.0.taken.rows
-      ∷ keeps_of from (suc place) (before + width_at store item) sources are.1
+module _ (store : StoreHistory) (conds : List Placed) where
+  abbrev pub keeps_of : (from : List FromItem) (before : ℕ) (sources : List Source) → AreStored store conds from before sources → List (TableRow → Bool)
+  keeps_of [] before sources are = []
+  keeps_of (item ∷ from) before [] are = []
+  keeps_of (item ∷ from) before (source ∷ sources) are =
+      keep_of conds before (history_at item.table store) source.rows are.0.taken.rows
+      ∷ keeps_of from (before + width_at store item) sources are.1
 
-module _ (scope : List InScope) (conds : List Placed) (placed : AllPlaced scope conds) (masks : List Mask) where
-  module _ (place before : ℕ) (row : TableRow) (front rest : List Value) (long : length front ≡ before) (met : meets scope conds (front ++ (row.values ++ rest)) ≡ true)
-      (kept : kept_by masks place row ≡ true) where
+module _ (scope : List InScope) (conds : List Placed) (placed : AllPlaced scope conds) where
+  module _ (before : ℕ) (row : TableRow) (front rest : List Value) (long : length front ≡ before) (met : meets scope conds (front ++ (row.values ++ rest)) ≡ true) where
     own_value : (width : ℕ) → length row.values ≡ width → (column : ℕ) → column < width → value_at (front ++ (row.values ++ rest)) (before + column) ≡ value_at row.values column
     own_value width wide column below =
         value-next front (row.values ++ rest) (before + column) column (omega (arith, long))
         ∙ value_first row.values rest column (omega (arith, below, wide))
 
-    stays-by : (table : TableHistory) (key : Option (List Value)) → IfSome key (FixesKey conds before (length table.schema.columns) table.schema.key)
-        → length row.values ≡ length table.schema.columns → keep_by (own_masks place table.schema.columns masks) key table row ≡ true
-    stays-by table None fixed wide = one-own place table.schema.columns row masks kept
-    stays-by table (Some key) fixed wide =
+    stays-by : (table : TableHistory) (masks : List Mask) (key : Option (List Value)) → AreMasks conds before table.schema.columns masks
+        → IfSome key (FixesKey conds before (length table.schema.columns) table.schema.key)
+        → length row.values ≡ length table.schema.columns → keep_by masks key table row ≡ true
+    stays-by table masks None given fixed wide =
+        masks-pass scope conds placed before table.schema.columns (front ++ (row.values ++ rest)) row.values (own_value (length table.schema.columns) wide) met masks given
+    stays-by table masks (Some key) given fixed wide =
         fixed-key scope conds placed before (length table.schema.columns) (front ++ (row.values ++ rest)) row.values (own_value (length table.schema.columns) wide) met table.schema.key key fixed
 
-    stays : (table : Option TableHistory) (rows : List SourceRow) (chosen : AreChosenOf conds masks place before table rows) → length row.values ≡ length (columns_in table)
-        → keep_of conds masks place before table rows chosen row ≡ true
+    stays : (table : Option TableHistory) (rows : List SourceRow) (chosen : AreChosenOf conds before table rows) → length row.values ≡ length (columns_in table)
+        → keep_of conds before table rows chosen row ≡ true
     stays None rows chosen wide = refl
-    stays (Some table) rows chosen wide = stays-by table chosen.key chosen.fixed wide
+    stays (Some table) rows chosen wide = stays-by table chosen.masks chosen.key chosen.given chosen.fixed wide
 
   module _ (store : StoreHistory) where
-    pub all-stay : (from : List FromItem) (place before : ℕ) (sources : List Source) (are : AreStored store conds masks from place before sources) (rows : Combination) (front : List Value)
+    pub all-stay : (from : List FromItem) (before : ℕ) (sources : List Source) (are : AreStored store conds from before sources) (rows : Combination) (front : List Value)
         → length front ≡ before → HaveWidths (map (width_at store) from) rows → meets scope conds (front ++ joined_values rows) ≡ true
-        → all_kept (keeps_from masks place (map (width_at store) from)) rows ≡ true → all_kept (keeps_of store conds masks from place before sources are) rows ≡ true
-    all-stay [] place before sources are rows front long wide met kept = refl
-    all-stay (item ∷ from) place before [] are rows front long wide met kept = absurd are
-    all-stay (item ∷ from) place before (source ∷ sources) are [] front long wide met kept = refl
-    all-stay (item ∷ from) place before (source ∷ sources) are (row ∷ rows) front long wide met kept =
-        let both = and-parts (kept_by masks place row) (all_kept (keeps_from masks (suc place) (map (width_at store) from)) rows) kept in
-        let here : keep_of conds masks place before (history_at item.table store) source.rows are.0.taken.rows row ≡ true =
-        stays place before row front (joined_values rows) long met both.0 (history_at item.table store) source.rows are.0.taken.rows wide.0 in
+        → all_kept (keeps_of store conds from before sources are) rows ≡ true
+    all-stay [] before sources are rows front long wide met = refl
+    all-stay (item ∷ from) before [] are rows front long wide met = absurd are
+    all-stay (item ∷ from) before (source ∷ sources) are [] front long wide met = refl
+    all-stay (item ∷ from) before (source ∷ sources) are (row ∷ rows) front long wide met =
+        let here : keep_of conds before (history_at item.table store) source.rows are.0.taken.rows row ≡ true =
+        stays before row front (joined_values rows) long met (history_at item.table store) source.rows are.0.taken.rows wide.0 in
         let longer : length (front ++ row.values) ≡ before + width_at store item =
         length-append front row.values ∙ (λ j. long j + wide.0 j) in
         let next : meets scope conds ((front ++ row.values) ++ joined_values rows) ≡ true =
         ap (meets scope conds) (append_assoc front row.values (joined_values rows)) ∙ met in
-        let there : all_kept (keeps_of store conds masks from (suc place) (before + width_at store item) sources are.1) rows ≡ true =
-        all-stay from (suc place) (before + width_at store item) sources are.1 rows (front ++ row.values) longer wide.1 next both.1 in
+        let there : all_kept (keeps_of store conds from (before + width_at store item) sources are.1) rows ≡ true =
+        all-stay from (before + width_at store item) sources are.1 rows (front ++ row.values) longer wide.1 next in
         λ j. here j && there j
 
 -- ---- the widths of rows
@@ -192,28 +181,28 @@ module _ (store : StoreHistory) (database : is_database (tables_now store) ≡ t
   tables-wide [] = tt
   tables-wide (item ∷ from) = (table-wide item, tables-wide from)
 
-  module _ (conds : List Placed) (masks : List Mask) where
+  module _ (conds : List Placed) where
     -- the rows of a source are those of the table now that stay
-    stored-rows : (item : FromItem) (place before : ℕ) (source : Source) (stored : IsStored store conds masks item place before source)
-        → map table_row source.rows ≡ filter (keep_of conds masks place before (history_at item.table store) source.rows stored.taken.rows) (rows_of (table_at item.table (tables_now store)))
-    stored-rows item place before source stored =
-        chosen-are conds masks place before (history_at item.table store) source.rows stored.taken.rows (valid-at item.table)
-        ∙ ap (λ (o : Option Table). filter (keep_of conds masks place before (history_at item.table store) source.rows stored.taken.rows) (rows_of o)) (sym (table-now item.table store.tables))
+    stored-rows : (item : FromItem) (before : ℕ) (source : Source) (stored : IsStored store conds item before source)
+        → map table_row source.rows ≡ filter (keep_of conds before (history_at item.table store) source.rows stored.taken.rows) (rows_of (table_at item.table (tables_now store)))
+    stored-rows item before source stored =
+        chosen-are conds before (history_at item.table store) source.rows stored.taken.rows (valid-at item.table)
+        ∙ ap (λ (o : Option Table). filter (keep_of conds before (history_at item.table store) source.rows stored.taken.rows) (rows_of o)) (sym (table-now item.table store.tables))
 
-    source-wide : (item : FromItem) (place before : ℕ) (source : Source) → IsStored store conds masks item place before source → AreWide source.width source.rows
-    source-wide item place before source stored =
+    source-wide : (item : FromItem) (before : ℕ) (source : Source) → IsStored store conds item before source → AreWide source.width source.rows
+    source-wide item before source stored =
         subst (λ (width : ℕ). AreWide width source.rows) (sym stored.taken.width)
         (mapped (width_at store item) source.rows
-        (subst (AllByRecursion (λ (row : TableRow). length row.values ≡ width_at store item)) (sym (stored-rows item place before source stored))
-        (filtered (λ (row : TableRow). length row.values ≡ width_at store item) (keep_of conds masks place before (history_at item.table store) source.rows stored.taken.rows)
+        (subst (AllByRecursion (λ (row : TableRow). length row.values ≡ width_at store item)) (sym (stored-rows item before source stored))
+        (filtered (λ (row : TableRow). length row.values ≡ width_at store item) (keep_of conds before (history_at item.table store) source.rows stored.taken.rows)
         (rows_of (table_at item.table (tables_now store))) (table-wide item))))
 
-    pub sources-wide : (from : List FromItem) (place before : ℕ) (sources : List Source) → AreStored store conds masks from place before sources → SourcesAreWide sources
-    sources-wide [] place before [] are = tt
-    sources-wide [] place before (source ∷ sources) are = absurd are
-    sources-wide (item ∷ from) place before [] are = absurd are
-    sources-wide (item ∷ from) place before (source ∷ sources) are =
-        (source-wide item place before source are.0, sources-wide from (suc place) (before + width_at store item) sources are.1)
+    pub sources-wide : (from : List FromItem) (before : ℕ) (sources : List Source) → AreStored store conds from before sources → SourcesAreWide sources
+    sources-wide [] before [] are = tt
+    sources-wide [] before (source ∷ sources) are = absurd are
+    sources-wide (item ∷ from) before [] are = absurd are
+    sources-wide (item ∷ from) before (source ∷ sources) are =
+        (source-wide item before source are.0, sources-wide from (before + width_at store item) sources are.1)
 
 -- ---- the names of tables
 
@@ -296,25 +285,25 @@ first-false false b is = refl
 
 -- ---- sources
 
-module _ (store : StoreHistory) (database : is_database (tables_now store) ≡ true) (versions : Versions) (tell : TellVersions store versions) (conds : List Placed) (masks : List Mask) where
+module _ (store : StoreHistory) (database : is_database (tables_now store) ≡ true) (versions : Versions) (tell : TellVersions store versions) (conds : List Placed) where
   source-versions : (item : FromItem) (rows : List SourceRow) → AllByRecursion (HasVersion (history_at item.table store)) rows → AllByRecursion (λ row. row.version ≡ versions item.table row.number) rows
   source-versions item rows all =
       all-weaker (HasVersion (history_at item.table store)) (λ row. row.version ≡ versions item.table row.number) (λ row is. sym (tell item.table row.number row.version is)) rows all
 
-  pub are-sources : (from : List FromItem) (place before : ℕ) (sources : List Source) → AllThere store from → (are : AreStored store conds masks from place before sources)
-      → AreSources (table_names store) versions (tables_now store) from (keeps_of store conds masks from place before sources are) sources
-  are-sources [] place before [] all are = tt
-  are-sources [] place before (source ∷ sources) all are = absurd are
-  are-sources (item ∷ from) place before [] all are = absurd are
-  are-sources (item ∷ from) place before (source ∷ sources) all are =
+  pub are-sources : (from : List FromItem) (before : ℕ) (sources : List Source) → AllThere store from → (are : AreStored store conds from before sources)
+      → AreSources (table_names store) versions (tables_now store) from (keeps_of store conds from before sources are) sources
+  are-sources [] before [] all are = tt
+  are-sources [] before (source ∷ sources) all are = absurd are
+  are-sources (item ∷ from) before [] all are = absurd are
+  are-sources (item ∷ from) before (source ∷ sources) all are =
       let named = are.0.table all.0 in (
         record {
-          rows = stored-rows store database conds masks item place before source are.0;
+          rows = stored-rows store database conds item before source are.0;
           at_versions = source-versions item source.rows are.0.taken.versions;
           within = named.0;
           named = named.1;
         },
-        are-sources from (suc place) (before + width_at store item) sources all.1 are.1,
+        are-sources from (before + width_at store item) sources all.1 are.1,
       )
 
 -- ---- places of names
@@ -335,69 +324,67 @@ place_none names name n place over same there =
 
 -- ---- sources of the code
 
-pub stored_is : (store : StoreHistory) (conds : List Placed) (masks : List Mask) (item : FromItem) (place before table : ℕ) (source : Source) (held : Option TableHistory)
+pub stored_is : (store : StoreHistory) (conds : List Placed) (item : FromItem) (before table : ℕ) (source : Source) (held : Option TableHistory)
     → held ≡ history_at item.table store
-    → IsTaken conds masks place before held source → source.table ≡ table → IsPlace (table_names store) item.table table → IsStored store conds masks item place before source
-stored_is store conds masks item place before table source held is taken at there = record {
-  taken = subst (λ (o : Option TableHistory). IsTaken conds masks place before o source) is taken;
+    → IsTaken conds before held source → source.table ≡ table → IsPlace (table_names store) item.table table → IsStored store conds item before source
+stored_is store conds item before table source held is taken at there = record {
+  taken = subst (λ (o : Option TableHistory). IsTaken conds before o source) is taken;
   table = subst (IsPlace (table_names store) item.table) (sym at) there;
 }
 
 -- one source more
-pub sources_step : (store : StoreHistory) (conds : List Placed) (masks : List Mask) (from others : List FromItem) (item : FromItem) (place before after : ℕ) (sources new : List Source) (source : Source)
-    → new ≡ sources ++ source ∷ [] → after ≡ before + source.width → IsStored store conds masks item place before source
-    → ((rest : List Source) → AreStored store conds masks (item ∷ others) place before rest → AreStored store conds masks from 0 0 (sources ++ rest))
-    → (rest : List Source) → AreStored store conds masks others (place + 1) after rest → AreStored store conds masks from 0 0 (new ++ rest)
-sources_step store conds masks from others item place before after sources new source made sum stored all rest are =
-    let next : place + 1 ≡ suc place = omega arith in
+pub sources_step : (store : StoreHistory) (conds : List Placed) (from others : List FromItem) (item : FromItem) (before after : ℕ) (sources new : List Source) (source : Source)
+    → new ≡ sources ++ source ∷ [] → after ≡ before + source.width → IsStored store conds item before source
+    → ((rest : List Source) → AreStored store conds (item ∷ others) before rest → AreStored store conds from 0 (sources ++ rest))
+    → (rest : List Source) → AreStored store conds others after rest → AreStored store conds from 0 (new ++ rest)
+sources_step store conds from others item before after sources new source made sum stored all rest are =
     let width : after ≡ before + width_at store item = sum ∙ ap (λ (n : ℕ). before + n) stored.taken.width in
-    let moved : AreStored store conds masks others (suc place) (before + width_at store item) rest =
-    subst (λ (n : ℕ). AreStored store conds masks others (suc place) n rest) width (subst (λ (n : ℕ). AreStored store conds masks others n after rest) next are) in
-    let whole : AreStored store conds masks from 0 0 (sources ++ (source ∷ rest)) = all (source ∷ rest) (stored, moved) in
-    subst (AreStored store conds masks from 0 0) (sym (ap (λ (l : List Source). l ++ rest) made ∙ append_assoc sources (source ∷ []) rest)) whole
+    let moved : AreStored store conds others (before + width_at store item) rest = subst (λ (n : ℕ). AreStored store conds others n rest) width are in
+    let whole : AreStored store conds from 0 (sources ++ (source ∷ rest)) = all (source ∷ rest) (stored, moved) in
+    subst (AreStored store conds from 0) (sym (ap (λ (l : List Source). l ++ rest) made ∙ append_assoc sources (source ∷ []) rest)) whole
 
-pub sources_none : (store : StoreHistory) (conds : List Placed) (masks : List Mask) (from left : List FromItem) (place before : ℕ) (sources : List Source) → length left < 1
-    → ((rest : List Source) → AreStored store conds masks left place before rest → AreStored store conds masks from 0 0 (sources ++ rest)) → AreStored store conds masks from 0 0 sources
-sources_none store conds masks from [] place before sources end all = subst (AreStored store conds masks from 0 0) (append-nil sources) (all [] tt)
-sources_none store conds masks from (item ∷ left) place before sources end all = absurd (omega (arith, end))
+pub sources_none : (store : StoreHistory) (conds : List Placed) (from left : List FromItem) (before : ℕ) (sources : List Source) → length left < 1
+    → ((rest : List Source) → AreStored store conds left before rest → AreStored store conds from 0 (sources ++ rest)) → AreStored store conds from 0 sources
+sources_none store conds from [] before sources end all = subst (AreStored store conds from 0) (append-nil sources) (all [] tt)
+sources_none store conds from (item ∷ left) before sources end all = absurd (omega (arith, end))
 
 pub ruleset sources_end = (sources_step, sources_none)
 
 -- the picks of a core's sources in a store are those of its tables
-pub stored-picked : (checked : Checked) (place : ℕ) (store : StoreHistory) (keep : Bool) (conds : List Placed) (masks : List Mask) (sources : List Source) (found : List (List SourceRow)) (picks : List Pick) (of : Core)
+pub stored-picked : (checked : Checked) (place : ℕ) (store : StoreHistory) (keep : Bool) (conds : List Placed) (sources : List Source) (found : List (List SourceRow)) (picks : List Pick) (of : Core)
+    → AreWellFormed (tables_now store)
     → core_at checked place ≡ Some of
     → AreOfCore checked place conds
-    → AreMasks conds (map (width_at store) of.from) masks
-    → AreStored store conds masks of.from 0 0 sources
+    → AreStored store conds of.from 0 sources
     → ((scope : List InScope) → AllPlaced scope conds → SourcesAreWide sources → found ≡ filter (tests scope conds) (combos (map source_rows sources)))
     → picks ≡ map (pick_of keep sources) found
     → ArePicked checked place store keep picks
-stored-picked checked place store keep conds masks sources found picks of at conditions are stored joins made query core versions given got database tell =
+stored-picked checked place store keep conds sources found picks of formed at conditions stored joins made query core versions given got tell =
+    let database : is_database (tables_now store) ≡ true = formed.database in
     let same : of ≡ core = some-same of core (sym at ∙ got) in
-    let own : AreStored store conds masks core.from 0 0 sources = subst (λ (c : Core). AreStored store conds masks c.from 0 0 sources) same stored in
+    let own : AreStored store conds core.from 0 sources = subst (λ (c : Core). AreStored store conds c.from 0 sources) same stored in
     let catalog : Catalog = catalog_of (tables_now store) in
     let scope : List InScope = scope_of core.from catalog in
     let widths : List ℕ = map (width_at store) core.from in
-    let masked : AreMasks conds widths masks = subst (λ (c : Core). AreMasks conds (map (width_at store) c.from) masks) same are in
     let whole : IsChecked checked query catalog = checked-is checked query catalog given in
     let tested : AreConditions scope core.picks conds = conditions query catalog core whole got in
     let lists : slice_get query.cores place ≡ Some core = ap (λ (s : Statement). slice_get (cores_of s) place) (sym (ap (λ (c : Checked). c.statement) whole)) ∙ got in
     let all : AllThere store core.from =
     all-there store core.from (core-at catalog query.cores place core lists
     (first-false (list_any (is_missing catalog) (flat_map tables_of_core query.cores)) (list_any doubles_source query.cores) (tables-there checked query catalog given))) in
-    let keeps : List (TableRow → Bool) = keeps_of store conds masks core.from 0 0 sources own in
+    let keeps : List (TableRow → Bool) = keeps_of store conds core.from 0 sources own in
     let leaves : LeavesPicked core (tables_now store) keeps =
     all-weaker (HaveWidths widths) (λ rows. meets_all core.picks (row_environment scope rows) ≡ true → all_kept keeps rows ≡ true)
     (λ rows wide holds.
     let met : meets scope conds (joined_values rows) ≡ true = tested.same (joined_values rows) ∙ holds in
-    all-stay scope conds tested.placed masks store core.from 0 0 sources own rows [] refl wide met (masks-keep scope conds widths masks tested.placed masked rows wide met))
+    all-stay scope conds tested.placed store core.from 0 sources own rows [] refl wide met)
     (combinations core.from (tables_now store))
     (all-wide core.from (tables_now store) widths (tables-wide store database core.from)) in
     all-stand (table_names store) versions
     (names-sorted (tables_now store) (and-second (list_all is_valid_table (tables_now store)) (is_strictly_sorted table_precedes (tables_now store)) database))
     keep (tables_now store) core keeps sources conds picks
-    (are-sources store database versions tell conds masks core.from 0 0 sources all own)
+    (are-sources store database versions tell conds core.from 0 sources all own)
     leaves tested
-    (made ∙ ap (map (pick_of keep sources)) (joins scope tested.placed (sources-wide store database conds masks core.from 0 0 sources own)))
+    (made ∙ ap (map (pick_of keep sources)) (joins scope tested.placed (sources-wide store database conds core.from 0 sources own)))
 
 pub ruleset stored_picks = (stored-picked)

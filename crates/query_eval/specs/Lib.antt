@@ -3,7 +3,6 @@ pub mod Finishing
 pub mod Joining
 pub mod Keyed
 pub mod Leaving
-pub mod Masking
 pub mod Merging
 pub mod Picking
 pub mod Projecting

@@ -1,5 +1,5 @@
 -- The picked combinations of a core.
-use Rattle.std.specs.Prelude.{◌≡◌, ℕ, List, [], ◌∷◌, map, Bool, true, cond, Some}
+use Rattle.std.specs.Prelude.{◌≡◌, ℕ, List, [], ◌∷◌, map, Bool, cond, Some}
 use Rattle.std.specs.FinMap.{empty}
 use Rattle.lineage.specs.Lineage.{Lineage, added}
 use Rattle.lineage.specs.Rows.{joined_row, PicksStandFor}
@@ -13,7 +13,6 @@ use Rattle.query_eval.specs.declared.source.SourceRow.{SourceRow}
 use Rattle.sql_model.specs.Needs.{Versions}
 use Rattle.sql_model.specs.QueryAnswer.{picked}
 use Rattle.sql_model.specs.Scope.{catalog_of}
-use Rattle.sql_model.specs.Tables.{is_database}
 use Rattle.table_store.specs.Histories.{StoreHistory, tables_now}
 
 -- the set with the rows of a combination, each at its version
@@ -37,7 +36,6 @@ ArePicked checked place store keep picks =
     (query : Query) (core : Core) (versions : Versions)
     → WasChecked checked query (catalog_of (tables_now store))
     → core_at checked place ≡ Some core
-    → is_database (tables_now store) ≡ true
     → TellVersions store versions
     → PicksStandFor (table_names store) versions keep picks
     (map (joined_row core.from) (picked core (tables_now store)))

@@ -27,6 +27,21 @@ AreWide width rows = AllByRecursion (λ row. length row.values ≡ width) rows
 abbrev pub SourcesAreWide : List Source → Type 0
 SourcesAreWide sources = AllByRecursion (λ source. AreWide source.width source.rows) sources
 
+-- each row of a combination has so many values
+abbrev pub HaveWidths : List ℕ → Combination → Type 0
+HaveWidths [] rows = Unit {0}
+HaveWidths (width ∷ widths) [] = Unit {0}
+HaveWidths (width ∷ widths) (row ∷ rows) = (length row.values ≡ width) × HaveWidths widths rows
+
+-- the rows of the tables have so many values
+abbrev pub TablesAreWide : List FromItem → List Table → List ℕ → Type 0
+TablesAreWide [] db [] = Unit {0}
+TablesAreWide [] db (width ∷ widths) = ⊥
+TablesAreWide (item ∷ from) db [] = ⊥
+TablesAreWide (item ∷ from) db (width ∷ widths) =
+    AllByRecursion (λ row. length row.values ≡ width) (rows_of (table_at item.table db))
+    × TablesAreWide from db widths
+
 -- a source has rows of a table at their versions, and the place of the table's name; rows may be left out
 pub record IsSource (names : List (List ℕ)) (versions : Versions) (db : List Table) (item : FromItem)
     (kept : TableRow → Bool) (source : Source) : Type 0 where

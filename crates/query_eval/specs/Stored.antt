@@ -1,14 +1,15 @@
 -- The sources of a core, from the tables of a store.
-use Rattle.std.specs.Prelude.{◌≡◌, ℕ, suc, ◌+◌, ◌<◌, List, [], ◌∷◌, map, length, Bool, true}
+use Rattle.std.specs.Prelude.{◌≡◌, ℕ, ◌+◌, ◌<◌, List, [], ◌∷◌, map, length, Bool, true}
 use Rattle.std.specs.Prelude.{Option, Some, None, option_and_then, IfSome}
 use Rattle.std.specs.List.{list_any, AllByRecursion}
+use Rattle.core_parts.specs.Masking.{AreMasks}
+use Rattle.core_parts.specs.declared.masking.Mask.{Mask}
 use Rattle.core_parts.specs.declared.placed.Placed.{Placed}
 use Rattle.lineage.specs.Lineage.{name_at}
 use Rattle.core_parts.specs.Fixing.{FixesKey}
 use Rattle.query_eval.specs.Keyed.{keyed_rows}
-use Rattle.query_eval.specs.Leaving.{own_masks, left_rows}
+use Rattle.query_eval.specs.Leaving.{left_rows}
 use Rattle.query_eval.specs.Types.{Column, FromItem, Value}
-use Rattle.query_eval.specs.declared.masking.Mask.{Mask}
 use Rattle.query_eval.specs.declared.source.Source.{Source}
 use Rattle.query_eval.specs.declared.source.SourceRow.{SourceRow}
 use Rattle.sql_model.specs.Needs.{Versions}
@@ -59,37 +60,39 @@ abbrev pub chosen_rows : List Mask → Option (List Value) → TableHistory → 
 chosen_rows masks (Some key) table = keyed_rows key table
 chosen_rows masks None table = left_rows masks table.slots
 
--- those of the source at a place, whose columns come after so many values of the joined row: by the key that
--- conditions fix, if they fix one, and else by its masks
-pub record AreChosen (conds : List Placed) (masks : List Mask) (place before : ℕ) (table : TableHistory)
-    (rows : List SourceRow) : Type 0 where
+-- those of a source whose columns come after so many values of the joined row: by the key that conditions
+-- fix, if they fix one, and else by the masks that they give
+pub record AreChosen (conds : List Placed) (before : ℕ) (table : TableHistory) (rows : List SourceRow)
+    : Type 0 where
   pub key : Option (List Value)
   pub fixed : IfSome key (FixesKey conds before (length table.schema.columns) table.schema.key)
-  pub are : rows ≡ chosen_rows (own_masks place table.schema.columns masks) key table
+  pub masks : List Mask
+  pub given : AreMasks conds before table.schema.columns masks
+  pub are : rows ≡ chosen_rows masks key table
 
 -- none, where its table isn't there
-abbrev pub AreChosenOf : List Placed → List Mask → ℕ → ℕ → Option TableHistory → List SourceRow → Type 0
-AreChosenOf conds masks place before None rows = rows ≡ []
-AreChosenOf conds masks place before (Some table) rows = AreChosen conds masks place before table rows
+abbrev pub AreChosenOf : List Placed → ℕ → Option TableHistory → List SourceRow → Type 0
+AreChosenOf conds before None rows = rows ≡ []
+AreChosenOf conds before (Some table) rows = AreChosen conds before table rows
 
--- the source at a place, as its table has it, which may not be there
-pub record IsTaken (conds : List Placed) (masks : List Mask) (place before : ℕ) (table : Option TableHistory)
-    (source : Source) : Type 0 where
-  pub rows : AreChosenOf conds masks place before table source.rows
+-- the source, as its table has it, which may not be there
+pub record IsTaken (conds : List Placed) (before : ℕ) (table : Option TableHistory) (source : Source)
+    : Type 0 where
+  pub rows : AreChosenOf conds before table source.rows
   pub width : source.width ≡ length (columns_in table)
   pub versions : AllByRecursion (HasVersion table) source.rows
 
 -- and as the store has it
-pub record IsStored (store : StoreHistory) (conds : List Placed) (masks : List Mask) (item : FromItem)
-    (place before : ℕ) (source : Source) : Type 0 where
-  pub taken : IsTaken conds masks place before (history_at item.table store) source
+pub record IsStored (store : StoreHistory) (conds : List Placed) (item : FromItem) (before : ℕ)
+    (source : Source) : Type 0 where
+  pub taken : IsTaken conds before (history_at item.table store) source
   pub table : IsPlace (table_names store) item.table source.table
 
--- one by one, from a place on, the columns of the first after so many values of the joined row
-abbrev pub AreStored : StoreHistory → List Placed → List Mask → List FromItem → ℕ → ℕ → List Source → Type 0
-AreStored store conds masks [] place before [] = Unit {0}
-AreStored store conds masks [] place before (source ∷ sources) = ⊥
-AreStored store conds masks (item ∷ from) place before [] = ⊥
-AreStored store conds masks (item ∷ from) place before (source ∷ sources) =
-    IsStored store conds masks item place before source
-    × AreStored store conds masks from (suc place) (before + width_at store item) sources
+-- one by one, the columns of the first after so many values of the joined row
+abbrev pub AreStored : StoreHistory → List Placed → List FromItem → ℕ → List Source → Type 0
+AreStored store conds [] before [] = Unit {0}
+AreStored store conds [] before (source ∷ sources) = ⊥
+AreStored store conds (item ∷ from) before [] = ⊥
+AreStored store conds (item ∷ from) before (source ∷ sources) =
+    IsStored store conds item before source
+    × AreStored store conds from (before + width_at store item) sources

@@ -4,8 +4,8 @@
 //! an equality ties a column of the next source to an earlier one, the rows are looked up by it; any choice
 //! of rows is right that leaves out only such as fail a condition.
 
-ghost use Rattle.std.specs.Prelude.{◌≡◌, ◌<◌, ◌++◌, ◌∷◌, [], ℕ, List as Items, filter, length, map, not};
-ghost use Rattle.std.specs.Prelude.{IfOk, OnOk};
+ghost use Rattle.std.specs.Prelude.{◌≡◌, ◌<◌, ◌≤◌, ◌+◌, ◌^◌, ◌++◌, ◌∷◌, [], ℕ, List as Items, filter, length};
+ghost use Rattle.std.specs.Prelude.{map, not, IfOk, OnOk};
 ghost use Rattle.std.specs.List.{remove};
 ghost use Rattle.core_parts.specs.Conditions.{meets};
 ghost use Rattle.query_eval.specs.Joining.{combos, tests, is_ready, ready, later, remaining, extended};
@@ -18,7 +18,7 @@ ghost use Rattle.sql_model.specs.Scope.{InScope, environment};
 
 use crate::index::{Index, index_of, rows_for};
 use crate::probe::{Found, Probe, probe_at};
-use crate::source::{Source, SourceRow};
+use crate::source::{Source, SourceRow, widened};
 use core_parts::{Placed, Refs, is_certain};
 use ldv_value::{CopyItem, List, Values};
 use sql_model::truth_of;
@@ -255,7 +255,7 @@ fn next_level<'a>(
     alloc: Global,
     prefixes: &Combinations<'a>,
     rows: &'a [SourceRow],
-    width: usize,
+    width: u128,
     conds: List<Placed>,
 ) -> Result<Combinations<'a>, AllocError>
     ensures { IfOk result (λ made. (scope : Items InScope) → AllPlaced scope conds
@@ -281,13 +281,16 @@ struct Parted {
     later: List<Placed>,
 }
 
-fn is_ready(cond: &Placed, width: usize) -> bool
+fn is_ready(cond: &Placed, width: u128) -> bool
     ensures { result ≡ is_ready width cond.now }
 {
-    cond.places.items().iter().all(|place| *place < width)
+    cond.places
+        .items()
+        .iter()
+        .all(|place| (*place as u128) < width)
 }
 
-fn part(alloc: Global, conds: List<Placed>, width: usize) -> Result<Parted, AllocError>
+fn part(alloc: Global, conds: List<Placed>, width: u128) -> Result<Parted, AllocError>
     ensures ready { IfOk result (λ parted. parted.ready ≡ ready width conds) }
     ensures later { IfOk result (λ parted. parted.later ≡ later width conds) }
 {
@@ -307,13 +310,15 @@ fn part(alloc: Global, conds: List<Placed>, width: usize) -> Result<Parted, Allo
 #[derive(Drop)]
 struct Walk<'a> {
     prefixes: Combinations<'a>,
-    width: usize,
+    width: u128,
     left: List<Placed>,
 }
 
-// One source more. More than 2^64 - 1 values count as out of memory.
+// One source more.
 fn step<'a>(alloc: Global, walk: Walk<'a>, source: &'a Source) -> Result<Walk<'a>, AllocError>
-    ensures { IfOk result (λ new. (scope : Items InScope) → AllPlaced scope walk.entry.left
+    requires { walk.width + 2 ^ 64 ≤ 2 ^ 128 }
+    ensures width { IfOk result (λ new. new.width < walk.entry.width + 2 ^ 64) }
+    ensures rows { IfOk result (λ new. (scope : Items InScope) → AllPlaced scope walk.entry.left
         → EachHas walk.entry.width walk.entry.prefixes
         → AreWide source.now.width source.now.rows
         → AllPlaced scope new.left × EachHas new.width new.prefixes
@@ -325,9 +330,7 @@ fn step<'a>(alloc: Global, walk: Walk<'a>, source: &'a Source) -> Result<Walk<'a
         width,
         left,
     } = walk;
-    let Some(next) = width.checked_add(source.width) else {
-        return Err(AllocError);
-    };
+    let next = widened(width, source.width);
     let Parted { ready, later } = part(alloc, left, next)?;
     let prefixes = next_level(alloc, &prefixes, source.rows.items(), width, ready)?;
     Ok(Walk {
@@ -412,6 +415,8 @@ pub(crate) fn join<'a>(
         → SourcesAreWide sources.now
         → rows ≡ filter (tests scope conds) (combos (map source_rows sources.now))) }
 {
+    // There are fewer than 2^64 sources, which bounds the number of values.
+    let _count = sources.len();
     let mut walk = start(alloc, conds)?;
     for source in sources {
         walk = step(alloc, walk, source)?;

@@ -15,10 +15,9 @@
 //! Inside, a core reads sources: of each table in FROM the rows that may be in a picked combination, at their
 //! versions (`specs/Sourcing.antt`, `specs/Stored.antt`). Where conditions fix the whole key of a source by
 //! constants (`fixed_key` of `core_parts`), its table's index has its one row (`specs/Keyed.antt`). Else the
-//! conditions on one column of it are its masks (`specs/Masking.antt`). Those on columns of numbers choose
-//! slots of the table by its scans, and only the rows that are left are copied (`specs/Leaving.antt`).
-//! `proofs/MaskLaws.antt` says why nothing is lost by masks, and `proofs/StoredLaws.antt` that sources of a
-//! store are what the definitions want.
+//! conditions on one column of it are its masks (`masks_of` of `core_parts`). These choose slots of the table
+//! by its scans, and only the rows that are left are copied (`specs/Leaving.antt`). `proofs/StoredLaws.antt`
+//! says why nothing is lost by that, and that sources of a store are what the definitions want.
 #![tactic(auto)]
 
 mod conditions;
@@ -29,7 +28,6 @@ mod joining;
 mod keyed;
 mod leaving;
 mod lineages;
-mod masking;
 mod merging;
 mod picking;
 mod probe;

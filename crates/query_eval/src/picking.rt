@@ -7,9 +7,8 @@ ghost use Rattle.query_eval.specs.Picking.{rows_added, kept_rows, pick_of, ArePi
 
 use crate::conditions::core_conditions;
 use crate::joining::{Combination, Combinations, join, joined_values};
-use crate::masking::masks_of;
 use crate::source::{Source, SourceRow};
-use crate::stored::{sources_of, widths_of};
+use crate::stored::sources_of;
 use core_parts::core_of;
 use ldv_value::List;
 use lineage::{LineageRows, Pick, Picks};
@@ -31,12 +30,11 @@ pub fn picked(
     requires { HasCore checked.now core }
     ensures { IfOk result (ArePicked checked.now core store.now keep) }
 {
+    store.tell_formed();
     let alloc = checked.places.allocator();
     let from = core_of(checked, core).from.items();
     let conds = core_conditions(alloc, checked, core)?;
-    let widths = widths_of(alloc, store, from)?;
-    let masks = masks_of(alloc, conds.items(), widths.as_slice())?;
-    let sources = sources_of(alloc, store, conds.items(), masks.as_slice(), from)?;
+    let sources = sources_of(alloc, store, conds.items(), from)?;
     let combinations = join(alloc, sources.items(), conds)?;
     let picks = picks_of(alloc, sources.items(), &combinations, keep)?;
     Ok(picks)

@@ -1,6 +1,6 @@
 //! The equality by which the rows of the next source are looked up.
 
-ghost use Rattle.std.specs.Prelude.{◌≡◌, IfSome, true};
+ghost use Rattle.std.specs.Prelude.{◌≡◌, ◌+◌, ◌<◌, IfSome, true};
 ghost use Rattle.query_eval.specs.Joining.{IsBetween, IsEquality, IsProbeOf, HasProbe};
 ghost use Rattle.query_eval.specs.Joining.{is_equal_sign};
 
@@ -54,26 +54,44 @@ fn is_equal_sign(operator: Operator) -> bool
 }
 
 // One place among the first, and one among those that follow.
-fn probe_between(a: usize, b: usize, width: usize) -> Option<Probe>
+fn probe_between(a: usize, b: usize, width: u128) -> Option<Probe>
     ensures { IfSome result (IsBetween a b width) }
 {
-    if a < width && width <= b {
-        Some(Probe {
-            from: a,
-            place: b - width,
-        })
-    } else if b < width && width <= a {
-        Some(Probe {
-            from: b,
-            place: a - width,
-        })
-    } else {
+    if is_below(a, width) {
+        return match place_after(b, width) {
+            None => None,
+            Some(place) => Some(Probe { from: a, place }),
+        };
+    }
+    if is_below(b, width) {
+        return match place_after(a, width) {
+            None => None,
+            Some(place) => Some(Probe { from: b, place }),
+        };
+    }
+    None
+}
+
+fn is_below(place: usize, width: u128) -> bool
+    ensures { result ≡ true → place < width }
+{
+    (place as u128) < width
+}
+
+// The place among those that follow.
+fn place_after(place: usize, width: u128) -> Option<usize>
+    ensures { IfSome result (λ after. width + after ≡ place) }
+{
+    let place = place as u128;
+    if place < width {
         None
+    } else {
+        Some((place - width) as usize)
     }
 }
 
 // The probe of a condition, after so many values.
-fn probe_of(cond: &Placed, width: usize) -> Option<Probe>
+fn probe_of(cond: &Placed, width: u128) -> Option<Probe>
     ensures { IfSome result (IsProbeOf cond.now width) }
 {
     if !is_equality(&cond.expr) {
@@ -89,7 +107,7 @@ fn probe_of(cond: &Placed, width: usize) -> Option<Probe>
 }
 
 /// The place of the first condition that is such an equality, after so many values.
-pub(crate) fn probe_at(conds: &[Placed], width: usize) -> Option<Found>
+pub(crate) fn probe_at(conds: &[Placed], width: u128) -> Option<Found>
     ensures { IfSome result (λ found. HasProbe conds.now width found.index found.probe) }
 {
     for (index, cond) in conds.iter().enumerate() {

@@ -1,5 +1,7 @@
 //! What a core reads: the rows of its sources.
 
+ghost use Rattle.std.specs.Prelude.{◌≡◌, ◌+◌, ◌^◌, ◌<◌, ◌≤◌};
+
 use ldv_value::{List, Values};
 
 /// A row of a table: its number, its version and its values.
@@ -24,3 +26,13 @@ pub struct Source {
 pub type SourceRows = List<SourceRow>;
 /// The sources of a core, in FROM order.
 pub type Sources = List<Source>;
+
+/// The number of values of joined rows, with those of one source more. It is a sum of fewer than 2^64 numbers
+/// of columns, each below 2^64.
+pub(crate) fn widened(width: u128, more: usize) -> u128
+    requires { width + 2 ^ 64 ≤ 2 ^ 128 }
+    ensures sum { result ≡ width + more }
+    ensures bound { result < width + 2 ^ 64 }
+{
+    width + more as u128
+}

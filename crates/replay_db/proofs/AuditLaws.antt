@@ -1,19 +1,24 @@
 -- What an audit finds sound.
-use Rattle.std.proofs.Common.{◌≡◌, ℕ, ◌≤◌, List, [], refl, sym, ap, ◌∙◌, subst, true, inl, inr}
+use Rattle.std.proofs.Common.{◌≡◌, ℕ, ◌≤◌, List, [], length, refl, sym, ap, ◌∙◌, subst, true, inl, inr}
 use Rattle.std.specs.List.{common_prefix_len}
 use Rattle.std.specs.Prelude.{bytes_eq, nat_eq, Some, None}
 use Rattle.std.proofs.lemmas.Bool.{cases_Bool}
 use Rattle.ldv_value.proofs.SameBytes.{bytes_eq-true, bytes_eq-itself}
 use Rattle.run_model.specs.Package.{package_of, own_world}
 use Rattle.run_model.specs.WorldRun.{ends_within, steps_by}
-use Rattle.package_layout.specs.Whole.{spelling}
-use Rattle.replay_db.specs.Auditing.{SoundLaw, RecordedSoundLaw, verdict_on}
+use Rattle.ldv_value.specs.Limits.{input_limit}
+use Rattle.package_layout.specs.Counted.{IsCounted}
+use Rattle.package_layout.specs.Valid.{Valid}
+use Rattle.package_layout.specs.declared.version.Version.{Version}
+use Rattle.package_layout.specs.Whole.{spelling_as, IsTyped}
+use Rattle.replay_db.specs.Auditing.{SoundLaw, RecordedSoundLaw, OwnSoundLaw, verdict_on}
 use Rattle.replay_db.specs.Laws.{SameRun}
 use Rattle.replay_db.specs.Types.{Included, Package, World}
 use Rattle.replay_db.specs.declared.soundness.Verdict.TheVariants.{Sound, Unsound}
 use Rattle.replay_db.proofs.BudgetLaw.{enough_package, enough_ends}
 use Rattle.replay_db.proofs.RecordedRuns.{package_is, package_none}
-use Rattle.replay_db.specs.Runs.{package_within}
+use Rattle.replay_db.specs.Runs.{OwnWorldLaw, package_within}
+use Rattle.replay_db.specs.Worlds.{ValidPackageLaw, TypedPackageLaw, WorldTablesLaw, ValidWorld}
 use Rattle.replay_db.proofs.WorldLaws.{replay_law}
 
 same_bytes : (bytes due : List ℕ) → verdict_on bytes due ≡ Sound → bytes ≡ due
@@ -48,5 +53,23 @@ recorded_sound_law n budget w script is valid ended enough =
     subst (λ (k : ℕ). k ≤ budget) (sym (ap (λ (p : Package). p.steps) (same.packed Included))) enough in
     record {
       ends = enough_ends n own ended_own budget enough_own;
-      due = ap spelling (enough_package n own ended_own Included budget enough_own ∙ same.packed Included);
+      same = enough_package n own ended_own Included budget enough_own ∙ same.packed Included;
     }
+
+-- ---- a valid package that is due in one version
+
+module _ (valid : ValidPackageLaw) (typed : TypedPackageLaw) (tables : WorldTablesLaw) (own : OwnWorldLaw)
+    (counted : (version : Version) (p : Package) → length (spelling_as version p) ≤ input_limit → IsCounted version p)
+    (unique : (version : Version) (p q : Package) → IsTyped p → IsTyped q → Valid p → Valid q → IsCounted version p → IsCounted version q → spelling_as version p ≡ spelling_as version q → p ≡ q) where
+  pub own_sound_law : OwnSoundLaw
+  own_sound_law budget version p is_typed is_valid bounded ended short due =
+      let w : World = own_world p in
+      let valid_world : ValidWorld w = own p is_typed is_valid in
+      let q : Package = package_of Included budget w in
+      let short_q : length (spelling_as version q) ≤ input_limit = subst (λ (bytes : List ℕ). length bytes ≤ input_limit) (sym due) short in
+      record {
+        ends = ended;
+        same = unique version q p (typed Included budget w valid_world bounded ended) is_typed
+            (valid Included budget w valid_world.ruled (tables w valid_world) tt bounded ended) is_valid
+            (counted version q short_q) (counted version p short) due;
+      }

@@ -36,7 +36,7 @@ pub mod TraceValid
 pub mod BudgetLaw
 mod EndedRuns
 mod SqlAnswers
-pub mod WorldsThatRun
+pub mod OwnWorlds
 pub mod RecordedRuns
 mod RunsBetween
 mod RunTraces

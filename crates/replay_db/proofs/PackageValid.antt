@@ -1,6 +1,6 @@
 -- The package of a valid world's run that has ended is valid, and typed: that of the needed rows, and that of
 -- the recorded replies.
-use Rattle.std.proofs.Common.{◌≡◌, ℕ, suc, ◌≤◌, List, [], ◌∷◌, ◌++◌, length, map, Some, refl, ap, ◌∙◌, le_trans, Bool, true, ◌&&◌, IsTrue, nat_le, nat_lt, slice_get, arith}
+use Rattle.std.proofs.Common.{◌≡◌, ℕ, suc, ◌+◌, ◌*◌, ◌≤◌, List, [], ◌∷◌, ◌++◌, length, map, Some, refl, ap, ◌∙◌, le_trans, Bool, true, ◌&&◌, IsTrue, nat_le, nat_lt, slice_get, arith}
 use Rattle.std.specs.List.{list_all, AllByRecursion}
 use Rattle.std.proofs.lemmas.Bool.{and_parts, and_from, le-leb}
 use Rattle.std.proofs.lemmas.Bool.Decides.{nat_tests}
@@ -16,6 +16,8 @@ use Rattle.run_model.specs.WorldRun.{ends_within, steps_by, events_in, events_wi
 use Rattle.sql_model.specs.Tables.{tables_test}
 use Rattle.package_layout.specs.Events.{TypedEvent, event_room}
 use Rattle.package_layout.specs.Room.{some_thousands, table_room, log_room}
+use Rattle.package_layout.specs.Runs.{max_events, trace_room}
+use Rattle.run_model.specs.RunLaw.{WorldEventsLaw}
 use Rattle.package_layout.specs.Trace.{asked_count}
 use Rattle.package_layout.specs.Typed.{IsU32, TypedTable, TypedLog}
 use Rattle.package_layout.specs.Valid.{is_short_text, start_rule, files_rule, tables_rule, logs_rule, mode_rule, script_rule, is_script_file, steps_rule, trace_rule, reasons_rule, parts_rule, whole_rule, rules, Valid}
@@ -66,6 +68,9 @@ steps_between count n least most less = and_from (nat_le 1 count) (nat_le count 
 steps_small : (count n : ℕ) → count ≤ n → n ≤ 10000000 → IsU32 count
 steps_small count n most less = omega arith
 
+some_events : (count n : ℕ) → count ≤ 2 * n + 1 → n ≤ 10000000 → nat_le count max_events ≡ true
+some_events count n two less = le-leb count max_events (omega (arith, two, less))
+
 -- ---- tables and logs
 
 -- what is asked of those of a package, where so many statements were asked
@@ -80,7 +85,7 @@ record Packed (mode : Mode) (asked : ℕ) (tables : List PackedTable) (logs : Li
 -- ---- a run
 
 module _ (n : ℕ) (w : World) (met : IsTrue (world_rules w)) (valid : tables_test w.tables ≡ true) (less : n ≤ 10000000) (script : List Instr)
-    (is : start_script w ≡ Some script) (ended : ends_within n w ≡ true) (steps_law : StepsLaw) where
+    (is : start_script w ≡ Some script) (ended : ends_within n w ≡ true) (steps_law : StepsLaw) (events_law : WorldEventsLaw) where
   abbrev happened : List Event
   happened = events_within n w
 
@@ -139,11 +144,16 @@ module _ (n : ℕ) (w : World) (met : IsTrue (world_rules w)) (valid : tables_te
     abbrev Parts : Type 0
     Parts = Packed mode (asked_count happened) p.tables p.logs
 
+    -- two events a step at most, and one at the start
+    few_events : nat_le (length p.events) max_events ≡ true
+    few_events = some_events (length p.events) n (events_law n [] w).1 less
+
     has_room_for : Parts → has_room p ≡ true
     has_room_for parts =
-        and_from (some_thousands p.start) (tables_room p && (list_all log_room p.logs && list_all event_room p.events)) (start_room p.start ruled.start)
-        (and_from (tables_room p) (list_all log_room p.logs && list_all event_room p.events) parts.room
-        (and_from (list_all log_room p.logs) (list_all event_room p.events) parts.logs_room (room_is n [] w script is valid met)))
+        and_from (some_thousands p.start) (tables_room p && (list_all log_room p.logs && trace_room p.events)) (start_room p.start ruled.start)
+        (and_from (tables_room p) (list_all log_room p.logs && trace_room p.events) parts.room
+        (and_from (list_all log_room p.logs) (trace_room p.events) parts.logs_room
+        (and_from (nat_le (length p.events) max_events) (list_all event_room p.events) few_events (room_is n [] w script is valid met))))
 
     parts_met : Parts → parts_rule p ≡ true
     parts_met parts =
@@ -193,12 +203,12 @@ pub typed_for : (mode : Mode) (w : World) → ValidWorld w → TypedFor mode w
 typed_for Included w valid = tt
 typed_for Excluded w valid = valid.typed
 
-pub valid_package : StepsLaw → ValidPackageLaw
-valid_package steps_law mode n w met valid typed less ended =
+pub valid_package : StepsLaw → WorldEventsLaw → ValidPackageLaw
+valid_package steps_law events_law mode n w met valid typed less ended =
     let script = ended_starts n [] w ended in
-    run_valid n w met valid less script.0 script.1 ended steps_law mode typed
+    run_valid n w met valid less script.0 script.1 ended steps_law events_law mode typed
 
-pub typed_package : StepsLaw → TypedPackageLaw
-typed_package steps_law mode n w valid less ended =
+pub typed_package : StepsLaw → WorldEventsLaw → TypedPackageLaw
+typed_package steps_law events_law mode n w valid less ended =
     let script = ended_starts n [] w ended in
-    run_typed n w valid.ruled (world_tables w valid) less script.0 script.1 ended steps_law valid.typed mode
+    run_typed n w valid.ruled (world_tables w valid) less script.0 script.1 ended steps_law events_law valid.typed mode

@@ -1,14 +1,16 @@
--- The audit of a package: its bytes, compared with the included package of its own world.
+-- The audit of a package: its bytes, compared with the included package of its own world, in their own version.
 use Rattle.std.specs.Prelude.{◌≡◌, ◌≤◌, ◌<◌, ◌↔◌, ℕ, List, [], length, true, false, if◌then◌else◌, nat_eq, bytes_eq}
 use Rattle.std.specs.Prelude.{Some, Result, Ok, Err}
 use Rattle.std.specs.List.{common_prefix_len}
-use Rattle.ldv_value.specs.Limits.{input_limit}
+use Rattle.ldv_value.specs.Limits.{input_limit, max_steps}
 use Rattle.script_parse.specs.declared.script.Instr.{Instr}
 use Rattle.sql_model.specs.Tables.{tables_test}
 use Rattle.run_model.specs.Package.{package_of, own_world}
 use Rattle.run_model.specs.Start.{start_script}
 use Rattle.run_model.specs.WorldRun.{ends_within, steps_by}
-use Rattle.package_layout.specs.Whole.{spelling}
+use Rattle.package_layout.specs.Valid.{Valid}
+use Rattle.package_layout.specs.declared.version.Version.{Version}
+use Rattle.package_layout.specs.Whole.{spelling_as, IsTyped}
 use Rattle.replay_db.specs.Types.{Included, Package, World}
 use Rattle.replay_db.specs.declared.soundness.Verdict.{Verdict}
 use Rattle.replay_db.specs.declared.soundness.Verdict.TheVariants.{Sound, Unsound}
@@ -22,23 +24,25 @@ use Rattle.replay_db.specs.declared.soundness.AuditStop.TheVariants.{NotEnded, T
 abbrev pub verdict_on : List ℕ → List ℕ → Verdict
 verdict_on bytes due = if bytes_eq bytes due then Sound else Unsound (common_prefix_len nat_eq bytes due)
 
--- what is due: the package of the own world's run, within so many steps
-abbrev pub own_spelling : ℕ → Package → List ℕ
-own_spelling budget p = spelling (package_of Included budget (own_world p))
+-- what is due in a version: the package of the own world's run, within so many steps
+abbrev pub own_spelling : ℕ → Version → Package → List ℕ
+own_spelling budget version p = spelling_as version (package_of Included budget (own_world p))
 
 -- ---- what an audit comes to
 
-abbrev pub AuditStops : ℕ → Package → AuditStop → Type 0
-AuditStops budget p NotEnded = ends_within budget (own_world p) ≡ false
-AuditStops budget p TooLong =
-    (ends_within budget (own_world p) ≡ true) × (input_limit < length (own_spelling budget p))
-AuditStops budget p NoMemory = Unit {0}
+abbrev pub AuditStops : ℕ → Version → Package → AuditStop → Type 0
+AuditStops budget version p NotEnded = ends_within budget (own_world p) ≡ false
+AuditStops budget version p TooLong =
+    (ends_within budget (own_world p) ≡ true) × (input_limit < length (own_spelling budget version p))
+AuditStops budget version p NoMemory = Unit {0}
 
-abbrev pub Audits : ℕ → Package → List ℕ → Result Verdict AuditStop → Type 0
-Audits budget p bytes (Ok verdict) =
+-- of bytes of a version
+abbrev pub Audits : ℕ → Version → Package → List ℕ → Result Verdict AuditStop → Type 0
+Audits budget version p bytes (Ok verdict) =
     (ends_within budget (own_world p) ≡ true)
-    × ((length (own_spelling budget p) ≤ input_limit) × (verdict ≡ verdict_on bytes (own_spelling budget p)))
-Audits budget p bytes (Err stop) = AuditStops budget p stop
+    × ((length (own_spelling budget version p) ≤ input_limit)
+    × (verdict ≡ verdict_on bytes (own_spelling budget version p)))
+Audits budget version p bytes (Err stop) = AuditStops budget version p stop
 
 -- ---- laws
 
@@ -46,10 +50,11 @@ Audits budget p bytes (Err stop) = AuditStops budget p stop
 abbrev pub SoundLaw : Type 0
 SoundLaw = (bytes due : List ℕ) → (verdict_on bytes due ≡ Sound) ↔ (bytes ≡ due)
 
--- the run of a package's own world ends within so many steps, and the package is that of this run
+-- The run of a package's own world ends within so many steps, and the package is that of this run. So its
+-- spelling is the one that is due, in each version.
 pub record IsOwn (budget : ℕ) (p : Package) : Type 0 where
   pub ends : ends_within budget (own_world p) ≡ true
-  pub due : own_spelling budget p ≡ spelling p
+  pub same : package_of Included budget (own_world p) ≡ p
 
 -- so is the package of every run, within every budget of at least its steps
 abbrev pub RecordedSoundLaw : Type 0
@@ -58,3 +63,12 @@ RecordedSoundLaw = (n budget : ℕ) (w : World) (script : List Instr) → start_
     → ends_within n w ≡ true
     → steps_by n [] w ≤ budget
     → IsOwn budget (package_of Included n w)
+
+-- And no other: a valid package whose spelling in one version is due is that of its own world's run. So its
+-- spelling in the other version is due too.
+abbrev pub OwnSoundLaw : Type 0
+OwnSoundLaw = (budget : ℕ) (version : Version) (p : Package) → IsTyped p → Valid p → budget ≤ max_steps
+    → ends_within budget (own_world p) ≡ true
+    → length (spelling_as version p) ≤ input_limit
+    → own_spelling budget version p ≡ spelling_as version p
+    → IsOwn budget p

@@ -23,6 +23,10 @@ WorldRunsLaw = (w : World) → ValidWorld w → CanRun w
 abbrev pub OwnRunsLaw : Type 0
 OwnRunsLaw = (p : Package) → IsTyped p → Valid p → CanRun (own_world p)
 
+-- which is itself a valid world
+abbrev pub OwnWorldLaw : Type 0
+OwnWorldLaw = (p : Package) → IsTyped p → Valid p → ValidWorld (own_world p)
+
 -- ---- what comes of a run
 
 -- none where the run doesn't end within so many steps

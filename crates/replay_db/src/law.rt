@@ -2,11 +2,13 @@
 
 ghost use Rattle.replay_db.specs.Laws.{BetweenLaw, InterleavingLaw, MembershipLaw, SliceLaw, OwnLaw};
 ghost use Rattle.replay_db.specs.Laws.{ReplayLaw, EndedLaw, InitialRowsLaw};
-ghost use Rattle.replay_db.specs.Auditing.{SoundLaw, RecordedSoundLaw};
-ghost use Rattle.replay_db.specs.Runs.{WorldRunsLaw, OwnRunsLaw};
+ghost use Rattle.replay_db.specs.Auditing.{SoundLaw, RecordedSoundLaw, OwnSoundLaw};
+ghost use Rattle.replay_db.specs.Runs.{WorldRunsLaw, OwnRunsLaw, OwnWorldLaw};
 ghost use Rattle.replay_db.specs.LogLaws.{LogLaw, PickedLogLaw};
 ghost use Rattle.replay_db.specs.Worlds.{WorldTablesLaw, ValidPackageLaw, TypedPackageLaw};
 
+use package_layout::round_trip_law;
+use run_model::world_events_law;
 use value_laws::steps_law;
 
 /// A world from which nothing was cut that a run needs runs as the whole world does, whatever statements it
@@ -25,16 +27,18 @@ pub fn between_law()
 
 /// The package of a valid world's run that has ended is itself valid, so its spelling is read back as it,
 /// whether it has the rows that were needed or the replies that were recorded. The tables of a valid world
-/// are valid. A valid world can be run, and so can the own world of a valid package. The function does
-/// nothing: its contract is the theorem.
+/// are valid. A valid world can be run, and so can the own world of a valid package, which is valid too. The
+/// function does nothing: its contract is the theorem.
 pub fn package_law()
     ensures tables { WorldTablesLaw }
     ensures valid { ValidPackageLaw }
     ensures typed { TypedPackageLaw }
     ensures runs { WorldRunsLaw }
     ensures own_runs { OwnRunsLaw }
+    ensures own_world { OwnWorldLaw }
 {
     steps_law();
+    world_events_law();
 }
 
 /// The package of a run's recorded replies runs without the database as the world ran with it: it diverges
@@ -46,8 +50,13 @@ pub fn log_law()
 {}
 
 /// The audit of a package finds it sound exactly where its bytes are those of the package of its own world's
-/// run; so it finds every recorded package sound. The function has no body: its contract is the theorem.
+/// run, in their own version; so it finds every recorded package sound. A valid package is found sound in both
+/// versions or in none. The function does nothing: its contract is the theorem.
 pub fn audit_law()
     ensures sound { SoundLaw }
     ensures recorded { RecordedSoundLaw }
-{}
+    ensures own { OwnSoundLaw }
+{
+    package_law();
+    round_trip_law();
+}

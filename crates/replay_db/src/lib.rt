@@ -3,7 +3,7 @@
 //! The calls run a world over the runtime of `proc_core` with the engine of `sql_engine` as its database:
 //! `record_world` with a tracer that keeps all events, and for a package of replies with a `Recorder` over the
 //! engine; the others with a tracer that keeps none. They promise, for every world that can be run
-//! (`specs/Runs.antt`, `CanRun`), over the definitions of `run_model`:
+//! (`CanRun` of `run_model/specs/ValidWorld.antt`), over the definitions of `run_model`:
 //! - `run_owned` and `run_world` return the outcome of the world's run by its seed, and `record_world` the
 //!   package of that run, which has exactly the files that it needed, and the tables and rows that it needed or,
 //!   in their place, what each process asked with the replies. `own_world` is the world that a package has in
@@ -28,11 +28,13 @@
 //!
 //! `package_law` says that the package of a valid world's run that has ended is itself valid, whether it has
 //! the rows that were needed or the replies that were recorded (`specs/Worlds.antt`), so its spelling is read
-//! back as it, and that a valid world and the own world of a valid package can be run (`specs/Runs.antt`).
+//! back as it, and that a valid world and the own world of a valid package, which is valid too, can be run
+//! (`specs/Runs.antt`).
 //!
-//! `audit` says whether the bytes of a package are those of the package of its own world's run, and where they
-//! differ first (`specs/Auditing.antt`). `audit_law` says that those of every recorded package are, and that a
-//! package is found sound exactly where its bytes are those that are due.
+//! `audit` says whether the bytes of a package are those of the package of its own world's run, in their own
+//! version, and where they differ first (`specs/Auditing.antt`). `audit_law` says that those of every recorded
+//! package are, that a package is found sound exactly where its bytes are those that are due, and that a valid one
+//! is so in both versions or in none.
 //!
 //! It promises, in `log_law` (`specs/LogLaws.antt`), of every world with valid tables whose run ends, that the
 //! package of the recorded replies runs without the tables as the world ran with them: it diverges nowhere,

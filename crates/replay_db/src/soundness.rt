@@ -1,8 +1,10 @@
 //! Whether a package is that of its own world's run.
 
-ghost use Rattle.std.specs.Prelude.{◌≡◌, ◌≤◌, ◌+◌, length, drop, nat_eq, IfOk};
+ghost use Rattle.std.specs.Prelude.{◌≡◌, ◌≤◌, ◌+◌, Some, length, drop, nat_eq, IfOk, IsSome};
 ghost use Rattle.std.specs.List.{common_prefix_len};
 ghost use Rattle.ldv_value.specs.Limits.{max_steps};
+ghost use Rattle.package_layout.specs.Version.{version_of};
+ghost use Rattle.package_layout.specs.declared.version.Version.{Version};
 ghost use Rattle.run_model.specs.Package.{own_world};
 ghost use Rattle.replay_db.specs.Auditing.{Audits, verdict_on};
 ghost use Rattle.replay_db.specs.Runs.{CanRun};
@@ -10,14 +12,14 @@ ghost use Rattle.replay_db.specs.Runs.{CanRun};
 use crate::own::own_world;
 use crate::record::record_world;
 use crate::stop::EndStop;
-use package_layout::{SpellStop, spell};
+use package_layout::{SpellStop, Version, spell_as, version_of};
 use run_model::{Mode, Package};
 use std::alloc::Global;
 
 /// What an audit says of a package.
 #[derive(Clone, Copy, Debug, PartialEq, Eq)]
 pub enum Verdict {
-    /// Its bytes are those of the included package of its own world's run.
+    /// Its bytes are those of the included package of its own world's run, in their own version.
     Sound,
     /// They aren't: the two differ first at this place, in bytes from 0. Where one is the start of the other, that
     /// is the length of the shorter.
@@ -29,7 +31,7 @@ pub enum Verdict {
 pub enum AuditStop {
     /// The run of the own world hasn't ended after the steps of the budget.
     NotEnded,
-    /// The package of the own world has more than 67,108,864 bytes.
+    /// The package of the own world has more than 67,108,864 bytes in that version.
     TooLong,
     /// Out of memory.
     NoMemory,
@@ -59,10 +61,11 @@ fn verdict_on(bytes: &[u8], due: &[u8]) -> Verdict
 }
 
 /// Compares the bytes of an included package with those of the package of its own world's run, within a
-/// budget of at most 10,000,000 steps.
+/// budget of at most 10,000,000 steps. The bytes have a version, and that package is spelled in it. Nothing of
+/// the recorded trace is looked at.
 ///
 /// `NotEnded` comes exactly where that run hasn't ended after so many steps, and `TooLong` exactly where it
-/// has and its package has more than 67,108,864 bytes.
+/// has and its package has more than 67,108,864 bytes in that version.
 pub fn audit(
     alloc: Global,
     package: &Package,
@@ -71,7 +74,26 @@ pub fn audit(
 ) -> Result<Verdict, AuditStop>
     requires can_run { CanRun (own_world «package».now) }
     requires bounded { budget ≤ max_steps }
-    ensures { Audits budget «package».now bytes.now result }
+    requires versioned { IsSome (version_of bytes.now) }
+    ensures { (version : Version) → version_of bytes.now ≡ Some version
+        → Audits budget version «package».now bytes.now result }
+{
+    match version_of(bytes) {
+        Some(version) => audit_as(alloc, version, package, bytes, budget),
+        None => unreachable!(),
+    }
+}
+
+fn audit_as(
+    alloc: Global,
+    version: Version,
+    package: &Package,
+    bytes: &[u8],
+    budget: u32,
+) -> Result<Verdict, AuditStop>
+    requires can_run { CanRun (own_world «package».now) }
+    requires bounded { budget ≤ max_steps }
+    ensures { Audits budget version «package».now bytes.now result }
 {
     let world = match own_world(alloc, package) {
         Ok(world) => world,
@@ -82,7 +104,7 @@ pub fn audit(
         Err(EndStop::NotEnded) => return Err(AuditStop::NotEnded),
         Err(EndStop::NoMemory) => return Err(AuditStop::NoMemory),
     };
-    match spell(alloc, &own) {
+    match spell_as(alloc, &own, version) {
         Ok(due) => Ok(verdict_on(bytes, due.as_slice())),
         Err(SpellStop::TooLong) => Err(AuditStop::TooLong),
         Err(SpellStop::NoMemory) => Err(AuditStop::NoMemory),

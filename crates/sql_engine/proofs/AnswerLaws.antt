@@ -83,7 +83,7 @@ core_is checked place store keep picks rows made own at are evaluated merged que
     let same : Some own ≡ Some core = sym at ∙ there in
     let own_is : own ≡ core = cc in
     let scope = scope_of core.from (catalog_of db) in
-    let stand = are query core (versions_now store) asked.checked_is there asked.database (tell_versions store) in
+    let stand = are query core (versions_now store) asked.checked_is there (tell_versions store) in
     let is = evaluated query (catalog_of db) core (table_names store) (versions_now store) keep (picked core db)
     (checked-is checked query (catalog_of db) asked.checked_is) there stand in
     let now = rows_in_scope scope core (picked core db) in

@@ -182,9 +182,19 @@ rest_small i m small some = omega (arith, mod-lt i {m = m} some)
 
 order_typed : (i : ℕ) → i < 2 ^ 32 → TypedRow (all_of_row (order_row i))
 order_typed i small =
-    let number = number_typed i small in
-    (number.0, (number.1, (whole_typed i small, (whole_typed (i % 10) (rest_small i 10 (omega arith) (omega arith)),
-    (whole_typed (7 * i % 100) (rest_small (7 * i) 100 (omega arith) (omega arith)), tt)))))
+    let number = number_typed i small in (
+      number.0,
+      (
+        number.1,
+        (
+          whole_typed i small,
+          (
+            whole_typed (i % 10) (rest_small i 10 (omega arith) (omega arith)),
+            (whole_typed (7 * i % 100) (rest_small (7 * i) 100 (omega arith) (omega arith)), tt),
+          ),
+        ),
+      ),
+    )
 
 orders_typed : (s k : ℕ) → s + k < 2 ^ 32 → AllByRecursion TypedRow (rows_from s k)
 orders_typed s zero few = tt
@@ -215,11 +225,25 @@ generated_typed n small =
     let one : 1 < 2 ^ 32 = omega arith in
     let ten : 10 < 2 ^ 32 = omega arith in
     let main : IsUtf8 (codes "main") = word_typed (codes "main") refl in
-    let id : IsUtf8 (codes "id") = word_typed (codes "id") refl in
-    ((main, tt), (none, (one, ((main, tt),
-    (((word_typed (codes "customers") refl, ((id, (word_typed (codes "name") refl, tt)), (ten, customers_typed 0 10 (omega arith)))),
-    ((word_typed (codes "orders") refl, ((id, (word_typed (codes "customer") refl, (word_typed (codes "amount") refl, tt))), (small, orders_typed 0 n (omega (arith, small))))), tt)),
-    (tt, tt))))))
+    let id : IsUtf8 (codes "id") = word_typed (codes "id") refl in (
+      (main, tt),
+      (
+        none,
+        (
+          one,
+          (
+            (main, tt),
+            (
+              (
+                (word_typed (codes "customers") refl, ((id, (word_typed (codes "name") refl, tt)), (ten, customers_typed 0 10 (omega arith)))),
+                ((word_typed (codes "orders") refl, ((id, (word_typed (codes "customer") refl, (word_typed (codes "amount") refl, tt))), (small, orders_typed 0 n (omega (arith, small))))), tt),
+              ),
+              (tt, tt),
+            ),
+          ),
+        ),
+      ),
+    )
 
 pub generated_valid : (n : ℕ) (w : World) → w ≡ generated n → n < 2 ^ 32 → ValidWorld w
 generated_valid n w is small = subst ValidWorld (sym is) (record { typed = generated_typed n small; ruled = generated_met n })

@@ -17,6 +17,7 @@ impl FromItem for Utf8 {
     ghost use Rattle.std.specs.Str.{IsUtf8};
 
     ghost of_item = { as_str };
+
     ghost typed = { IsUtf8 };
 
     fn from_item(alloc: Global, value: Json) -> Result<Self, ShapeStop> {
@@ -32,6 +33,7 @@ impl FromItem for Value {
     ghost use Rattle.world_json.specs.Shape.{cell_of};
 
     ghost of_item = { cell_of };
+
     ghost typed = { TypedValue };
 
     fn from_item(alloc: Global, value: Json) -> Result<Self, ShapeStop> {
@@ -52,6 +54,7 @@ impl FromItem for Column {
     ghost use Rattle.world_json.specs.Shape.{column_of};
 
     ghost of_item = { column_of };
+
     ghost typed = { TypedColumn };
 
     fn from_item(alloc: Global, value: Json) -> Result<Self, ShapeStop> {

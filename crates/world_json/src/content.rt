@@ -16,6 +16,7 @@ impl FromMember for File {
     ghost use Rattle.world_json.specs.Typed.{TypedDocumentFile};
 
     ghost of_member = { file_of };
+
     ghost typed = { TypedDocumentFile };
 
     fn from_member(alloc: Global, name: Utf8, value: Value) -> Result<Self, ShapeStop> {

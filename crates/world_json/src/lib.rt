@@ -6,7 +6,11 @@
 //! - `world_of` gives the world of `specs/Reading.antt`, or its fault;
 //! - a fault is the first that holds, in the order of `WorldFault`, each tried over the whole document;
 //! - the files of a world are sorted by path, its tables by name (`specs/SortedWorld.antt`);
-//! - `generate` gives a world with a number of rows, to try out and to measure with (`specs/Generated.antt`).
+//! - `generate` gives a world with a number of rows, to try out and to measure with (`specs/Generated.antt`);
+//! - both are valid worlds, and can be run (`ValidWorld` and `CanRun` of `run_model/specs/ValidWorld.antt`).
+//!
+//! That numbers are those of their types and texts are UTF-8 is said by each call that makes them
+//! (`specs/Typed.antt`), since clauses range over all numbers and lists.
 //!
 //! The definitions: `specs/Shape.antt` has the members of a document and their types, `specs/Faults.antt`
 //! a test for each later fault, by the rules for tables of sql_model's `specs/Tables.antt`, and

@@ -102,6 +102,7 @@ impl FromMember for Draft {
     ghost use Rattle.world_json.specs.Typed.{TypedDraft};
 
     ghost of_member = { table_of };
+
     ghost typed = { TypedDraft };
 
     fn from_member(alloc: Global, name: Utf8, value: Value) -> Result<Self, ShapeStop> {

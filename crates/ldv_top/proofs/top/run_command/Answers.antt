@@ -2,7 +2,9 @@ use Rattle.std.proofs.Common.{ℕ, List, Some, ap, subst}
 use Rattle.std.specs.Prelude.{Err}
 use Rattle.ldv_top.specs.Comes.{Comes}
 use Rattle.ldv_top.specs.Due.{due_of, due_record}
+use Rattle.ldv_top.specs.DueOfMigrations.{due_migrate}
 use Rattle.ldv_top.specs.Headline.{Recorded}
+use Rattle.ldv_top.specs.Migrated.{Migrated}
 use Rattle.ldv_top.proofs.TopLaws.{got_all, longer, too_long_due}
 use Rattle.ldv_top.proofs.RecordLaws.{too_long}
 use Rattle.ldv_top.proofs.top.run_command.Goals as goal
@@ -21,3 +23,8 @@ pub returns-in-Err-TooLong-clause-due : goal.returns-in-Err-TooLong-clause-due
 returns-in-Err-TooLong-clause-due g c = λ input told.
     too_long_due c.args.command c.requires.reading input
     (too_long input (longer _ _ input told (c.in-Err-TooLong.ensures.too_long (ap Err c.in-Err-TooLong.field-0-is))))
+
+pub returns-in-Ok-clause-migrated : goal.returns-in-Ok-clause-migrated
+returns-in-Ok-clause-migrated g c = λ input is told ends.
+    subst (λ (l : List ℕ). Migrated l (due_migrate l).bytes)
+    (got_all _ _ _ input told c.in-Ok.ensures.whole c.in-Ok.ensures.end) (c.respond_and_write.ensures.migrated is ends)

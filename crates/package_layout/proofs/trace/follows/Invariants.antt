@@ -1,10 +1,17 @@
-use Rattle.std.proofs.Common.{◌≡◌, ◌≤◌, drop}
+use Rattle.std.proofs.Common.{◌≡◌, ◌≤◌, ◌+◌, length, true}
+use Rattle.std.specs.List.{list_all}
+use Rattle.package_layout.specs.Runs.{events_in, is_run}
 use Rattle.package_layout.specs.Trace.{follows, at_start, progress_of}
 use Rattle.package_layout.proofs.trace.follows.Given as goal
 
-abbrev pub invariant-loop-event : goal.invariant-loop-event
-invariant-loop-event l = record {
-  same : follows l.steps (progress_of l.progress) (drop l.event-index l.events) ≡ follows l.steps at_start l.events;
+-- those that are left say whether all are
+abbrev pub invariant-loop-left : goal.invariant-loop-left
+invariant-loop-left l = record {
+  same : follows l.steps (progress_of l.progress) (events_in l.left) ≡ follows l.steps at_start (events_in l.fn.runs);
+  good : list_all is_run l.left ≡ true;
   made : l.progress.made ≤ 65535;
-  asked : l.progress.asked ≤ l.event-index;
+  asked : l.progress.asked + length l.left ≤ length l.fn.runs;
 }
+
+abbrev pub decreases-loop-left : goal.decreases-loop-left
+decreases-loop-left l = length l.left

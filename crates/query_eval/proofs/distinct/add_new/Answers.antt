@@ -11,7 +11,7 @@ pub returns-in_ok-push : goal.returns-in_ok-push
 returns-in_ok-push c =
     let has : Bool = treeset.contains values_order c.args.seen.now c.args.values.now in
     let new : has ≡ false = not_true has (ap (λ v. not (treeset.contains values_order c.args.seen.now v)) (sym c.of.ensures) ∙ sym c.in_ok-insert.ensures.added ∙ c.if-branch.true) in
-    λ rest. (λ j. c.in_ok-push.ensures j ++ unseen c.insert.new.self (distinct rest))
+    λ rest. (λ j. c.in_ok-push.ensures.ok j ++ unseen c.insert.new.self (distinct rest))
     ∙ seen_first c.args.seen.now c.insert.new.self c.args.values.now c.args.out.now new
     (λ x. c.in_ok-insert.ensures.updates.0 x ∙ (λ j. cond (is_at (values_order (c.of.ensures j)) x) true (treeset.contains values_order c.args.seen.now x))) rest
 

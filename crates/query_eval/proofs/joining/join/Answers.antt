@@ -12,31 +12,39 @@ use Rattle.core_parts.proofs.Lists.{drop-step}
 use Rattle.query_eval.proofs.joining.join.Goals as goal
 
 pub loop-source-init : goal.loop-source-init
-loop-source-init c = λ scope all wide.
+loop-source-init c =
     let walk = c.in_ok-walk.walk in
-    let start = c.in_ok-walk.ensures in (
-      subst (AllPlaced scope) (sym start.left) all,
-      subst (λ (n : ℕ). EachHas n walk.prefixes) (sym start.width) (subst (EachHas 0) (sym start.prefixes) (refl, tt)),
-      wide,
-      (λ j. remaining scope (start.left j) (start.prefixes j) (map source_rows c.args.sources.now)) ∙ first-step scope c.args.conds (map source_rows c.args.sources.now),
-    )
+    let start = c.in_ok-walk.ensures in
+    record {
+      few = omega (arith, start.width);
+      same = λ scope all wide. (
+        subst (AllPlaced scope) (sym start.left) all,
+        subst (λ (n : ℕ). EachHas n walk.prefixes) (sym start.width) (subst (EachHas 0) (sym start.prefixes) (refl, tt)),
+        wide,
+        (λ j. remaining scope (start.left j) (start.prefixes j) (map source_rows c.args.sources.now)) ∙ first-step scope c.args.conds (map source_rows c.args.sources.now),
+      );
+    }
 
 pub loop-source-preserved : goal.loop-source-preserved
-loop-source-preserved c = λ scope all wide.
+loop-source-preserved c =
     let sources = c.args.sources.now in
     let i = c.loop-source.source-index in
     let source = c.source-item.result in
     let walk = c.loop-source.walk in
-    let before = c.loop-source.invariant scope all wide in
     let split : drop i sources ≡ source ∷ drop (i + 1) sources = drop-step sources i source c.loop-source-test.true c.source-item.is in
-    let each : SourcesAreWide (source ∷ drop (i + 1) sources) = subst SourcesAreWide split before.2 in
-    let one = c.in_ok-walk-2.ensures scope before.0 before.1 each.0 in (
-      one.0,
-      one.1,
-      each.1,
-      one.2 (map source_rows (drop (i + 1) sources))
-          ∙ ap (λ (ss : List Source). remaining scope walk.left walk.prefixes (map source_rows ss)) (sym split) ∙ before.3,
-    )
+    record {
+      few = omega (arith, c.loop-source.invariant.few, c.in_ok-walk-2.ensures.width);
+      same = λ scope all wide.
+          let before = c.loop-source.invariant.same scope all wide in
+          let each : SourcesAreWide (source ∷ drop (i + 1) sources) = subst SourcesAreWide split before.2 in
+          let one = c.in_ok-walk-2.ensures.rows scope before.0 before.1 each.0 in (
+            one.0,
+            one.1,
+            each.1,
+            one.2 (map source_rows (drop (i + 1) sources))
+                ∙ ap (λ (ss : List Source). remaining scope walk.left walk.prefixes (map source_rows ss)) (sym split) ∙ before.3,
+          );
+    }
 
 pub returns : goal.returns
 returns c =
@@ -47,7 +55,7 @@ returns c =
     (λ rows. (scope : List InScope) → AllPlaced scope walk.left → rows ≡ filter (tests scope walk.left) walk.prefixes)
     (λ rows. (scope : List InScope) → AllPlaced scope c.args.conds → SourcesAreWide sources → rows ≡ filter (tests scope c.args.conds) (combos (map source_rows sources)))
     (λ rows is scope all wide.
-    let inv = c.loop-source.invariant scope all wide in
+    let inv = c.loop-source.invariant.same scope all wide in
     is scope inv.0
     ∙ sym (last-step scope walk.left walk.prefixes)
     ∙ ap (λ (ss : List Source). remaining scope walk.left walk.prefixes (map source_rows ss)) (sym done)

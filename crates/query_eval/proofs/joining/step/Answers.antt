@@ -4,16 +4,16 @@ use Rattle.core_parts.specs.Placing.{AllPlaced}
 use Rattle.query_eval.proofs.Levels.{ready-placed, later-placed, step-long, step-same}
 use Rattle.query_eval.proofs.joining.step.Goals as goal
 
-pub returns : goal.returns
-returns c = λ scope all long wide.
+pub returns-clause-rows : goal.returns-clause-rows
+returns-clause-rows c = λ scope all long wide.
     let left = c.args.walk.left in
     let before = c.args.walk.prefixes in
     let rows = c.args.source.now.rows in
     let n = c.args.walk.width in
     let w = c.args.source.now.width in
-    let next = c.in-Some.next in
+    let next = c.widened-next.result in
     let prefixes = c.in_ok-prefixes.prefixes in
-    let sum : next ≡ n + w = search rules in
+    let sum : next ≡ n + w = c.widened-next.ensures.sum in
     let readied : c.in_ok-ready.field-0.ready ≡ ready next left = search rules in
     let latered : c.in_ok-ready.field-0.later ≡ later next left = search rules in
     let placed : AllPlaced scope c.in_ok-ready.field-0.ready = subst (AllPlaced scope) (sym readied) (ready-placed scope next left all) in

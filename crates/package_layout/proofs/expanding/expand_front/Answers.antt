@@ -1,0 +1,38 @@
+use Rattle.std.proofs.Common.{rules, ◌++◌, ◌+◌, ◌-◌, ◌<◌, ◌≤◌, List, refl, ap, ◌∙◌, map, arith}
+use Rattle.run_model.specs.declared.event.Event.{Event}
+use Rattle.package_layout.specs.declared.run.Run.{Run}
+use Rattle.package_layout.specs.Runs.{at_step, steps_from}
+use Rattle.package_layout.proofs.Runs.{small_first, some_first, unasked_run, small_next, step_next, expand_next, expand_last}
+use Rattle.package_layout.proofs.expanding.expand_front.Goals as goal
+
+pub loop-left-init : goal.loop-left-init
+loop-left-init c =
+    let r : Run = c.args.run.now in
+    record { some = some_first r c.requires; within = omega (arith); small = small_first r c.requires; due = refl }
+
+pub copy_act-requires : goal.copy_act-requires
+copy_act-requires c =
+    let more : 1 < c.loop-left.left = search rules in
+    unasked_run c.args.run.now c.requires (omega (arith, more, c.loop-left.invariant.within))
+
+pub overflow_add-at : goal.overflow_add-at
+overflow_add-at c =
+    let more : 1 < c.loop-left.left = search rules in
+    let less = step_next c.loop-left.at c.args.run.now.stride c.loop-left.left more c.loop-left.invariant.small in
+    omega (arith, less)
+
+pub loop-left-preserved : goal.loop-left-preserved
+loop-left-preserved c =
+    let more : 1 < c.loop-left.left = search rules in
+    record {
+      some = omega (arith, more);
+      within = omega (arith, c.loop-left.invariant.within);
+      small = small_next c.loop-left.at c.args.run.now.stride c.loop-left.left more c.loop-left.invariant.small;
+      due = ap (λ (l : List Event). l ++ map (at_step c.args.run.now.first) (steps_from (c.loop-left.at + c.args.run.now.stride) c.args.run.now.stride (c.loop-left.left - 1))) (search rules)
+          ∙ expand_next c.args.run.now.first c.loop-left.to _ c.loop-left.at c.args.run.now.stride c.loop-left.left more c.loop-left.invariant.due;
+    }
+
+pub returns : goal.returns
+returns c =
+    let last : c.loop-left.left ≤ 1 = search rules in
+    expand_last c.args.run.now.first c.loop-left.to _ c.loop-left.at c.args.run.now.stride c.loop-left.left c.loop-left.invariant.some last c.loop-left.invariant.due

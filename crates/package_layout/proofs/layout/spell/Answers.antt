@@ -1,9 +1,0 @@
-use Rattle.package_layout.specs.Version.{One}
-use Rattle.package_layout.proofs.Package.{too_long_is, within_limit}
-use Rattle.package_layout.proofs.layout.spell.Goals as goal
-
-pub returns-then-len-clause-too_long : goal.returns-then-len-clause-too_long
-returns-then-len-clause-too_long c = λ _. too_long_is One c.args.«package».now c.in_ok-body.body c.len.result c.in_ok-body.ensures.bytes c.len.ensures c.if-len.true
-
-pub returns-clause-within : goal.returns-clause-within
-returns-clause-within c = within_limit One c.in_ok-body.body c.in_ok-with_digest.field-0 c.len.result c.len.ensures c.if-len.false c.in_ok-with_digest.ensures

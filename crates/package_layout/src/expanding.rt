@@ -1,0 +1,118 @@
+//! From runs to events.
+
+ghost use Rattle.std.specs.Prelude.{◌≡◌, ◌++◌, ◌∷◌, [], true, false, IfOk, OnOk};
+ghost use Rattle.std.specs.List.{list_all};
+ghost use Rattle.run_model.specs.ValidTrace.{is_asked};
+ghost use Rattle.package_layout.specs.RunPackages.{whole};
+ghost use Rattle.package_layout.specs.Runs.{at_step, are_runs, events_in, is_run, run_events};
+
+use crate::run::{Run, Runs};
+use crate::run_package::RunPackage;
+use crate::run_tests::count_events;
+use ldv_value::List;
+use run_model::{Act, Event, Events, Package};
+use std::alloc::{AllocError, Global};
+
+/// The package with all events that its runs stand for.
+#[tactic(auto, using(crate::proofs::Runs::are_all_runs))]
+pub(crate) fn whole(alloc: Global, package: RunPackage) -> Result<Package, AllocError>
+    requires { are_runs «package».runs ≡ true }
+    ensures { IfOk result (λ p. p ≡ whole «package») }
+{
+    let RunPackage { bare, runs } = package;
+    let mut whole = bare;
+    whole.events = events_in(alloc, runs)?;
+    Ok(whole)
+}
+
+// Room for all of them is made at once.
+fn events_in(alloc: Global, runs: Runs) -> Result<Events, AllocError>
+    requires { list_all is_run runs ≡ true }
+    ensures { IfOk result (λ events. events ≡ events_in runs) }
+{
+    let count = count_events(runs.items()).unwrap_or(0);
+    let mut events = List::with_capacity(alloc, count as usize)?;
+    for run in runs.into_vec() {
+        expand(run, &mut events)?;
+    }
+    Ok(events)
+}
+
+// Appends the events of a run. Its own act goes into the last of them, so that a question is never copied.
+fn expand(run: Run, to: &mut Events) -> Result<(), AllocError>
+    requires { is_run run ≡ true }
+    ensures { OnOk result (to.new ≡ to.old ++ run_events run) }
+{
+    let at = expand_front(&run, to)?;
+    let Event {
+        step: _,
+        process,
+        act,
+    } = run.first;
+    to.push(Event {
+        step: at,
+        process,
+        act,
+    })
+}
+
+// Appends the events of a run but for its last, whose step it returns.
+fn expand_front(run: &Run, to: &mut Events) -> Result<u32, AllocError>
+    requires { is_run run.now ≡ true }
+    ensures { IfOk result (λ at. to.new ++ at_step run.now.first at ∷ [] ≡ to.old ++ run_events run.now) }
+{
+    let mut at = run.first.step;
+    let mut left = run.count;
+    while left > 1 {
+        let act = copy_act(&run.first.act)?;
+        to.push(Event {
+            step: at,
+            process: run.first.process,
+            act,
+        })?;
+        at += run.stride;
+        left -= 1;
+    }
+    Ok(at)
+}
+
+// A copy of an act that is no question.
+fn copy_act(act: &Act) -> Result<Act, AllocError>
+    requires { is_asked act.now ≡ false }
+    ensures { IfOk result (λ copy. copy ≡ act.now) }
+{
+    Ok(match act {
+        Act::Started { path } => Act::Started { path: path.copy()? },
+        Act::Spawned { path } => Act::Spawned { path: path.copy()? },
+        Act::Unspawned { path, found } => Act::Unspawned {
+            path: path.copy()?,
+            found: *found,
+        },
+        Act::OpenedRead { path } => Act::OpenedRead { path: path.copy()? },
+        Act::OpenedWrite { path } => Act::OpenedWrite { path: path.copy()? },
+        Act::OpenedAppend { path, found } => Act::OpenedAppend {
+            path: path.copy()?,
+            found: *found,
+        },
+        Act::OpenedNew { path } => Act::OpenedNew { path: path.copy()? },
+        Act::Unopened { path, found } => Act::Unopened {
+            path: path.copy()?,
+            found: *found,
+        },
+        Act::Read { path } => Act::Read { path: path.copy()? },
+        Act::Wrote { path } => Act::Wrote { path: path.copy()? },
+        Act::Removed { path } => Act::Removed { path: path.copy()? },
+        Act::Tested { path, found } => Act::Tested {
+            path: path.copy()?,
+            found: *found,
+        },
+        Act::Waited { child } => Act::Waited { child: *child },
+        Act::Ended { status } => Act::Ended { status: *status },
+        Act::Asked {
+            statement: _,
+            tables: _,
+            reads: _,
+            made: _,
+        } => unreachable!(),
+    })
+}

@@ -1,0 +1,33 @@
+//! The laws of the layout. The functions have no bodies: their contracts are the theorems.
+
+ghost use Rattle.std.specs.Prelude.{◌≡◌, ◌≤◌, List as Items, Ok, length};
+ghost use Rattle.ldv_value.specs.Limits.{input_limit};
+ghost use Rattle.run_model.specs.declared.event.Event.{Event};
+ghost use Rattle.run_model.specs.declared.package.Package.{Package};
+ghost use Rattle.package_layout.specs.Counted.{IsCounted};
+ghost use Rattle.package_layout.specs.Runs.{Run, IsCutOf, events_in, runs_of};
+ghost use Rattle.package_layout.specs.Valid.{Valid, reading};
+ghost use Rattle.package_layout.specs.Version.{Version, One, Two};
+ghost use Rattle.package_layout.specs.Whole.{IsTyped, spelling_as};
+
+/// The law of the layout, over all packages that memory can hold. Of each version: two valid packages with
+/// one spelling are equal, and the spelling of a valid one is read as that package, however long it is, where
+/// its counts of four bytes fit their fields. They do where it isn't too long. No bytes are a spelling of
+/// both versions.
+pub fn round_trip_law()
+    ensures unique { (version : Version) (p q : Package) → IsTyped p → IsTyped q → Valid p → Valid q →
+        IsCounted version p → IsCounted version q → spelling_as version p ≡ spelling_as version q → p ≡ q }
+    ensures again { (version : Version) (p : Package) → IsTyped p → Valid p → IsCounted version p →
+        reading (spelling_as version p) ≡ Ok p }
+    ensures counted { (version : Version) (p : Package) → length (spelling_as version p) ≤ input_limit →
+        IsCounted version p }
+    ensures apart { (p q : Package) → ¬ (spelling_as One p ≡ spelling_as Two q) }
+{}
+
+/// The law of runs: every list of events has exactly one cut into the longest runs, and these stand for the
+/// list.
+pub fn runs_law()
+    ensures cut { (events : Items Event) → IsCutOf events (runs_of events) }
+    ensures only { (events : Items Event) (runs : Items Run) → IsCutOf events runs → runs ≡ runs_of events }
+    ensures again { (events : Items Event) → events_in (runs_of events) ≡ events }
+{}

@@ -1,0 +1,74 @@
+//! Runs of a trace.
+
+ghost use Rattle.std.specs.Prelude.{◌≡◌};
+ghost use Rattle.package_layout.specs.Runs.{joins};
+
+use crate::codec::{Decode, Encode};
+use crate::cursor::Cursor;
+use crate::decode_error::DecodeError;
+use crate::number::{decode_u32, encode_u32};
+use crate::same_act::is_alike;
+use ldv_value::{Bytes, List};
+use run_model::Event;
+use std::alloc::{AllocError, Global};
+
+/// Neighbouring events of one process and one act, whose steps are evenly apart.
+#[derive(Drop)]
+pub struct Run {
+    pub first: Event,
+    /// How many events it stands for, the first counted.
+    pub count: u32,
+    /// The steps from each event to the next; 0 where there is but one event.
+    pub stride: u32,
+}
+
+/// Runs, in the order of their events.
+pub type Runs = List<Run>;
+
+/// A run that has begun, and the step of its last event.
+#[derive(Drop)]
+pub(crate) struct Begun {
+    pub(crate) run: Run,
+    pub(crate) last: u32,
+}
+
+impl Encode for Run {
+    ghost use Rattle.package_layout.specs.Runs.{run_spelling, TypedRun};
+
+    ghost spelling = { run_spelling };
+
+    ghost typed = { TypedRun };
+
+    fn encode(&self, to: &mut Bytes) -> Result<(), AllocError> {
+        self.first.encode(to)?;
+        encode_u32(self.count, to)?;
+        encode_u32(self.stride, to)
+    }
+}
+
+impl Decode for Run {
+    ghost use Rattle.package_layout.specs.Runs.{run_at};
+
+    ghost reading = { run_at };
+
+    fn decode(alloc: Global, cursor: &mut Cursor) -> Result<Run, DecodeError> {
+        let first = Event::decode(alloc, cursor)?;
+        let count = decode_u32(cursor)?;
+        let stride = decode_u32(cursor)?;
+        Ok(Run {
+            first,
+            count,
+            stride,
+        })
+    }
+}
+
+/// Whether an event goes on with a run that has begun, whose last event has the step `last`.
+pub(crate) fn joins(first: &Event, count: usize, stride: u32, last: u32, event: &Event) -> bool
+    ensures { result ≡ joins (record {
+      run = record { first = first.now; count = count; stride = stride };
+      last = last;
+    }) event.now }
+{
+    is_alike(first, event) && last <= event.step && (count == 1 || event.step - last == stride)
+}

@@ -1,0 +1,12 @@
+//! Packages whose traces are kept as runs.
+
+use crate::run::Runs;
+use run_model::Package;
+
+/// A package whose trace is kept as runs. A run of a few bytes can stand for millions of events.
+#[derive(Drop)]
+pub struct RunPackage {
+    /// The package without its events.
+    pub bare: Package,
+    pub runs: Runs,
+}

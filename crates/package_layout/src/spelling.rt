@@ -1,0 +1,87 @@
+//! From packages to bytes.
+
+ghost use Rattle.std.specs.Prelude.{◌≡◌, ◌<◌, ◌≤◌, ◌-◌, ◌++◌, IfOk, OnOk, IsErrOf, length};
+ghost use Rattle.sha2.specs.Sha256.{sha256};
+ghost use Rattle.ldv_value.specs.Limits.{input_limit};
+ghost use Rattle.package_layout.specs.RunPackages.{whole};
+ghost use Rattle.package_layout.specs.Runs.{IsCut};
+ghost use Rattle.package_layout.specs.Version.{Two};
+ghost use Rattle.package_layout.specs.Whole.{body, spelling, spelling_as, IsTyped};
+
+use crate::digest::{DIGEST_LENGTH, with_digest};
+use crate::layout::SpellStop;
+use crate::run_package::RunPackage;
+use crate::sections::{encode_run_sections, encode_sections};
+use crate::version::{Version, magic};
+use ldv_value::{Bytes, INPUT_LIMIT};
+use run_model::Package;
+use std::alloc::{AllocError, Global};
+
+/// The one spelling of a package in the version that is written, the second. `TooLong` exactly where it has
+/// more than 67,108,864 bytes, its digest counted.
+pub fn spell(alloc: Global, package: &Package) -> Result<Bytes, SpellStop>
+    ensures bytes { IfOk result (λ bytes. bytes ≡ spelling «package».now) }
+    ensures within { IfOk result (λ bytes. length bytes ≤ input_limit) }
+    ensures too_long { IsErrOf result SpellStop.TooLong → input_limit < length (spelling «package».now) }
+    // What every package in memory meets, and a law over all packages asks for.
+    ensures typed { OnOk result (IsTyped «package».now) }
+{
+    spell_as(alloc, package, Version::Two)
+}
+
+/// The one spelling of a package in a version. `TooLong` exactly where it has more than 67,108,864 bytes, its
+/// digest counted.
+pub fn spell_as(alloc: Global, package: &Package, version: Version) -> Result<Bytes, SpellStop>
+    ensures bytes { IfOk result (λ bytes. bytes ≡ spelling_as version «package».now) }
+    ensures within { IfOk result (λ bytes. length bytes ≤ input_limit) }
+    ensures too_long { IsErrOf result SpellStop.TooLong →
+        input_limit < length (spelling_as version «package».now) }
+    // What every package in memory meets, and a law over all packages asks for.
+    ensures typed { OnOk result (IsTyped «package».now) }
+{
+    let body = body_of(alloc, package, version)?;
+    finished(body)
+}
+
+/// The spelling of a package whose trace is kept as runs, in the second version. No list of events is made.
+/// `TooLong` exactly where it has more than 67,108,864 bytes, its digest counted.
+pub fn spell_runs(alloc: Global, package: &RunPackage) -> Result<Bytes, SpellStop>
+    requires { IsCut «package».now.runs }
+    ensures bytes { IfOk result (λ bytes. bytes ≡ spelling (whole «package».now)) }
+    ensures within { IfOk result (λ bytes. length bytes ≤ input_limit) }
+    ensures too_long { IsErrOf result SpellStop.TooLong →
+        input_limit < length (spelling (whole «package».now)) }
+{
+    let body = body_of_runs(alloc, package)?;
+    finished(body)
+}
+
+fn body_of(alloc: Global, package: &Package, version: Version) -> Result<Bytes, AllocError>
+    ensures bytes { IfOk result (λ bytes. bytes ≡ body version «package».now) }
+    ensures typed { OnOk result (IsTyped «package».now) }
+{
+    let mut bytes = Bytes::of_slice(alloc, magic(version))?;
+    encode_sections(package, version, &mut bytes)?;
+    Ok(bytes)
+}
+
+fn body_of_runs(alloc: Global, package: &RunPackage) -> Result<Bytes, AllocError>
+    requires { IsCut «package».now.runs }
+    ensures { IfOk result (λ bytes. bytes ≡ body Two (whole «package».now)) }
+{
+    let mut bytes = Bytes::of_slice(alloc, magic(Version::Two))?;
+    encode_run_sections(package, &mut bytes)?;
+    Ok(bytes)
+}
+
+// What is before a digest, with the digest, where both aren't too long.
+fn finished(body: Bytes) -> Result<Bytes, SpellStop>
+    ensures bytes { IfOk result (λ bytes. bytes ≡ body ++ sha256 body) }
+    ensures within { IfOk result (λ bytes. length bytes ≤ input_limit) }
+    ensures too_long { IsErrOf result SpellStop.TooLong → input_limit < length (body ++ sha256 body) }
+{
+    if body.len() > INPUT_LIMIT - DIGEST_LENGTH {
+        return Err(SpellStop::TooLong);
+    }
+    Ok(with_digest(body)?)
+}
