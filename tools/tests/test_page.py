@@ -144,6 +144,31 @@ class Browsers(PageMaker):
         self.assertEqual(browser.texts("#detail"), ["Statement 1, which process 0 asked at step 14"])
         self.assertEqual(browser.problems(), [])
 
+    def test_all_kinds(self):
+        """Packages of each kind and version, with each act, and without a statement or a file are shown."""
+        first = read_package(orders())
+        acts = packages.encode(packages.changed("acts", {}))
+        trace = [packages.started(), packages.spawned(1, 0), packages.spawned(2, 1), packages.spawned(3, 0),
+                 packages.act("read", "\uffee", 4, 3), packages.act("read", "\U0001f600", 4, 2), packages.waited(1, 5),
+                 packages.waited(2, 5, 1), packages.waited(3, 6), packages.waited(1, 6), packages.act("wrote", "out", 7),
+                 packages.ended(8)]
+        order = packages.encode(packages.package(steps=8, trace=trace))
+        self.assertEqual(graph_of(read_package(order)).depends("out"), [
+            "path f", "path main", "path \uffee", "path \U0001f600", "process 0", "process 0.0", "process 0.0.0", "process 0.1"])
+        kinds = [(order, []), (orders(2), []), (version2.spelled(first), []), (version2.joined(first, first), ["--run", "2"]), (acts, []),
+                 (packages.encode(packages.package()), []), (packages.encode(packages.changed("logs", {})), [])]
+        for data, words in kinds:
+            browser = self.opened(data, *words)
+            self.assertEqual(browser.problems(), [])
+            for statement in browser.named("tr[data-statement]", "data-statement"):
+                browser.click(f'tr[data-statement="{statement}"]')
+            graph = graph_of(read_package(data, int(words[1]) if words else None))
+            for kind, *name in list(graph.nodes):
+                if kind == "path":
+                    browser.value(f"choosePath({json.dumps(name[0])})")
+                    self.assertEqual(browser.named("li[data-node]", "data-node"), graph.depends(name[0]), name)
+            self.assertEqual(browser.problems(), [])
+
     def test_came_from(self):
         """The list of what a file came from is that of `inspect depends`, for each path."""
         graph = graph_of(read_package(orders()))
