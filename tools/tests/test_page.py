@@ -154,7 +154,8 @@ class Browsers(PageMaker):
                  packages.ended(8)]
         order = packages.encode(packages.package(steps=8, trace=trace))
         self.assertEqual(graph_of(read_package(order)).depends("out"), [
-            "path f", "path main", "path \uffee", "path \U0001f600", "process 0", "process 0.0", "process 0.0.0", "process 0.1"])
+            "path f", "path main", "path \uffee", "path \U0001f600", "process 0", "process 0.0", "process 0.0.0",
+            "process 0.1"])
         kinds = [(order, []), (orders(2), []), (version2.spelled(first), []), (version2.joined(first, first), ["--run", "2"]), (acts, []),
                  (packages.encode(packages.package()), []), (packages.encode(packages.changed("logs", {})), [])]
         for data, words in kinds:
