@@ -157,7 +157,8 @@ class Browsers(PageMaker):
             "path f", "path main", "path \uffee", "path \U0001f600", "process 0", "process 0.0", "process 0.0.0",
             "process 0.1"])
         kinds = [(order, []), (orders(2), []), (version2.spelled(first), []), (acts, []),
-                 (version2.joined(first, first), ["--run", "2"]), (packages.encode(packages.package()), []), (packages.encode(packages.changed("logs", {})), [])]
+                 (version2.joined(first, first), ["--run", "2"]), (packages.encode(packages.package()), []),
+                 (packages.encode(packages.changed("logs", {})), [])]
         for data, words in kinds:
             browser = self.opened(data, *words)
             self.assertEqual(browser.problems(), [])
