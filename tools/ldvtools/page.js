@@ -382,10 +382,21 @@ function pop(heap) {
 }
 
 const KINDS = ["path", "process", "row", "ask", "reply"];
+const made = new Map(D.processes.map((process, place) => [process.name, place]));
+
+// By code points, which is the order of the bytes.
+function textOrder(one, other) {
+  const a = [...one], b = [...other], place = a.findIndex((char, at) => char !== b[at]);
+  return place < 0 ? a.length - b.length : place >= b.length ? 1 : a[place].codePointAt(0) - b[place].codePointAt(0);
+}
+
+// Paths by bytes, processes as they were made, rows, asks and replies by their numbers.
 function nodeOrder(a, b) {
-  const one = D.graph.nodes[a], other = D.graph.nodes[b];
-  return KINDS.indexOf(one[0]) - KINDS.indexOf(other[0]) || (one[0] === "row" ? (one[1] < other[1] ? -1 : one[1] > other[1] ?
-    1 : one[2] - other[2] || one[3] - other[3]) : one[0] === "path" || one[0] === "process" ? a - b : one[1] - other[1]);
+  const one = D.graph.nodes[a], other = D.graph.nodes[b], kind = one[0];
+  if (kind !== other[0]) return KINDS.indexOf(kind) - KINDS.indexOf(other[0]);
+  if (kind === "path") return textOrder(one[1], other[1]);
+  if (kind === "process") return made.get(one[1]) - made.get(other[1]);
+  return kind === "row" ? textOrder(one[1], other[1]) || one[2] - other[2] || one[3] - other[3] : one[1] - other[1];
 }
 
 function choosePath(path) {

@@ -19,7 +19,8 @@ KINDS = ("path", "process", "row", "ask", "reply")
 class Graph:
     """Nodes in the order in which they come up, and edges from source to target with their first and last time."""
 
-    def __init__(self) -> None:
+    def __init__(self, processes: List[str]) -> None:
+        self.made = {name: place for place, name in enumerate(processes)}
         self.nodes: Dict[Node, int] = {}
         self.edges: Dict[Tuple[int, int], Tuple[int, int]] = {}
 
@@ -36,15 +37,14 @@ class Graph:
             return None
         latest = latest_times(self, self.nodes["path", path])
         names = list(self.nodes)
-        return [" ".join(map(str, node)) for node in sorted((names[place] for place in latest), key=in_order)]
+        return [" ".join(map(str, node)) for node in sorted((names[place] for place in latest), key=self.in_order)]
 
-
-def in_order(node: Node) -> Tuple[object, ...]:
-    """Paths by bytes, processes as they were made, rows, asks and replies by their numbers."""
-    kind = KINDS.index(str(node[0]))
-    if kind == 0:
-        return kind, str(node[1]).encode()
-    return (kind, *node[1:]) if kind > 1 else (kind, [int(part) for part in str(node[1]).split(".")])
+    def in_order(self, node: Node) -> Tuple[object, ...]:
+        """Paths by bytes, processes as they were made, rows, asks and replies by their numbers."""
+        kind, name = KINDS.index(str(node[0])), str(node[1])
+        if node[0] == "path":
+            return kind, name.encode()
+        return (kind, self.made[name]) if node[0] == "process" else (kind, *node[1:])
 
 
 def latest_times(graph: Graph, target: int) -> Dict[int, int]:
@@ -73,7 +73,8 @@ def latest_times(graph: Graph, target: int) -> Dict[int, int]:
 
 def graph_of(package: Package) -> Graph:
     """The graph of a package's trace."""
-    graph, names = Graph(), package.process_names()
+    names = package.process_names()
+    graph = Graph(names)
     made = 1
     for run in package.runs:
         made = add_run(graph, run, names, made)

@@ -51,11 +51,12 @@ def world_tables(words: argparse.Namespace, notes: List[str], hints: List[str], 
     tables: List[Table] = []
     for word in words.csv:
         tables.append(read_csv(word, settings, delimiter, words.encoding, hints, progress))
-        settle(tables[-1], settings, hints)
+        settle(tables[-1:], settings, hints)
         progress.tell(f"{tables[-1].name}: {tables[-1].count:,} rows are settled")
     for path in words.sqlite:
-        for table in read_database(path, words.table, settings, notes):
-            settle(table, settings, hints)
+        found = read_database(path, words.table, settings, notes)
+        settle(found, settings, hints)
+        for table in found:
             note_types(table, notes)
             tables.append(table)
             progress.tell(f"{table.name}: {table.count:,} rows are settled")
@@ -186,8 +187,8 @@ def read_words(given: Optional[Sequence[str]]) -> argparse.Namespace:
     parser.add_argument("--shuffle", type=int, metavar="SEED",
                         help="the rows of each table in another order, which says nothing of the order that they had")
     parser.add_argument("--lower", action="store_true", help="names in lower case")
-    parser.add_argument("--tidy", action="store_true", help="what isn't a name is made one: 'Birth year' birth_year, a header that "
-                        "is there twice by its place")
+    parser.add_argument("--tidy", action="store_true", help="what isn't a name is made one: 'Birth year' birth_year, "
+                        "and a header that is there twice gets its place behind it")
     parser.add_argument("--delimiter", default=",", help="of CSV files: one character, or tab (default ,)")
     parser.add_argument("--tsv", action="store_true", help="the CSV files are as COPY of PostgreSQL and --batch of MySQL write "
                         "them: tabs between cells, no quotes, \\t, \\n and \\\\ as escapes, \\N for NULL")

@@ -298,8 +298,18 @@ def is_scaled(column: Column, settings: Settings) -> bool:
 
 # ---- tables
 
-def settle(table: Table, settings: Settings, hints: List[str]) -> None:
-    """Gives a table that was read its kinds, cells and key, within the limits."""
+def settle(tables: Sequence[Table], settings: Settings, hints: List[str]) -> None:
+    """Gives tables that were read their kinds, cells and keys, within the limits."""
+    given = [prepare(table, settings) for table in tables]
+    check_scales(tables, settings)
+    for table, are_given in zip(tables, given):
+        for column, is_given in zip(table.columns, are_given):
+            settle_cells(table, column, is_given, settings, hints)
+        check_key(table)
+
+
+def prepare(table: Table, settings: Settings) -> List[bool]:
+    """Takes what the options say of a table. Whether they name the kind, of each column."""
     check_name("the table", table.name)
     if not 1 <= len(table.columns) <= MAX_COLUMNS:
         raise Refused(f"{table.name} has {len(table.columns)} columns; a table has 1 to {MAX_COLUMNS}")
@@ -309,11 +319,7 @@ def settle(table: Table, settings: Settings, hints: List[str]) -> None:
     if key is not None:
         table.key = [] if key == "none" else key.split(",")
     check_columns(table)
-    given = [settle_kind(table, column, settings) for column in table.columns]
-    check_scales(table, settings)
-    for column, is_given in zip(table.columns, given):
-        settle_cells(table, column, is_given, settings, hints)
-    check_key(table)
+    return [settle_kind(table, column, settings) for column in table.columns]
 
 
 def check_columns(table: Table) -> None:
@@ -342,8 +348,9 @@ def check_many(table: Table, names: Sequence[str]) -> None:
     tidied = tidy_names([column.old for column in table.columns])
     words = " ".join(f'--rename "{table.name}.#{place + 1}={tidied[place]}"' for place in bad[:8])
     shown_names = ", ".join(f"{place + 1} {names[place]!r}" for place in bad[:8])
-    raise Refused(f"{table.name}: {len(bad)} columns need another name, column {shown_names}{', ..' if len(bad) > 8 else ''}: a "
-                  f"letter a to z or _, then such letters, digits and _, no reserved word, and none twice; give --tidy, or {words}")
+    rest = ", .." if len(bad) > 8 else ""
+    raise Refused(f"{table.name}: {len(bad)} columns need another name, column {shown_names}{rest}: a letter a to z or _, then "
+                  f"such letters, digits and _, no reserved word, and none twice; give --tidy, or {words}")
 
 
 def settle_kind(table: Table, column: Column, settings: Settings) -> bool:
@@ -363,19 +370,19 @@ def settle_kind(table: Table, column: Column, settings: Settings) -> bool:
     return kind is not None
 
 
-def check_scales(table: Table, settings: Settings) -> None:
+def check_scales(tables: Sequence[Table], settings: Settings) -> None:
     """All columns with REAL values that need --scale, at once."""
-    needed = [(row, column, value) for column in table.columns if column.scale is None and not table.from_text
-              for row, value in first_float(column)]
+    needed = [(table, row, column, value) for table in tables if not table.from_text for column in table.columns
+              if column.scale is None for row, value in first_float(column)]
     if not needed:
         return
-    row, column, value = needed[0]
-    scales = [(table.full_name(column), scale_needed(column, settings) or 0) for _, column, _ in needed]
+    table, row, column, value = needed[0]
+    scales = [(each.full_name(other), scale_needed(other, settings) or 0) for each, _, other, _ in needed]
     words = " ".join(f"--scale {name}={min(scale, MAX_SCALE)}" for name, scale in scales)
     if any(scale > MAX_SCALE for _, scale in scales):
         words += " --round"
-    raise Refused(f"{table.at(row, column)}: {shown(value)} has no equal here; {words} carries what {table.name} has "
-                  f"of them as whole numbers, --leave-out {table.full_name(column)} leaves the column out")
+    raise Refused(f"{table.at(row, column)}: {shown(value)} has no equal here; {words} carries "
+                  f"all of them as whole numbers, --leave-out {table.full_name(column)} leaves the column out")
 
 
 def first_float(column: Column) -> Iterator[Tuple[int, float]]:

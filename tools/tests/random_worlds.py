@@ -47,7 +47,7 @@ class Worlds:
         places = [place for place, part in enumerate(parts)
                   if part[0] in "'0123456789" or part[0].isalpha() and part.lower() not in RESERVED]
         for _ in range(self.chance.choice((1, 1, 2)) if places else 0):
-            other = [parts[self.chance.choice(places)], self.chance.choice(self.names), self.chance.choice(self.names), "5", "'a'"]
+            other = [parts[self.chance.choice(places)], "5", "'a'", *self.chance.choices(self.names, k=2)]
             parts[self.chance.choice(places)] = self.chance.choice(other)
 
     def other_tokens(self, parts):

@@ -10,6 +10,7 @@ import packages
 from ldvtools import package, page_data
 from ldvtools.errors import Malformed
 from ldvtools.packages import read_any, read_package
+from ldvtools.trace import graph_of
 
 from . import version2
 from .support import InFolder, read, tool
@@ -124,6 +125,17 @@ table t (k INT NOT NULL, g TEXT, v INT, key k): 2 rows, next row 5
                 self.assertEqual(lines.encode(), output)
                 count += 1
         self.assertGreater(count, 10)
+
+    def test_depends(self):
+        """What a path came from is what `inspect depends` of the cases says."""
+        count = 0
+        for words, data, status, output, _ in cases():
+            if words[:2] == ["inspect", "depends"] and len(words) == 3 and status in (0, 10):
+                lines = graph_of(read_package(data)).depends(words[2])
+                self.assertEqual(lines is None, status == 10, words)
+                self.assertEqual("".join(line + "\n" for line in lines or []).encode(), output, words)
+                count += 1
+        self.assertGreater(count, 20)
 
     def test_runs(self):
         """A run of equal events stands for all of them; what can't be one is refused."""

@@ -7,7 +7,7 @@ import unittest
 
 import packages
 
-from ldvtools import page
+from ldvtools import package, page
 from ldvtools.packages import read_any, read_package
 from ldvtools.trace import graph_of
 
@@ -73,9 +73,9 @@ class Pages(PageMaker):
         shown = self.data_of(self.made(orders(2)))
         self.assertEqual((shown["refused"], shown["kind"], shown["tables"]), (1, "excluded", []))
         self.assertEqual(shown["statements"][2]["params"], ["1"])
-        package = read_package(orders())
-        other = package._replace(start=[*package.start, "again"], seed=7)
-        joined = version2.joined(package, other)
+        first = read_package(orders())
+        other = first._replace(start=[*first.start, "again"], seed=7)
+        joined = version2.joined(first, other)
         self.assertEqual(read_any(joined).run(2).start, other.start)
         for run, seed in (("1", "0"), ("2", "7")):
             shown = self.data_of(self.made(joined, "--run", run))
@@ -125,15 +125,15 @@ class Browsers(PageMaker):
 
     def test_clicks(self):
         """What is shown after clicks is what the package has."""
-        package = read_package(orders())
+        whole = read_package(orders())
         browser = self.opened(orders(), outcome=read(f"{EXAMPLES}/orders.outcome"))
         self.assertEqual(browser.texts("#refused"), ["1 of 3 statements was refused"])
         self.assertEqual(browser.named("tr.needed[data-row]", "data-row"), [])
         browser.click('tr[data-statement="2"]')
-        asked = [event.asked for event in package.events if event.asked][2]
+        asked = [event.asked for event in whole.events if event.asked][2]
         needs = [f"{table} {need.row} {need.rule}" for table, rows in asked.reads for need in rows]
         self.assertEqual(browser.named("tr[data-need]", "data-need"), needs)
-        for table in package.tables:
+        for table in whole.tables:
             browser.click(f'button[data-table="{table.name}"]')
             self.assertEqual(browser.texts("#packed"), [f"{len(table.rows)} of {table.next} rows packed"])
             wanted = [f"{table.name} {row.number}" for row in table.rows
@@ -144,10 +144,36 @@ class Browsers(PageMaker):
         self.assertEqual(browser.texts("#detail"), ["Statement 1, which process 0 asked at step 14"])
         self.assertEqual(browser.problems(), [])
 
+    def test_all_kinds(self):
+        """Packages of each kind and version, with each act, and without a statement or a file are shown."""
+        first = read_package(orders())
+        acts = packages.encode(packages.changed("acts", {}))
+        trace = [packages.started(), packages.spawned(1, 0), packages.spawned(2, 1), packages.spawned(3, 0),
+                 packages.act("read", "\uffee", 4, 3), packages.act("read", "\U0001f600", 4, 2), packages.waited(1, 5),
+                 packages.waited(2, 5, 1), packages.waited(3, 6), packages.waited(1, 6), packages.act("wrote", "out", 7),
+                 packages.ended(8)]
+        order = packages.encode(packages.package(steps=8, trace=trace))
+        self.assertEqual(graph_of(read_package(order)).depends("out"), [
+            "path f", "path main", "path \uffee", "path \U0001f600", "process 0", "process 0.0", "process 0.0.0",
+            "process 0.1"])
+        kinds = [(order, []), (orders(2), []), (version2.spelled(first), []), (acts, []),
+                 (version2.joined(first, first), ["--run", "2"]), (packages.encode(packages.package()), []),
+                 (packages.encode(packages.changed("logs", {})), [])]
+        for data, words in kinds:
+            browser = self.opened(data, *words)
+            self.assertEqual(browser.problems(), [])
+            for statement in browser.named("tr[data-statement]", "data-statement"):
+                browser.click(f'tr[data-statement="{statement}"]')
+            graph = graph_of(read_package(data, int(words[1]) if words else None))
+            for kind, *name in list(graph.nodes):
+                if kind == "path":
+                    browser.value(f"choosePath({json.dumps(name[0])})")
+                    self.assertEqual(browser.named("li[data-node]", "data-node"), graph.depends(name[0]), name)
+            self.assertEqual(browser.problems(), [])
+
     def test_came_from(self):
         """The list of what a file came from is that of `inspect depends`, for each path."""
-        package = read_package(orders())
-        graph = graph_of(package)
+        graph = graph_of(read_package(orders()))
         browser = self.opened(orders(), outcome=read(f"{EXAMPLES}/orders.outcome"))
         for path in ("report.txt", "new.csv", "main.ldv"):
             browser.value(f"choosePath({json.dumps(path)})")
@@ -156,6 +182,24 @@ class Browsers(PageMaker):
         self.assertIn("path report.txt", browser.named("g.node", "data-box"))
         browser.click('g[data-box="path new.csv"] rect')
         self.assertEqual(browser.texts("#came-none"), ["It came from nothing: the run never wrote it."])
+        self.assertEqual(browser.problems(), [])
+
+    def test_saved(self):
+        """Tables and files are saved as they are."""
+        browser = self.opened(orders(), outcome=read(f"{EXAMPLES}/orders.outcome"))
+        browser.value("window.saved = []; URL.createObjectURL = blob => { saved.push(blob); return 'blob:none'; }; "
+                      "HTMLAnchorElement.prototype.click = function () { saved.push(this.download); }; 1")
+        browser.click('button[data-table="orders"]')
+        browser.value("[...document.querySelectorAll('#tables button')].pop().click()")
+        folder = os.path.join(self.folder, "tables")
+        self.assertEqual(tool(package, "--csv", folder, self.put("p", orders()))[0], 0)
+        self.assertEqual(browser.value("saved[0].text()"), read(f"{folder}/orders.csv").decode())
+        self.assertEqual(browser.value("saved[1]"), "orders.csv")
+        for section, path in (("#files", "new.csv"), ("#outcome", "report.txt")):
+            browser.value(f"saved.length = 0; [...document.querySelectorAll('{section} tr')].find("
+                          f"row => row.cells[0].textContent === '{path}').querySelector('button:last-of-type').click()")
+            self.assertEqual(browser.value("saved[1]"), path)
+        self.assertEqual(browser.value("saved[0].text()"), "Ada 14\n")
         self.assertEqual(browser.problems(), [])
 
     def test_hostile(self):

@@ -14,6 +14,7 @@ import against_sqlite
 import check_docs
 import check_page
 import check_scripts
+import packages
 
 from ldvtools import outcome, package, world
 from ldvtools.language import RESERVED
@@ -231,11 +232,12 @@ class Program(InFolder):
     def test_manual_page(self):
         """The examples of the manual page, in their order."""
         check_page.folder_with(support.PROGRAM, self.folder)
+        self.put("old.package", packages.encode(packages.package()))
         page = read(os.path.join(ROOT, check_docs.MANUAL)).decode()
         lines = re.findall(r"(?m)^\.Dl (.*)$", page)
         for block in re.findall(r"(?s)\n\.Bd .*?\n(.*?)\n\.Ed", page):
             lines += block.split("\n")
-        self.assertEqual(len(lines), 20)
+        self.assertGreaterEqual(len(lines), 20)
         path = self.folder + os.pathsep + os.environ["PATH"]
         for line in lines:
             done = subprocess.run(["sh", "-c", line], cwd=self.folder, stdout=subprocess.PIPE, stderr=subprocess.PIPE,

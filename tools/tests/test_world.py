@@ -96,8 +96,8 @@ class CsvFiles(InFolder):
     def test_tidy(self):
         """Headers that aren't names are named at once, and made names on demand."""
         text = "Pat.Nr;Größe (cm);Dose;Dose;order;;2nd\n1;2;3;4;5;6;7\n"
-        self.csv_refused('t: 6 columns need another name, column 1 \'pat.nr\', 2 \'größe (cm)\', 4 \'dose\', 5 \'order\', 6 \'\', 7 '
-                         '\'2nd\': ', text, "--delimiter", ";", "--lower")
+        self.csv_refused("t: 6 columns need another name, column 1 'pat.nr', 2 'größe (cm)', 4 'dose', 5 'order', 6 '', "
+                         "7 '2nd': ", text, "--delimiter", ";", "--lower")
         self.csv_refused('give --tidy, or --rename "t.#1=pat_nr" --rename "t.#2=grosse_cm" --rename "t.#4=dose_4" --rename '
                          '"t.#5=order_" --rename "t.#6=column" --rename "t.#7=_2nd"', text, "--delimiter", ";", "--lower")
         table = self.table(text, "--delimiter", ";", "--tidy", "--rename", "t.#6=note")
@@ -313,7 +313,7 @@ class Databases(InFolder):
     def test_values(self):
         words = self.database("CREATE TABLE t (a REAL);"
                               "INSERT INTO t VALUES (2.5), (3), (NULL), (-0.1), (1e2);")
-        self.refused("row 0 of t, column a: the REAL value 2.5 has no equal here; --scale t.a=1 carries", *words)
+        self.refused("row 0 of t, column a: the REAL value 2.5 has no equal here; --scale t.a=1 carries all", *words)
         status, out, err = tool(world, *words, "--scale", "t.a=1")
         self.assertEqual(json.loads(out)["tables"]["t"]["rows"], [[25], [30], [None], [-1], [1000]], err)
         for statements, message in (
@@ -334,8 +334,10 @@ class Databases(InFolder):
     def test_real_columns(self):
         """All columns that need --scale are named at once, each with the decimals that it needs."""
         words = self.database("CREATE TABLE t (a REAL, b INT, c REAL, d REAL);"
-                              "INSERT INTO t VALUES (1.5, 1, 0.125, 1e-30), (2, 2, 1.5, 1);")
-        self.refused("--scale t.a=1 --scale t.c=3 --scale t.d=18 --round carries what t has of them", *words)
+                              "INSERT INTO t VALUES (1.5, 1, 0.125, 1e-30), (2, 2, 1.5, 1);"
+                              "CREATE TABLE u (e REAL); INSERT INTO u VALUES (0.25);")
+        self.refused("--scale t.a=1 --scale t.c=3 --scale t.d=18 --scale u.e=2 --round carries all of them", *words)
+        words += ["--scale", "u.e=2"]
         status, out, err = tool(world, *words, "--scale", "t.a=1", "--scale", "t.c=3", "--scale", "t.d=2", "--round")
         self.assertEqual(json.loads(out)["tables"]["t"]["rows"], [[15, 1, 125, 0], [20, 2, 1500, 100]], err)
 
