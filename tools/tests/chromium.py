@@ -2,13 +2,14 @@
 import base64
 import json
 import os
+import select
 import shutil
 import subprocess
 import tempfile
 import time
 
 NAMES = ("chromium", "chromium-browser", "google-chrome", "google-chrome-stable")
-SECONDS = 60
+SECONDS = 120
 
 
 def program():
@@ -61,6 +62,8 @@ class Browser:
 
     def read(self):
         while b"\0" not in self.left:
+            if not select.select([self.from_read], [], [], SECONDS)[0]:
+                raise AssertionError(f"the browser says nothing for {SECONDS} seconds")
             data = os.read(self.from_read, 1 << 20)
             if not data:
                 raise AssertionError("the browser ended")
