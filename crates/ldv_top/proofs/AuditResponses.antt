@@ -1,6 +1,6 @@
 -- What an audit comes to is what is due.
-use Rattle.std.proofs.Common.{◌≡◌, ℕ, ◌<◌, List, length, refl, sym, ap, ◌∙◌, subst, true, false}
-use Rattle.std.specs.Prelude.{Option, Some, None, Result, Ok, Err, IsSome}
+use Rattle.std.proofs.Common.{◌≡◌, ℕ, ◌<◌, List, length, refl, sym, ap, ◌∙◌, true, false}
+use Rattle.std.specs.Prelude.{Option, Some, None, Result, Ok, Err, IsSome, is_some}
 use Rattle.ldv_value.specs.Limits.{input_limit}
 use Rattle.run_model.specs.declared.package.Package.{Package}
 use Rattle.run_model.specs.Package.{own_world}
@@ -49,8 +49,8 @@ abbrev pub AuditedAs : ℕ → List ℕ → Package → Result Verdict AuditStop
 AuditedAs budget input p result = (version : Version) → version_of input ≡ Some version → Audits budget version p input result
 
 some_version : (o : Option Version) → IsSome o → (version : Version) × (o ≡ Some version)
-some_version None some = absurd some
-some_version (Some version) some = (version, refl)
+some_version None is = let never : false ≡ true = is in absurd cc
+some_version (Some version) is = (version, refl)
 
 module _ (budget : ℕ) (input : List ℕ) (p : Package) (some : IsSome (version_of input)) where
   pub audit_done : (verdict : Verdict) → AuditedAs budget input p (Ok verdict) → done (verdict_text verdict) ≡ included_audit budget input p
@@ -71,4 +71,4 @@ module _ (budget : ℕ) (input : List ℕ) (p : Package) (some : IsSome (version
 
 -- bytes that are spelled have a version
 pub is_versioned : (input : List ℕ) (p : Package) → IsSpelled input p → IsSome (version_of input)
-is_versioned input p spelled = subst IsSome (sym spelled.1) tt
+is_versioned input p spelled = ap is_some spelled.1

@@ -1,25 +1,27 @@
--- What needs none of a package's events: its replay, its tables after steps and its audit.
+-- What makes no list of a package's events: its replay, its tables after steps, its audit and its migration.
 use Rattle.std.proofs.Common.{◌≡◌, ℕ, ◌≤◌, List, [], length, refl, sym, ap, ◌∙◌}
 use Rattle.std.specs.Prelude.{Option, Some, None, Ok}
 use Rattle.ldv_value.specs.Limits.{input_limit}
-use Rattle.script_parse.specs.declared.script.Instr.{Instr}
 use Rattle.run_model.specs.LogRun.{log_outcome_in, log_divergence_in}
 use Rattle.run_model.specs.Package.{own_world}
 use Rattle.run_model.specs.Start.{start_script}
+use Rattle.run_model.specs.Types.{Instr}
 use Rattle.run_model.specs.declared.package.Mode.{Mode}
 use Rattle.run_model.specs.declared.package.Mode.TheVariants.{Included, Excluded}
 use Rattle.run_model.specs.declared.package.Package.{Package}
 use Rattle.package_layout.specs.RunPackages.{whole}
 use Rattle.package_layout.specs.Valid.{reading}
 use Rattle.package_layout.specs.Version.{version_of}
+use Rattle.package_layout.specs.Whole.{spelling}
 use Rattle.package_layout.specs.declared.version.Version.{Version}
 use Rattle.package_layout.specs.declared.run_package.RunPackage.{RunPackage}
 use Rattle.replay_db.specs.TableAt.{table_by_mode}
 use Rattle.replay_log.specs.Replays.{CanReplay}
 use Rattle.ldv_top.specs.Due.{due_outcome, outcome_due, due_divergence, due_log, replayed_as, replayed_package, replayed_reading, due_replay}
 use Rattle.ldv_top.specs.DueOfAudits.{audit_by_version, audit_by_mode, audited_package, due_audit}
+use Rattle.ldv_top.specs.DueOfMigrations.{migrated_package, due_migrate}
 use Rattle.ldv_top.specs.DueOfTables.{table_due, tabled_package, due_table}
-use Rattle.ldv_top.specs.DueParts.{due_of_reading}
+use Rattle.ldv_top.specs.DueParts.{due_of_reading, due_spelling}
 use Rattle.ldv_top.proofs.RecordLaws.{not_too_long}
 
 module _ (r : RunPackage) where
@@ -80,3 +82,6 @@ module _ (r : RunPackage) where
     audit_read budget =
         rw (not_too_long input short)
         (audit_same bare.mode budget input ∙ sym (ap (due_of_reading (audited_package budget input)) read))
+
+    pub migrate_read : due_spelling (spelling all) ≡ due_migrate input
+    migrate_read = rw (not_too_long input short) (sym (ap (due_of_reading migrated_package) read))

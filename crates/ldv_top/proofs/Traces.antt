@@ -11,7 +11,8 @@ use Rattle.run_model.specs.declared.event.Event.{Event}
 use Rattle.run_model.specs.declared.package.Package.{Package}
 use Rattle.run_model.specs.ValidTrace.{trace_test, named_rule, are_named, IsTrace, asked_count}
 use Rattle.run_model.specs.ValidPackage.{is_short_text, start_rule, files_rule, tables_rule, logs_rule, mode_rule, steps_rule, script_rule, trace_rule, reasons_rule, parts_rule, whole_rule, rules}
-use Rattle.package_layout.specs.Events.{need_table, need_groups, needs_room, member_table, member_groups, members_room, act_room, event_room}
+use Rattle.package_layout.specs.Events.{need_groups, needs_room, member_groups, members_room, act_room, event_room}
+use Rattle.package_layout.specs.Parts.{need_table, member_table}
 use Rattle.package_layout.specs.Room.{some_thousands, log_room}
 use Rattle.package_layout.specs.Runs.{max_events, trace_room}
 use Rattle.package_layout.specs.Whole.{tables_room, has_room}

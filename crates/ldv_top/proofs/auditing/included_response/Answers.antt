@@ -1,7 +1,7 @@
 use Rattle.std.proofs.Common.{subst}
 use Rattle.replay_db.specs.declared.soundness.AuditStop.{AuditStop}
 use Rattle.std.specs.Prelude.{Err}
-use Rattle.ldv_top.proofs.AuditResponses.{AuditedAs, audit_done, audit_long, audit_late}
+use Rattle.ldv_top.proofs.AuditResponses.{AuditedAs, audit_long, audit_late}
 use Rattle.ldv_top.proofs.auditing.included_response.Goals as goal
 
 pub returns-in-Err-NotEnded : goal.returns-in-Err-NotEnded
