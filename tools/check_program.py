@@ -82,7 +82,7 @@ def packages(check):
 
 def generated(check):
     summary = (b'gen 100 rows 110 kept 70 steps 38\n'
-               b'package 4554 7b5e9868ea93cce961865b19be48b73992d3e7eab1dd7adb1db4c3ffdb57e2ac\n'
+               b'package 4405 774ea099e8107dbe6a27b6a3162ad249861bae15d6e771ba419d9b34308ef3a6\n'
                b'replay 404\n')
     check.expect('a generated world', ['gen', '100'], b'', 0, summary)
 
@@ -91,8 +91,9 @@ def at_the_limits(check):
     too_long = b'ldv: input longer than 67108864 bytes\n'
     check.expect('an input at the limit', ['run'], b' ' * INPUT_LIMIT, 6, error=b'ldv: not a world: not json\n')
     check.expect('an input past the limit', ['run'], b' ' * (INPUT_LIMIT + 1), 5, error=too_long)
-    noise = (b'LDVPACK1' + bytes(range(256)) * (INPUT_LIMIT // 256))[:INPUT_LIMIT]
-    check.expect('noise after a right magic', ['replay'], noise, 8, error=b'ldv: damaged: digest\n')
+    for magic in (b'LDVPACK1', b'LDVPACK2'):
+        noise = (magic + bytes(range(256)) * (INPUT_LIMIT // 256))[:INPUT_LIMIT]
+        check.expect('noise after a right magic', ['replay'], noise, 8, error=b'ldv: damaged: digest\n')
     check.expect('arrays nested 100,000 deep', ['run'], b'[' * 100_000 + b']' * 100_000, 6,
                  error=b'ldv: not a world: not json\n')
     long_text = b'{"start":["main","' + b'x' * (60 << 20) + b'"],"files":{"main":""}}'
