@@ -282,7 +282,7 @@ class Program(InFolder):
         self.check_run(document, b"outcome 1 0\nprocess 0 0 0 2\n\nrows 2\nrow 2\nint 1\nnull\n"
                                  b"row 2\nint -3\ntext 2\nBo\nrefused 3\n")
         shown = tool(outcome, "--csv", "--reply", "1", given=ldv(["run"], document)[1])
-        self.assertEqual(shown, (0, b"1,\n-3,Bo\n", ""))
+        self.assertEqual(shown, (0, b"1,\n-3,Bo\n", "outcome.py: 1 of 2 statements was refused\n"))
 
     def test_limits(self):
         """What world.py lets through at its limits is a world, and reserved words aren't names."""
