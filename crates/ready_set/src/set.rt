@@ -1,4 +1,4 @@
-//! The set of processes that may run.
+//! A set of numbers that are made one after another.
 
 ghost use Rattle.std.specs.Prelude.{◌≡◌, ◌+◌, ◌^◌, ◌<◌, ◌≤◌, ◌↔◌, [], ◌∷◌, ◌++◌, length, find, nat_lt};
 ghost use Rattle.std.specs.Prelude.{IfOk, OnOk, OnErr, IsTrue, true, false, slice_get, slice_set};
@@ -10,8 +10,8 @@ use crate::tree::{count_before, leaf_at, set_leaf, widened};
 use std::alloc::{AllocError, Global};
 use std::marker::Model;
 
-/// A set of the numbers of processes, which are made one after another from 0 on. Contracts see a flag for
-/// each number made so far, and for how many numbers there is room.
+/// A set of numbers, which are made one after another from 0 on. Contracts see a flag for each number made so
+/// far, and for how many numbers there is room.
 #[derive(Drop)]
 pub struct ReadySet {
     // a tree with a leaf for each number that there is room for
