@@ -5,7 +5,7 @@ use Rattle.run_model.specs.Types.{Value, Instr}
 use Rattle.run_model.specs.Core.{Process, Core, new_process}
 use Rattle.run_model.specs.Schedule.{is_runnable, runnable}
 use Rattle.ready_set.specs.Ready.{numbers}
-use Rattle.ready_set.specs.Flags.{runnable_flags, awaited}
+use Rattle.proc_core.specs.Flags.{runnable_flags, awaited}
 
 -- the process of a number is this one
 abbrev pub IsAt : ℕ → Process → List Process → Type 0

@@ -1,5 +1,5 @@
-use Rattle.ready_set.proofs.FlagLaws.{flags_runnable, goes_on, ends, ends_under, wakes, spawns, new_runs}
-use Rattle.ready_set.proofs.law.flags_law.Goals as goal
+use Rattle.proc_core.proofs.FlagLaws.{flags_runnable, goes_on, ends, ends_under, wakes, spawns, new_runs}
+use Rattle.proc_core.proofs.law.flags_law.Goals as goal
 
 pub returns : goal.returns
 returns c = record {
