@@ -22,7 +22,7 @@ use Rattle.package_layout.proofs.Numbers.{long_law}
 use Rattle.package_layout.proofs.Tables.{u32_law}
 use Rattle.package_layout.specs.Runs.{Run, TypedRun, CountedRun, run_room, run_spelling, run_at, runs_spelling, runs_at, trace_room, events_of_runs}
 use Rattle.package_layout.specs.Runs.{Begun, single, joins, grown, runs_from, runs_of, steps_from, at_step, run_events, events_in, total, last_step, is_run, stops_before, are_longest, are_runs, max_events}
-use Rattle.package_layout.proofs.Runs.{unasked, last_from, last-is, last_step-is, joined, IsBegun, single_begun, events_again, formed_run, run_shape, run_some, heads_by, runs_again, HasShape, IsSmall, run_is, all_formed, runs_good, events-length}
+use Rattle.package_layout.proofs.Runs.{grown_begun, grown_events, unasked, last_from, last-is, last_step-is, joined, IsBegun, single_begun, events_again, formed_run, run_shape, run_some, heads_by, runs_again, HasShape, IsSmall, run_is, all_formed, runs_good, events-length}
 
 -- ---- numbers of their types, and room
 

@@ -136,11 +136,11 @@ last_step-is r n is =
 
 -- ---- an event that goes on with a run
 
-record Joined (b : Begun) (e : Event) : Type 0 where
-  unasked : is_asked b.run.first.act ≡ false
-  alike : at_step b.run.first e.step ≡ e
-  later : b.last ≤ e.step
-  apart : (b.run.count ≡ 1) ⊎ (e.step - b.last ≡ b.run.stride)
+pub record Joined (b : Begun) (e : Event) : Type 0 where
+  pub unasked : is_asked b.run.first.act ≡ false
+  pub alike : at_step b.run.first e.step ≡ e
+  pub later : b.last ≤ e.step
+  pub apart : (b.run.count ≡ 1) ⊎ (e.step - b.last ≡ b.run.stride)
 
 pub joined : (b : Begun) (e : Event) → joins b e ≡ true → Joined b e
 joined b e h =
@@ -204,7 +204,7 @@ module _ (b : Begun) (e : Event) (begun : IsBegun b) (h : joins b e ≡ true) wh
   pub grown_begun : IsBegun (grown b e)
   grown_begun = record { before = suc begun.before; count = more; last = sym reaches }
 
-  grown_events : run_events (grown b e).run ≡ run_events b.run ++ e ∷ []
+  pub grown_events : run_events (grown b e).run ≡ run_events b.run ++ e ∷ []
   grown_events =
       let a = b.run.first in
       let steps : steps_from first stride (b.run.count + 1) ≡ steps_from first b.run.stride b.run.count ++ e.step ∷ [] =
@@ -235,7 +235,7 @@ expands b (e ∷ es) begun = elim (cases_Bool (joins b e)) [
 
 pub events_again : (es : List Event) → events_in (runs_of es) ≡ es
 events_again [] = refl
-pub events_again (e ∷ es) = expands (single e) es (single_begun e)
+events_again (e ∷ es) = expands (single e) es (single_begun e)
 
 -- ---- what a run by itself meets
 
@@ -350,7 +350,7 @@ chain r (q ∷ qs) longest good =
 
 pub runs_again : (rs : List Run) → list_all is_formed rs ≡ true → are_longest rs ≡ true → runs_of (events_in rs) ≡ rs
 runs_again [] good longest = refl
-pub runs_again (r ∷ rs) good longest =
+runs_again (r ∷ rs) good longest =
     let goods = and-parts (is_formed r) (list_all is_formed rs) good in
     begins r (events_in rs) goods.0 ∙ chain r rs longest goods.1
 
@@ -495,6 +495,6 @@ steps-length step apart (suc n) = ap suc (steps-length (step + apart) apart n)
 
 pub events-length : (rs : List Run) → length (events_in rs) ≡ total rs
 events-length [] = refl
-pub events-length (r ∷ rs) =
+events-length (r ∷ rs) =
     let one : length (run_events r) ≡ r.count = length-map (steps_from r.first.step r.stride r.count) (at_step r.first) ∙ steps-length r.first.step r.stride r.count in
     omega (arith, length-append (run_events r) (events_in rs), one, events-length rs)
