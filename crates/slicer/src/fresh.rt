@@ -1,7 +1,7 @@
 //! The rows that a statement is the first to need.
 
-ghost use Rattle.std.specs.Prelude.{◌≡◌, ◌==◌, ◌||◌, ◌+◌, ◌≤◌, ◌<◌, ◌%◌, ◌++◌, List as Items, ℕ, take, not, length};
-ghost use Rattle.std.specs.Prelude.{IfOk, true};
+ghost use Rattle.std.specs.Prelude.{◌≡◌, ◌==◌, ◌||◌, ◌≤◌, ◌<◌, ◌%◌, ◌++◌, List as Items, ℕ, take, length};
+ghost use Rattle.std.specs.Prelude.{IfOk, true, not};
 ghost use Rattle.std.specs.List.{list_all, list_any};
 ghost use Rattle.lanes.specs.Sets.{member};
 ghost use Rattle.slicer.specs.Rows.{asks, are_of_block, has_row, is_of_block};

@@ -1,6 +1,7 @@
 //! The first statement that needs each row.
 
-ghost use Rattle.std.specs.Prelude.{◌≡◌, ◌&&◌, ◌%◌, ◌<◌, OnOk, IfOk, List as Items, ℕ, Option, None, length, true};
+ghost use Rattle.std.specs.Prelude.{◌≡◌, ◌&&◌, ◌%◌, ◌<◌, OnOk, IfOk, List as Items, ℕ, Option, None};
+ghost use Rattle.std.specs.Prelude.{length, true};
 ghost use Rattle.std.specs.BTreeMap.{get_by_text};
 ghost use Rattle.slicer.specs.Marks.{reason_at, reason_of_read, reason_of_row, row_reason};
 ghost use Rattle.std.specs.Option.{option_or};

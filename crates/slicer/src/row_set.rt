@@ -1,7 +1,7 @@
 //! Sets of rows, as bits.
 
-ghost use Rattle.std.specs.Prelude.{◌≡◌, ◌==◌, ◌||◌, ◌&&◌, ◌<◌, ◌≤◌, ◌/◌, List as Items, ℕ, not, length, None};
-ghost use Rattle.std.specs.Prelude.{OnOk};
+ghost use Rattle.std.specs.Prelude.{◌≡◌, ◌==◌, ◌||◌, ◌&&◌, ◌<◌, ◌≤◌, ◌/◌, List as Items, ℕ, not, length};
+ghost use Rattle.std.specs.Prelude.{None, OnOk};
 ghost use Rattle.std.specs.BTreeMap.{get, get_by_text};
 ghost use Rattle.std.specs.Ordering.{nat_cmp};
 ghost use Rattle.lanes.specs.Sets.{member};
@@ -12,7 +12,7 @@ use std::alloc::{AllocError, Global};
 use std::collections::BTreeMap;
 
 /// Numbers in blocks of 4,096: bit i of word j of block b is the number 4,096 * b + 64 * j + i. A block has the
-/// words up to that of its greatest number, and maybe more, so that a number far from all others takes 512 bytes.
+/// words up to that of its greatest number, and maybe more, so a number far from all others takes 512 bytes.
 pub(crate) type Numbers = BTreeMap<u32, List<u64>>;
 
 /// Rows by table and number. A table's name is copied once.

@@ -1,4 +1,3 @@
-use Rattle.std.proofs.Common.{◌≡◌}
 use Rattle.std.proofs.lemmas.Result.{on_ok_weaker}
 use Rattle.slicer.proofs.DueLaws.{block_noted}
 use Rattle.slicer.proofs.reasons.note_block.Goals as goal
