@@ -3,7 +3,8 @@ use Rattle.std.proofs.Common.{◌≡◌, ◌∙◌, sym, ap, refl, ℕ, zero, su
 use Rattle.std.specs.Prelude.{filter}
 use Rattle.std.specs.List.{AllByRecursion}
 use Rattle.std.specs.Option.{option_map}
-use Rattle.std.specs.BTreeMap.{BTreeMap, Updates}
+use Rattle.std.specs.BTreeMap as tree
+use Rattle.std.specs.BTreeMap.{BTreeMap}
 use Rattle.std.specs.Ordering.{is_eq}
 use Rattle.std.proofs.lemmas.Bool.{cases_Bool}
 use Rattle.std.proofs.lemmas.Cmp.{tied_itself}
@@ -135,10 +136,11 @@ places_first (m ∷ ms) a none v =
       | inr miss ↦ rw miss refl
     ]
 
-pub index_first : (m n : BTreeMap (List Value) ℕ) (ms new : List Answer) (a : Answer) → IsIndex m ms → place_of a.values ms ≡ None
-    → Updates values_order m n a.values (Some (length ms)) → new ≡ ms ++ a ∷ [] → IsIndex n new
-index_first m n ms new a index none wrote is v =
-    wrote.0 v ∙ ap (cond (same_values a.values v) (Some (length ms))) (index v)
+pub index_first : (m n : BTreeMap (List Value) ℕ) (ms new : List Answer) (a : Answer) (key : List Value) (place : ℕ) → IsIndex m ms → place_of a.values ms ≡ None
+    → key ≡ a.values → place ≡ length ms
+    → ((v : List Value) → tree.get values_order n v ≡ cond (same_values key v) (Some place) (tree.get values_order m v)) → new ≡ ms ++ a ∷ [] → IsIndex n new
+index_first m n ms new a key place index none own last wrote is v =
+    wrote v ∙ (λ j. cond (same_values (own j) v) (Some (last j)) (index v j))
     ∙ sym (ap (place_of v) is ∙ places_first ms a none v)
 
 -- ---- all of them

@@ -5,7 +5,7 @@ use Rattle.lineage.specs.Lineage.{Lineage}
 use Rattle.lineage.specs.declared.answer.Answer.{Answer}
 use Rattle.query_eval.proofs.merging.take_lineage.Goals as goal
 
-with_lineage : Answer → Lineage → Answer
+abbrev with_lineage : Answer → Lineage → Answer
 with_lineage a l = record { values = a.values; lineage = l }
 
 pub returns : goal.returns
