@@ -19,6 +19,7 @@ use Rattle.run_model.specs.State.{State}
 use Rattle.run_model.specs.WorldRun.{ends_in, ends_by, steps_in, steps_by, events_in, events_by}
 use Rattle.run_model.specs.ValidTrace.{named_rule, are_named, ValidTrace}
 use Rattle.run_model.proofs.Equations.{run-zero, steps-suc}
+use Rattle.run_laws.proofs.RunSteps.{steps_most}
 use Rattle.package_layout.specs.Events.{TypedEvent, event_room}
 use Rattle.package_layout.specs.Trace.{follows, at_start, starts, trace_test, asked_count}
 use Rattle.package_layout.specs.Typed.{IsU32}
