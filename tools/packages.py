@@ -30,8 +30,13 @@ def row(number, *values, statement=0, rule='L'):
     return dict(number=number, statement=statement, rule=rule, values=list(values))
 
 
-def table(name, columns, key=(), next=9, rows=()):
-    return dict(name=name, columns=columns, key=list(key), next=next, rows=list(rows))
+def table(name, columns, key=(), next=9, rows=(), foreign=()):
+    return dict(name=name, columns=columns, key=list(key), next=next, rows=list(rows), foreign=list(foreign))
+
+
+def foreign(columns, parent):
+    """A foreign key: the places of its columns, and the table to whose key they refer."""
+    return dict(columns=list(columns), parent=parent)
 
 
 def log(process, *entries):
@@ -382,12 +387,16 @@ def spell_row(r):
             + b''.join(map(spell_value, r['values'])))
 
 
-def spell_table(version):
-    """The spelling of a table. Version 2 has the number of its foreign keys, none so far, behind the key."""
+def spell_foreign(f):
+    return spell_list(1, f['columns'], spell_byte) + spell_text(f['parent'])
+
+
+def spell_table(version, spell_row=spell_row):
+    """The spelling of a table. Version 2 has its foreign keys behind the key."""
     def spell(t):
-        foreign = t.get('foreign', b'\0') if version == 2 else b''
+        referring = spell_list(1, t['foreign'], spell_foreign) if version == 2 else b''
         return (spell_text(t['name']) + spell_list(1, t['columns'], spell_column)
-                + spell_list(1, t['key'], spell_byte) + foreign + spell_u32(t['next'])
+                + spell_list(1, t['key'], spell_byte) + referring + spell_u32(t['next'])
                 + spell_list(4, t['rows'], spell_row))
     return spell
 
@@ -523,22 +532,16 @@ def due(p, expect):
     return status, '', line
 
 
-RULES = []
-LARGE = []                                  # of packages that are too long to be stored
+class Rules(list):
+    """Rules of a valid package, each with its cases."""
 
+    def rule(self, sentence, base, broken, fine, expect='form'):
+        """What a valid package meets, with the cases that break it and those that don't."""
+        self.append(dict(sentence=sentence, base=base, broken=broken, fine=fine, expect=expect))
 
-def rule(sentence, base, broken, fine, expect='form', among=RULES):
-    """What a valid package meets, with the cases that break it and those that don't."""
-    among.append(dict(sentence=sentence, base=base, broken=broken, fine=fine, expect=expect))
-
-
-def allowed(sentence, base, fine, among=RULES):
-    """What is valid though one might think otherwise."""
-    rule(sentence, base, None, fine, among=among)
-
-
-def large(sentence, base, broken, fine, expect='form'):
-    rule(sentence, base, broken, fine, expect, LARGE)
+    def allowed(self, sentence, base, fine):
+        """What is valid though one might think otherwise."""
+        self.rule(sentence, base, None, fine)
 
 
 def described(rules):

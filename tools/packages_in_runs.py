@@ -2,7 +2,7 @@
 is."""
 from packages import *
 
-RUNS = []
+RUNS = Rules()
 EVENTS = 20000001                           # the most events of a trace
 WORD = 2 ** 32                              # the first number that a u32 doesn't hold
 
@@ -24,7 +24,7 @@ def reading(step, count=1, stride=0, path='f', process=0):
 
 
 def run_rule(sentence, broken, fine, base='plain in runs', expect='form'):
-    rule(sentence, base, broken, fine, expect, RUNS)
+    RUNS.rule(sentence, base, broken, fine, expect)
 
 
 # ---- versions
@@ -76,11 +76,11 @@ run_rule('What stands behind the magic is the spelling of its version.', [
 
 # ---- tables
 run_rule('Behind the key of a table stands the number of its foreign keys, which is 0.', [
-    ('a foreign key said where there is none', {'tables.0.foreign': b'\1'}),
-    ('255 foreign keys said', {'tables.0.foreign': b'\xff'}),
-    ('no number of foreign keys', {'tables.0.foreign': b''}),
-    ('the number of foreign keys twice', {'tables.0.foreign': b'\0\0'}),
-    ('a foreign key of no column', {'tables.0.foreign': b'\1\0\0\0\0\1t'}),
+    ('a foreign key said where there is none', {'tables.0.foreign': Raw(b'\1')}),
+    ('255 foreign keys said', {'tables.0.foreign': Raw(b'\xff')}),
+    ('no number of foreign keys', {'tables.0.foreign': Raw(b'')}),
+    ('the number of foreign keys twice', {'tables.0.foreign': Raw(b'\0\0')}),
+    ('a foreign key of no column', {'tables.0.foreign': Raw(b'\1\0\0\0\0\1t')}),
 ], [
     ('no foreign key', {'seed': 17}), ('no key and no foreign key', {'tables.0.key': []}),
 ], base='rows in runs')
@@ -219,11 +219,11 @@ run_rule('A trace has at most 20,000,001 events.', [
     ('20,000,001 events in two runs', in_runs(reading(1, 10000000, 1), reading(10000000, 10000000, 0, 'g'),
                                               steps=10000000)),
 ])
-allowed('Every rule of a package holds in version 2.', 'plain in runs', [
+RUNS.allowed('Every rule of a package holds in version 2.', 'plain in runs', [
     ('version 2: present files', 'excluded in runs', {'files': plus(file('z'))}),
     ('version 2: an excluded package with a log', 'excluded in runs', logged(log([0]))),
     ('version 2: a statement that picked rows', 'picked in runs', {}),
-], among=RUNS)
+])
 run_rule('No rule of a package is left out in version 2.', [
     ('version 2: mode 3', {'mode': 3}), ('version 2: no start word', {'start': []}),
     ('version 2: steps 0', {'steps': 0}), ('version 2: a start file that is no script', {'files.0.content': 'foo'}),

@@ -38,7 +38,7 @@ REMOVED = traced(act('removed', 'f', 1), ended(2))
 COPIED = traced(act('opened read', 'f', 1), act('opened new', 'g', 2), act('read', 'f', 3), act('wrote', 'g', 3),
                 ended(4))
 
-TRACES = [
+CASES = [
     ('a path written before another is read', READ_LATER, 'g', lines_of('path main, process 0')),
     ('a path that nothing writes', READ_LATER, 'f', ''),
     ('a path found and changed in one step', REMOVED, 'f', lines_of('path f, path main, process 0')),
