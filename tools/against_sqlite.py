@@ -26,7 +26,6 @@ What is left out, as the two don't mean the same there (docs/SQL.md):
 
 Statuses: 0 no difference; 1 a difference, or a program that failed; 2 wrong words.
 """
-import argparse
 import collections
 import json
 import os
@@ -39,7 +38,7 @@ import sys
 HERE = os.path.dirname(os.path.abspath(__file__))
 ROOT = os.path.dirname(HERE)
 sys.path.insert(0, HERE)
-from ldvtools.errors import Malformed                                        # noqa: E402
+from ldvtools.errors import Malformed, words_of                              # noqa: E402
 from ldvtools.outcomes import read_outcome                                   # noqa: E402
 from ldvtools.scripts_of_statements import escaped                           # noqa: E402
 
@@ -477,8 +476,7 @@ def keep(world, folder, seed):
 
 
 def read_words(given):
-    words = argparse.ArgumentParser(prog="against_sqlite.py", description=__doc__,
-                                    formatter_class=argparse.RawDescriptionHelpFormatter)
+    words = words_of("against_sqlite.py", __doc__)
     words.add_argument("--databases", type=int, default=100, metavar="N")
     words.add_argument("--statements", type=int, default=40, metavar="N", help="of each database (default 40)")
     words.add_argument("--seed", type=int, default=1, metavar="N", help="of the first database (default 1)")

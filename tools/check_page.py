@@ -23,7 +23,6 @@ write into the page, in place of what it shows.
 
 Statuses: 0 no difference, or filled; 1 a difference, or a program that isn't there; 2 wrong words.
 """
-import argparse
 import os
 import re
 import subprocess
@@ -34,6 +33,7 @@ HERE = os.path.dirname(os.path.abspath(__file__))
 ROOT = os.path.dirname(HERE)
 sys.path.insert(0, HERE)
 from ldvtools import world                                                   # noqa: E402
+from ldvtools.errors import words_of                                         # noqa: E402
 from ldvtools.outcomes import read_outcome                                   # noqa: E402
 from ldvtools.values import cell, reply_title                                # noqa: E402
 
@@ -150,12 +150,7 @@ def asked_world(files, statements):
         words += ["--csv", os.path.join(ROOT, path)]
     for statement in statements:
         words += ["--ask", statement]
-    with tempfile.TemporaryDirectory() as folder:
-        made = os.path.join(folder, "world")
-        if world.main(words + ["-o", made]) != 0:
-            raise SystemExit("check_page.py: no world of the statements of a table")
-        with open(made, "rb") as file:
-            return file.read()
+    return world.document_of(words)
 
 
 def table_differences(page, call):
@@ -196,8 +191,7 @@ def check(path, program, fill):
 
 
 def main(words=None):
-    parser = argparse.ArgumentParser(prog="check_page.py", description=__doc__,
-                                     formatter_class=argparse.RawDescriptionHelpFormatter)
+    parser = words_of("check_page.py", __doc__)
     parser.add_argument("pages", nargs="*", default=[PAGE, TUTORIAL], metavar="PAGE")
     parser.add_argument("--program", default=PROGRAM)
     parser.add_argument("--fill", action="store_true")

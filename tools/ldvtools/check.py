@@ -19,7 +19,7 @@ import collections
 import sys
 from typing import Dict, Iterator, List, Mapping, NamedTuple, Optional, Sequence, Set, Tuple
 
-from .errors import Misused, command
+from .errors import Misused, command, words_of
 from .language import MISUSES
 from .outcome import read_input
 from .outcomes import read_outcome
@@ -210,8 +210,7 @@ def run_lines(world: World, schemas: Optional[Schemas], outcome_data: bytes) -> 
 # ---- the command
 
 def given_words(words: Optional[Sequence[str]]) -> argparse.Namespace:
-    parser = argparse.ArgumentParser(prog="check.py", description=__doc__,
-                                     formatter_class=argparse.RawDescriptionHelpFormatter)
+    parser = words_of("check.py", __doc__)
     parser.add_argument("world", nargs="?", help="the world document (default: standard input)")
     parser.add_argument("--outcome", metavar="FILE", help="the outcome of its run: says why statements were refused")
     parser.add_argument("--statement", metavar="TEXT", help="judge this statement, and no script")

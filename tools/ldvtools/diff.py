@@ -19,7 +19,7 @@ import difflib
 import sys
 from typing import Dict, Iterator, List, Optional, Sequence, Tuple
 
-from .errors import Malformed, Misused, Refused, said
+from .errors import Malformed, Misused, Refused, said, words_of
 from .language import ASKED
 from .outcome import Asked, asked_in, read_input, write_out
 from .outcomes import Outcome, read_outcome
@@ -201,8 +201,7 @@ def package_differences(before: Package, after: Package, limit: int) -> Iterator
 # ---- the command
 
 def given_words(words: Optional[Sequence[str]]) -> argparse.Namespace:
-    parser = argparse.ArgumentParser(prog="diff.py", description=__doc__,
-                                     formatter_class=argparse.RawDescriptionHelpFormatter)
+    parser = words_of("diff.py", __doc__)
     parser.add_argument("first")
     parser.add_argument("second")
     parser.add_argument("--world", metavar="FILE", help="the world of the first outcome: names the statements")

@@ -27,7 +27,7 @@ import os
 import sys
 from typing import Dict, List, Optional, Sequence, Tuple
 
-from .errors import Malformed, Misused, command
+from .errors import Malformed, Misused, command, words_of
 from .language import KEYED_REFUSALS, MISUSES
 from .outcomes import Outcome, read_outcome
 from .packages import read_package
@@ -155,8 +155,7 @@ def write_folder(outcome: Outcome, folder: str, null: str, asked: Optional[Asked
 # ---- the command line
 
 def read_words(given: Optional[Sequence[str]]) -> argparse.Namespace:
-    parser = argparse.ArgumentParser(
-        prog="outcome.py", description=__doc__, formatter_class=argparse.RawDescriptionHelpFormatter)
+    parser = words_of("outcome.py", __doc__)
     parser.add_argument("outcome", nargs="?", help="the outcome (default: standard input)")
     parser.add_argument("--csv", action="store_true", help="the replies as CSV")
     parser.add_argument("--reply", type=int, metavar="K", help="with --csv: only the reply K")

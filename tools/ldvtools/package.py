@@ -30,7 +30,7 @@ import sys
 from typing import Dict, Iterator, List, Optional, Sequence, Tuple, Union
 
 from .documents import as_json, document, table_json, write_file
-from .errors import Refused, command
+from .errors import Refused, command, words_of
 from .language import RULE_TEXTS
 from .outcome import read_input, write_out
 from .packages import Asked, Joined, Package, PackedTable, read_any, read_package
@@ -254,8 +254,7 @@ def world_of(package: Package, asks: Sequence[str]) -> Tuple[bytes, List[str]]:
 # ---- the command
 
 def given_words(words: Optional[Sequence[str]]) -> argparse.Namespace:
-    parser = argparse.ArgumentParser(prog="package.py", description=__doc__,
-                                     formatter_class=argparse.RawDescriptionHelpFormatter)
+    parser = words_of("package.py", __doc__)
     parser.add_argument("package", nargs="?", help="the package; standard input where it isn't given")
     what = parser.add_mutually_exclusive_group()
     what.add_argument("--csv", metavar="FOLDER", help="a CSV file for each table")

@@ -28,7 +28,7 @@ import sys
 from typing import List, Optional, Sequence, Tuple
 
 from .documents import write_file
-from .errors import Misused, Refused, command
+from .errors import Misused, Refused, command, words_of
 from .outcome import read_input
 from .outcomes import Outcome, read_outcome
 from .packages import Package, read_package
@@ -101,8 +101,7 @@ def asked_program(program: str, data: bytes, package: Package, run: Optional[int
 # ---- the command
 
 def given_words(words: Optional[Sequence[str]]) -> argparse.Namespace:
-    parser = argparse.ArgumentParser(prog="page.py", description=__doc__,
-                                     formatter_class=argparse.RawDescriptionHelpFormatter)
+    parser = words_of("page.py", __doc__)
     parser.add_argument("package", nargs="?", help="the package; standard input where it isn't given")
     parser.add_argument("--replayed", metavar="OUTCOME", help="the outcome of its replay")
     parser.add_argument("--ldv", metavar="PROGRAM", help="replay and audit it by this program, such as ./ldv")

@@ -25,7 +25,7 @@ import subprocess
 import sys
 from typing import Dict, Iterable, List, Optional, Sequence, Set, Tuple
 
-from .errors import Malformed, Refused, command
+from .errors import Malformed, Refused, command, words_of
 from .language import ACT_NAMED, RULES
 from .outcome import read_input, write_out
 
@@ -244,8 +244,7 @@ def read(path: Optional[str]) -> str:
 
 
 def given_words(words: Optional[Sequence[str]]) -> argparse.Namespace:
-    parser = argparse.ArgumentParser(prog="picture.py", description=__doc__,
-                                     formatter_class=argparse.RawDescriptionHelpFormatter)
+    parser = words_of("picture.py", __doc__)
     parser.add_argument("trace", nargs="?", help="what `inspect trace` wrote; standard input where it isn't given")
     parser.add_argument("--rows", metavar="FILE", help="what `inspect rows` wrote")
     parser.add_argument("--depends", metavar="FILE", help="what `inspect depends PATH` wrote")

@@ -28,11 +28,11 @@ import gc
 import os
 import random
 import sys
-from typing import Dict, List, Optional, Sequence, Tuple
+from typing import Dict, List, NamedTuple, Optional, Sequence, Tuple
 
 from .check import findings_of
 from .documents import document, table_json, write_file
-from .errors import Misused, Refused, command
+from .errors import Misused, Refused, command, words_of
 from .language import MAX_FILE, MAX_FILES, MAX_PATH, MAX_START_WORDS, MAX_TABLES, MAX_TEXT
 from .progress import Progress
 from .scripts_of_statements import script_of
@@ -159,8 +159,7 @@ def summary(table: Table) -> str:
 # ---- the command line
 
 def read_words(given: Optional[Sequence[str]]) -> argparse.Namespace:
-    parser = argparse.ArgumentParser(
-        prog="world.py", description=__doc__, formatter_class=argparse.RawDescriptionHelpFormatter)
+    parser = words_of("world.py", __doc__)
 
     def many(option: str, metavar: str, text: str) -> None:
         parser.add_argument(option, metavar=metavar, action="append", default=[], help=text)
@@ -228,8 +227,17 @@ def check_scripts(files: Dict[str, bytes], tables: Sequence[Table]) -> List[str]
     return [f"warning: {finding.text}" for finding in found]
 
 
-def work(given: Optional[Sequence[str]]) -> int:
-    words = read_words(given)
+class World(NamedTuple):
+    """A world document, and what is said of it: notes on what it lacks, warnings, hints, and a line for each table."""
+
+    data: bytes
+    notes: List[str]
+    warnings: List[str]
+    hints: List[str]
+    summaries: List[str]
+
+
+def made_world(words: argparse.Namespace) -> World:
     progress = Progress("world.py", words.quiet)
     notes: List[str] = []
     hints: List[str] = []
@@ -238,15 +246,26 @@ def work(given: Optional[Sequence[str]]) -> int:
     start = start_words(files, words)
     warnings = [] if words.no_check else check_scripts(files, tables)
     data = document(start, words.seed, files, list(map(table_of, tables)))
+    return World(data, notes, warnings, hints, [summary(table) for table in tables])
+
+
+def document_of(given: Sequence[str]) -> bytes:
+    """The world document that the command makes of these words."""
+    return made_world(read_words(given)).data
+
+
+def work(given: Optional[Sequence[str]]) -> int:
+    words = read_words(given)
+    made = made_world(words)
     if not words.quiet:
-        for note in notes:
+        for note in made.notes:
             print(f"world.py: note: {note}", file=sys.stderr)
-    if (notes or warnings) and words.strict:
+    if (made.notes or made.warnings) and words.strict:
         raise Refused("a world hasn't all that the database has, or a script has a line that fails (--strict): "
-                      + (notes + warnings)[0])
-    write_file(data, words.output)
+                      + (made.notes + made.warnings)[0])
+    write_file(made.data, words.output)
     if not words.quiet:
-        for line in warnings + hints + [summary(table) for table in tables]:
+        for line in made.warnings + made.hints + made.summaries:
             print(f"world.py: {line}", file=sys.stderr)
     return 0
 
