@@ -4,20 +4,21 @@
     hostile.py PROGRAM [--count N] [--seed S] [--jobs J] [--memory MIB] [--seconds T] [--keep FOLDER]
                [--commands NAME,..] [--modes included,excluded]
 
-The inputs are made by mutation of those of the cases in crates/conformance/data and of the documents in examples/:
-bytes of documents, their JSON values, lines of their scripts, bytes of packages with a digest that is right again, and
-words. Each call has 8 MiB of stack, MIB MiB of memory (default 512) and T seconds (default 20). An answer is as it
-has to be where
+The inputs are made by mutation of those of the cases in crates/conformance/data and of the documents in
+examples/: bytes of documents, their JSON values, lines of their scripts, bytes of packages with a digest that
+is right again, and words. Each call has 8 MiB of stack, MIB MiB of memory (default 512) and T seconds
+(default 20). An answer is as it has to be where
 
-- the status is one that docs/COMMANDS.md gives for the command, or 2 where the words are none, and no signal ended the
-  program;
-- with status 0 there is an output, which only `inspect rows` and `inspect depends` may leave empty, and no message, else
-  no output and one line of a message;
-- a world that `run` runs is recorded and replayed to the very bytes that `run` wrote, or the package is too long.
+- the status is one that docs/COMMANDS.md gives for the command, or 2 where the words are none, and no signal
+  ended the program;
+- with status 0 there is an output, which only `inspect rows` and `inspect depends` may leave empty, and no
+  message, else no output and one line of a message;
+- a world that `run` runs is recorded and replayed to the very bytes that `run` wrote, or the package is too
+  long.
 
-It prints the number of answers by command and status, and ends with status 1 where one isn't as it has to be; that
-input lies in FOLDER then (default: hostile_inputs). The inputs depend on these words and on the packages that the
-program records of worlds that aren't mutated, and not on its other answers.
+It prints the number of answers by command and status, and ends with status 1 where one isn't as it has to be;
+that input lies in FOLDER then (default: hostile_inputs). The inputs depend on these words and on the packages
+that the program records of worlds that aren't mutated, and not on its other answers.
 """
 import argparse
 import collections
@@ -50,12 +51,14 @@ STATUSES = {
 USAGE, NO_MEMORY = 2, 11
 # The words whose output may be empty.
 MAY_BE_EMPTY = (['inspect', 'rows'], ['inspect', 'depends'])
-EDGES = [0, 1, 2, 255, 256, 65535, 65536, 2**31 - 1, 2**31, 2**32 - 1, 2**32, 2**63 - 1, 2**63, 2**64 - 1, 2**64]
-TEXTS = ['', 'a', 'main', "'", '"', '\\', '\n', '\0', '?', '*', '--', 'é', '\U0001f600', ' ' * 70, 'x' * 65537]
-SQL = ['SELECT', 'FROM', 'WHERE', 'GROUP BY', 'HAVING', 'ORDER BY', 'LIMIT', 'UNION', 'UNION ALL', 'JOIN', 'ON',
-       'DISTINCT', 'AS', 'AND', 'OR', 'NOT', 'IS NULL', 'NULL', 'COUNT(*)', 'SUM(a)', 'MIN(b)', '(', ')', ',', '*',
-       '=', '<>', '<=', '?', "''", "'x'", '0', '-1', '9223372036854775808', 'INSERT INTO', 'VALUES', 'UPDATE', 'SET',
-       'DELETE', 't', 'a', 'b', 't.a']
+EDGES = [0, 1, 2, 255, 256, 65535, 65536, 2**31 - 1, 2**31, 2**32 - 1, 2**32, 2**63 - 1, 2**63, 2**64 - 1,
+         2**64]
+TEXTS = ['', 'a', 'main', "'", '"', '\\', '\n', '\0', '?', '*', '--', 'é', '\U0001f600', ' ' * 70,
+         'x' * 65537]
+SQL = ['SELECT', 'FROM', 'WHERE', 'GROUP BY', 'HAVING', 'ORDER BY', 'LIMIT', 'UNION', 'UNION ALL', 'JOIN',
+       'ON', 'DISTINCT', 'AS', 'AND', 'OR', 'NOT', 'IS NULL', 'NULL', 'COUNT(*)', 'SUM(a)', 'MIN(b)', '(',
+       ')', ',', '*', '=', '<>', '<=', '?', "''", "'x'", '0', '-1', '9223372036854775808', 'INSERT INTO',
+       'VALUES', 'UPDATE', 'SET', 'DELETE', 't', 'a', 'b', 't.a']
 
 STATEMENT = re.compile(r'sql [a-z]+ "([^"\\]+)"')
 
@@ -188,10 +191,10 @@ def edge_value(rng):
 
 def script_line(rng):
     return rng.choice((
-        'let x = 1', 'let x = x + 1', 'let x = x ++ "a"', 'let x = int arg1', 'cut x y x ","', 'print "hi"', 'print x',
-        'exit 3', 'a:', 'goto a', 'if x < 3 goto a', 'spawn p "main" else a', 'wait x p', 'open f r "q" else a',
-        'open f %s "q" else a' % rng.choice('wan'), 'readline x f else a', 'write f x', 'copy f f', 'close f',
-        'remove "q" else a', 'exists x "q"',
+        'let x = 1', 'let x = x + 1', 'let x = x ++ "a"', 'let x = int arg1', 'cut x y x ","', 'print "hi"',
+        'print x', 'exit 3', 'a:', 'goto a', 'if x < 3 goto a', 'spawn p "main" else a', 'wait x p',
+        'open f r "q" else a', 'open f %s "q" else a' % rng.choice('wan'), 'readline x f else a', 'write f x',
+        'copy f f', 'close f', 'remove "q" else a', 'exists x "q"',
         'sql r "%s"' % ' '.join(rng.choice(SQL) for _ in range(rng.randrange(1, 12))),
         'fetch r x y else a', 'count x r', 'status x r', rng.choice(TEXTS)))
 
@@ -280,7 +283,8 @@ def words_of(rng, name):
     if name == 'record' and rng.random() < 0.5:
         words.append('--excluded')
     if name == 'table':
-        words += [rng.choice(('t', 'a', 'p', 'orders', 'order', 'missing')), str(rng.choice((0, 1, 2, 3, 10, 10_000_000)))]
+        words += [rng.choice(('t', 'a', 'p', 'orders', 'order', 'missing')),
+                  str(rng.choice((0, 1, 2, 3, 10, 10_000_000)))]
     if name == 'inspect':
         words += rng.choice((['rows'], ['files'], ['trace'], ['why', 't', '0'], ['why', 't', '4294967294'],
                              ['depends', 'main'], ['depends', 'q'], ['depends', 'f']))
@@ -290,7 +294,8 @@ def words_of(rng, name):
     right = name in STATUSES and words[:2] != ['table', 'order']
     if rng.random() < 0.02:
         # None of these makes another command of a command.
-        words.insert(rng.randrange(len(words) + 1), rng.choice(('', '--', '--steps', '01', '-1', 'run', 'x' * 5000)))
+        words.insert(rng.randrange(len(words) + 1),
+                     rng.choice(('', '--', '--steps', '01', '-1', 'run', 'x' * 5000)))
         right = False
     return words, right
 
@@ -370,7 +375,8 @@ def work(job):
             name = rng.choice(names)
             words, right = words_of(rng, name)
             whole = rng.random() < 0.8
-            data = mutated_document(rng, rng.choice(good if whole else documents)) if name in ('run', 'record') \
+            data = mutated_document(rng,
+                                    rng.choice(good if whole else documents)) if name in ('run', 'record') \
                 else mutated_package(rng, rng.choice(sound if whole else packages))
             if rng.random() < 0.02:
                 name = rng.choice(names)
@@ -393,7 +399,8 @@ def work(job):
 
 
 def main(words=None):
-    parser = argparse.ArgumentParser(description=__doc__, formatter_class=argparse.RawDescriptionHelpFormatter)
+    parser = argparse.ArgumentParser(description=__doc__,
+                                     formatter_class=argparse.RawDescriptionHelpFormatter)
     parser.add_argument('program')
     parser.add_argument('--count', type=int, default=10_000)
     parser.add_argument('--seed', type=int, default=1)
@@ -417,7 +424,8 @@ def main(words=None):
     # One folder for those of the jobs: it goes away also where they are ended from outside.
     with tempfile.TemporaryDirectory(dir='/dev/shm' if os.path.isdir('/dev/shm') else None) as folder, \
             multiprocessing.Pool(given.jobs, maxtasksperchild=1) as pool:
-        jobs = [(os.path.abspath(given.program), limits, given.seed * 1_000_003 + n, share, given.keep, names, folder)
+        jobs = [(os.path.abspath(given.program), limits, given.seed * 1_000_003 + n, share, given.keep, names,
+                 folder)
                 for n, share in enumerate(shares)]
         for more, complaints in pool.imap_unordered(work, jobs):
             counts.update(more)

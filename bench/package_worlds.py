@@ -6,8 +6,8 @@ usage: package_worlds.py NAME SIZE
 Worlds of one table with SIZE rows, each with an id, a number below 100 and a text:
 
     pick        one SELECT, by an equality that picks one row of a hundred
-    change      three processes that take turns: one inserts 100 rows, one by one, one updates a hundredth of the rows
-                and deletes another, one writes counts of groups to a file
+    change      three processes that take turns: one inserts 100 rows, one by one, one updates a hundredth of
+                the rows and deletes another, one writes counts of groups to a file
     groups      one SELECT with sums over all rows, in 100 groups
 
 Worlds whose run has about SIZE events. The last event is that `out` is opened for writing:
@@ -92,7 +92,8 @@ def parts(size):
 
 
 def counters():
-    return {"columns": [["k", "INT NOT NULL"], ["v", "INT"]], "key": ["k"], "rows": [[n, 0] for n in range(1000)]}
+    return {"columns": [["k", "INT NOT NULL"], ["v", "INT"]], "key": ["k"],
+            "rows": [[n, 0] for n in range(1000)]}
 
 
 def made(name, size):

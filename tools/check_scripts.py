@@ -44,7 +44,8 @@ PAGE = os.path.join(ROOT, "docs", "SCRIPTS.md")
 FILE = re.compile(r"With the (?:file|script) `([^`]+)`(, in hex)?:")
 TABLE = re.compile(r".* the table `(\w+)`, whose key is `(\w+)`:")
 WORDS = re.compile(r"With the start words .*:")
-RESULT = re.compile(r"(?:and |Under seed (?P<seed>\d+) it )?(?:(?P<prints>prints)|ends with status (?P<status>\d+)"
+RESULT = re.compile(r"(?:and |Under seed (?P<seed>\d+) it )?(?:(?P<prints>prints)|ends with status "
+                    r"(?P<status>\d+)"
                     r"|leaves `(?P<file>[^`]+)` with|leaves no `(?P<gone>[^`]+)`)\.?")
 
 
@@ -142,7 +143,8 @@ def put(folder, name, content):
 def document(example, seed, tables):
     """The world of an example, as tools/world.py makes it."""
     with tempfile.TemporaryDirectory() as folder:
-        words = ["--quiet", "--seed", str(seed), "--script", "main=" + put(folder, "script", example.script.encode())]
+        words = ["--quiet", "--seed", str(seed), "--script",
+                 "main=" + put(folder, "script", example.script.encode())]
         for place, (path, content) in enumerate(example.files.items()):
             words += ["--file", f"{path}=" + put(folder, f"file{place}", content)]
         for name, key, rows in tables:

@@ -1,5 +1,5 @@
-"""The rules of a package as a whole: magic, digest, mode, start words, texts and files. package_cases.py writes the
-cases, and says what a rule is."""
+"""The rules of a package as a whole: magic, digest, mode, start words, texts and files. package_cases.py
+writes the cases, and says what a rule is."""
 import hashlib
 
 from packages import *
@@ -17,7 +17,8 @@ rule('The first 8 bytes are the magic. This is judged before the digest.', 'plai
 ] + [('byte %d of the magic changed' % n, {'body': flipped(n)}) for n in range(8)], [
     ('a script that ends with 0', {}), ('a script that ends with 255', {'files.0.content': 'exit 255'}),
 ], expect='magic')
-rule('There are 40 bytes, and the last 32 are the SHA-256 of those before. This is judged before the form.', 'plain', [
+rule('There are 40 bytes, and the last 32 are the SHA-256 of those before. This is judged before the form.',
+     'plain', [
     ('8 bytes, the magic', {'whole': lambda all: all[:8]}), ('39 bytes', {'whole': lambda all: all[:39]}),
     ('40 bytes with another digest', {'whole': lambda all: all[:40]}),
     ('the last byte left out', {'whole': lambda all: all[:-1]}),
@@ -31,7 +32,8 @@ rule('There are 40 bytes, and the last 32 are the SHA-256 of those before. This 
     ('a digest of zeros', {'digest': lambda body: bytes(32)}),
     ('a digest of no bytes', {'digest': lambda body: hashlib.sha256(b'').digest()}),
     ('a digest of all but the magic', {'digest': lambda body: hashlib.sha256(body[8:]).digest()}),
-    ('a digest of the digest', {'digest': lambda body: hashlib.sha256(hashlib.sha256(body).digest()).digest()}),
+    ('a digest of the digest',
+     {'digest': lambda body: hashlib.sha256(hashlib.sha256(body).digest()).digest()}),
     ('a digest written backward', {'digest': lambda body: hashlib.sha256(body).digest()[::-1]}),
     ('a digest of another kind with 32 bytes', {'digest': lambda body: hashlib.sha3_256(body).digest()}),
     ('a digest in hex', {'digest': lambda body: hashlib.sha256(body).hexdigest().encode()}),
@@ -52,8 +54,8 @@ rule('Nothing is left out and nothing stands between the trace and the digest.',
     ('rows and a byte', 'rows', {'body': lambda body: body + b'\1'}),
     ('a section of a trace twice', {'body': lambda body: body + body[60:]}),
 ] + [('cut off before byte %d' % n, {'body': lambda body, n=n: body[:n]})
-     for n in (9, 10, 11, 14, 19, 26, 27, 30, 31, 35, 43, 44, 48, 53, 54, 55, 56, 60, 64, 68, 72, 73, 77, 81, 85, 89,
-               90)], [
+     for n in (9, 10, 11, 14, 19, 26, 27, 30, 31, 35, 43, 44, 48, 53, 54, 55, 56, 60, 64, 68, 72, 73, 77, 81,
+               85, 89, 90)], [
     ('rows read again', 'rows', {}), ('logs', 'logs', {}), ('every act', 'acts', {}),
 ])
 rule('Numbers have the highest byte first.', 'plain', [
@@ -75,7 +77,8 @@ rule('Numbers have the highest byte first.', 'plain', [
 
 # ---- mode, start, seed and steps
 rule('The mode is 1 or 2.', 'plain', [
-    ('mode 0', {'mode': 0}), ('mode 3', {'mode': 3}), ('mode 255', {'mode': 255}), ('mode 129', {'mode': 129}),
+    ('mode 0', {'mode': 0}), ('mode 3', {'mode': 3}), ('mode 255', {'mode': 255}),
+    ('mode 129', {'mode': 129}),
 ], [
     ('mode 1', {'seed': 11}), ('mode 2', 'excluded', {}),
 ])
@@ -106,7 +109,8 @@ rule('Steps are 1 to 10,000,000.', 'plain', [
     ('steps 0', {'steps': 0, 'trace': [started()]}), ('steps 10,000,001', {'steps': 10000001}),
     ('steps 4,294,967,295', {'steps': 2 ** 32 - 1}),
 ], [
-    ('steps 1 and no event after the start', {'trace': [started()]}), ('steps 10,000,000', {'steps': 10000000}),
+    ('steps 1 and no event after the start', {'trace': [started()]}),
+    ('steps 10,000,000', {'steps': 10000000}),
     ('the last event at step 10,000,000', {'steps': 10000000, 'trace.1.step': 10000000}),
 ])
 allowed('Any seed is one.', 'plain', [
@@ -118,12 +122,14 @@ rule('The first start word is a file.', 'plain', [
     ('the start word in other case is a file', {'files.0.path': 'Main'}),
     ('only the second start word is a file', {'start': ['no', 'main'], 'trace.0.path': 'no'}),
 ], [
-    ('the start word is one file of many', {'files': [file('a', 'x'), file('main', 'exit 7'), file('z', 'x')]}),
+    ('the start word is one file of many',
+     {'files': [file('a', 'x'), file('main', 'exit 7'), file('z', 'x')]}),
     ('a start word that is no other file', {'start': ['main', 'other']}),
 ])
 rule('The first start word is a whole file.', 'plain', [
     ('the start word is only present', {'files.0.content': None}),
-    ('the start word is only present, and a script is beside it', {'files': [file('main'), file('other', 'exit 0')]}),
+    ('the start word is only present, and a script is beside it',
+     {'files': [file('main'), file('other', 'exit 0')]}),
 ], [
     ('another file is only present', {'files': [file('main', 'exit 0'), file('other')]}),
     ('an empty file is whole', {'files.0.content': ''}),
@@ -166,24 +172,29 @@ rule('A text is UTF-8.', 'plain',
                  refused=6, table='é', key=['ö'])}),
          ('a file of any bytes', {'files': [file('a', bytes(range(256))), file('main', 'exit 0')]})])
 rule('The path of a file has 1 to 255 bytes, none below 32 and none 127.', 'plain',
-     [('a path that ' + what, {'files': sorted([file(path, 'x'), file('main', 'exit 0')], key=lambda f: f['path'])})
+     [('a path that ' + what, {'files': sorted([file(path, 'x'), file('main', 'exit 0')],
+                                               key=lambda f: f['path'])})
       for what, path in NO_PATHS]
      + [('a present file whose path is empty', {'files': [file(''), file('main', 'exit 0')]})],
-     [('a path that ' + what, {'files': sorted([file(path, 'x'), file('main', 'exit 0')], key=lambda f: f['path'])})
+     [('a path that ' + what, {'files': sorted([file(path, 'x'), file('main', 'exit 0')],
+                                               key=lambda f: f['path'])})
       for what, path in PATHS])
 rule('The first start word is a path.', 'plain',
      [('a start that ' + what, on_start(path)) for what, path in NO_PATHS],
      [('a start that ' + what, on_start(path)) for what, path in PATHS])
 rule('The path of an act is one.', 'plain',
      [('%s, a path that %s' % (name, what), events(act(name, path)))
-      for name in WITH_PATH for what, path in (NO_PATHS if name == 'read' else [NO_PATHS[n] for n in (0, 1, 4, 6)])],
+      for name in WITH_PATH for what, path in (NO_PATHS if name == 'read' else [NO_PATHS[n]
+                                                                                for n in (0, 1, 4, 6)])],
      [('%s, a path that %s' % (name, what), events(act(name, path)))
       for name in WITH_PATH for what, path in (PATHS if name == 'read' else [PATHS[1]])])
 
 # ---- files
 rule('A file is whole (1) or present (2).', 'plain',
-     [('a file with the tag %d' % n, {'files.0.content': Raw(bytes([n]) + b'\0\0\0\6exit 0')}) for n in (0, 3, 255)]
-     + [('a present file with the tag %d' % n, {'files': [file('main', 'exit 0'), file('z', Raw(bytes([n])))]})
+     [('a file with the tag %d' % n, {'files.0.content': Raw(bytes([n]) + b'\0\0\0\6exit 0')})
+      for n in (0, 3, 255)]
+     + [('a present file with the tag %d' % n,
+         {'files': [file('main', 'exit 0'), file('z', Raw(bytes([n])))]})
         for n in (0, 3)]
      + [('a present file with bytes', {'files': [file('main', 'exit 0'), file('z', Raw(b'\2\0\0\0\1x'))]})],
      [('a file with the tag 1', {'files': [file('main', 'exit 0'), file('z', Raw(b'\1\0\0\0\1x'))]}),

@@ -1,16 +1,18 @@
 #!/usr/bin/env python3
-"""Writes the cases of packages: for each rule of a valid package some that break this rule only, each with a right
-digest, beside some that come as close and are valid. packages.py makes the bytes.
+"""Writes the cases of packages: for each rule of a valid package some that break this rule only, each with a
+right digest, beside some that come as close and are valid. packages.py makes the bytes.
 
-    python3 tools/package_cases.py                writes packages.json, packages_in_runs.json, traces.json, needs.json
-                                                  and migrate.json into crates/conformance/data
+    python3 tools/package_cases.py                writes packages.json, packages_in_runs.json, traces.json,
+                                                  needs.json and migrate.json into crates/conformance/data
     python3 tools/package_cases.py --check        fails where one of them isn't what this script would write
     python3 tools/package_cases.py --list         each rule with the names of its cases
-    python3 tools/package_cases.py --large DIR    writes the packages that are too long to be stored, each as a file in
-                                                  DIR, and DIR/large.json, where the input of a case is {"file": NAME}
+    python3 tools/package_cases.py --large DIR    writes the packages that are too long to be stored, each as
+                                                  a file in DIR, and DIR/large.json, where the input of a
+                                                  case is {"file": NAME}
 
-A rule has a base, cases that break it and cases that don't. A case is its name, the base where it isn't that of the
-rule, and the change of the base: from paths (`tables.0.next`) to new values, or to functions of the old ones.
+A rule has a base, cases that break it and cases that don't. A case is its name, the base where it isn't that
+of the rule, and the change of the base: from paths (`tables.0.next`) to new values, or to functions of the
+old ones.
 """
 import os
 import sys
@@ -46,7 +48,8 @@ def replayed(rules):
 def stored():
     """The text of each file, by its name."""
     return {'packages.json': replayed(RULES), 'packages_in_runs.json': replayed(RUNS),
-            'traces.json': lines([trace_case(*given) for given in CASES]), 'needs.json': lines(list(need_cases(2))),
+            'traces.json': lines([trace_case(*given) for given in CASES]),
+            'needs.json': lines(list(need_cases(2))),
             'migrate.json': lines(list(migrations()))}
 
 

@@ -1,12 +1,14 @@
 #!/usr/bin/env python3
-"""Packages of one version as packages of the other. packages.py says what both are; nothing is taken from the program.
+"""Packages of one version as packages of the other.
+packages.py says what both are; nothing is taken from the program.
 
     python3 tools/package_versions.py 2 <in >out         spells the package on standard input in this version
-    python3 tools/package_versions.py --cases FILE..     in files of cases, a line each, spells each output that is a
-                                                         package in version 2
+    python3 tools/package_versions.py --cases FILE..     in files of cases, a line each, spells each output
+                                                         that is a package in version 2
 
-package_cases.py writes its `migrations`: valid packages of both versions, and the one that `migrate` makes of each.
-No rule of a valid package is tested here: what is read is a package that a run has given, or one of packages.py.
+package_cases.py writes its `migrations`: valid packages of both versions, and the one that `migrate` makes of
+each. No rule of a valid package is tested here: what is read is a package that a run has given, or one of
+packages.py.
 """
 import json
 import sys
@@ -21,7 +23,8 @@ from packages import *
 def table_of(each):
     names = each.names()
     return table(each.name, [column(*one) for one in each.columns], [names.index(name) for name in each.key],
-                 each.next, [row(one.number, *one.values, statement=one.statement, rule=one.rule) for one in each.rows],
+                 each.next,
+                 [row(one.number, *one.values, statement=one.statement, rule=one.rule) for one in each.rows],
                  [foreign([names.index(name) for name in one.columns], one.parent) for one in each.foreign])
 
 
@@ -60,9 +63,10 @@ def event_of(each):
 
 def parts_of(found):
     """A package that was read, with its events one by one."""
-    return package(found.version, mode=1 if found.mode == 'included' else 2, start=found.start, seed=found.seed,
-                   steps=found.steps, files=[file(*each) for each in found.files],
-                   tables=[table_of(each) for each in found.tables], logs=[log_of(each) for each in found.logs],
+    return package(found.version, mode=1 if found.mode == 'included' else 2, start=found.start,
+                   seed=found.seed, steps=found.steps, files=[file(*each) for each in found.files],
+                   tables=[table_of(each) for each in found.tables],
+                   logs=[log_of(each) for each in found.logs],
                    trace=[event_of(each) for each in found.events])
 
 
@@ -102,8 +106,8 @@ def converted(line):
 
 
 def migration(name, given, output):
-    return {'name': name, 'words': ['migrate'], 'input': member_of(given), 'status': 0, 'output': member_of(output),
-            'error': ''}
+    return {'name': name, 'words': ['migrate'], 'input': member_of(given), 'status': 0,
+            'output': member_of(output), 'error': ''}
 
 
 def migrations():
@@ -113,7 +117,8 @@ def migrations():
             old, new = encode(p), in_version(2, encode(p))
             yield migration('migrate: %s' % name, old, new)
             yield migration('migrate: %s, migrated again' % name, new, new)
-    yield migration('migrate: a file read three times', in_version(1, encode(BASES['loop'])), encode(BASES['loop']))
+    yield migration('migrate: a file read three times', in_version(1, encode(BASES['loop'])),
+                    encode(BASES['loop']))
     yield migration('migrate: a file read three times, in runs', encode(BASES['loop']), encode(BASES['loop']))
 
 

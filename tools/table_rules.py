@@ -1,4 +1,5 @@
-"""The rules of the tables and the logs of a package. package_cases.py writes the cases, and says what a rule is."""
+"""The rules of the tables and the logs of a package.
+package_cases.py writes the cases, and says what a rule is."""
 from packages import *
 
 TABLES = Rules()
@@ -26,7 +27,8 @@ rule('Tables are sorted by name, and no name is there twice.', 'rows', [
 ])
 rule('The name of a table is a lower-case word of 1 to 63 bytes that is not reserved.', 'plain',
      [('a table whose name ' + what, whole_table(table(name, [column('a')]))) for what, name in NO_NAMES]
-     + [('a table with the reserved name ' + word, whole_table(table(word, [column('a')]))) for word in RESERVED]
+     + [('a table with the reserved name ' + word, whole_table(table(word, [column('a')])))
+        for word in RESERVED]
      + [('a table whose name is not UTF-8', whole_table(table(b't\xff', [column('a')])))],
      [('a table whose name ' + what, whole_table(table(name, [column('a')]))) for what, name in NAMES])
 rule('The name of a column is a lower-case word of 1 to 63 bytes that is not reserved.', 'plain',
@@ -42,7 +44,8 @@ rule('No name of a column is there twice in a table.', 'rows', [
     ('the first name again at the end', columns(column('a'), column('b'), column('a'))),
 ], [
     ('columns that are not in order', columns(column('b'), column('a'))),
-    ('two tables with columns of one name', {'tables': [table('t', [column('a')]), table('u', [column('a')])]}),
+    ('two tables with columns of one name',
+     {'tables': [table('t', [column('a')]), table('u', [column('a')])]}),
 ])
 rule('A table has 1 to 64 columns.', 'plain', [
     ('a table without columns', whole_table(table('t', []))),
@@ -71,8 +74,10 @@ rule('No place is twice in a key.', 'rows', [
     ('a key of two places and the first again', columns(
         column('a', 'INT NOT NULL'), column('b', 'INT NOT NULL'), key=[0, 1, 0])),
 ], [
-    ('a key of two places out of order', columns(column('a', 'INT NOT NULL'), column('b', 'INT NOT NULL'), key=[1, 0])),
-    ('a key of 64 columns', columns(*[column('c%d' % n, 'INT NOT NULL') for n in range(64)], key=list(range(64)))),
+    ('a key of two places out of order',
+     columns(column('a', 'INT NOT NULL'), column('b', 'INT NOT NULL'), key=[1, 0])),
+    ('a key of 64 columns', columns(*[column('c%d' % n, 'INT NOT NULL') for n in range(64)],
+                                    key=list(range(64)))),
 ])
 rule('A column of the key is NOT NULL.', 'rows', [
     ('a key of a column of numbers that may be NULL', columns(column('a'), key=[0])),
@@ -89,7 +94,8 @@ rule('No two rows of a table have the same key.', 'rows', [
     ('two rows of one key', rows(row(3, 4, 'b', None), row(4, 4, 'c', 1))),
     ('the first and the last row of one key', rows(row(0, 1, 'a', 1), row(1, 2, 'a', 1), row(2, 1, 'b', 2))),
     ('two rows of one key of texts', columns(*TWO, key=[0], rows=[row(0, 'a', 'a', 1), row(1, 'a', 'b', 2)])),
-    ('two rows of one key of two columns', columns(*TWO, key=[0, 1], rows=[row(0, 'a', 'b', 1), row(1, 'a', 'b', 2)])),
+    ('two rows of one key of two columns',
+     columns(*TWO, key=[0, 1], rows=[row(0, 'a', 'b', 1), row(1, 'a', 'b', 2)])),
     ('two rows of one key in the second table', {'tables': plus(table('u', COLUMNS, [0], 9, [
         row(0, 1, 'a', 1), row(1, 1, 'b', 2)]))}),
     ('two rows of one empty text', columns(*TWO, key=[1], rows=[row(0, 'a', '', 1), row(1, 'b', '', 2)])),
@@ -104,14 +110,17 @@ rule('No two rows of a table have the same key.', 'rows', [
         row(0, 'a', 'b', 1), row(1, 'a', 'c', 1)])),
     ('keys of two columns that are the same when joined', columns(*TWO, key=[0, 1], rows=[
         row(0, 'a', 'bc', 1), row(1, 'ab', 'c', 1)])),
-    ('keys of two columns in turn', columns(*TWO, key=[1, 0], rows=[row(0, 'a', 'b', 1), row(1, 'b', 'a', 1)])),
+    ('keys of two columns in turn',
+     columns(*TWO, key=[1, 0], rows=[row(0, 'a', 'b', 1), row(1, 'b', 'a', 1)])),
     ('one key in two tables', {'tables': plus(table('u', COLUMNS, [0], 9, [row(3, 4, 'b', None)]))}),
 ])
 rule('Rows are sorted by number, and no number is there twice.', 'rows', [
     ('rows out of order', rows(row(4, 5, 'c', -10), row(3, 4, 'b', None))),
     ('a row number twice', rows(row(3, 4, 'b', None), row(3, 5, 'c', -10))),
-    ('the last two of three rows are out of order', rows(row(0, 1, 'a', 1), row(4, 2, 'a', 1), row(3, 3, 'a', 1))),
-    ('the last two of three rows have one number', rows(row(0, 1, 'a', 1), row(3, 2, 'a', 1), row(3, 3, 'a', 1))),
+    ('the last two of three rows are out of order',
+     rows(row(0, 1, 'a', 1), row(4, 2, 'a', 1), row(3, 3, 'a', 1))),
+    ('the last two of three rows have one number',
+     rows(row(0, 1, 'a', 1), row(3, 2, 'a', 1), row(3, 3, 'a', 1))),
     ('rows out of order, their low bytes in order', {
         'tables.0.next': 999, **rows(row(256, 1, 'a', 1), row(255, 2, 'a', 1))}),
 ], [
@@ -127,7 +136,8 @@ rule('Row numbers are below next, which is at most 4,294,967,295.', 'rows', [
     ('next 0 and a row', {'tables.0.next': 0, **rows(row(0, 5, 'c', 1))}),
     ('the row number 4,294,967,295', {'tables.0.next': 2 ** 32 - 1, 'tables.0.rows.1.number': 2 ** 32 - 1}),
 ], [
-    ('a row number just below next', rows(row(4, 5, 'c', 1))), ('next far above', {'tables.0.next': 2 ** 32 - 1}),
+    ('a row number just below next', rows(row(4, 5, 'c', 1))),
+    ('next far above', {'tables.0.next': 2 ** 32 - 1}),
     ('next 0 and no row', {'tables.0.next': 0, **rows()}),
     ('the row number 4,294,967,294', {'tables.0.next': 2 ** 32 - 1, 'tables.0.rows.1.number': 2 ** 32 - 2}),
     ('fewer rows than next', {'tables.0.next': 1000000}),
@@ -146,7 +156,8 @@ rule('The statement of a row was asked.', 'rows', [
     ('a row for statement 0 of 1', {'tables.0.rows.1.statement': 0, 'seed': 13}),
     ('a row for statement 1 of 2', {'tables.0.rows.1.statement': 1, 'trace': plus(asked(1, 2))}),
     ('no row and no statement', {'trace': [started(), ended(2)], **rows()}),
-    ('a row for a statement that another process asked', {'trace': [started(), spawned(), asked(0, 1, 1), ended(2)]}),
+    ('a row for a statement that another process asked',
+     {'trace': [started(), spawned(), asked(0, 1, 1), ended(2)]}),
 ])
 rule('A row has a value for each column.', 'rows', [
     ('a value too few', {'tables.0.rows.1.values': [5, 'c']}),
@@ -156,7 +167,8 @@ rule('A row has a value for each column.', 'rows', [
     ('three values', {'tables.0.rows.1.values': [5, 'c', None]}),
 ])
 rule('NULL is in no column that is NOT NULL.', 'rows', [
-    ('NULL in a key', {'tables.0.rows.1.values.0': None}), ('NULL in a column of numbers', one('INT NOT NULL', None)),
+    ('NULL in a key', {'tables.0.rows.1.values.0': None}),
+    ('NULL in a column of numbers', one('INT NOT NULL', None)),
     ('NULL in a column of texts', one('TEXT NOT NULL', None)),
 ], [
     ('NULL in a column of numbers that may be NULL', one('INT', None)),
@@ -165,7 +177,8 @@ rule('NULL is in no column that is NOT NULL.', 'rows', [
     ('the empty text where NULL may not be', one('TEXT NOT NULL', '')),
 ])
 rule('A value has the kind of its column.', 'rows', [
-    ('a text in a column of numbers', one('INT', 'b')), ('a text of digits in a column of numbers', one('INT', '1')),
+    ('a text in a column of numbers', one('INT', 'b')),
+    ('a text of digits in a column of numbers', one('INT', '1')),
     ('a number in a column of texts', one('TEXT', 1)),
     ('a text among numbers that are NOT NULL', one('INT NOT NULL', '1')),
     ('a number among texts that are NOT NULL', one('TEXT NOT NULL', 1)),

@@ -16,7 +16,8 @@ rule('The trace begins with the start of process 0 at step 0, on the first start
     ('a start after the end', {'trace': [ended(), started()]}),
     ('a start at step 1', {'trace': [started(step=1), ended()]}),
     ('a start of process 1', {'trace': [started(process=1), ended()]}),
-    ('a start on another file', {'files': [file('a', 'exit 0'), file('main', 'exit 0')], 'trace.0.path': 'a'}),
+    ('a start on another file',
+     {'files': [file('a', 'exit 0'), file('main', 'exit 0')], 'trace.0.path': 'a'}),
     ('a start on the second start word', {'start': ['main', 'mail'], 'trace.0.path': 'mail'}),
     ('a start on a part of the first start word', {'trace.0.path': 'mai'}),
     ('a start without a path', {'trace.0.path': ''}),
@@ -40,11 +41,13 @@ rule('Later steps are 1 to the number of steps.', 'plain', [
     ('the last of three events past the number of steps', stepped(7, ended(7), ended(8))),
 ], [
     ('an event at step 1 after the start', events(act('read', 'f', 1))),
-    ('an event at the last step', stepped(7, ended(7))), ('fewer steps with events than steps', stepped(9, ended(7))),
+    ('an event at the last step', stepped(7, ended(7))),
+    ('fewer steps with events than steps', stepped(9, ended(7))),
 ])
 rule('Steps never fall.', 'plain', [
     ('steps that fall', stepped(3, act('read', step=2), ended(1))),
-    ('steps that fall by one after many', stepped(9, *[act('read', step=n) for n in (1, 2, 3, 5, 4)], ended(9))),
+    ('steps that fall by one after many',
+     stepped(9, *[act('read', step=n) for n in (1, 2, 3, 5, 4)], ended(9))),
     ('steps that fall from one process to another', stepped(
         3, spawned(1), act('read', step=3), act('read', 'f', 2, 1))),
     ('steps that fall, their low bytes in order', stepped(300, act('read', step=256), ended(255))),
@@ -82,11 +85,13 @@ rule('Statements are numbered 0, 1, 2 and so on over all processes.', 'plain', [
     ('a first statement of number 1', events(asked(1))),
     ('a first statement of the last number', events(asked(2 ** 32 - 1))),
     ('a statement number left out', events(asked(0), asked(2))),
-    ('a statement number twice', events(asked(0), asked(0))), ('statements out of order', events(asked(1), asked(0))),
+    ('a statement number twice', events(asked(0), asked(0))),
+    ('statements out of order', events(asked(1), asked(0))),
     ('a third statement of number 1', events(asked(0), asked(1), asked(1))),
     ('a first statement of each process', events(spawned(), asked(0), asked(0, 1, 1))),
 ], [
-    ('a first statement of number 0', events(asked(0))), ('three statements', events(asked(0), asked(1), asked(2))),
+    ('a first statement of number 0', events(asked(0))),
+    ('three statements', events(asked(0), asked(1), asked(2))),
     ('statements of two processes', events(spawned(), asked(0, 1, 1), asked(1), asked(2, 1, 1))),
 ])
 rule('The tables of a statement are sorted, and none is there twice.', 'plain', [
@@ -100,16 +105,19 @@ rule('The tables of a statement are sorted, and none is there twice.', 'plain', 
 ])
 
 for kind, place, one_row in (('reads', 'read', read), ('made', 'made', made)):
-    rule('The groups of rows that a statement %s are sorted by table, and no table has two.' % place, 'plain', [
+    rule('The groups of rows that a statement %s are sorted by table, and no table has two.' % place,
+         'plain', [
         (kind + ': groups out of order', asks(kind, group('u', one_row(1)), group('t', one_row(2)))),
         (kind + ': two groups of one table', asks(kind, group('t', one_row(1)), group('t', one_row(2)))),
         (kind + ': a group twice', asks(kind, group('t', one_row(1)), group('t', one_row(1)))),
-        (kind + ': the last two of three groups are out of order', asks(kind, *[group(n, one_row(1)) for n in 'acb'])),
+        (kind + ': the last two of three groups are out of order',
+         asks(kind, *[group(n, one_row(1)) for n in 'acb'])),
         (kind + ': a table again after another', asks(
             kind, group('t', one_row(1)), group('u', one_row(1)), group('t', one_row(2)))),
     ], [
         (kind + ': groups in order', asks(kind, group('t', one_row(2)), group('u', one_row(1)))),
-        (kind + ': a table before one that it begins', asks(kind, group('t', one_row(1)), group('tt', one_row(1)))),
+        (kind + ': a table before one that it begins',
+         asks(kind, group('t', one_row(1)), group('tt', one_row(1)))),
         (kind + ': one group', asks(kind, group('t', one_row(1), one_row(2)))),
     ])
     rule('No group of rows that a statement %s is empty.' % place, 'plain', [
@@ -128,19 +136,25 @@ for kind, place, one_row in (('reads', 'read', read), ('made', 'made', made)):
             kind, group('t', one_row(0), one_row(5), one_row(4)))),
         (kind + ': rows out of order in the second group', asks(
             kind, group('t', one_row(1)), group('u', one_row(2), one_row(1)))),
-        (kind + ': rows out of order, their low bytes in order', asks(kind, group('t', one_row(256), one_row(1)))),
+        (kind + ': rows out of order, their low bytes in order',
+         asks(kind, group('t', one_row(256), one_row(1)))),
     ], [
         (kind + ': rows in order', asks(kind, group('t', one_row(1), one_row(3)))),
         (kind + ': versions out of order', asks(kind, group('t', one_row(1, 2), one_row(2, 1)))),
-        (kind + ': rows out of order from table to table', asks(kind, group('t', one_row(9)), group('u', one_row(1)))),
-        (kind + ': rows in order, their low bytes out of order', asks(kind, group('t', one_row(1), one_row(256)))),
-        (kind + ': the greatest row number and version', asks(kind, group('t', one_row(2 ** 32 - 1, 2 ** 32 - 1)))),
+        (kind + ': rows out of order from table to table',
+         asks(kind, group('t', one_row(9)), group('u', one_row(1)))),
+        (kind + ': rows in order, their low bytes out of order',
+         asks(kind, group('t', one_row(1), one_row(256)))),
+        (kind + ': the greatest row number and version',
+         asks(kind, group('t', one_row(2 ** 32 - 1, 2 ** 32 - 1)))),
     ])
     rule('The table of rows that a statement %s has a name by the rule.' % place, 'plain',
-         [('%s: a table whose name %s' % (kind, what), asks(kind, group(name, one_row(0)))) for what, name in NO_NAMES]
+         [('%s: a table whose name %s' % (kind, what), asks(kind, group(name, one_row(0))))
+          for what, name in NO_NAMES]
          + [(kind + ': a table with a reserved name', asks(kind, group('order', one_row(0)))),
             (kind + ': a table whose name is not UTF-8', asks(kind, group(b't\xff', one_row(0))))],
-         [('%s: a table whose name %s' % (kind, what), asks(kind, group(name, one_row(0)))) for what, name in NAMES])
+         [('%s: a table whose name %s' % (kind, what), asks(kind, group(name, one_row(0))))
+          for what, name in NAMES])
 rule('A table of a statement has a name by the rule.', 'plain',
      [('an asked table whose name ' + what, events(asked(tables=[name]))) for what, name in NO_NAMES]
      + [('an asked table with a reserved name', events(asked(tables=['order']))),
@@ -150,11 +164,16 @@ rule('The rule of a row that a statement read is 1 to 3.', 'plain',
      [('a read by rule %d' % n, events(asked(reads=[group('t', read(0, 0, n))]))) for n in (0, 4, 5, 255)],
      [('a read by rule %d' % n, events(asked(reads=[group('t', read(1, 0, n))]))) for n in (1, 2, 3)])
 rule('An act is 0 to 14.', 'plain', [
-    ('act 15', events(dict(step=1, process=0, act=15))), ('act 255', events(dict(step=1, process=0, act=255))),
-], [('act %d' % n, events(e)) for n, e in ((13, ended()), (14, asked(tables=['t'], made=[group('u', made(0, 0))])))])
+    ('act 15', events(dict(step=1, process=0, act=15))),
+    ('act 255', events(dict(step=1, process=0, act=255))),
+],
+[('act %d' % n, events(e))
+ for n, e in ((13, ended()), (14, asked(tables=['t'], made=[group('u', made(0, 0))])))])
 rule('A flag is 0 or 1.', 'plain',
-     [('%s with the flag %d' % (name, flag), events(act(name, found=flag))) for name in FLAGGED for flag in (2, 255)],
-     [('%s with the flag %d' % (name, flag), events(act(name, found=flag))) for name in FLAGGED for flag in (0, 1)])
+     [('%s with the flag %d' % (name, flag), events(act(name, found=flag)))
+      for name in FLAGGED for flag in (2, 255)],
+     [('%s with the flag %d' % (name, flag), events(act(name, found=flag)))
+      for name in FLAGGED for flag in (0, 1)])
 allowed('What the rules leave open in a trace.', 'plain', [
     ('a process that acts after its end', {'trace': plus(act('read'), ended(1, 0, 7), ended())}),
     ('a process that waits for itself', events(waited(0))),

@@ -51,4 +51,5 @@ def command(name: str, work: Callable[[Optional[Sequence[str]]], int],
 
 def words_of(name: str, told: Optional[str]) -> argparse.ArgumentParser:
     """What reads the words of a command. Its --help shows `told` as it stands."""
-    return argparse.ArgumentParser(prog=name, description=told, formatter_class=argparse.RawDescriptionHelpFormatter)
+    return argparse.ArgumentParser(prog=name, description=told,
+                                   formatter_class=argparse.RawDescriptionHelpFormatter)

@@ -5,14 +5,15 @@
     tools/page.py world.package --replayed world.outcome -o ..    with an outcome that is there already
     tools/page.py --run 2 joined.package -o page.html             of a joined package, its second run
 
-The page shows what the package is, the outcome, each statement with its reply and the rows that it needed, the packed
-tables with all statements that needed a row, processes and files over time, and what an output came from; files and
-tables can be saved from it. A package with rows has no statements and no replies in it: --ldv replays it, or --replayed
-names the outcome of its replay. The page has all of the package in it, and is as secret as that. Nothing of a package
-is taken for HTML, and a page runs no script but its own and loads nothing.
+The page shows what the package is, the outcome, each statement with its reply and the rows that it needed,
+the packed tables with all statements that needed a row, processes and files over time, and what an output
+came from; files and tables can be saved from it. A package with rows has no statements and no replies in it:
+--ldv replays it, or --replayed names the outcome of its replay. The page has all of the package in it, and is
+as secret as that. Nothing of a package is taken for HTML, and a page runs no script but its own and loads
+nothing.
 
-Statuses: 0 made; 1 the input is no package, the outcome isn't that of its replay, or a file can't be read or written; 2
-wrong words.
+Statuses: 0 made; 1 the input is no package, the outcome isn't that of its replay,
+or a file can't be read or written; 2 wrong words.
 """
 from __future__ import annotations
 
@@ -38,8 +39,8 @@ TEMPLATE = """<!DOCTYPE html>
 <html lang="en">
 <head>
 <meta charset="utf-8">
-<meta http-equiv="Content-Security-Policy" content="default-src 'none'; style-src '{style_hash}'; script-src '{script_hash}'; \
-img-src data:; base-uri 'none'; form-action 'none'">
+<meta http-equiv="Content-Security-Policy" content="default-src 'none'; style-src '{style_hash}'; \
+script-src '{script_hash}'; img-src data:; base-uri 'none'; form-action 'none'">
 <meta name="viewport" content="width=device-width, initial-scale=1">
 <title>{title}</title>
 <style>{style}</style>
@@ -78,7 +79,8 @@ def page_text(data: Json) -> str:
 
 def answer_of(program: str, words: Sequence[str], data: bytes) -> Tuple[int, bytes, str]:
     try:
-        done = subprocess.run([program, *words], input=data, stdout=subprocess.PIPE, stderr=subprocess.PIPE, check=False)
+        done = subprocess.run([program, *words], input=data, stdout=subprocess.PIPE, stderr=subprocess.PIPE,
+                              check=False)
     except OSError as fault:
         raise Refused(f"{program}: {fault.strerror}") from None
     return done.returncode, done.stdout, done.stderr.decode(errors="replace").strip()

@@ -40,12 +40,13 @@ class RefusedMemory(InFolder):
         super().setUp()
         rows = {"s": [packages.row(0, 1)], "t": [packages.row(3, 1), packages.row(5, 2)], "u": []}
         tables = [packages.table(name, [packages.column("k")], rows=rows[name]) for name in rows]
-        trace = [packages.started(), packages.act("wrote", "f"), packages.act("opened append", "g"), packages.asked(),
-                 packages.ended()]
+        trace = [packages.started(), packages.act("wrote", "f"), packages.act("opened append", "g"),
+                 packages.asked(), packages.ended()]
         self.package = packages.encode(packages.package(steps=8, tables=tables, trace=trace))
 
     def answered(self, number="3\n", other=None):
-        """What refused.py ends with and prints where each command has so many requests, perhaps with one other answer."""
+        """What refused.py ends with and prints where each command has so many requests,
+        perhaps with one other answer."""
         def call(_, words, data, at=0, count=""):
             with open(count or os.devnull, "w", encoding="ascii") as file:
                 file.write(number)
@@ -108,16 +109,18 @@ class HostileInputs(InFolder):
     def test_complaints(self):
         line = b"ldv: a line\n"
         for words, right, answer in (
-                (["run"], True, (0, b"x", b"")), (["run"], True, (6, b"", line)), (["run"], True, (11, b"", line)),
-                (["table", "order", "0"], False, (2, b"", line)), (["inspect", "rows"], True, (0, b"", b"")),
+                (["run"], True, (0, b"x", b"")), (["run"], True, (6, b"", line)),
+                (["run"], True, (11, b"", line)), (["table", "order", "0"], False, (2, b"", line)),
+                (["inspect", "rows"], True, (0, b"", b"")),
                 (["inspect", "depends", "q"], True, (0, b"", b"")), (["replay"], True, (9, b"", line))):
             self.assertIsNone(hostile.complaint(words, right, answer), (words, answer))
         for words, right, answer in (
                 (["run"], True, (2, b"", line)), (["run", "run"], False, (0, b"x", b"")),
                 (["run", "run"], False, (6, b"", line)), (["run"], True, (0, b"", b"")),
                 (["inspect", "files"], True, (0, b"", b"")), (["run"], True, (0, b"x", line)),
-                (["run"], True, (6, b"x", line)), (["run"], True, (6, b"", line + line)), (["run"], True, (6, b"", b"")),
-                (["run"], True, (-11, b"", b"")), (["run"], True, (8, b"", line)), (["run"], True, (None, b"", b""))):
+                (["run"], True, (6, b"x", line)), (["run"], True, (6, b"", line + line)),
+                (["run"], True, (6, b"", b"")), (["run"], True, (-11, b"", b"")),
+                (["run"], True, (8, b"", line)), (["run"], True, (None, b"", b""))):
             self.assertIsNotNone(hostile.complaint(words, right, answer), (words, answer))
 
     def test_other_values(self):
@@ -130,7 +133,8 @@ class HostileInputs(InFolder):
         """The calls of a few inputs where each but `record` gets this answer."""
         asked_here, document = [], read(f"{EXAMPLES}/orders.json")
         made = packages.encode(packages.package())
-        job = ("program", {"modes": [[], ["--excluded"]]}, 1, 200, self.folder, list(hostile.STATUSES), self.folder)
+        job = ("program", {"modes": [[], ["--excluded"]]}, 1, 200, self.folder, list(hostile.STATUSES),
+               self.folder)
         with mock.patch("hostile.Calls", lambda *_: FakeCalls(answer, asked_here)), \
                 mock.patch("hostile.replays", lambda *_: None), \
                 mock.patch("hostile.corpus", lambda: ([document], [document], [made], [made])):
@@ -147,10 +151,12 @@ class HostileInputs(InFolder):
         """The scripts of both benches find their folder, and say where the program isn't there."""
         program = os.path.join(self.folder, "none")
         for name in ("hostile", "refused") if shutil.which("cc") else ("hostile",):
-            done = subprocess.run([f"bench/{name}.sh"], cwd=ROOT, stdout=subprocess.PIPE, stderr=subprocess.PIPE, check=False,
+            done = subprocess.run([f"bench/{name}.sh"], cwd=ROOT, stdout=subprocess.PIPE,
+                                  stderr=subprocess.PIPE, check=False,
                                   env={**os.environ, "CDPATH": ROOT, "LDV": program, "TMPDIR": self.folder})
             self.assertEqual((done.returncode, done.stdout), (2, b""), done.stderr)
-            self.assertTrue(done.stderr.endswith(f" {program}\n".encode() if name == "refused" else b" is no program\n"))
+            said = f" {program}\n".encode() if name == "refused" else b" is no program\n"
+            self.assertTrue(done.stderr.endswith(said))
             self.assertEqual(os.listdir(self.folder), [])
 
     def test_lines(self):

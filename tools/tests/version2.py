@@ -3,8 +3,8 @@ import hashlib
 
 from package_versions import parts_of
 from package_versions import spelled as spelled_in
-from packages import (spell_file, spell_list, spell_number, spell_rule, spell_table, spell_text, spell_trace, spell_u32,
-                      spell_value)
+from packages import (spell_file, spell_list, spell_number, spell_rule, spell_table, spell_text, spell_trace,
+                      spell_u32, spell_value)
 
 
 def spelled(package):
@@ -46,12 +46,14 @@ def common_tables(runs):
     for t in (t for p in runs for t in p["tables"]):
         rows.setdefault(t["name"], {}).update({r["number"]: r for r in t["rows"]})
         tables[t["name"]] = t
-    return [{**tables[name], "rows": [rows[name][number] for number in sorted(rows[name])]} for name in sorted(tables)]
+    return [{**tables[name], "rows": [rows[name][number] for number in sorted(rows[name])]}
+            for name in sorted(tables)]
 
 
 def joined(first, second):
     """The joined package of two with rows that don't clash."""
     runs = [parts_of(first), parts_of(second)]
     body = (b"LDVJOIN1" + spell_list(4, common_files(runs), spell_file)
-            + spell_list(2, common_tables(runs), spell_table(2, spell_bare_row)) + b"".join(map(spell_pick, runs)))
+            + spell_list(2, common_tables(runs),
+                         spell_table(2, spell_bare_row)) + b"".join(map(spell_pick, runs)))
     return body + hashlib.sha256(body).digest()
