@@ -1,4 +1,5 @@
 """bench/refused.py and bench/hostile.py, with answers that are given to them."""
+import collections
 import os
 import shutil
 import subprocess
@@ -6,14 +7,18 @@ import sys
 import unittest
 from unittest import mock
 
-import package
+import package_versions
 import packages
+
+from ldvtools.errors import Malformed
+from ldvtools.packages import read_package
 
 from .support import EXAMPLES, ROOT, InFolder, command, read, tool
 from .test_documents import INSTRUCTIONS
 
 sys.path.append(os.path.join(ROOT, "bench"))
 import hostile                                                               # noqa: E402
+import hostile_packages                                                      # noqa: E402
 import refused                                                               # noqa: E402
 
 
@@ -137,6 +142,7 @@ class HostileInputs(InFolder):
                self.folder)
         with mock.patch("hostile.Calls", lambda *_: FakeCalls(answer, asked_here)), \
                 mock.patch("hostile.replays", lambda *_: None), \
+                mock.patch("hostile.migrates", lambda *_: None), \
                 mock.patch("hostile.corpus", lambda: ([document], [document], [made], [made])):
             hostile.work(job)
         return asked_here
@@ -146,6 +152,55 @@ class HostileInputs(InFolder):
         asked_here = self.asked((0, b"x", b""))
         self.assertEqual(len(asked_here), 201)
         self.assertEqual(asked_here, self.asked((6, b"", b"ldv: not a world: shape\n")))
+
+    def test_packages(self):
+        """Packages are made of both versions, with right digests and wrong ones; of runs those at the limits
+        of their numbers, and those that could be longer."""
+        chance, counts = hostile.random.Random(1), collections.Counter()
+        loop = packages.encode(packages.BASES["loop"])
+        for base in (loop, packages.encode(packages.BASES["rows"])) * 1000:
+            made = hostile.package_input(chance, base)
+            try:
+                found = read_package(made)
+            except Malformed as fault:
+                counts["its digest is another one" if "digest" in str(fault) else made[:8]] += 1
+                continue
+            counts[found.version] += 1
+            counts["as many as may be"] += found.event_count() == 20_000_001
+            if found.version == 2 and found.event_count() < 100:
+                longest = packages.cut(package_versions.event_of(each) for each in found.events)
+                counts["could be longer"] += longest != hostile_packages.runs_of(found)
+        for each in (1, 2, b"LDVPACK1", b"LDVPACK2", "its digest is another one", "as many as may be",
+                     "could be longer"):
+            self.assertGreater(counts[each], 4, each)
+
+    def test_other_version(self):
+        """A package in the other version is the same package; what is none stays."""
+        for base in ("rows", "acts in runs", "logs"):
+            given = packages.encode(packages.BASES[base])
+            other = hostile_packages.in_other_version(given)
+            self.assertNotEqual(other[:8], given[:8])
+            self.assertEqual(list(read_package(other).events), list(read_package(given).events))
+            self.assertEqual(hostile_packages.in_other_version(other), given)
+        self.assertEqual(hostile_packages.in_other_version(b"LDVPACK1"), b"LDVPACK1")
+
+    def test_migrated(self):
+        """What `migrate` wrote is judged by its version, by what it becomes again and by its replay."""
+        old, new = (packages.encode(packages.BASES[name]) for name in ("plain", "plain in runs"))
+        right = {("migrate", new): (0, new, b""),
+                 ("replay", old): (0, b"x", b""), ("replay", new): (0, b"x", b"")}
+
+        def told(package, **others):
+            answers = {**right, **{(word, new): answer for word, answer in others.items()}}
+            calls = mock.Mock(call=lambda words, data: answers[words[0], data])
+            return hostile.migrates(calls, old, package)
+
+        self.assertIsNone(told(new))
+        self.assertIsNone(told(new, replay=(11, b"", b"ldv: out of memory\n")))
+        self.assertIn("no package of version 2", told(old))
+        self.assertIn("something else", told(new, migrate=(0, old, b"")))
+        self.assertIn("something else", told(new, migrate=(8, b"", b"ldv: damaged: form\n")))
+        self.assertIn("replay", told(new, replay=(0, b"y", b"")))
 
     def test_scripts(self):
         """The scripts of both benches find their folder, and say where the program isn't there."""
