@@ -97,6 +97,36 @@ class RefusedMemory(InFolder):
             program.requests([], b"")
 
 
+class Comparison(InFolder):
+    """bench/compare.py, with two programs that always write the same."""
+
+    def program(self, name, text):
+        path = self.put(name, f"#!/bin/sh\ncat > /dev/null\n{text}\n")
+        os.chmod(path, 0o755)
+        return path
+
+    def compared(self, before, after):
+        words = ["--sizes", "10", "--runs", "2", "--cases", "union", "--worlds", "pick"]
+        return command([sys.executable, os.path.join(ROOT, "bench/compare.py"), before, after, *words])
+
+    def test_rows(self):
+        same = self.program("same", "echo outcome")
+        status, out, err = self.compared(same, same)
+        self.assertEqual((status, err), (0, b""))
+        rows = [line.split()[:3] for line in out.decode().splitlines()[1:]]
+        self.assertEqual(rows, [["load", "t", "10"], ["union", "10", "run"], ["union", "10", "run,"],
+                                ["pick", "10", "run"], ["pick", "10", "record"], ["pick", "10", "replay"],
+                                ["pick", "10", "record"], ["pick", "10", "replay"]])
+
+    def test_differences(self):
+        """Two outcomes, and a program that fails."""
+        same = self.program("same", "echo outcome")
+        status, _, err = self.compared(same, self.program("other", "echo other"))
+        self.assertEqual((status, err), (1, b"compare: union: the two programs wrote other bytes\n"))
+        status, _, err = self.compared(same, self.program("failing", "exit 7"))
+        self.assertEqual((status, err), (1, f"compare: {self.folder}/failing run ended with 7\n".encode()))
+
+
 class FakeCalls:
     """In place of the calls of hostile.py: each gets the same answer, and what is asked is kept."""
 
