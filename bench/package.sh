@@ -13,8 +13,8 @@
 # Then a world whose trace has ten million events, as a loop tests the same file again and again (`loop`). Its
 # package is short, since the events of each turn of the loop are one run. All commands are measured over it.
 #
-# LDV names another program than the one of this checkout, SIZES other numbers of rows, EVENTS other numbers of
-# events, ONLY="pick change" the worlds.
+# LDV names another program than the one of this checkout, SIZES other numbers of rows, EVENTS other numbers
+# of events, ONLY="pick change" the worlds.
 set -eu
 
 here=$(CDPATH='' cd -- "$(dirname "$0")" && pwd -P)

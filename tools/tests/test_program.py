@@ -107,6 +107,16 @@ class Script(InFolder):
         os.remove(os.path.join(self.root, "crates/ldv/src/more.rt"))
         self.run_script("version")
         self.assertEqual(self.builds(), 4)
+        # Another proof makes no other program, and definitions do.
+        self.put_folder("checkout/crates/ldv/proofs/step")
+        self.put("checkout/crates/ldv/proofs/step/Answers.antt", "")
+        self.assertEqual((self.run_script("version"), self.builds()), ((0, b"built\n", ""), 4))
+        self.put_folder("checkout/crates/ldv/specs")
+        self.put("checkout/crates/ldv/specs/Lib.antt", "")
+        self.run_script("version")
+        self.assertEqual(self.builds(), 5)
+        self.put("checkout/crates/ldv/proofs/step/Answers.antt", "another")
+        self.assertEqual((self.run_script("version"), self.builds()), ((0, b"built\n", ""), 5))
         self.assertEqual(os.listdir(self.env["TMPDIR"]), [])
 
     def test_other_program(self):
@@ -183,9 +193,8 @@ class Script(InFolder):
     def test_terminal(self):
         """On a terminal wrong words get a second line, and a file's name another one."""
         self.run_script("version")
-        self.assertEqual(self.on_terminal("walk"),
-                         "ldv: usage\nldv: the words are in the manual page: man -l "
-                                                   f"{self.root}/docs/ldv.1\n")
+        self.assertEqual(self.on_terminal("walk"), "ldv: usage\nldv: the words are in the manual page: "
+                                                   f"man -l {self.root}/docs/ldv.1\n")
         self.put("world.json", "")
         self.assertEqual(self.on_terminal("walk", "world.json"),
                          "ldv: usage\nldv: world.json is a file, and the input comes "
