@@ -97,6 +97,18 @@ class CsvFiles(InFolder):
         self.assertEqual(table["columns"], [["a", "INT"], ["b", "TEXT"], ["c", "TEXT"]])
         self.assertEqual(table["rows"], [[1, 'says "hi"', None], [2, "", "x\ty\nz\\n"], [3, '"open', None]])
 
+    def test_duckdb(self):
+        """A table as DuckDB's documentation says that COPY .. (HEADER, NULLSTR 'NULL') writes it."""
+        text = ('id,ok,dose,day,note\n1,true,2.50,2024-01-15,"says ""hi"", twice"\n2,false,NULL,NULL,\n'
+                '3,NULL,10.00,2024-02-01,NULL\n4,true,-0.05,2024-02-29,"a\nb"\n')
+        table = self.table(text, "--null", "NULL", "--empty", "t.note=text", "--key", "t=id",
+                           "--scale", "t.dose=2")
+        self.assertEqual(table["columns"], [["id", "INT NOT NULL"], ["ok", "TEXT"], ["dose", "INT"],
+                                            ["day", "TEXT"], ["note", "TEXT"]])
+        self.assertEqual(table["rows"], [[1, "true", 250, "2024-01-15", 'says "hi", twice'],
+                                         [2, "false", None, None, ""], [3, None, 1000, "2024-02-01", None],
+                                         [4, "true", -5, "2024-02-29", "a\nb"]])
+
     def test_tidy(self):
         """Headers that aren't names are named at once, and made names on demand."""
         text = "Pat.Nr;Größe (cm);Dose;Dose;order;;2nd\n1;2;3;4;5;6;7\n"
