@@ -111,7 +111,7 @@ def mutate_run(rng, runs):
     elif how == 5 and here['count'] > 1:
         # The same events, in a run that could be longer.
         count = rng.randrange(1, here['count'])
-        later = {**here['first'], 'step': here['first']['step'] + count * here['stride']}
+        later = {**here['first'], 'step': (here['first']['step'] + count * here['stride']) % WORD}
         runs[at:at + 1] = [{**here, 'count': count, 'stride': here['stride'] if count > 1 else 0},
                            run_of(later, here['count'] - count, here['stride'])]
     elif how == 6:

@@ -377,7 +377,7 @@ def spell_file(f):
 
 
 KINDS = {'INT': 1, 'TEXT': 2, 'INT NOT NULL': 3, 'TEXT NOT NULL': 4}
-REASONS = {'L': 1, 'H': 2, 'K': 3}
+REASONS = {'L': 1, 'H': 2, 'K': 3, 'P': 4, 'C': 5}
 
 
 def spell_column(c):

@@ -213,6 +213,10 @@ class HostileInputs(InFolder):
             self.assertEqual(list(read_package(other).events), list(read_package(given).events))
             self.assertEqual(hostile_packages.in_other_version(other), given)
         self.assertEqual(hostile_packages.in_other_version(b"LDVPACK1"), b"LDVPACK1")
+        # What only a program with foreign keys takes for a package.
+        rule = {"trace.1.reads.0.rows.0.rule": 4, "trace.1.reads.0.rows.1.rule": 5, "tables.0.rows.0.rule": 4}
+        given = packages.encode(packages.changed("rows", rule))
+        self.assertEqual(hostile_packages.in_other_version(hostile_packages.in_other_version(given)), given)
 
     def test_migrated(self):
         """What `migrate` wrote is judged by its version, by what it becomes again and by its replay."""
