@@ -3,10 +3,11 @@
 
     engine.py LDV FOLDER [--sizes N,..] [--cases NAME,..] [--runs N]
 
-LDV is the program and FOLDER a place for worlds and outcomes. For each case and each number of rows a world is
-made, with a script that asks the case's statements, and one whose script only ends: what `ldv run` takes for it
-is the load. Beside it a child process loads the same rows into a database of sqlite3 in memory, asks the same
-statements and takes all their rows. A case is refused where the two didn't find as many rows with the same sum.
+LDV is the program and FOLDER a place for worlds and outcomes. For each case and each number of rows a world
+is made, with a script that asks the case's statements, and one whose script only ends: what `ldv run` takes
+for it is the load. Beside it a child process loads the same rows into a database of sqlite3 in memory, asks
+the same statements and takes all their rows. A case is refused where the two didn't find as many rows with
+the same sum.
 
 Seconds are the least and MiB the greatest of some runs. `load` is in `all` for both.
 """
@@ -159,7 +160,8 @@ def best(words, source, target, runs):
 
 
 def measure_ldv(ldv, folder, case, size, runs):
-    """Seconds of all and of the load, MiB of all and of the load, and what was found; None where it isn't run yet."""
+    """Seconds of all and of the load, MiB of all and of the load, and what was found;
+    None where it isn't run yet."""
     tables, statements = CASES[case]
     world, outcome = os.path.join(folder, 'world'), os.path.join(folder, 'outcome')
     write_world(world, 'exit 0', tables, size)
@@ -199,7 +201,8 @@ def load(database, tables, size):
     database.execute('BEGIN')
     for name in sorted(tables):
         columns = TABLES[name][0]
-        kinds = [f'{columns[0]} INTEGER NOT NULL PRIMARY KEY'] + [f'{column} INTEGER' for column in columns[1:]]
+        kinds = [f'{columns[0]} INTEGER NOT NULL PRIMARY KEY'] + [f'{column} INTEGER'
+                                                                  for column in columns[1:]]
         database.execute(f'CREATE TABLE {name} ({", ".join(kinds)})')
         marks = ', '.join('?' * len(columns))
         database.executemany(f'INSERT INTO {name} VALUES ({marks})', rows_of(name, size))
@@ -255,14 +258,16 @@ def show(case, size, ours, theirs):
           f' {ratio(total, their_total):7.2f} {ratio(asked, their_asked):7.2f}', flush=True)
 
 
-HEAD = (f'{"":12s} {"":8s} {"ldv":>8s} {"":8s} {"":8s} {"":8s} {"":8s} {"sqlite3":>8s} {"":8s} {"":8s} {"":8s}'
+HEAD = (f'{"":12s} {"":8s} {"ldv":>8s} {"":8s} {"":8s} {"":8s} {"":8s} {"sqlite3":>8s} {"":8s} {"":8s} '
+        f'{"":8s}'
         f' {"ratio":>7s}\n'
         f'{"case":12s} {"rows":>8s} {"all":>8s} {"load":>8s} {"asked":>8s} {"MiB":>8s} {"of load":>8s}'
         f' {"all":>8s} {"load":>8s} {"asked":>8s} {"MiB":>8s} {"all":>7s} {"asked":>7s}')
 
 
 def arguments(words):
-    parser = argparse.ArgumentParser(description=__doc__, formatter_class=argparse.RawDescriptionHelpFormatter)
+    parser = argparse.ArgumentParser(description=__doc__,
+                                     formatter_class=argparse.RawDescriptionHelpFormatter)
     parser.add_argument('ldv')
     parser.add_argument('folder')
     parser.add_argument('--sizes', default=','.join(map(str, SIZES)))

@@ -3,10 +3,10 @@
 
 usage: figures.py [--from FILE] BENCH..
 
-For each BENCH, such as inspect.sh, it is run, or FILE has what it printed, and the first indented block below the
-heading `### BENCH` is replaced. A comment there that begins with `<!-- BENCH isn't run yet` is taken away; where there
-is no block, it is replaced. What the page says about the numbers is written by hand. LDV and the other settings of a
-bench go with it.
+For each BENCH, such as inspect.sh, it is run, or FILE has what it printed, and the first indented block below
+the heading `### BENCH` is replaced. A comment there that begins with `<!-- BENCH isn't run yet` is taken
+away; where there is no block, it is replaced. What the page says about the numbers is written by hand. LDV
+and the other settings of a bench go with it.
 """
 import argparse
 import os

@@ -4,25 +4,26 @@
     hostile.py PROGRAM [--count N] [--seed S] [--jobs J] [--memory MIB] [--seconds T] [--keep FOLDER]
                [--commands NAME,..] [--modes included,excluded]
 
-The inputs are made by mutation of those of the cases in crates/conformance/data and of the documents in examples/:
-bytes of documents, their JSON values, lines of their scripts, bytes of packages with a digest that is right again, and
-words. Each call has 8 MiB of stack, MIB MiB of memory (default 512) and T seconds (default 20). An answer is as it
-has to be where
+The inputs are made by mutation of those of the cases in crates/conformance/data and of the documents in
+examples/: bytes of documents, their JSON values, lines of their scripts, bytes of packages with a digest that
+is right again, in their version and in the other one, runs of their traces, and words. Each call has 8 MiB of
+stack, MIB MiB of memory (default 512) and T seconds (default 20). An answer is as it has to be where
 
-- the status is one that docs/COMMANDS.md gives for the command, or 2 where the words are none, and no signal ended the
-  program;
-- with status 0 there is an output, which only `inspect rows` and `inspect depends` may leave empty, and no message, else
-  no output and one line of a message;
-- a world that `run` runs is recorded and replayed to the very bytes that `run` wrote, or the package is too long.
+- the status is one that docs/COMMANDS.md gives for the command, or 2 where the words are none, and no signal
+  ended the program;
+- with status 0 there is an output, which only `inspect rows` and `inspect depends` may leave empty, and no
+  message, else no output and one line of a message;
+- a world that `run` runs is recorded and replayed to the very bytes that `run` wrote, or the package is too
+  long;
+- what `migrate` writes is of version 2, is written again as it is, and is replayed as its input is.
 
-It prints the number of answers by command and status, and ends with status 1 where one isn't as it has to be; that
-input lies in FOLDER then (default: hostile_inputs). The inputs depend on these words and on the packages that the
-program records of worlds that aren't mutated, and not on its other answers.
+It prints the number of answers by command and status, and ends with status 1 where one isn't as it has to be;
+that input lies in FOLDER then (default: hostile_inputs). The inputs depend on these words and on the packages
+that the program records of worlds that aren't mutated, and not on its other answers.
 """
 import argparse
 import collections
 import glob
-import hashlib
 import json
 import multiprocessing
 import os
@@ -34,9 +35,10 @@ import sys
 import tempfile
 import time
 
+from hostile_packages import EDGES, in_other_version, mutated_bytes, mutated_package
+
 HERE = os.path.dirname(os.path.abspath(__file__))
 ROOT = os.path.dirname(HERE)
-DIGEST_LENGTH = 32
 LONGEST = 200_000
 
 STATUSES = {
@@ -46,16 +48,17 @@ STATUSES = {
     'audit': {0, 7, 8, 10, 12},
     'table': {0, 7, 8, 10},
     'inspect': {0, 8, 10},
+    'migrate': {0, 8, 12},
 }
 USAGE, NO_MEMORY = 2, 11
 # The words whose output may be empty.
 MAY_BE_EMPTY = (['inspect', 'rows'], ['inspect', 'depends'])
-EDGES = [0, 1, 2, 255, 256, 65535, 65536, 2**31 - 1, 2**31, 2**32 - 1, 2**32, 2**63 - 1, 2**63, 2**64 - 1, 2**64]
-TEXTS = ['', 'a', 'main', "'", '"', '\\', '\n', '\0', '?', '*', '--', 'é', '\U0001f600', ' ' * 70, 'x' * 65537]
-SQL = ['SELECT', 'FROM', 'WHERE', 'GROUP BY', 'HAVING', 'ORDER BY', 'LIMIT', 'UNION', 'UNION ALL', 'JOIN', 'ON',
-       'DISTINCT', 'AS', 'AND', 'OR', 'NOT', 'IS NULL', 'NULL', 'COUNT(*)', 'SUM(a)', 'MIN(b)', '(', ')', ',', '*',
-       '=', '<>', '<=', '?', "''", "'x'", '0', '-1', '9223372036854775808', 'INSERT INTO', 'VALUES', 'UPDATE', 'SET',
-       'DELETE', 't', 'a', 'b', 't.a']
+TEXTS = ['', 'a', 'main', "'", '"', '\\', '\n', '\0', '?', '*', '--', 'é', '\U0001f600', ' ' * 70,
+         'x' * 65537]
+SQL = ['SELECT', 'FROM', 'WHERE', 'GROUP BY', 'HAVING', 'ORDER BY', 'LIMIT', 'UNION', 'UNION ALL', 'JOIN',
+       'ON', 'DISTINCT', 'AS', 'AND', 'OR', 'NOT', 'IS NULL', 'NULL', 'COUNT(*)', 'SUM(a)', 'MIN(b)', '(',
+       ')', ',', '*', '=', '<>', '<=', '?', "''", "'x'", '0', '-1', '9223372036854775808', 'INSERT INTO',
+       'VALUES', 'UPDATE', 'SET', 'DELETE', 't', 'a', 'b', 't.a']
 
 STATEMENT = re.compile(r'sql [a-z]+ "([^"\\]+)"')
 
@@ -83,50 +86,6 @@ def corpus():
         if len(data) <= LONGEST:
             good.append(data)
     return good, documents, sound, packages
-
-
-# ---- bytes
-
-def mutated_bytes(rng, data):
-    """The bytes with some places changed, cut, doubled or moved."""
-    data = bytearray(data)
-    for _ in range(rng.choice((1, 1, 1, 2, 3, 8))):
-        if not data:
-            data = bytearray(rng.randbytes(rng.randrange(64)))
-        at = rng.randrange(len(data) + 1)
-        span = rng.choice((1, 1, 2, 4, 8, 30))
-        how = rng.randrange(8)
-        if how == 0:
-            data[at:at + 1] = bytes([rng.randrange(256)])
-        elif how == 1:
-            data[at:at + 1] = bytes([data[at] ^ 1 << rng.randrange(8)]) if at < len(data) else b'\xff'
-        elif how == 2:
-            del data[at:at + span]
-        elif how == 3:
-            data[at:at] = data[at:at + span]
-        elif how == 4:
-            width = rng.choice((1, 4, 8))
-            data[at:at + width] = (rng.choice(EDGES) % 256**width).to_bytes(width, 'big')
-        elif how == 5:
-            data[at:at] = rng.randbytes(span)
-        elif how == 6:
-            other = rng.randrange(len(data) + 1)
-            data[at:at] = data[other:other + span]
-        else:
-            del data[at:]
-    return bytes(data)
-
-
-def with_digest(data):
-    """The package with the digest that its other bytes have."""
-    body = data[:-DIGEST_LENGTH]
-    return body + hashlib.sha256(body).digest()
-
-
-def mutated_package(rng, data):
-    if len(data) <= DIGEST_LENGTH or rng.random() < 0.05:
-        return mutated_bytes(rng, data)
-    return with_digest(mutated_bytes(rng, data[:-DIGEST_LENGTH]) + bytes(DIGEST_LENGTH))
 
 
 # ---- documents
@@ -188,10 +147,10 @@ def edge_value(rng):
 
 def script_line(rng):
     return rng.choice((
-        'let x = 1', 'let x = x + 1', 'let x = x ++ "a"', 'let x = int arg1', 'cut x y x ","', 'print "hi"', 'print x',
-        'exit 3', 'a:', 'goto a', 'if x < 3 goto a', 'spawn p "main" else a', 'wait x p', 'open f r "q" else a',
-        'open f %s "q" else a' % rng.choice('wan'), 'readline x f else a', 'write f x', 'copy f f', 'close f',
-        'remove "q" else a', 'exists x "q"',
+        'let x = 1', 'let x = x + 1', 'let x = x ++ "a"', 'let x = int arg1', 'cut x y x ","', 'print "hi"',
+        'print x', 'exit 3', 'a:', 'goto a', 'if x < 3 goto a', 'spawn p "main" else a', 'wait x p',
+        'open f r "q" else a', 'open f %s "q" else a' % rng.choice('wan'), 'readline x f else a', 'write f x',
+        'copy f f', 'close f', 'remove "q" else a', 'exists x "q"',
         'sql r "%s"' % ' '.join(rng.choice(SQL) for _ in range(rng.randrange(1, 12))),
         'fetch r x y else a', 'count x r', 'status x r', rng.choice(TEXTS)))
 
@@ -280,19 +239,28 @@ def words_of(rng, name):
     if name == 'record' and rng.random() < 0.5:
         words.append('--excluded')
     if name == 'table':
-        words += [rng.choice(('t', 'a', 'p', 'orders', 'order', 'missing')), str(rng.choice((0, 1, 2, 3, 10, 10_000_000)))]
+        words += [rng.choice(('t', 'a', 'p', 'orders', 'order', 'missing')),
+                  str(rng.choice((0, 1, 2, 3, 10, 10_000_000)))]
     if name == 'inspect':
         words += rng.choice((['rows'], ['files'], ['trace'], ['why', 't', '0'], ['why', 't', '4294967294'],
                              ['depends', 'main'], ['depends', 'q'], ['depends', 'f']))
-    elif rng.random() < 0.7:
+    elif name != 'migrate' and rng.random() < 0.7:
         words += ['--steps', str(rng.choice((1, 2, 10, 1000, 50_000)))]
     # The name of a table is no reserved word.
     right = name in STATUSES and words[:2] != ['table', 'order']
     if rng.random() < 0.02:
         # None of these makes another command of a command.
-        words.insert(rng.randrange(len(words) + 1), rng.choice(('', '--', '--steps', '01', '-1', 'run', 'x' * 5000)))
+        words.insert(rng.randrange(len(words) + 1),
+                     rng.choice(('', '--', '--steps', '01', '-1', 'run', 'x' * 5000)))
         right = False
     return words, right
+
+
+def package_input(rng, data):
+    """A package that is made another one; now and then one as it is, in its version or in the other one."""
+    if rng.random() < 0.05:
+        return data if rng.random() < 0.5 else in_other_version(data)
+    return mutated_package(rng, data)
 
 
 # ---- one call
@@ -353,6 +321,20 @@ def replays(calls, data, outcome, mode):
     return None
 
 
+def migrates(calls, data, package):
+    """What isn't as it has to be in what `migrate` wrote, or None."""
+    if not package.startswith(b'LDVPACK2'):
+        return 'what migrate wrote is no package of version 2'
+    answers = [calls.call(['migrate'], package), calls.call(['replay'], data),
+               calls.call(['replay'], package)]
+    if any(status in (None, NO_MEMORY) for status, _, _ in answers):
+        return None
+    again, before, after = answers
+    if again != (0, package, b''):
+        return 'what migrate wrote is migrated to something else (status %r)' % again[0]
+    return None if before == after else 'the replay of what migrate wrote differs (status %r)' % after[0]
+
+
 # ---- many
 
 def work(job):
@@ -370,8 +352,10 @@ def work(job):
             name = rng.choice(names)
             words, right = words_of(rng, name)
             whole = rng.random() < 0.8
-            data = mutated_document(rng, rng.choice(good if whole else documents)) if name in ('run', 'record') \
-                else mutated_package(rng, rng.choice(sound if whole else packages))
+            if name in ('run', 'record'):
+                data = mutated_document(rng, rng.choice(good if whole else documents))
+            else:
+                data = package_input(rng, rng.choice(sound if whole else packages))
             if rng.random() < 0.02:
                 name = rng.choice(names)
                 words, right = words_of(rng, name)
@@ -382,6 +366,9 @@ def work(job):
             if not said and answer[0] == 0 and words == ['run'] and is_replayed:
                 said = replays(calls, data, answer[1], mode)
                 counts['run, record, replay', 0] += 1
+            if not said and answer[0] == 0 and words == ['migrate'] and is_replayed:
+                said = migrates(calls, data, answer[1])
+                counts['migrate, replay', 0] += 1
             counts[words[0] if words and words[0] in STATUSES else 'other', answer[0]] += 1
             if said:
                 os.makedirs(keep, exist_ok=True)
@@ -393,7 +380,8 @@ def work(job):
 
 
 def main(words=None):
-    parser = argparse.ArgumentParser(description=__doc__, formatter_class=argparse.RawDescriptionHelpFormatter)
+    parser = argparse.ArgumentParser(description=__doc__,
+                                     formatter_class=argparse.RawDescriptionHelpFormatter)
     parser.add_argument('program')
     parser.add_argument('--count', type=int, default=10_000)
     parser.add_argument('--seed', type=int, default=1)
@@ -417,7 +405,8 @@ def main(words=None):
     # One folder for those of the jobs: it goes away also where they are ended from outside.
     with tempfile.TemporaryDirectory(dir='/dev/shm' if os.path.isdir('/dev/shm') else None) as folder, \
             multiprocessing.Pool(given.jobs, maxtasksperchild=1) as pool:
-        jobs = [(os.path.abspath(given.program), limits, given.seed * 1_000_003 + n, share, given.keep, names, folder)
+        jobs = [(os.path.abspath(given.program), limits, given.seed * 1_000_003 + n, share, given.keep, names,
+                 folder)
                 for n, share in enumerate(shares)]
         for more, complaints in pool.imap_unordered(work, jobs):
             counts.update(more)

@@ -1,6 +1,6 @@
 #!/bin/sh
-# Gives the program inputs made by mutation (hostile.py says which), and counts the answers that aren't as they have to
-# be.
+# Gives the program inputs made by mutation (hostile.py says which), and counts the answers that aren't as
+# they have to be.
 #
 #     bench/hostile.sh [--count N] [--seed S] [--jobs J] ...
 #

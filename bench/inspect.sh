@@ -10,8 +10,8 @@
 #            the program `sqlite3`, in memory, where that is installed: with rows that are made by SQL, and with rows
 #            that are imported from CSV. It ends with an error where the two don't find the same. At most 1.0 is aimed at
 #
-# package_worlds.py makes the worlds. LDV names another program than the one of this checkout, SIZES other numbers of
-# events and rows, ONLY="depends table" some of the three, NUMBERS other N of gen.
+# package_worlds.py makes the worlds. LDV names another program than the one of this checkout, SIZES other
+# numbers of events and rows, ONLY="depends table" some of the three, NUMBERS other N of gen.
 set -eu
 
 here=$(CDPATH='' cd -- "$(dirname "$0")" && pwd -P)
@@ -49,7 +49,8 @@ depends() {
     done
 }
 
-# usage: show_table WHAT; a line of the table, with the seconds and the memory as multiples of those of replay.
+# usage: show_table WHAT; a line of the table, with the seconds and the memory as multiples of those of
+# replay.
 show_table() {
     awk -v name="$name" -v rows="$rows" -v what="$1" -v s="$seconds" -v m="$memory" -v rs="$of_replay" \
         -v rm="$memory_of_replay" -v bytes="$(wc -c <"$work/out")" 'BEGIN {
@@ -75,7 +76,8 @@ table() {
     done
 }
 
-# usage: make_sql N; files for the program sqlite3: the tables made by SQL, imported from CSV, and the script over them.
+# usage: make_sql N; files for the program sqlite3: the tables made by SQL, imported from CSV, and the script
+# over them.
 make_sql() {
     cat >"$work/tables.sql" <<'SQL'
 CREATE TABLE customers (id INTEGER NOT NULL PRIMARY KEY, name TEXT NOT NULL);

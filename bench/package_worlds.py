@@ -6,8 +6,8 @@ usage: package_worlds.py NAME SIZE
 Worlds of one table with SIZE rows, each with an id, a number below 100 and a text:
 
     pick        one SELECT, by an equality that picks one row of a hundred
-    change      three processes that take turns: one inserts 100 rows, one by one, one updates a hundredth of the rows
-                and deletes another, one writes counts of groups to a file
+    change      three processes that take turns: one inserts 100 rows, one by one, one updates a hundredth of
+                the rows and deletes another, one writes counts of groups to a file
     groups      one SELECT with sums over all rows, in 100 groups
 
 Worlds whose run has about SIZE events. The last event is that `out` is opened for writing:
@@ -15,6 +15,8 @@ Worlds whose run has about SIZE events. The last event is that `out` is opened f
     files       each turn reads the file that the turn before made, and makes another
     one         each turn tests the same file
     rows        each turn updates one of 1,000 rows
+    loop        after a SELECT of one row each turn tests the same file a thousand times. 9,980,004 events
+                take 9,999,963 steps, and a run has at most 10,000,000
 """
 import json
 import sys
@@ -75,8 +77,20 @@ if n < {turns} goto next
 open g w "out" else end
 end:
 """
-# The events of a turn, and beside the turns: Started, Ended, and the last.
-EVENTS = {"files": (2, 4), "one": (1, 3), "rows": (1, 3)}
+LOOP = """let n = 0
+sql q "SELECT v FROM t WHERE k = 7"
+next:
+{tests}let n = n + 1
+if n < {turns} goto next
+open g w "out" else end
+end:
+"""
+TESTS = 1000
+TEST = 'exists y "main"\n'
+# The events of a turn, and beside the turns: Started, Ended, and the last; of the loop also its statement.
+EVENTS = {"files": (2, 4), "one": (1, 3), "rows": (1, 3), "loop": (TESTS, 4)}
+# Those with a table.
+WITH_TABLE = ("rows", "loop")
 
 
 def change(size):
@@ -92,15 +106,17 @@ def parts(size):
 
 
 def counters():
-    return {"columns": [["k", "INT NOT NULL"], ["v", "INT"]], "key": ["k"], "rows": [[n, 0] for n in range(1000)]}
+    return {"columns": [["k", "INT NOT NULL"], ["v", "INT"]], "key": ["k"],
+            "rows": [[n, 0] for n in range(1000)]}
 
 
 def made(name, size):
     """The files and the tables of a world."""
     if name in EVENTS:
         each, beside = EVENTS[name]
-        text = {"files": FILES, "one": ONE, "rows": ROWS}[name].format(turns=max(1, (size - beside) // each))
-        return {"main": text}, {"t": counters()} if name == "rows" else {}
+        script = {"files": FILES, "one": ONE, "rows": ROWS, "loop": LOOP}[name]
+        text = script.format(turns=max(1, (size - beside) // each), tests=TEST * TESTS)
+        return {"main": text}, {"t": counters()} if name in WITH_TABLE else {}
     return {"pick": PICK, "groups": GROUPS}.get(name) or change(size), {"t": parts(size)}
 
 
@@ -110,4 +126,5 @@ def main():
     json.dump({"start": ["main"], "files": files, "tables": tables}, sys.stdout, separators=(",", ":"))
 
 
-main()
+if __name__ == "__main__":
+    main()

@@ -3,13 +3,14 @@
 
     refused.py PROGRAM SHIM [--world FILE] [--jobs J]
 
-Each command is run over a world (default: examples/orders.json) or its packages, first with nothing refused, to count
-its requests of memory, then once for each of them with that one refused. Each such answer has to be `ldv: out of memory`
-with status 11 and no output, or the very answer with nothing refused, where less memory does as well. SHIM is refuse.c
-as a shared library. `table` and `inspect why` are run where the package of the world has a row.
+Each command is run over a world (default: examples/orders.json) or its packages, first with nothing refused,
+to count its requests of memory, then once for each of them with that one refused. Each such answer has to be
+`ldv: out of memory` with status 11 and no output, or the very answer with nothing refused, where less memory
+does as well. SHIM is refuse.c as a shared library. `table` and `inspect why` are run where the package of the
+world has a row.
 
-It prints the number of requests by command, how many of them the command did without, and how many answers are others;
-it ends with status 1 where there are such, or where no request was counted.
+It prints the number of requests by command, how many of them the command did without, and how many answers
+are others; it ends with status 1 where there are such, or where no request was counted.
 """
 import argparse
 import concurrent.futures
@@ -34,7 +35,8 @@ class Program:
         self.path, self.shim, self.folder = path, shim, folder
 
     def call(self, words, data, refused=0, count=''):
-        """Status, output and message, where the request of that number is refused. No status: no answer in time."""
+        """Status, output and message, where the request of that number is refused.
+        No status: no answer in time."""
         try:
             done = subprocess.run([self.path, *words], input=data, capture_output=True, timeout=SECONDS,
                                   env=dict(LD_PRELOAD=self.shim, REFUSE_AT=str(refused), REFUSE_COUNT=count))
@@ -87,7 +89,8 @@ def items_of(package):
 
 
 def main(words=None):
-    parser = argparse.ArgumentParser(description=__doc__, formatter_class=argparse.RawDescriptionHelpFormatter)
+    parser = argparse.ArgumentParser(description=__doc__,
+                                     formatter_class=argparse.RawDescriptionHelpFormatter)
     parser.add_argument('program')
     parser.add_argument('shim')
     parser.add_argument('--world', default=os.path.join(HERE, '../examples/orders.json'))

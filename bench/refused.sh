@@ -1,6 +1,6 @@
 #!/bin/sh
-# Refuses the program its memory, one request at a time (refused.py says how), and counts the answers that aren't
-# `out of memory`.
+# Refuses the program its memory, one request at a time (refused.py says how), and counts the answers that
+# aren't `out of memory`.
 #
 #     bench/refused.sh [--world FILE] [--jobs J]
 #

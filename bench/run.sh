@@ -1,8 +1,8 @@
 #!/bin/sh
-# How fast the proved program runs scripts, beside the same programs in Python with sqlite3: a loop of 9 million
-# steps; 300,000 INSERTs from a loop; a file of 16 MiB that is read line by line, cut and written; 65,000 processes
-# that each write a line, in turn and by a seed; a report over 100,000 orders. It ends with an error where the two
-# don't give the same, or where a run has more steps than it should.
+# How fast the proved program runs scripts, beside the same programs in Python with sqlite3: a loop of 9
+# million steps; 300,000 INSERTs from a loop; a file of 16 MiB that is read line by line, cut and written;
+# 65,000 processes that each write a line, in turn and by a seed; a report over 100,000 orders. It ends with
+# an error where the two don't give the same, or where a run has more steps than it should.
 #
 # LDV names another program than the one of this checkout. DIVIDE=100 makes each size a hundredth, and
 # ONLY="loop lines" names the runs to make.

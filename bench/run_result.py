@@ -1,5 +1,6 @@
 #!/usr/bin/env python3
-"""Prints what the first process of an outcome printed, and then each file that it has. usage: run_result.py OUTCOME"""
+"""Prints what the first process of an outcome printed, and then each file that it has.
+usage: run_result.py OUTCOME"""
 import os
 import sys
 

@@ -3,8 +3,8 @@
 
 usage: run_worlds.py NAME SIZE SEED FOLDER
 
-Writes FOLDER/world.json, and FOLDER/big where the world has such a file, and prints how many steps the run has.
-NAME is one of
+Writes FOLDER/world.json, and FOLDER/big where the world has such a file,
+and prints how many steps the run has. NAME is one of
 
     loop        a loop of SIZE turns, of two `let` and an `if`
     inserts     SIZE INSERTs from a loop
@@ -90,8 +90,8 @@ def orders(size):
     return {
         "customers": {"columns": [["id", "INT NOT NULL"], ["name", "TEXT NOT NULL"]], "key": ["id"],
                       "rows": customers},
-        "orders": {"columns": [[name, "INT NOT NULL"] for name in ("id", "customer", "amount")], "key": ["id"],
-                   "rows": [[n, n % 10, 7 * n % 100] for n in range(size)]},
+        "orders": {"columns": [[name, "INT NOT NULL"] for name in ("id", "customer", "amount")],
+                   "key": ["id"], "rows": [[n, n % 10, 7 * n % 100] for n in range(size)]},
     }
 
 

@@ -4,18 +4,18 @@
     tools/against_sqlite.py                            100 databases with 40 statements each
     tools/against_sqlite.py --databases 2500           100,000 statements
     tools/against_sqlite.py --seed 7 --databases 1     the same database and statements again
-    tools/against_sqlite.py --program 'CMD ..'         another program that reads a world and writes an outcome
+    tools/against_sqlite.py --program 'CMD ..'         another program that runs a world
 
 Each database becomes a world whose script asks the statements one by one. `ldv run` runs it, and Python's
 `sqlite3` asks the same statements of the same rows. Replies are compared one by one: rows, numbers of changed
-rows, and refusals. After the last statement all tables are asked whole. Where a reply differs, the world is kept
-in a file and the statement is shown.
+rows, and refusals. After the last statement all tables are asked whole. Where a reply differs, the world is
+kept in a file and the statement is shown.
 
 What is left out, as the two don't mean the same there (docs/SQL.md):
 - the order of an answer without ORDER BY, and that of rows whose sorting keys are the same. Rows are then
   compared without their order, and LIMIT stands only where all columns are sorting keys;
-- numbers near the ends of 64 bits: SQLite goes on with floating point, and its SUM fails. Statements are made of
-  numbers for which that is rare, and where it happens the statement is counted as left out;
+- numbers near the ends of 64 bits: SQLite goes on with floating point, and its SUM fails. Statements are made
+  of numbers for which that is rare, and where it happens the statement is counted as left out;
 - an UPDATE of key columns: SQLite judges keys row by row, and not after the statement;
 - which of two refusals an INSERT of several rows meets: SQLite judges row by row;
 - the key that a refusal of code 6 names, which SQLite doesn't tell;
@@ -26,7 +26,6 @@ What is left out, as the two don't mean the same there (docs/SQL.md):
 
 Statuses: 0 no difference; 1 a difference, or a program that failed; 2 wrong words.
 """
-import argparse
 import collections
 import json
 import os
@@ -39,7 +38,7 @@ import sys
 HERE = os.path.dirname(os.path.abspath(__file__))
 ROOT = os.path.dirname(HERE)
 sys.path.insert(0, HERE)
-from ldvtools.errors import Malformed                                        # noqa: E402
+from ldvtools.errors import Malformed, words_of                              # noqa: E402
 from ldvtools.outcomes import read_outcome                                   # noqa: E402
 from ldvtools.scripts_of_statements import escaped                           # noqa: E402
 
@@ -52,8 +51,8 @@ HAVING_ALONE = sqlite3.sqlite_version_info >= (3, 39, 0)
 Column = collections.namedtuple("Column", "name text not_null")
 Table = collections.namedtuple("Table", "name columns key rows")
 Source = collections.namedtuple("Source", "name table")
-# A statement with its parameters. `order` says by which columns of its answer it is sorted, with their directions,
-# and `rows` how many it inserts.
+# A statement with its parameters. `order` says by which columns of its answer it is sorted, with their
+# directions, and `rows` how many it inserts.
 Asked = collections.namedtuple("Asked", "text params order rows", defaults=([], 1))
 
 
@@ -115,7 +114,8 @@ class Maker:
 
     def column(self, scope, text):
         """A column of a kind, with its source, or None where there is none."""
-        found = [(source, column) for source in scope for column in source.table.columns if column.text == text]
+        found = [(source, column) for source in scope for column in source.table.columns
+                 if column.text == text]
         if not found:
             return None
         source, column = self.chance.choice(found)
@@ -193,7 +193,8 @@ class Maker:
         """The text of a core with items of these kinds (True: TEXT)."""
         groups = self.perhaps(0.35)
         distinct = "DISTINCT " if self.perhaps(0.2) else ""
-        # Parameters are counted from left to right. The items come first and are made last, so theirs are kept apart.
+        # Parameters are counted from left to right. The items come first and are made last, so theirs are
+        # kept apart.
         outer, self.params = self.params, []
         scope, sources = self.sources(tables, 1 if groups and self.perhaps(0.5) else 3)
         where = f" WHERE {self.test(scope, 2)}" if self.perhaps(0.6) else ""
@@ -234,7 +235,7 @@ class Maker:
 
     def fold(self, scope):
         """A number of a group. Over a join there is no count, and a sum is of a column."""
-        kind = self.chance.choice(["COUNT(*)", "COUNT", "SUM", "MIN", "MAX"] if len(scope) == 1 else ["SUM", "MIN", "MAX"])
+        kind = self.chance.choice((["COUNT(*)", "COUNT"] if len(scope) == 1 else []) + ["SUM", "MIN", "MAX"])
         if kind == "COUNT(*)":
             return kind
         if kind == "COUNT":
@@ -304,7 +305,8 @@ class Maker:
             values = [self.constant(self.value(table.columns[place]) if self.perhaps(0.9) else None)
                       for place in named]
             tuples.append(f"({', '.join(values)})")
-        return Asked(f"INSERT INTO {table.name}{columns} VALUES {', '.join(tuples)}", self.params, rows=len(tuples))
+        return Asked(f"INSERT INTO {table.name}{columns} VALUES {', '.join(tuples)}", self.params,
+                     rows=len(tuples))
 
     def update(self, tables):
         table = self.chance.choice(tables)
@@ -322,7 +324,8 @@ class Maker:
         return Asked(f"UPDATE {table.name} SET {', '.join(sets)}{where}", self.params)
 
     def shifted(self, scope):
-        """A number for an UPDATE. It adds no two columns: after many such changes numbers would leave 64 bits."""
+        """A number for an UPDATE. It adds no two columns: after many such changes
+        numbers would leave 64 bits."""
         value = self.number_expr(scope, 0)
         if self.perhaps(0.5):
             return value
@@ -357,7 +360,8 @@ def world_of(tables, asked):
         "start": ["main"],
         "files": {"main": "".join(line + "\n" for line in lines)},
         "tables": {table.name: {
-            "columns": [[column.name, ("TEXT" if column.text else "INT") + (" NOT NULL" if column.not_null else "")]
+            "columns": [[column.name, ("TEXT" if column.text else "INT")
+                         + (" NOT NULL" if column.not_null else "")]
                         for column in table.columns],
             "key": [table.columns[place].name for place in table.key],
             "rows": table.rows,
@@ -390,8 +394,8 @@ def opened(tables):
 
 
 def reply_of(base, asked):
-    """What SQLite replies, as `read_outcome` gives replies; of a refusal, its code only. None where a number left
-    64 bits."""
+    """What SQLite replies, as `read_outcome` gives replies; of a refusal, its code only.
+    None where a number left 64 bits."""
     try:
         done = base.execute(asked.text, asked.params)
         if done.description is None:
@@ -477,13 +481,14 @@ def keep(world, folder, seed):
 
 
 def read_words(given):
-    words = argparse.ArgumentParser(prog="against_sqlite.py", description=__doc__,
-                                    formatter_class=argparse.RawDescriptionHelpFormatter)
+    words = words_of("against_sqlite.py", __doc__)
     words.add_argument("--databases", type=int, default=100, metavar="N")
-    words.add_argument("--statements", type=int, default=40, metavar="N", help="of each database (default 40)")
+    words.add_argument("--statements", type=int, default=40, metavar="N",
+                       help="of each database (default 40)")
     words.add_argument("--seed", type=int, default=1, metavar="N", help="of the first database (default 1)")
     words.add_argument("--program", default=os.path.join(ROOT, "ldv") + " run", metavar="'CMD ..'")
-    words.add_argument("--folder", default=".", help="where the world of a difference is kept (default: here)")
+    words.add_argument("--folder", default=".",
+                       help="where the world of a difference is kept (default: here)")
     return words.parse_args(given)
 
 
@@ -497,7 +502,8 @@ def main(given=None):
             return 1
     for (kind, reply), count in sorted(counts.items()):
         print(f"{kind:8} {reply:10} {count:8}")
-    print(f"{sum(counts.values())} statements over {words.databases} databases, SQLite {sqlite3.sqlite_version}: "
+    print(f"{sum(counts.values())} statements over {words.databases} databases, SQLite "
+          f"{sqlite3.sqlite_version}: "
           "no difference")
     return 0
 

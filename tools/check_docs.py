@@ -5,8 +5,8 @@
 
 ROOT is the top of a checkout, by default that of this script. Checked are
 
-- crates.txt: that a crate comes after those that it stands on, that it names each of these in its sources, specs
-  or proofs, and that the folders of crates/ are the crates that it lists;
+- crates.txt: that a crate comes after those that it stands on, that it names each of these in its sources,
+  specs or proofs, and that the folders of crates/ are the crates that it lists;
 - the tables of crates in docs/ARCHITECTURE.md against crates.txt: the crates in their order, what each stands
   on, and the libraries of the kit; and that its entry function and its first definition are where it says;
 - the boxes in docs/ARCHITECTURE.md against the parts of crates.txt;
@@ -15,7 +15,8 @@ ROOT is the top of a checkout, by default that of this script. Checked are
 - each path in a document that begins with a folder of this repository or with a crate, such as
   `crates/ldv_top/specs/Due.antt` or `ldv_top/specs/Due.antt`;
 - the tables of docs/DEFINITIONS.md: that each name is defined in the file of its row;
-- the manual page docs/ldv.1: that it has the commands of docs/COMMANDS.md, and its statuses with their messages.
+- the manual page docs/ldv.1: that it has the commands of docs/COMMANDS.md, and its statuses with their
+  messages.
 
 It prints a line for each difference, and ends with status 1 where there is one.
 """
@@ -130,7 +131,8 @@ def check_list(root, differ):
                 differ.add(CRATES, number, f'{name} names no {use}')
     folders = {f for f in os.listdir(os.path.join(root, 'crates')) if exists(root, f'crates/{f}/src')}
     for name in sorted(folders ^ set(crates)):
-        differ.add(CRATES, 1, f'{name} is ' + ('no crate of the list' if name in folders else 'no folder of crates/'))
+        differ.add(CRATES, 1, f'{name} is '
+                   + ('no crate of the list' if name in folders else 'no folder of crates/'))
 
 
 # ---- the boxes and tables of crates
@@ -257,7 +259,8 @@ def check_paths(root, document, differ):
 # ---- definitions
 
 def check_definitions(root, differ):
-    """A row's names are defined in the file of its last cell, in the folder that its section's heading names."""
+    """A row's names are defined in the file of its last cell,
+    in the folder that its section's heading names."""
     text = read(root, DEFINITIONS)
     folders = {}
     folder = ''
@@ -282,8 +285,8 @@ def check_definitions(root, differ):
 # ---- the manual page
 
 def listed_commands(text):
-    """The words of each command in the tables of words, and each status with its message in those of statuses; both
-    with their line."""
+    """The words of each command in the tables of words,
+    and each status with its message in those of statuses; both with their line."""
     commands, statuses = {}, {}
     for number, cells, head in tables(text):
         if head[0] == 'Words':

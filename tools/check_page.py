@@ -9,21 +9,21 @@ A page is a document with indented blocks such as this one, by default docs/PACK
     $ ./ldv inspect why orders 0 < orders.package
     statement 1 process 0 step 14 rule K
 
-A line that begins with `$ ` is a command, and so is the next line where it ends with a backslash. The lines up to
-the next command or the end of the block are what it writes to standard output and standard error; one may end with
-CR too. A block without such a line is no matter of this program. The commands of a page are run in order by `sh`,
-in a folder of their own that has `ldv`, `tools` and `examples` of this checkout, so that it is as at its top.
+A line that begins with `$ ` is a command, and so is the next line where it ends with a backslash. The lines
+up to the next command or the end of the block are what it writes to standard output and standard error; one
+may end with CR too. A block without such a line is no matter of this program. The commands of a page are run
+in order by `sh`, in a folder of their own that has `ldv`, `tools` and `examples` of this checkout, so that it
+is as at its top.
 
-A table whose head has the cells `Write` and `Reply` has statements in the one and what is replied in the other, each
-reply in brackets row by row, several ones with `;` between them. They are asked of the tables of the CSV files that are
-named before the table.
+A table whose head has the cells `Write` and `Reply` has statements in the one and what is replied in the
+other, each reply in brackets row by row, several ones with `;` between them. They are asked of the tables of
+the CSV files that are named before the table.
 
 --program names another program than crates/ldv/out/ldv to be called as ./ldv. --fill writes what the commands
 write into the page, in place of what it shows.
 
 Statuses: 0 no difference, or filled; 1 a difference, or a program that isn't there; 2 wrong words.
 """
-import argparse
 import os
 import re
 import subprocess
@@ -34,6 +34,7 @@ HERE = os.path.dirname(os.path.abspath(__file__))
 ROOT = os.path.dirname(HERE)
 sys.path.insert(0, HERE)
 from ldvtools import world                                                   # noqa: E402
+from ldvtools.errors import words_of                                         # noqa: E402
 from ldvtools.outcomes import read_outcome                                   # noqa: E402
 from ldvtools.values import cell, reply_title                                # noqa: E402
 
@@ -120,7 +121,8 @@ def filled(page, results):
 # ---- tables of statements
 
 def statement_tables(page):
-    """The tables of statements: the CSV files that they are asked of, and each row as its line, statements and reply."""
+    """The tables of statements: the CSV files that they are asked of, and each row as its line,
+    statements and reply."""
     found, files, write, reply = [], [], None, None
     for number, line in enumerate(page.split("\n"), 1):
         if not line.startswith("|"):
@@ -150,16 +152,12 @@ def asked_world(files, statements):
         words += ["--csv", os.path.join(ROOT, path)]
     for statement in statements:
         words += ["--ask", statement]
-    with tempfile.TemporaryDirectory() as folder:
-        made = os.path.join(folder, "world")
-        if world.main(words + ["-o", made]) != 0:
-            raise SystemExit("check_page.py: no world of the statements of a table")
-        with open(made, "rb") as file:
-            return file.read()
+    return world.document_of(words)
 
 
 def table_differences(page, call):
-    """A line for each row of a table of statements whose reply isn't the one that comes. `call` runs a world."""
+    """A line for each row of a table of statements whose reply isn't the one that comes.
+    `call` runs a world."""
     for files, rows in statement_tables(page):
         asked = [statement for _, statements, _ in rows for statement in statements]
         replies = iter(read_outcome(call(asked_world(files, asked))).processes[0].replies)
@@ -191,13 +189,13 @@ def check(path, program, fill):
     for each in found:
         print(f"{name}, {each}")
     statements = sum(len(rows) for _, rows in statement_tables(page))
-    print(f"{name}: {len(results)} commands" + (f", {statements} statements" if statements else "") + f", {len(found)} differ")
+    print(f"{name}: {len(results)} commands" + (f", {statements} statements" if statements else "")
+          + f", {len(found)} differ")
     return bool(results or statements) and not found
 
 
 def main(words=None):
-    parser = argparse.ArgumentParser(prog="check_page.py", description=__doc__,
-                                     formatter_class=argparse.RawDescriptionHelpFormatter)
+    parser = words_of("check_page.py", __doc__)
     parser.add_argument("pages", nargs="*", default=[PAGE, TUTORIAL], metavar="PAGE")
     parser.add_argument("--program", default=PROGRAM)
     parser.add_argument("--fill", action="store_true")

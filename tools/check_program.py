@@ -4,9 +4,10 @@
     check_program.py PROGRAM [EXAMPLES]
 
 It prints a line for each call that differs and ends with status 1 where one does. What the program does over
-streams in memory is the matter of `crates/conformance`; here are the few calls that only a real process shows:
-its words, its streams, a stream that is closed or full, inputs and runs at the limits, and the examples of the folder
-EXAMPLES (default: examples/ beside tools/), each against the outcome that lies beside it.
+streams in memory is the matter of `crates/conformance`; here are the few calls that only a real process
+shows: its words, its streams, a stream that is closed or full, inputs and runs at the limits, and the
+examples of the folder EXAMPLES (default: examples/ beside tools/), each against the outcome that lies beside
+it.
 """
 import hashlib
 import json
@@ -74,10 +75,12 @@ def packages(check):
         status, package, error = call(check.program, words, HELLO)
         check.same(' '.join(words), (status, b'', error), (0, b'', b''))
         check.expect('replay of what was recorded', ['replay'], package, 0, HELLO_OUTCOME)
-        check.expect('a package cut by its last byte', ['replay'], package[:-1], 8, error=b'ldv: damaged: digest\n')
+        check.expect('a package cut by its last byte', ['replay'], package[:-1], 8,
+                     error=b'ldv: damaged: digest\n')
         check.expect('another first byte', ['replay'], b'l' + package[1:], 8, error=b'ldv: damaged: magic\n')
         check.expect('a report', ['inspect', 'trace'], package, 0, b'0 0 started main\n2 0 ended 0\n')
-        check.expect('a table that is not there', ['table', 't', '0'], package, 10, error=b'ldv: no such item\n')
+        check.expect('a table that is not there', ['table', 't', '0'], package, 10,
+                     error=b'ldv: no such item\n')
 
 
 def generated(check):
@@ -89,7 +92,8 @@ def generated(check):
 
 def at_the_limits(check):
     too_long = b'ldv: input longer than 67108864 bytes\n'
-    check.expect('an input at the limit', ['run'], b' ' * INPUT_LIMIT, 6, error=b'ldv: not a world: not json\n')
+    check.expect('an input at the limit', ['run'], b' ' * INPUT_LIMIT, 6,
+                 error=b'ldv: not a world: not json\n')
     check.expect('an input past the limit', ['run'], b' ' * (INPUT_LIMIT + 1), 5, error=too_long)
     for magic in (b'LDVPACK1', b'LDVPACK2'):
         noise = (magic + bytes(range(256)) * (INPUT_LIMIT // 256))[:INPUT_LIMIT]
@@ -135,14 +139,17 @@ def runs_at_the_limits(check):
     names = b''.join(process(b'0.%d' % n) for n in range(PROCESS_LIMIT - 1))
     whole = b'outcome %d 0\n' % PROCESS_LIMIT
     check.expect('as many processes as there may be', ['run'],
-                 world({'main': children % (PROCESS_LIMIT - 1), 'w': ''}), 0, whole + process(b'0', 1) + names)
+                 world({'main': children % (PROCESS_LIMIT - 1), 'w': ''}), 0,
+                 whole + process(b'0', 1) + names)
     check.expect('one more is refused', ['run'],
                  world({'main': children % PROCESS_LIMIT, 'w': ''}), 0, whole + process(b'0', 2) + names)
     comments = ('#' + 'c' * 1_022 + '\n') * (FILE_LIMIT // 1_024 - 1)
     script = comments + '#' + 'c' * 1_015 + '\nexit 5\n'
-    check.expect('a script of 16 MiB', ['run'], world({'main': script}), 0, b'outcome 1 0\n' + process(b'0', 5))
+    check.expect('a script of 16 MiB', ['run'], world({'main': script}), 0,
+                 b'outcome 1 0\n' + process(b'0', 5))
     count = world({'main': 'let n = 0\nl:\nlet n = n + 1\nif n < 4999999 goto l\n'})
-    check.expect('10,000,000 steps', ['run', '--steps', '10000000'], count, 0, b'outcome 1 0\n' + process(b'0'))
+    check.expect('10,000,000 steps', ['run', '--steps', '10000000'], count, 0,
+                 b'outcome 1 0\n' + process(b'0'))
     check.expect('a step too many', ['run', '--steps', '9999999'], count, 7,
                  error=b'ldv: not ended after 9999999 steps\n')
 
@@ -151,7 +158,8 @@ def streams(check):
     """A stream that fails is found out only by a real process."""
     read, write = os.pipe()
     os.close(read)
-    check.same('an output that nobody reads', call(check.program, ['run'], HELLO, stdout=write), (4, b'', b'ldv: write fault\n'))
+    check.same('an output that nobody reads', call(check.program, ['run'], HELLO, stdout=write),
+               (4, b'', b'ldv: write fault\n'))
     os.close(write)
     closed = call(check.program, ['run'], HELLO, stdout=None, preexec_fn=lambda: os.close(1))
     check.same('a closed output', closed, (4, b'', b'ldv: write fault\n'))
@@ -159,7 +167,8 @@ def streams(check):
     check.same('a closed input', closed, (3, b'', b'ldv: read fault\n'))
     if os.path.exists('/dev/full'):
         with open('/dev/full', 'wb') as full:
-            check.same('a full output', call(check.program, ['run'], HELLO, stdout=full), (4, b'', b'ldv: write fault\n'))
+            check.same('a full output', call(check.program, ['run'], HELLO, stdout=full),
+                       (4, b'', b'ldv: write fault\n'))
             check.same('a full error stream', call(check.program, [], HELLO, stderr=full), (2, b'', b''))
 
 
@@ -186,13 +195,16 @@ def changed(package, old, new):
 
 
 def recorded_replies(check, folder):
-    """The example pay.json as a package of recorded replies: it has no name in it, and it answers what was asked alone."""
+    """The example pay.json as a package of recorded replies: it has no name in it,
+    and it answers what was asked alone."""
     with open(os.path.join(folder, 'pay.json'), 'rb') as document:
         world = document.read()
     for words, has_name in zip(KINDS, (True, False)):
         status, package, error = call(check.program, words, world)
-        check.same('%s, and whether Ada is in it' % ' '.join(words), (status, b'Ada' in package, error), (0, has_name, b''))
-    for old, new, statement in ((b'> 2 ORDER BY team"', b'> 1 ORDER BY team"', 0), (b'?" 3000', b'?" 3001', 1)):
+        check.same('%s, and whether Ada is in it' % ' '.join(words), (status, b'Ada' in package, error),
+                   (0, has_name, b''))
+    for old, new, statement in ((b'> 2 ORDER BY team"', b'> 1 ORDER BY team"', 0),
+                                (b'?" 3000', b'?" 3001', 1)):
         check.expect('a script that asks something else', ['replay'], changed(package, old, new), 9,
                      error=b'ldv: diverged: process 0 statement %d\n' % statement)
     check.expect('a script that asks nothing', ['replay'], changed(package, b'\nsql ', b'\n### '), 0,

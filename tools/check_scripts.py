@@ -26,7 +26,6 @@ They may begin with `and`, or with `Under seed N it`, which runs the example aga
 tools/world.py makes the worlds, as it would for a reader. Statuses: 0 no difference; 1 a difference, or a
 program that failed; 2 wrong words.
 """
-import argparse
 import os
 import re
 import shlex
@@ -38,14 +37,15 @@ HERE = os.path.dirname(os.path.abspath(__file__))
 ROOT = os.path.dirname(HERE)
 sys.path.insert(0, HERE)
 from ldvtools import world                                                   # noqa: E402
-from ldvtools.errors import Malformed                                        # noqa: E402
+from ldvtools.errors import Malformed, Refused, words_of                     # noqa: E402
 from ldvtools.outcomes import read_outcome                                   # noqa: E402
 
 PAGE = os.path.join(ROOT, "docs", "SCRIPTS.md")
 FILE = re.compile(r"With the (?:file|script) `([^`]+)`(, in hex)?:")
 TABLE = re.compile(r".* the table `(\w+)`, whose key is `(\w+)`:")
 WORDS = re.compile(r"With the start words .*:")
-RESULT = re.compile(r"(?:and |Under seed (?P<seed>\d+) it )?(?:(?P<prints>prints)|ends with status (?P<status>\d+)"
+RESULT = re.compile(r"(?:and |Under seed (?P<seed>\d+) it )?(?:(?P<prints>prints)|ends with status "
+                    r"(?P<status>\d+)"
                     r"|leaves `(?P<file>[^`]+)` with|leaves no `(?P<gone>[^`]+)`)\.?")
 
 
@@ -143,18 +143,15 @@ def put(folder, name, content):
 def document(example, seed, tables):
     """The world of an example, as tools/world.py makes it."""
     with tempfile.TemporaryDirectory() as folder:
-        words = ["--quiet", "--seed", str(seed), "--script", "main=" + put(folder, "script", example.script.encode())]
+        words = ["--quiet", "--seed", str(seed), "--script",
+                 "main=" + put(folder, "script", example.script.encode())]
         for place, (path, content) in enumerate(example.files.items()):
             words += ["--file", f"{path}=" + put(folder, f"file{place}", content)]
         for name, key, rows in tables:
             words += ["--csv", put(folder, f"{name}.csv", rows.encode()), "--key", f"{name}={key}"]
         for argument in example.arguments:
             words += ["--arg", argument]
-        made = os.path.join(folder, "world")
-        if world.main(words + ["-o", made]) != 0:
-            raise Malformed("tools/world.py refuses it")
-        with open(made, "rb") as file:
-            return file.read()
+        return world.document_of(words)
 
 
 def differences(run, outcome):
@@ -182,7 +179,7 @@ def check(page, call):
                 status, output, error = call(document(example, run.seed, tables))
                 found = list(differences(run, output)) if status == 0 else [
                     f"the program ends with {status}: {error.decode(errors='replace').strip()}"]
-            except Malformed as fault:
+            except (Malformed, Refused) as fault:
                 found = [str(fault)]
             differ += bool(found)
             for each in found:
@@ -206,8 +203,7 @@ def write_worlds(page, folder):
 
 
 def main(given=None):
-    words = argparse.ArgumentParser(prog="check_scripts.py", description=__doc__,
-                                    formatter_class=argparse.RawDescriptionHelpFormatter)
+    words = words_of("check_scripts.py", __doc__)
     words.add_argument("--program", default=os.path.join(ROOT, "ldv") + " run", metavar="'CMD ..'")
     words.add_argument("--page", default=PAGE, metavar="FILE")
     words.add_argument("--worlds", metavar="FOLDER")

@@ -3,12 +3,14 @@
 
     tools/check_tools.py [PROGRAM] [TEST ..]
 
-PROGRAM is the compiled ldv, by default crates/ldv/out/ldv of this checkout. Where it isn't there, the tests that run it
-are skipped; one that is given has to be there. TEST is a file of tools/tests, such as test_world, by default all. The
-examples are those of examples/, the tutorial, docs/SCRIPTS.md and docs/PACKAGES.md. What is expected was worked out by
-hand, or comes from SQLite. The types are checked by mypy and the style by ruff, where these are installed.
+PROGRAM is the compiled ldv, by default crates/ldv/out/ldv of this checkout. Where it isn't there, the tests
+that run it are skipped; one that is given has to be there. TEST is a file of tools/tests, such as test_world,
+by default all. The examples are those of examples/, the tutorial, docs/SCRIPTS.md and docs/PACKAGES.md. What
+is expected was worked out by hand, or comes from SQLite. The types are checked by mypy and the style by ruff,
+where these are installed.
 
-At its end it names the tests that were skipped, each with what is missing. Ends with status 1 where a test fails.
+At its end it names the tests that were skipped, each with what is missing.
+Ends with status 1 where a test fails.
 """
 import os
 import sys

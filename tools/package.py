@@ -10,9 +10,11 @@ from ldvtools.packages import read_package
 def Package(data):  # noqa: N802
     """A package in the shape that bench/refused.py takes: events as tuples, tables as dicts."""
     package = read_package(data)
-    events = [(event.step, event.process, event.act, event.path if event.path and event.found is None else None)
+    events = [(event.step, event.process, event.act,
+               event.path if event.path and event.found is None else None)
               for event in package.events]
-    tables = [{"name": table.name, "rows": [((row.number, row.statement, row.rule), row.values) for row in table.rows]}
+    tables = [{"name": table.name,
+               "rows": [((row.number, row.statement, row.rule), row.values) for row in table.rows]}
               for table in package.tables]
     return types.SimpleNamespace(events=events, tables=tables, steps=package.steps)
 

@@ -1,128 +1,86 @@
 #!/usr/bin/env python3
-"""Packages of one version as packages of the other. packages.py says what both are; nothing is taken from the program.
+"""Packages of one version as packages of the other.
+packages.py says what both are; nothing is taken from the program.
 
     python3 tools/package_versions.py 2 <in >out         spells the package on standard input in this version
-    python3 tools/package_versions.py --cases FILE..     in files of cases, a line each, spells each output that is a
-                                                         package in version 2
+    python3 tools/package_versions.py --cases FILE..     in files of cases, a line each, spells each output
+                                                         that is a package in version 2
 
-package_cases.py writes its `migrations`: valid packages of both versions, and the one that `migrate` makes of each.
-No rule of a valid package is tested here: what is read is a package that a run has given, or one of packages.py.
+package_cases.py writes its `migrations`: valid packages of both versions, and the one that `migrate` makes of
+each. No rule of a valid package is tested here: what is read is a package that a run has given, or one of
+packages.py.
 """
 import json
 import sys
 
+from ldvtools.language import KEYED_REFUSALS
+from ldvtools.packages import read_package
 from packages import *
 
-KIND_OF = {number: kind for kind, number in KINDS.items()}
-RULE_OF = {number: rule for rule, number in REASONS.items()}
+
+# ---- what is read, as packages.py describes it
+
+def table_of(each):
+    names = each.names()
+    return table(each.name, [column(*one) for one in each.columns], [names.index(name) for name in each.key],
+                 each.next,
+                 [row(one.number, *one.values, statement=one.statement, rule=one.rule) for one in each.rows],
+                 [foreign([names.index(name) for name in one.columns], one.parent) for one in each.foreign])
 
 
-class Reader:
-    """What is left of bytes."""
-
-    def __init__(self, all):
-        self.all, self.at = all, 0
-
-    def take(self, length):
-        if self.at + length > len(self.all):
-            raise ValueError('the package ends too early')
-        self.at += length
-        return self.all[self.at - length:self.at]
-
-    def number(self, width):
-        return int.from_bytes(self.take(width), 'big')
-
-    def text(self):
-        return self.take(self.number(4)).decode()
-
-    def list(self, width, read_item):
-        return [read_item() for _ in range(self.number(width))]
-
-    def value(self):
-        kind = self.number(1)
-        if kind == 0:
-            return None
-        return int.from_bytes(self.take(8), 'big', signed=True) if kind == 1 else self.text()
-
-    def file(self):
-        path = self.text()
-        return file(path, self.take(self.number(4)) if self.number(1) == 1 else None)
-
-    def column(self):
-        return column(self.text(), KIND_OF[self.number(1)])
-
-    def row(self, columns):
-        number, statement, rule = self.number(4), self.number(4), RULE_OF[self.number(1)]
-        return row(number, *[self.value() for _ in columns], statement=statement, rule=rule)
-
-    def table(self, version):
-        name, columns, key = self.text(), self.list(1, self.column), self.list(1, lambda: self.number(1))
-        if version == 2 and self.number(1) != 0:
-            raise ValueError('a foreign key')
-        following = self.number(4)
-        return table(name, columns, key, following, self.list(4, lambda: self.row(columns)))
-
-    def reply(self):
-        kind = self.number(1)
-        if kind == 1:
-            return dict(rows=self.list(4, lambda: self.list(2, self.value)))
-        if kind == 2:
-            return dict(changed=self.number(8))
-        code = self.number(1)
-        return dict(refused=code, table=self.text(), key=self.list(1, self.value)) if code == 6 else dict(refused=code)
-
-    def entry(self):
-        return entry(self.text(), self.list(2, self.value), self.reply())
-
-    def log(self):
-        return log(self.list(2, lambda: self.number(4)), *self.list(4, self.entry))
-
-    def member(self, reads):
-        number, version = self.number(4), self.number(4)
-        return read(number, version, RULE_OF[self.number(1)]) if reads else made(number, version)
-
-    def group(self, reads):
-        return group(self.text(), *self.list(4, lambda: self.member(reads)))
-
-    def event(self):
-        step, process, name = self.number(4), self.number(4), ACTS[self.number(1)]
-        if name == 'started':
-            return started(self.text(), step, process)
-        if name == 'waited':
-            return waited(self.number(4), step, process)
-        if name == 'ended':
-            return ended(step, process, self.number(1))
-        if name == 'asked':
-            return asked(self.number(4), step, process, self.list(2, self.text), self.list(2, lambda: self.group(True)),
-                         self.list(2, lambda: self.group(False)))
-        path = self.text()
-        return act(name, path, step, process, self.number(1) if name in FLAGGED else 1)
-
-    def run(self):
-        first, count, stride = self.event(), self.number(4), self.number(4)
-        return [{**first, 'step': first['step'] + n * stride} for n in range(count)]
-
-    def trace(self, version):
-        return self.list(4, self.event) if version == 1 else sum(self.list(4, self.run), [])
+def reply_of(each):
+    if each.kind == 'rows':
+        return dict(rows=each.rows)
+    if each.kind == 'changed':
+        return dict(changed=each.changed)
+    taken = dict(table=each.table, key=each.key) if each.code in KEYED_REFUSALS else {}
+    return dict(refused=each.code, **taken)
 
 
-def decode(all):
-    """The package that bytes spell."""
-    reader = Reader(all)
-    version = {magic: version for version, magic in MAGIC.items()}[reader.take(8)]
-    mode, start = reader.number(1), reader.list(2, reader.text)
-    seed, steps, files = reader.number(8), reader.number(4), reader.list(4, reader.file)
-    tables, logs = reader.list(2, lambda: reader.table(version)), reader.list(4, reader.log)
-    p = package(version, mode=mode, start=start, seed=seed, steps=steps, files=files, tables=tables, logs=logs,
-                trace=reader.trace(version))
-    if encode(p) != all:
-        raise ValueError('not a spelling of the package that it seems to be')
-    return p
+def log_of(each):
+    process = [int(part) for part in each.process.split('.')]
+    return log(process, *[entry(one.text, one.params, reply_of(one.reply)) for one in each.entries])
+
+
+def groups_of(groups, member):
+    return [group(name, *[member(*one) for one in members]) for name, members in groups]
+
+
+def event_of(each):
+    name, step, process = ACTS[each.act], each.step, each.process
+    if name == 'started':
+        return started(each.path, step, process)
+    if name == 'waited':
+        return waited(each.number, step, process)
+    if name == 'ended':
+        return ended(step, process, each.number)
+    if name == 'asked':
+        given = each.asked
+        return asked(given.statement, step, process, given.tables, groups_of(given.reads, read),
+                     groups_of(given.made, made))
+    return act(name, each.path, step, process, 1 if each.found is None else int(each.found))
+
+
+def parts_of(found):
+    """A package that was read, with its events one by one."""
+    return package(found.version, mode=1 if found.mode == 'included' else 2, start=found.start,
+                   seed=found.seed, steps=found.steps, files=[file(*each) for each in found.files],
+                   tables=[table_of(each) for each in found.tables],
+                   logs=[log_of(each) for each in found.logs],
+                   trace=[event_of(each) for each in found.events])
+
+
+def spelled(version, found):
+    """A package that was read, spelled in a version."""
+    return encode({**parts_of(found), 'version': version, 'magic': MAGIC[version]})
 
 
 def in_version(version, all):
     """The package that bytes spell, spelled in a version."""
-    return encode({**decode(all), 'version': version, 'magic': MAGIC[version]})
+    found = read_package(all)
+    if spelled(found.version, found) != all:
+        raise ValueError('not a spelling of the package that it seems to be')
+    return spelled(version, found)
 
 
 # ---- cases
@@ -148,8 +106,8 @@ def converted(line):
 
 
 def migration(name, given, output):
-    return {'name': name, 'words': ['migrate'], 'input': member_of(given), 'status': 0, 'output': member_of(output),
-            'error': ''}
+    return {'name': name, 'words': ['migrate'], 'input': member_of(given), 'status': 0,
+            'output': member_of(output), 'error': ''}
 
 
 def migrations():
@@ -159,7 +117,8 @@ def migrations():
             old, new = encode(p), in_version(2, encode(p))
             yield migration('migrate: %s' % name, old, new)
             yield migration('migrate: %s, migrated again' % name, new, new)
-    yield migration('migrate: a file read three times', in_version(1, encode(BASES['loop'])), encode(BASES['loop']))
+    yield migration('migrate: a file read three times', in_version(1, encode(BASES['loop'])),
+                    encode(BASES['loop']))
     yield migration('migrate: a file read three times, in runs', encode(BASES['loop']), encode(BASES['loop']))
 
 

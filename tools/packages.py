@@ -1,10 +1,11 @@
 """Packages as Python structures, and their bytes: written from docs/FORMATS.md and from nothing else.
 
-A package is a dict of its sections. A file without content (None) is present only. Raw bytes may stand in place of any
-field, and a list or text may say another count than it has, so that what is no package can be spelled too.
+A package is a dict of its sections. A file without content (None) is present only. Raw bytes may stand in
+place of any field, and a list or text may say another count than it has, so that what is no package can be
+spelled too.
 
-A package is spelled in version 1 or 2. In version 2 the trace stands in runs, which are the cut of its events or, where
-`runs` is no None, those that it lists.
+A package is spelled in version 1 or 2. In version 2 the trace stands in runs, which are the cut of its events
+or, where `runs` is no None, those that it lists.
 """
 import copy
 import hashlib
@@ -30,8 +31,13 @@ def row(number, *values, statement=0, rule='L'):
     return dict(number=number, statement=statement, rule=rule, values=list(values))
 
 
-def table(name, columns, key=(), next=9, rows=()):
-    return dict(name=name, columns=columns, key=list(key), next=next, rows=list(rows))
+def table(name, columns, key=(), next=9, rows=(), foreign=()):
+    return dict(name=name, columns=columns, key=list(key), next=next, rows=list(rows), foreign=list(foreign))
+
+
+def foreign(columns, parent):
+    """A foreign key: the places of its columns, and the table to whose key they refer."""
+    return dict(columns=list(columns), parent=parent)
 
 
 def log(process, *entries):
@@ -63,8 +69,8 @@ def ended(step=1, process=0, status=0):
 
 
 def asked(statement=0, step=1, process=0, tables=(), reads=(), made=()):
-    return dict(step=step, process=process, act='asked', statement=statement, tables=list(tables), reads=list(reads),
-                made=list(made))
+    return dict(step=step, process=process, act='asked', statement=statement, tables=list(tables),
+                reads=list(reads), made=list(made))
 
 
 def read(row, version=0, rule='L'):
@@ -105,8 +111,8 @@ def cut(events):
 
 # ---- bases
 
-ACTS = ['started', 'spawned', 'unspawned', 'opened read', 'opened write', 'opened append', 'opened new', 'unopened',
-        'read', 'wrote', 'removed', 'tested', 'waited', 'ended', 'asked']
+ACTS = ['started', 'spawned', 'unspawned', 'opened read', 'opened write', 'opened append', 'opened new',
+        'unopened', 'read', 'wrote', 'removed', 'tested', 'waited', 'ended', 'asked']
 FLAGGED = ['unspawned', 'opened append', 'unopened', 'tested']
 
 # How the digest is made of the bytes before it, and what is done to these bytes and to all of them.
@@ -126,7 +132,8 @@ def package(version=1, **parts):
 
 def every_act():
     return [started()] + [act(name, 'f%d' % n, 1 + n // 4) for n, name in enumerate(ACTS[1:12])] + [
-        waited(1, 4), asked(0, 5, 1, ['t', 'u'], [group('t', read(3), read(4, 1, 'H')), group('u', read(0, 0, 'K'))],
+        waited(1, 4),
+        asked(0, 5, 1, ['t', 'u'], [group('t', read(3), read(4, 1, 'H')), group('u', read(0, 0, 'K'))],
                             [group('t', made(3), made(5, 0)), group('v', made(7, 2))]),
         ended(6, 1, 242), ended(9)]
 
@@ -153,7 +160,8 @@ BASES = {
     # a line printed, and a statement that picked the rows 1 and 2 of three
     'picked': package(
         steps=3, files=[file('main', 'print "hi"\nsql q "SELECT * FROM t WHERE v = 2"\n')],
-        tables=[table('t', [column('v'), column('g', 'TEXT')], next=3, rows=[row(1, 2, 'b'), row(2, 2, None)])],
+        tables=[table('t', [column('v'), column('g', 'TEXT')], next=3,
+                      rows=[row(1, 2, 'b'), row(2, 2, None)])],
         trace=[started(), asked(0, 2, tables=['t'], reads=[group('t', read(1), read(2))]), ended(3)],
         output='outcome 1 0\nprocess 0 0 3 1\nhi\n\nrows 2\nrow 2\nint 2\ntext 1\nb\nrow 2\nint 2\nnull\n'),
     # each act, in both versions
@@ -175,8 +183,8 @@ for name in ('rows', 'picked', 'logs'):
 
 
 def changed(base, change):
-    """A copy of a base where each path of the change (`tables.0.next`) has its new value, or what a function makes of
-    the old one."""
+    """A copy of a base where each path of the change (`tables.0.next`) has its new value,
+    or what a function makes of the old one."""
     p = copy.deepcopy(BASES[base])
     for path, new in change.items():
         *way, last = [int(step) if step.isdigit() else step for step in path.split('.')]
@@ -288,17 +296,20 @@ def bytes_in_all(count):
 
 # ---- names, paths and texts that are good, and that just aren't
 
-RESERVED = ('all and as asc by count delete desc distinct from group having inner insert into is join limit max min '
-            'not null on or order select set sum union update values where').split()
-NO_NAMES = [('is empty', ''), ('has 64 bytes', 'a' * 64), ('has an upper-case letter', 'tA'), ('is upper case', 'T'),
-            ('begins with a digit', '1t'), ('has a space', 't '), ('has a minus', 'a-b'), ('has a dot', 'a.b'),
+RESERVED = ('all and as asc by count delete desc distinct from group having inner insert into is join limit '
+            'max min not null on or order select set sum union update values where').split()
+NO_NAMES = [('is empty', ''), ('has 64 bytes', 'a' * 64), ('has an upper-case letter', 'tA'),
+            ('is upper case', 'T'), ('begins with a digit', '1t'), ('has a space', 't '),
+            ('has a minus', 'a-b'), ('has a dot', 'a.b'),
             ('has a letter outside ASCII', 'té'), ('has a quote', 't"'), ('has a zero byte', 't\0'),
             ('has the byte before a', 'a`'), ('has the byte after z', 'a{'), ('has the byte after 9', 'a:')]
-NAMES = [('is one letter', 'a'), ('has 63 bytes', 'a' * 63), ('is an underscore', '_'), ('begins with one', '_1'),
-         ('has a digit', 'a0'), ('ends with z and 9', 'az9'), ('is almost a reserved word', 'selects'),
+NAMES = [('is one letter', 'a'), ('has 63 bytes', 'a' * 63), ('is an underscore', '_'),
+         ('begins with one', '_1'), ('has a digit', 'a0'), ('ends with z and 9', 'az9'),
+         ('is almost a reserved word', 'selects'),
          ('is reserved elsewhere', 'left'), ('is a kind', 'text')]
 NO_PATHS = [('is empty', ''), ('has 256 bytes', 'f' * 256), ('has 256 bytes and 128 letters', 'é' * 128),
-            ('has a zero byte', 'f\0'), ('has a line feed', 'f\n'), ('has byte 31', '\x1ff'), ('has byte 127', 'f\x7f')]
+            ('has a zero byte', 'f\0'), ('has a line feed', 'f\n'), ('has byte 31', '\x1ff'),
+            ('has byte 127', 'f\x7f')]
 PATHS = [('is one byte', '~'), ('has 255 bytes', 'f' * 255), ('is a space', ' '), ('has byte 126', 'f~'),
          ('has a letter of two bytes, the second 128', '\x80'), ('has slashes and dots', '../a//b')]
 NO_UTF8 = [('a lone second byte', b'a\x80'), ('a first byte without a second', b'a\xc3'),
@@ -366,7 +377,7 @@ def spell_file(f):
 
 
 KINDS = {'INT': 1, 'TEXT': 2, 'INT NOT NULL': 3, 'TEXT NOT NULL': 4}
-REASONS = {'L': 1, 'H': 2, 'K': 3}
+REASONS = {'L': 1, 'H': 2, 'K': 3, 'P': 4, 'C': 5}
 
 
 def spell_column(c):
@@ -382,12 +393,16 @@ def spell_row(r):
             + b''.join(map(spell_value, r['values'])))
 
 
-def spell_table(version):
-    """The spelling of a table. Version 2 has the number of its foreign keys, none so far, behind the key."""
+def spell_foreign(f):
+    return spell_list(1, f['columns'], spell_byte) + spell_text(f['parent'])
+
+
+def spell_table(version, spell_row=spell_row):
+    """The spelling of a table. Version 2 has its foreign keys behind the key."""
     def spell(t):
-        foreign = t.get('foreign', b'\0') if version == 2 else b''
+        referring = spell_list(1, t['foreign'], spell_foreign) if version == 2 else b''
         return (spell_text(t['name']) + spell_list(1, t['columns'], spell_column)
-                + spell_list(1, t['key'], spell_byte) + foreign + spell_u32(t['next'])
+                + spell_list(1, t['key'], spell_byte) + referring + spell_u32(t['next'])
                 + spell_list(4, t['rows'], spell_row))
     return spell
 
@@ -460,13 +475,15 @@ def encode(p):
     return p['whole'](body + p['digest'](body))
 
 
-# The worked examples of docs/FORMATS.md without their digests, which the encoder must give for the first base.
+# The worked examples of docs/FORMATS.md without their digests, which the encoder must give for the first
+# base.
 WORKED = ('4c44565041434b31' '01' '0001' '000000046d61696e' '0000000000000000' '00000001' '00000001'
           '000000046d61696e' '01' '00000006657869742030' '0000' '00000000' '00000002' '0000000000000000' '00'
           '000000046d61696e' '0000000100000000' '0d' '00')
 WORKED_RUNS = ('4c44565041434b32' '01' '0001' '000000046d61696e' '0000000000000000' '00000001' '00000001'
-               '000000046d61696e' '01' '00000006657869742030' '0000' '00000000' '00000002' '0000000000000000' '00'
-               '000000046d61696e' '00000001' '00000000' '0000000100000000' '0d' '00' '00000001' '00000000')
+               '000000046d61696e' '01' '00000006657869742030' '0000' '00000000' '00000002' '0000000000000000'
+               '00' '000000046d61696e' '00000001' '00000000' '0000000100000000' '0d' '00' '00000001'
+               '00000000')
 
 
 def check_encoder():
@@ -523,22 +540,16 @@ def due(p, expect):
     return status, '', line
 
 
-RULES = []
-LARGE = []                                  # of packages that are too long to be stored
+class Rules(list):
+    """Rules of a valid package, each with its cases."""
 
+    def rule(self, sentence, base, broken, fine, expect='form'):
+        """What a valid package meets, with the cases that break it and those that don't."""
+        self.append(dict(sentence=sentence, base=base, broken=broken, fine=fine, expect=expect))
 
-def rule(sentence, base, broken, fine, expect='form', among=RULES):
-    """What a valid package meets, with the cases that break it and those that don't."""
-    among.append(dict(sentence=sentence, base=base, broken=broken, fine=fine, expect=expect))
-
-
-def allowed(sentence, base, fine, among=RULES):
-    """What is valid though one might think otherwise."""
-    rule(sentence, base, None, fine, among=among)
-
-
-def large(sentence, base, broken, fine, expect='form'):
-    rule(sentence, base, broken, fine, expect, LARGE)
+    def allowed(self, sentence, base, fine):
+        """What is valid though one might think otherwise."""
+        self.rule(sentence, base, None, fine)
 
 
 def described(rules):
@@ -553,7 +564,8 @@ def described(rules):
 
 def case(name, given, p, expect):
     status, output, error = due(p, expect)
-    return {'name': name, 'words': ['replay'], 'input': given, 'status': status, 'output': output, 'error': error}
+    return {'name': name, 'words': ['replay'], 'input': given, 'status': status, 'output': output,
+            'error': error}
 
 
 def lines(cases):

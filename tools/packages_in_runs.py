@@ -1,15 +1,15 @@
-"""The cases of packages whose traces stand in runs: version 2. package_cases.py writes them, and says what a rule
-is."""
+"""The cases of packages whose traces stand in runs: version 2.
+package_cases.py writes them, and says what a rule is."""
 from packages import *
 
-RUNS = []
+RUNS = Rules()
 EVENTS = 20000001                           # the most events of a trace
 WORD = 2 ** 32                              # the first number that a u32 doesn't hold
 
 
 def in_runs(*runs, steps=9, **others):
-    """The base with these runs, whatever the cut of their events is. The start of the first process stands before them
-    where they begin with another event."""
+    """The base with these runs, whatever the cut of their events is. The start of the first process stands
+    before them where they begin with another event."""
     first = [] if runs and runs[0]['first']['act'] == 'started' else [run(started())]
     return {'steps': steps, 'runs': first + list(runs), **others}
 
@@ -24,7 +24,7 @@ def reading(step, count=1, stride=0, path='f', process=0):
 
 
 def run_rule(sentence, broken, fine, base='plain in runs', expect='form'):
-    rule(sentence, base, broken, fine, expect, RUNS)
+    RUNS.rule(sentence, base, broken, fine, expect)
 
 
 # ---- versions
@@ -76,11 +76,11 @@ run_rule('What stands behind the magic is the spelling of its version.', [
 
 # ---- tables
 run_rule('Behind the key of a table stands the number of its foreign keys, which is 0.', [
-    ('a foreign key said where there is none', {'tables.0.foreign': b'\1'}),
-    ('255 foreign keys said', {'tables.0.foreign': b'\xff'}),
-    ('no number of foreign keys', {'tables.0.foreign': b''}),
-    ('the number of foreign keys twice', {'tables.0.foreign': b'\0\0'}),
-    ('a foreign key of no column', {'tables.0.foreign': b'\1\0\0\0\0\1t'}),
+    ('a foreign key said where there is none', {'tables.0.foreign': Raw(b'\1')}),
+    ('255 foreign keys said', {'tables.0.foreign': Raw(b'\xff')}),
+    ('no number of foreign keys', {'tables.0.foreign': Raw(b'')}),
+    ('the number of foreign keys twice', {'tables.0.foreign': Raw(b'\0\0')}),
+    ('a foreign key of no column', {'tables.0.foreign': Raw(b'\1\0\0\0\0\1t')}),
 ], [
     ('no foreign key', {'seed': 17}), ('no key and no foreign key', {'tables.0.key': []}),
 ], base='rows in runs')
@@ -92,15 +92,17 @@ run_rule('In version 2 the rule of a row is 1 to 3, and a code 1 to 7.', [
     ('version 2: a read by rule 4', {'trace.1.reads.0.rows.1.rule': 4}),
     ('version 2: a read by rule 5', {'trace.1.reads.0.rows.1.rule': 5}),
     ('version 2: a reply of code 0', 'logs in runs', {'logs.0.entries.2.reply': dict(refused=0)}),
-    ('version 2: a reply of code 8', 'logs in runs', {'logs.0.entries.2.reply': dict(refused=8, table='t', key=[])}),
-    ('version 2: a reply of code 9', 'logs in runs', {'logs.0.entries.2.reply': dict(refused=9, table='t', key=[])}),
+    ('version 2: a reply of code 8', 'logs in runs',
+     {'logs.0.entries.2.reply': dict(refused=8, table='t', key=[])}),
+    ('version 2: a reply of code 9', 'logs in runs',
+     {'logs.0.entries.2.reply': dict(refused=9, table='t', key=[])}),
 ], [
     ('version 2: rows by rules 1 and 3', {'tables.0.rows.1.rule': 'K'}),
     ('version 2: a reply of code 7', 'logs in runs', {'logs.0.entries.2.reply': dict(refused=7)}),
 ], base='rows in runs')
 
 # ---- runs
-run_rule('A run begins at the first event that no earlier run has, and is the longest that the list allows.', [
+run_rule('A run begins at the first event that no earlier run has, and is the longest that the list has.', [
     ('three reads as three runs', in_runs(reading(1), reading(3), reading(5))),
     ('three reads as a run and a run of one', in_runs(reading(1, 2, 2), reading(5))),
     ('three reads as a run of one and a run', in_runs(reading(1), reading(3, 2, 2))),
@@ -113,7 +115,8 @@ run_rule('A run begins at the first event that no earlier run has, and is the lo
     ('two spawns as two runs', in_runs(run(spawned(1)), run(spawned(2)))),
     ('two writes of a child as two runs', in_runs(
         run(spawned()), run(act('wrote', step=2, process=1)), run(act('wrote', step=3, process=1)))),
-    ('two tests as two runs', in_runs(run(act('tested', step=1, found=0)), run(act('tested', step=2, found=0)))),
+    ('two tests as two runs', in_runs(run(act('tested', step=1, found=0)),
+                                      run(act('tested', step=2, found=0)))),
     ('two waits as two runs', in_runs(run(spawned()), run(waited(1, 2)), run(waited(1, 3)))),
     ('the longest run last of two', in_runs(reading(1), reading(2), reading(3, 5, 1))),
 ], [
@@ -124,8 +127,10 @@ run_rule('A run begins at the first event that no earlier run has, and is the lo
     ('a run, and a read of the same step', in_steps(1, 2, 2)),
     ('three reads of one step, and one later', in_steps(1, 1, 1, 2)),
     ('reads of two paths in turn', {'trace': [started(), *[act('read', path, 1) for path in 'fgfg']]}),
-    ('tests that find a file and none in turn', {'trace': [started(), *[act('tested', found=n) for n in (0, 1, 0)]]}),
-    ('reads of two processes in turn', {'trace': [started(), spawned(), *[act('read', process=n) for n in (0, 1, 0)]]}),
+    ('tests that find a file and none in turn',
+     {'trace': [started(), *[act('tested', found=n) for n in (0, 1, 0)]]}),
+    ('reads of two processes in turn',
+     {'trace': [started(), spawned(), *[act('read', process=n) for n in (0, 1, 0)]]}),
     ('a read after a write of the same path', {'trace': [started(), act('read'), act('wrote'), act('read')]}),
     ('ends with two statuses', {'trace': [started(), ended(1, 0, 1), ended(1, 0, 2), ended(1, 0, 2)]}),
     ('waits for two children', {'trace': [started(), spawned(), spawned(), waited(1), waited(2), waited(2)]}),
@@ -136,7 +141,8 @@ run_rule('The count of a run is at least 1.', [
     ('a run of no event in the middle', in_runs(reading(1, 0), run(ended(9)))),
     ('a start that has the count 0', in_runs(run(started(), 0), reading(1))),
     ('no start, and a start that has the count 0 behind it', in_runs(run(started()), run(started(), 0))),
-    ('a run of another path and no event between two reads', in_runs(reading(1), reading(2, 0, 0, 'g'), reading(3))),
+    ('a run of another path and no event between two reads',
+     in_runs(reading(1), reading(2, 0, 0, 'g'), reading(3))),
 ], [
     ('a run of one event', in_runs(reading(1))),
     ('a run of one event before the end', in_runs(reading(1), run(ended(9)))),
@@ -161,7 +167,8 @@ run_rule('The last step of a run is at most the number of steps.', [
     ('a run whose second step is 4,294,967,296', in_runs(reading(1, 2, WORD - 1))),
     ('a run whose second step would come round to the one before', in_runs(reading(5, 2, WORD - 1))),
     ('a run whose third step would come round to the first', in_runs(reading(1, 3, 2 ** 31))),
-    ('a run whose last step would come round to the last', in_runs(reading(1, 2 ** 16 + 1, 2 ** 16), steps=10000000)),
+    ('a run whose last step would come round to the last',
+     in_runs(reading(1, 2 ** 16 + 1, 2 ** 16), steps=10000000)),
     ('a run of 10,000,001 steps', in_runs(reading(1, 10000001, 1), steps=10000000)),
     ('a run with step 0 in it', in_runs(reading(0, 2, 1))),
     ('a run of the first start', in_runs(run(started(), 2, 1))),
@@ -183,7 +190,8 @@ run_rule('All events of a run meet the rules of a trace.', [
     ('a run of reads first', in_runs(run(started(path='main'), 0), reading(0, 2, 1, 'main'))),
     ('no run', {'runs': []}), ('a run first that is no start', {'runs': [run(act('read', 'main', 0))]}),
     ('a run of a process that was not made', in_runs(reading(1, 2, 1, process=1))),
-    ('a run of a process that a later run makes', in_runs(reading(1, 2, 1, process=1), run(spawned(3), 2, 1))),
+    ('a run of a process that a later run makes',
+     in_runs(reading(1, 2, 1, process=1), run(spawned(3), 2, 1))),
     ('a run of process 3 after a run of two spawns', in_runs(run(spawned(), 2), reading(2, 2, 1, process=3))),
     ('a run of waits for a child that was not made', in_runs(run(spawned(), 2), run(waited(3, 2), 2))),
     ('two statements in a run', in_runs(run(asked(), 2, 1))),
@@ -203,8 +211,10 @@ run_rule('All events of a run meet the rules of a trace.', [
 ])
 run_rule('A trace has at most 20,000,001 events.', [
     ('20,000,002 events', in_runs(reading(1, EVENTS))),
-    ('20,000,002 events in two runs', in_runs(reading(1, EVENTS // 2), reading(1, EVENTS - EVENTS // 2, 0, 'g'))),
-    ('20,000,002 events, two a step', in_runs(reading(1, 10000000, 1), reading(10000000, EVENTS - 10000000, 0, 'g'),
+    ('20,000,002 events in two runs',
+     in_runs(reading(1, EVENTS // 2), reading(1, EVENTS - EVENTS // 2, 0, 'g'))),
+    ('20,000,002 events, two a step',
+     in_runs(reading(1, 10000000, 1), reading(10000000, EVENTS - 10000000, 0, 'g'),
                                               steps=10000000)),
     ('4,294,967,296 events', in_runs(reading(1, WORD - 1))),
     ('4,294,967,297 events in two runs, the sum of the counts 1 in 32 bits', in_runs(
@@ -219,14 +229,15 @@ run_rule('A trace has at most 20,000,001 events.', [
     ('20,000,001 events in two runs', in_runs(reading(1, 10000000, 1), reading(10000000, 10000000, 0, 'g'),
                                               steps=10000000)),
 ])
-allowed('Every rule of a package holds in version 2.', 'plain in runs', [
+RUNS.allowed('Every rule of a package holds in version 2.', 'plain in runs', [
     ('version 2: present files', 'excluded in runs', {'files': plus(file('z'))}),
     ('version 2: an excluded package with a log', 'excluded in runs', logged(log([0]))),
     ('version 2: a statement that picked rows', 'picked in runs', {}),
-], among=RUNS)
+])
 run_rule('No rule of a package is left out in version 2.', [
     ('version 2: mode 3', {'mode': 3}), ('version 2: no start word', {'start': []}),
-    ('version 2: steps 0', {'steps': 0}), ('version 2: a start file that is no script', {'files.0.content': 'foo'}),
+    ('version 2: steps 0', {'steps': 0}),
+    ('version 2: a start file that is no script', {'files.0.content': 'foo'}),
     ('version 2: an excluded package with a table', 'rows in runs', {'mode': 2}),
     ('version 2: an included package with logs', 'logs in runs', {'mode': 1}),
     ('version 2: files out of order', {'files': [file('main', 'exit 0'), file('a', 'x')]}),

@@ -1,7 +1,8 @@
-"""Tasks that each start two others, as long as there are so many, and write a line. usage: processes.py N SEED LOG
+"""Tasks that each start two others, as long as there are so many, and write a line.
+usage: processes.py N SEED LOG
 
-They take turns under seed 0, and else each turn is drawn. Each task is a generator: processes of the system would
-take minutes.
+They take turns under seed 0, and else each turn is drawn.
+Each task is a generator: processes of the system would take minutes.
 """
 import collections
 import random

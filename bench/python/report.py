@@ -1,7 +1,7 @@
 """A report over orders. usage: report.py REPORT [DATABASE]
 
-The orders are those of the world on standard input, or of a database in a file. Where that isn't there, it is made
-of them.
+The orders are those of the world on standard input, or of a database in a file.
+Where that isn't there, it is made of them.
 """
 import json
 import os

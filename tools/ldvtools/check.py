@@ -1,14 +1,16 @@
 """Says what is wrong in the scripts and statements of a world, before it is run or after.
 
     tools/check.py world.json                             bad lines, and statements that will be refused
-    tools/check.py --outcome world.outcome world.json     of a run: each refused statement and each misuse, with its cause
+    tools/check.py --outcome world.outcome world.json     of a run: each refused statement and each misuse,
+                                                          with its cause
     tools/check.py --statement "SELECT .." world.json     one statement, over the tables of the world
 
-For a bad line it says which rule of docs/SCRIPTS.md it breaks. For a statement that the database will refuse (docs/SQL.md)
-it says which word can't be read and what to write instead, or which table, column or kind doesn't fit. It looks at the
-start script and at those that a script starts by a path that is written in it; where one starts a script by a path that
-it computes, at all files whose name ends with .ldv or .script too. A statement whose text is computed is judged with
---outcome only, and so is one that rests on what a parameter is.
+For a bad line it says which rule of docs/SCRIPTS.md it breaks. For a statement that the database will refuse
+(docs/SQL.md) it says which word can't be read and what to write instead, or which table, column or kind
+doesn't fit. It looks at the start script and at those that a script starts by a path that is written in it;
+where one starts a script by a path that it computes, at all files whose name ends with .ldv or .script too. A
+statement whose text is computed is judged with --outcome only, and so is one that rests on what a parameter
+is.
 
 Statuses: 0 nothing found; 1 something found, or the input is no world document; 2 wrong words.
 """
@@ -19,7 +21,7 @@ import collections
 import sys
 from typing import Dict, Iterator, List, Mapping, NamedTuple, Optional, Sequence, Set, Tuple
 
-from .errors import Misused, command
+from .errors import Misused, command, words_of
 from .language import MISUSES
 from .outcome import read_input
 from .outcomes import read_outcome
@@ -34,7 +36,8 @@ WIDTH = 70
 
 
 class Finding(NamedTuple):
-    """Something wrong. `code` is 0 for a bad line; `is_trap` says that it will run and mean something else."""
+    """Something wrong. `code` is 0 for a bad line; `is_trap` says that it will run and
+    mean something else."""
 
     path: str
     line: int
@@ -47,7 +50,8 @@ class Finding(NamedTuple):
     @property
     def text(self) -> str:
         what = ("bad: " if self.code == 0 else f"the statement will be refused with code {self.code}: ")
-        return f"{escaped(self.path)} line {self.line}: {'' if self.is_trap or self.code < 0 else what}{self.cause}"
+        begin = "" if self.is_trap or self.code < 0 else what
+        return f"{escaped(self.path)} line {self.line}: {begin}{self.cause}"
 
     def excerpt(self) -> List[str]:
         """The part of the statement that is meant, with a mark below it."""
@@ -78,12 +82,15 @@ def operands_known(script: Script) -> Dict[str, Operand]:
 
 
 def text_of(operand: Operand, known: Mapping[str, Operand]) -> Optional[str]:
-    """The text that an operand is known to have. A variable may be read before it is set, and is NULL then."""
-    value = known[operand.name].value if operand.name in known else operand.value if not operand.name else None
+    """The text that an operand is known to have.
+    A variable may be read before it is set, and is NULL then."""
+    given = known.get(operand.name) if operand.name else operand
+    value = given.value if given else None
     return value if isinstance(value, str) else None
 
 
-def judged(each: Instruction, known: Mapping[str, Operand], schemas: Optional[Schemas]) -> Optional[Tuple[str, Judged]]:
+def judged(each: Instruction, known: Mapping[str, Operand],
+           schemas: Optional[Schemas]) -> Optional[Tuple[str, Judged]]:
     """A statement that is written in a script, with what the codes say of it."""
     text = text_of(each.operands[0], known)
     if text is None:
@@ -122,7 +129,8 @@ def width_findings(path: str, script: Script, schemas: Optional[Schemas]) -> Ite
         width = widths.get(each.names[0], set()) if each.word == "fetch" else set()
         if len(width) == 1 and None not in width and len(each.names) - 1 not in width:
             taken = plain_count(len(each.names) - 1, "column")
-            yield Finding(path, each.line, -1, f"fetch takes {taken} of a reply of {width.pop()}: with the first row that is "
+            yield Finding(path, each.line, -1,
+                          f"fetch takes {taken} of a reply of {width.pop()}: with the first row that is "
                                                "misuse, which ends the process with 240")
 
 
@@ -134,7 +142,8 @@ def children_of(script: Script, files: Mapping[str, bytes]) -> List[str]:
     return paths + [name for name in files if name.endswith(SCRIPT_ENDINGS)] if None in spawned else paths
 
 
-def scripts_of(files: Mapping[str, bytes], start: str) -> Iterator[Tuple[str, Optional[Script], Optional[BadLine]]]:
+def scripts_of(files: Mapping[str, bytes],
+               start: str) -> Iterator[Tuple[str, Optional[Script], Optional[BadLine]]]:
     """The start script and all that may be started, each with its script or its first bad line."""
     due, seen = collections.deque([start]), {start}
     while due:
@@ -195,14 +204,16 @@ def run_lines(world: World, schemas: Optional[Schemas], outcome_data: bytes) -> 
     for question in machine.questions:
         if question.reply is not None and question.reply.kind == "refused":
             cause, at = cause_of(question, schemas)
-            lines.append(f"process {question.process} step {question.step}, statement {question.place + 1}: {cause}")
+            lines.append(f"process {question.process} step {question.step}, statement {question.place + 1}: "
+                         f"{cause}")
             lines += Finding("", 0, 1, "", False, question.text, at).excerpt()
             if question.params:
                 lines.append("    with " + ", ".join(cell(value) for value in question.params))
     for process in machine.processes:
         here = process.next()
         if process.status in MISUSES and process.misused and here is not None:
-            lines.append(f"process {process.name}: line {here.line} of its script is {MISUSES[process.status or 0]}: "
+            lines.append(f"process {process.name}: line {here.line} of its script is "
+                         f"{MISUSES[process.status or 0]}: "
                          + process.values_of(here))
     return lines
 
@@ -210,10 +221,10 @@ def run_lines(world: World, schemas: Optional[Schemas], outcome_data: bytes) -> 
 # ---- the command
 
 def given_words(words: Optional[Sequence[str]]) -> argparse.Namespace:
-    parser = argparse.ArgumentParser(prog="check.py", description=__doc__,
-                                     formatter_class=argparse.RawDescriptionHelpFormatter)
+    parser = words_of("check.py", __doc__)
     parser.add_argument("world", nargs="?", help="the world document (default: standard input)")
-    parser.add_argument("--outcome", metavar="FILE", help="the outcome of its run: says why statements were refused")
+    parser.add_argument("--outcome", metavar="FILE",
+                        help="the outcome of its run: says why statements were refused")
     parser.add_argument("--statement", metavar="TEXT", help="judge this statement, and no script")
     return parser.parse_args(words)
 

@@ -2,12 +2,13 @@
 
     tools/diff.py before.outcome after.outcome
     tools/diff.py monday.package tuesday.package
-    tools/diff.py --world world.json before.outcome after.outcome     with the statements of the first one's world
-    tools/diff.py --all ..                                            each line that differs, and not 20 of each part
+    tools/diff.py --world world.json before.outcome after.outcome     with statements of the first one's world
+    tools/diff.py --all ..                                            all that differs, not 20 lines of a part
 
-A line begins with - where it is of the first alone, and with + where it is of the second alone. Replies are compared by
-process and number. Rows of a reply that are the same in another order are said to be so. Of packages the rows of a table
-are compared by their numbers, and statements by what they needed; of recorded replies, by text, parameters and reply.
+A line begins with - where it is of the first alone, and with + where it is of the second alone. Replies are
+compared by process and number. Rows of a reply that are the same in another order are said to be so. Of
+packages the rows of a table are compared by their numbers, and statements by what they needed; of recorded
+replies, by text, parameters and reply.
 
 Statuses: 0 no difference; 1 a difference; 2 wrong words, or the two can't be read or compared.
 """
@@ -19,7 +20,7 @@ import difflib
 import sys
 from typing import Dict, Iterator, List, Optional, Sequence, Tuple
 
-from .errors import Malformed, Misused, Refused, said
+from .errors import Malformed, Misused, Refused, said, words_of
 from .language import ASKED
 from .outcome import Asked, asked_in, read_input, write_out
 from .outcomes import Outcome, read_outcome
@@ -59,7 +60,8 @@ def file_differences(path: str, before: Optional[bytes], after: Optional[bytes],
         yield f"  the first difference is at byte {place}"
 
 
-def files_differences(before: Dict[str, Optional[bytes]], after: Dict[str, Optional[bytes]], limit: int) -> Iterator[str]:
+def files_differences(before: Dict[str, Optional[bytes]], after: Dict[str, Optional[bytes]],
+                      limit: int) -> Iterator[str]:
     for path in sorted({*before, *after}, key=lambda path: path.encode()):
         if path not in after:
             yield f"- file {escaped(path)}"
@@ -81,7 +83,8 @@ def rows_differences(before: Sequence[Row], after: Sequence[Row], limit: int) ->
     gone, come = left - right, right - left
     if not gone and not come:
         yield "  the same rows in another order"
-    yield from cut([f"{sign} {row_line(list(row))}" for sign, rows in (("-", gone), ("+", come)) for row in rows.elements()],
+    yield from cut([f"{sign} {row_line(list(row))}" for sign, rows in (("-", gone), ("+", come))
+                    for row in rows.elements()],
                    limit)
 
 
@@ -114,7 +117,8 @@ def outcome_differences(before: Outcome, after: Outcome, asked: Asked, limit: in
     yield from files_differences(dict(before.touched), dict(after.touched), limit)
 
 
-def replies_differences(name: str, before: List[Reply], after: List[Reply], asked: Asked, limit: int) -> Iterator[str]:
+def replies_differences(name: str, before: List[Reply], after: List[Reply], asked: Asked,
+                        limit: int) -> Iterator[str]:
     if len(before) != len(after):
         yield f"process {name} asked {plain_count(len(before), 'statement')}, and {len(after)}"
     for place, (one, other) in enumerate(zip(before, after)):
@@ -152,7 +156,8 @@ def asked_of(package: Package) -> Dict[Tuple[str, int], AskedEvent]:
 
 
 def need_lines(asked: AskedEvent) -> List[str]:
-    return [f"{table} {need.row} version {need.version} rule {need.rule}" for table, needs in asked.reads for need in needs]
+    return [f"{table} {need.row} version {need.version} rule {need.rule}" for table, needs in asked.reads
+            for need in needs]
 
 
 def statement_differences(before: Package, after: Package, limit: int) -> Iterator[str]:
@@ -165,7 +170,8 @@ def statement_differences(before: Package, after: Package, limit: int) -> Iterat
         one, other = set(need_lines(left[key])), set(need_lines(right[key]))
         if one != other:
             yield f"{title}: needs {plain_count(len(one), 'row')}, and {len(other)}"
-            yield from cut([f"- {line}" for line in sorted(one - other)] + [f"+ {line}" for line in sorted(other - one)], limit)
+            yield from cut([f"- {line}" for line in sorted(one - other)]
+                           + [f"+ {line}" for line in sorted(other - one)], limit)
 
 
 def log_differences(before: Package, after: Package, limit: int) -> Iterator[str]:
@@ -176,7 +182,8 @@ def log_differences(before: Package, after: Package, limit: int) -> Iterator[str
             if one[:2] != other[:2]:
                 yield f"{title} is another one"
                 for sign, each in (("-", one), ("+", other)):
-                    yield f"  {sign} {escaped(each.text)}" + (f" with {row_line(each.params)}" if each.params else "")
+                    params = f" with {row_line(each.params)}" if each.params else ""
+                    yield f"  {sign} {escaped(each.text)}{params}"
             yield from reply_differences(title, one.reply, other.reply, limit)
 
 
@@ -201,11 +208,11 @@ def package_differences(before: Package, after: Package, limit: int) -> Iterator
 # ---- the command
 
 def given_words(words: Optional[Sequence[str]]) -> argparse.Namespace:
-    parser = argparse.ArgumentParser(prog="diff.py", description=__doc__,
-                                     formatter_class=argparse.RawDescriptionHelpFormatter)
+    parser = words_of("diff.py", __doc__)
     parser.add_argument("first")
     parser.add_argument("second")
-    parser.add_argument("--world", metavar="FILE", help="the world of the first outcome: names the statements")
+    parser.add_argument("--world", metavar="FILE",
+                        help="the world of the first outcome: names the statements")
     parser.add_argument("--run", type=int, choices=(1, 2), help="of joined packages: which of their runs")
     parser.add_argument("--all", action="store_true", help="show all lines that differ")
     return parser.parse_args(words)

@@ -27,7 +27,8 @@ def file_json(content: bytes) -> str:
 
 def table_json(columns: Sequence[Tuple[str, str]], key: Sequence[str], rows: Sequence[str],
                following: Optional[int] = None, foreign: Sequence[Tuple[Sequence[str], str]] = ()) -> str:
-    """A table. Each row is JSON already; the number of the next row is left out where it is the number of rows."""
+    """A table. Each row is JSON already; the number of the next row is left out where
+    it is the number of rows."""
     parts = [f'      "columns": {as_json([list(column) for column in columns])}']
     if key:
         parts.append(f'      "key": {as_json(list(key))}')
@@ -45,8 +46,10 @@ def members(pairs: Iterable[Tuple[str, str]]) -> str:
     return f"{{\n{lines}\n  }}"
 
 
-def document(start: Sequence[str], seed: int, files: Mapping[str, bytes], tables: Sequence[Tuple[str, str]]) -> bytes:
-    """The bytes of a world document, within the limit on its length. Tables are JSON already, with their names."""
+def document(start: Sequence[str], seed: int, files: Mapping[str, bytes],
+             tables: Sequence[Tuple[str, str]]) -> bytes:
+    """The bytes of a world document, within the limit on its length.
+    Tables are JSON already, with their names."""
     parts = [f'  "start": {as_json(list(start))}']
     if seed:
         parts.append(f'  "seed": {seed}')

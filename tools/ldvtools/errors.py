@@ -1,6 +1,7 @@
-"""What goes wrong in the tools, and how a command says it."""
+"""What goes wrong in the tools, how a command says it, and how its words are read."""
 from __future__ import annotations
 
+import argparse
 import sys
 from typing import Callable, Optional, Sequence
 
@@ -46,3 +47,9 @@ def command(name: str, work: Callable[[Optional[Sequence[str]]], int],
         print(f"{name}: {fault} ({name} --help says more)", file=sys.stderr)
         return 2
     return 1
+
+
+def words_of(name: str, told: Optional[str]) -> argparse.ArgumentParser:
+    """What reads the words of a command. Its --help shows `told` as it stands."""
+    return argparse.ArgumentParser(prog=name, description=told,
+                                   formatter_class=argparse.RawDescriptionHelpFormatter)

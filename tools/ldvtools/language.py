@@ -35,7 +35,8 @@ MODES = {1: "included", 2: "excluded"}
 RULES = {1: "L", 2: "H", 3: "K", 4: "P", 5: "C"}
 RULE_TEXTS = {
     "L": "is in the lineage of a row of the reply, or was matched by an UPDATE or DELETE",
-    "H": "is in the lineage of a group that HAVING rejected, or of a row that LIMIT cut where rows stand for several",
+    "H": "is in the lineage of a group that HAVING rejected, or of a row that LIMIT cut where rows stand "
+         "for several",
     "K": "is one of the two rows with the same key in a refusal",
     "P": "has the key to which a row that was inserted or matched refers",
     "C": "refers to a key that the statement would have taken away",

@@ -6,19 +6,19 @@
     tools/outcome.py --csv --reply 2 world.outcome        the second reply only
     tools/outcome.py --folder replies world.outcome       a file for each reply: replies/0-1.csv and so on
 
-docs/FORMATS.md has the format. Replies are counted from 1 within their process. An outcome has no statements and no
-names of columns. With --world or --package, of which it is the outcome, each reply has its statement and its columns'
-names; else columns are counted.
+docs/FORMATS.md has the format. Replies are counted from 1 within their process. An outcome has no statements
+and no names of columns. With --world or --package, of which it is the outcome, each reply has its statement
+and its columns' names; else columns are counted.
 
 In a table numbers stand right and texts left. A text stands in quotes where it would look like something
 else: where it is empty, NULL or a number, has blanks at an end, or has characters that don't show. In CSV
 NULL is an empty field (or what --null says) and the empty text is "".
 
-At the end it says how many statements were refused and how many processes ended by misuse, where there are such; with
---csv and --folder it does so on standard error.
+At the end it says how many statements were refused and how many processes ended by misuse, where there are
+such; with --csv and --folder it does so on standard error.
 
-Statuses: 0 shown; 1 the input is no outcome, a file can't be read or written, or, with --strict, a statement was
-refused or a process ended by misuse; 2 wrong words.
+Statuses: 0 shown; 1 the input is no outcome, a file can't be read or written, or, with --strict, a statement
+was refused or a process ended by misuse; 2 wrong words.
 """
 from __future__ import annotations
 
@@ -27,7 +27,7 @@ import os
 import sys
 from typing import Dict, List, Optional, Sequence, Tuple
 
-from .errors import Malformed, Misused, command
+from .errors import Malformed, Misused, command, words_of
 from .language import KEYED_REFUSALS, MISUSES
 from .outcomes import Outcome, read_outcome
 from .packages import read_package
@@ -74,7 +74,8 @@ def end_lines(outcome: Outcome) -> List[str]:
     misused = sum(process.status in MISUSES for process in outcome.processes)
     lines = []
     if refused:
-        lines.append(f"{refused} of {plain_count(len(replies), 'statement')} {'was' if refused == 1 else 'were'} refused")
+        lines.append(f"{refused} of {plain_count(len(replies), 'statement')} "
+                     f"{'was' if refused == 1 else 'were'} refused")
     if misused:
         lines.append(f"{misused} {'process' if misused == 1 else 'processes'} ended by misuse")
     return lines
@@ -155,8 +156,7 @@ def write_folder(outcome: Outcome, folder: str, null: str, asked: Optional[Asked
 # ---- the command line
 
 def read_words(given: Optional[Sequence[str]]) -> argparse.Namespace:
-    parser = argparse.ArgumentParser(
-        prog="outcome.py", description=__doc__, formatter_class=argparse.RawDescriptionHelpFormatter)
+    parser = words_of("outcome.py", __doc__)
     parser.add_argument("outcome", nargs="?", help="the outcome (default: standard input)")
     parser.add_argument("--csv", action="store_true", help="the replies as CSV")
     parser.add_argument("--reply", type=int, metavar="K", help="with --csv: only the reply K")

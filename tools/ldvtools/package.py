@@ -4,22 +4,23 @@
     tools/package.py world.package                        what is in it
     tools/package.py --statement 2 world.package          the rows that a statement needed
     tools/package.py --files FOLDER world.package         its files, in a new folder
-    tools/package.py --world world.package > new.json     a world of its files and rows, to be changed and run again
+    tools/package.py --world world.package > new.json     a world of its files and rows, to be run again
     tools/package.py --world --ask "SELECT .." ..         the same, whose script asks this and nothing else
     tools/package.py --csv FOLDER world.package           a file for each table: FOLDER/orders.csv
     tools/package.py --sqlite FILE world.package          a new SQLite database of the tables
-    tools/package.py --reasons ..                         with --csv or --sqlite: three columns before the others of
-                                                          each row, its number, the statement that needed it first,
-                                                          and the rule why
+    tools/package.py --reasons ..                         with --csv or --sqlite: three columns before the
+                                                          others of each row, its number, the statement that
+                                                          needed it first, and the rule why
     tools/package.py --sizes world.package                how many bytes each section has
     tools/package.py --run 2 ..                           of a joined package, the second of its runs
 
-docs/FORMATS.md has the format. Both versions, both kinds and joined packages are read. The digest is compared, and the
-rest is read as far as it is needed here: that a package is valid is what `ldv replay` says. In CSV, NULL is an empty
-field and the empty text is "". In the world of --world the rows of a table are numbered anew, from 0.
+docs/FORMATS.md has the format. Both versions, both kinds and joined packages are read. The digest is
+compared, and the rest is read as far as it is needed here: that a package is valid is what `ldv replay` says.
+In CSV, NULL is an empty field and the empty text is "". In the world of --world the rows of a table are
+numbered anew, from 0.
 
-Statuses: 0 shown; 1 the input is no package, it hasn't what was asked for, or a file can't be read or written; 2 wrong
-words.
+Statuses: 0 shown; 1 the input is no package, it hasn't what was asked for,
+or a file can't be read or written; 2 wrong words.
 """
 from __future__ import annotations
 
@@ -30,7 +31,7 @@ import sys
 from typing import Dict, Iterator, List, Optional, Sequence, Tuple, Union
 
 from .documents import as_json, document, table_json, write_file
-from .errors import Refused, command
+from .errors import Refused, command, words_of
 from .language import RULE_TEXTS
 from .outcome import read_input, write_out
 from .packages import Asked, Joined, Package, PackedTable, read_any, read_package
@@ -90,7 +91,8 @@ def statement_lines(package: Package, number: int) -> Iterator[str]:
         place = places.get(process, 0)
         places[process] = place + 1
         if asked.statement == number:
-            yield f"statement {number}: process {names[process]} at step {step}, tables {', '.join(asked.tables) or 'none'}"
+            tables = ", ".join(asked.tables) or "none"
+            yield f"statement {number}: process {names[process]} at step {step}, tables {tables}"
             yield from logged_lines(package, names[process], place)
             yield from need_lines(package, asked)
             for table, made in asked.made:
@@ -110,7 +112,8 @@ def logged_lines(package: Package, process: str, place: int) -> Iterator[str]:
 
 
 def need_lines(package: Package, asked: Asked) -> Iterator[str]:
-    """The rows that a statement needed, as far as they are packed, with their values at the start of the run."""
+    """The rows that a statement needed, as far as they are packed,
+    with their values at the start of the run."""
     if not asked.reads:
         yield "it needed no row"
     for name, needs in asked.reads:
@@ -168,7 +171,8 @@ def write_sqlite(package: Package, path: str, reasons: bool) -> None:
             for table in package.tables:
                 database.execute(make_table(table, reasons))
                 marks = ", ".join("?" * len(columns_of(table, reasons)))
-                database.executemany(f"INSERT INTO {quoted(table.name)} VALUES ({marks})", rows_of(table, reasons))
+                database.executemany(f"INSERT INTO {quoted(table.name)} VALUES ({marks})",
+                                     rows_of(table, reasons))
     except sqlite3.Error as fault:
         database.close()
         if os.path.exists(path):
@@ -183,7 +187,8 @@ def place_in(folder: str, path: str) -> str:
     """Where a file of the package goes, which is within the folder."""
     parts = path.split("/")
     if any(part in ("", ".", "..") for part in parts):
-        raise Refused(f"the file {path!r} can't be written: its path leads out of a folder; --file {path!r} writes it")
+        raise Refused(f"the file {path!r} can't be written: its path leads out of a folder; --file {path!r} "
+                      "writes it")
     return os.path.join(folder, *parts)
 
 
@@ -209,7 +214,8 @@ def file_of(package: Package, path: str) -> bytes:
     content = dict(package.files).get(path)
     if content is None:
         raise Refused(f"there is no content of a file {path}; there are "
-                      + (", ".join(escaped(name) for name, content in package.files if content is not None) or "none"))
+                      + (", ".join(escaped(name)
+                                   for name, content in package.files if content is not None) or "none"))
     return content
 
 
@@ -239,7 +245,8 @@ def world_of(package: Package, asks: Sequence[str]) -> Tuple[bytes, List[str]]:
     for table in package.tables:
         foreign = [(each.columns, each.parent) for each in table.foreign]
         if foreign and not has_parents(table, package):
-            notes.append(f"{table.name}: its foreign keys are left out, since parents of its rows aren't packed")
+            notes.append(f"{table.name}: its foreign keys are left out, since parents of its rows aren't "
+                         "packed")
             foreign = []
         if [row.number for row in table.rows] != list(range(len(table.rows))):
             notes.append(f"{table.name}: its rows get the numbers 0 to {len(table.rows) - 1}")
@@ -248,27 +255,30 @@ def world_of(package: Package, asks: Sequence[str]) -> Tuple[bytes, List[str]]:
     if asks:
         script = script_of([(text, f"--ask {place}") for place, text in enumerate(asks, 1)])
         return document(["main"], 0, {"main": script}, tables), notes
-    return document(package.start, package.seed, {path: content or b"" for path, content in package.files}, tables), notes
+    return document(package.start, package.seed, {path: content or b"" for path, content in package.files},
+                    tables), notes
 
 
 # ---- the command
 
 def given_words(words: Optional[Sequence[str]]) -> argparse.Namespace:
-    parser = argparse.ArgumentParser(prog="package.py", description=__doc__,
-                                     formatter_class=argparse.RawDescriptionHelpFormatter)
+    parser = words_of("package.py", __doc__)
     parser.add_argument("package", nargs="?", help="the package; standard input where it isn't given")
     what = parser.add_mutually_exclusive_group()
     what.add_argument("--csv", metavar="FOLDER", help="a CSV file for each table")
     what.add_argument("--sqlite", metavar="FILE", help="a new SQLite database of the tables")
     what.add_argument("--files", metavar="FOLDER", help="the files, in a new folder")
     what.add_argument("--file", metavar="PATH", help="the bytes of one file, to standard output")
-    what.add_argument("--statement", metavar="N", type=int, help="the rows that the statement N needed, from 0")
+    what.add_argument("--statement", metavar="N", type=int,
+                      help="the rows that the statement N needed, from 0")
     what.add_argument("--world", action="store_true", help="a world document of its files and rows")
     what.add_argument("--sizes", action="store_true", help="how many bytes each section has")
     parser.add_argument("--ask", metavar="STATEMENT", action="append", default=[],
                         help="with --world: a statement for its script, which asks these only")
-    parser.add_argument("-o", "--output", metavar="FILE", help="with --world: the document (default: standard output)")
-    parser.add_argument("--reasons", action="store_true", help="with --csv or --sqlite: why each row is there")
+    parser.add_argument("-o", "--output", metavar="FILE",
+                        help="with --world: the document (default: standard output)")
+    parser.add_argument("--reasons", action="store_true",
+                        help="with --csv or --sqlite: why each row is there")
     parser.add_argument("--run", type=int, choices=(1, 2), help="of a joined package: which of its runs")
     given = parser.parse_args(words)
     if given.reasons and not (given.csv or given.sqlite):
@@ -307,7 +317,8 @@ def work(words: Optional[Sequence[str]]) -> int:
     if given.sizes:
         write_out("".join(line + "\n" for line in size_lines(read_any(data))))
         return 0
-    asks_part = given.csv or given.sqlite or given.files or given.file or given.statement is not None or given.world
+    asks_part = (given.csv or given.sqlite or given.files or given.file or given.statement is not None
+                 or given.world)
     found = read_any(data) if not asks_part and given.run is None else None
     if isinstance(found, Joined):
         write_out("".join(line + "\n" for line in joined_summary(found)))

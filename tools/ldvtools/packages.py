@@ -1,8 +1,8 @@
 """Reads packages: both versions, both modes, and joined ones. docs/FORMATS.md has the format.
 
-The digest is compared, and the rest is read as far as tools need it: that a package is valid is what `ldv replay`
-says. The trace stays in runs, since a short package may have twenty million events; `Package.events` has them one by
-one.
+The digest is compared, and the rest is read as far as tools need it: that a package is valid is what `ldv
+replay` says. The trace stays in runs, since a short package may have twenty million events; `Package.events`
+has them one by one.
 """
 from __future__ import annotations
 
@@ -11,8 +11,8 @@ import struct
 from typing import Callable, Dict, Iterator, List, Mapping, NamedTuple, Optional, Tuple, TypeVar, Union
 
 from .errors import Malformed
-from .language import (ACTS, ASKED, ENDED, KEYED_REFUSALS, KINDS, MAX_EVENTS, MAX_PROCESSES, MODES, NAME, REFUSALS,
-                       RULES, SPAWNED, WAITED)
+from .language import (ACTS, ASKED, ENDED, KEYED_REFUSALS, KINDS, MAX_EVENTS, MAX_PROCESSES, MODES, NAME,
+                       REFUSALS, RULES, SPAWNED, WAITED)
 from .values import Reply, Row, Value, changed_reply, refused_reply, rows_reply
 
 VERSIONS = {b"LDVPACK1": 1, b"LDVPACK2": 2}
@@ -40,7 +40,8 @@ class Made(NamedTuple):
 
 
 class Asked(NamedTuple):
-    """A statement in the trace: its number, the tables that it names, and by table what it needed and made."""
+    """A statement in the trace: its number, the tables that it names,
+    and by table what it needed and made."""
 
     statement: int
     tables: List[str]
@@ -61,7 +62,8 @@ class Event(NamedTuple):
 
 
 class Run(NamedTuple):
-    """Events that differ in their steps alone: `times` of them, each `stride` steps after the one before it."""
+    """Events that differ in their steps alone: `times` of them,
+    each `stride` steps after the one before it."""
 
     first: Event
     times: int
@@ -117,7 +119,8 @@ Files = List[Tuple[str, Optional[bytes]]]
 
 
 class Package(NamedTuple):
-    """The parts of a package. A file that is only present has no content. `sizes` has the bytes of each section."""
+    """The parts of a package. A file that is only present has no content.
+    `sizes` has the bytes of each section."""
 
     version: int
     mode: str
@@ -187,12 +190,14 @@ class Joined(NamedTuple):
         """The package of the run 1 or 2."""
         pick = self.picks[number - 1]
         content = dict(self.files)
-        files: Files = [(path, content.get(path)) for path in pick.wholes] + [(path, None) for path in pick.presents]
+        files: Files = [(path, content.get(path)) for path in pick.wholes]
+        files += [(path, None) for path in pick.presents]
         reasons = {(table, row): (statement, rule) for table, row, statement, rule in pick.reasons}
         tables = [table._replace(rows=[PackedRow(row.number, *reasons[table.name, row.number], row.values)
                                        for row in table.rows if (table.name, row.number) in reasons])
                   for table in self.tables if table.name in pick.tables]
-        return Package(2, "included", pick.start, pick.seed, pick.steps, sorted(files, key=lambda file: file[0].encode()),
+        return Package(2, "included", pick.start, pick.seed, pick.steps,
+                       sorted(files, key=lambda file: file[0].encode()),
                        tables, [], pick.runs, {}, 0, self.digest)
 
 
@@ -292,7 +297,8 @@ class Reader:
         key = self.list(1, lambda: self.column_of(name, columns))
         foreign: List[Foreign] = []
         if self.version > 1:
-            foreign = self.list(1, lambda: Foreign(self.list(1, lambda: self.column_of(name, columns)), self.name()))
+            foreign = self.list(1, lambda: Foreign(self.list(1, lambda: self.column_of(name, columns)),
+                                                   self.name()))
         following, count = self.number(4), self.number(4)
         start = self.place
         rows = [self.row(len(columns), has_reasons) for _ in range(count)]
@@ -326,7 +332,8 @@ class Reader:
     # ---- the trace
 
     def asked(self) -> Asked:
-        return Asked(self.number(4), self.list(2, self.text), self.list(2, lambda: (self.text(), self.list(4, self.need))),
+        return Asked(self.number(4), self.list(2, self.text),
+                     self.list(2, lambda: (self.text(), self.list(4, self.need))),
                      self.list(2, lambda: (self.text(), self.list(4, self.made))))
 
     def need(self) -> Need:
@@ -343,7 +350,8 @@ class Reader:
         act = ACTS[number]
         if act.has_path:
             path = self.text()
-            return Event(step, process, number, path, self.among({0: False, 1: True}) if act.has_flag else None)
+            return Event(step, process, number, path,
+                         self.among({0: False, 1: True}) if act.has_flag else None)
         if number == WAITED:
             return Event(step, process, number, number=self.number(4))
         if number == ENDED:
@@ -376,7 +384,8 @@ class Reader:
         tables = self.section("tables", lambda: self.list(2, self.table))
         logs = self.section("logs", lambda: self.list(4, self.log))
         runs = self.section("trace", self.trace)
-        return Package(self.version, mode, start, seed, steps, files, tables, logs, runs, self.sizes, self.row_bytes, "")
+        return Package(self.version, mode, start, seed, steps, files, tables, logs, runs, self.sizes,
+                       self.row_bytes, "")
 
     def picked(self) -> JoinedRun:
         start = self.start()

@@ -5,14 +5,15 @@
     tools/page.py world.package --replayed world.outcome -o ..    with an outcome that is there already
     tools/page.py --run 2 joined.package -o page.html             of a joined package, its second run
 
-The page shows what the package is, the outcome, each statement with its reply and the rows that it needed, the packed
-tables with all statements that needed a row, processes and files over time, and what an output came from; files and
-tables can be saved from it. A package with rows has no statements and no replies in it: --ldv replays it, or --replayed
-names the outcome of its replay. The page has all of the package in it, and is as secret as that. Nothing of a package
-is taken for HTML, and a page runs no script but its own and loads nothing.
+The page shows what the package is, the outcome, each statement with its reply and the rows that it needed,
+the packed tables with all statements that needed a row, processes and files over time, and what an output
+came from; files and tables can be saved from it. A package with rows has no statements and no replies in it:
+--ldv replays it, or --replayed names the outcome of its replay. The page has all of the package in it, and is
+as secret as that. Nothing of a package is taken for HTML, and a page runs no script but its own and loads
+nothing.
 
-Statuses: 0 made; 1 the input is no package, the outcome isn't that of its replay, or a file can't be read or written; 2
-wrong words.
+Statuses: 0 made; 1 the input is no package, the outcome isn't that of its replay,
+or a file can't be read or written; 2 wrong words.
 """
 from __future__ import annotations
 
@@ -28,7 +29,7 @@ import sys
 from typing import List, Optional, Sequence, Tuple
 
 from .documents import write_file
-from .errors import Misused, Refused, command
+from .errors import Misused, Refused, command, words_of
 from .outcome import read_input
 from .outcomes import Outcome, read_outcome
 from .packages import Package, read_package
@@ -38,8 +39,8 @@ TEMPLATE = """<!DOCTYPE html>
 <html lang="en">
 <head>
 <meta charset="utf-8">
-<meta http-equiv="Content-Security-Policy" content="default-src 'none'; style-src '{style_hash}'; script-src '{script_hash}'; \
-img-src data:; base-uri 'none'; form-action 'none'">
+<meta http-equiv="Content-Security-Policy" content="default-src 'none'; style-src '{style_hash}'; \
+script-src '{script_hash}'; img-src data:; base-uri 'none'; form-action 'none'">
 <meta name="viewport" content="width=device-width, initial-scale=1">
 <title>{title}</title>
 <style>{style}</style>
@@ -78,7 +79,8 @@ def page_text(data: Json) -> str:
 
 def answer_of(program: str, words: Sequence[str], data: bytes) -> Tuple[int, bytes, str]:
     try:
-        done = subprocess.run([program, *words], input=data, stdout=subprocess.PIPE, stderr=subprocess.PIPE, check=False)
+        done = subprocess.run([program, *words], input=data, stdout=subprocess.PIPE, stderr=subprocess.PIPE,
+                              check=False)
     except OSError as fault:
         raise Refused(f"{program}: {fault.strerror}") from None
     return done.returncode, done.stdout, done.stderr.decode(errors="replace").strip()
@@ -101,8 +103,7 @@ def asked_program(program: str, data: bytes, package: Package, run: Optional[int
 # ---- the command
 
 def given_words(words: Optional[Sequence[str]]) -> argparse.Namespace:
-    parser = argparse.ArgumentParser(prog="page.py", description=__doc__,
-                                     formatter_class=argparse.RawDescriptionHelpFormatter)
+    parser = words_of("page.py", __doc__)
     parser.add_argument("package", nargs="?", help="the package; standard input where it isn't given")
     parser.add_argument("--replayed", metavar="OUTCOME", help="the outcome of its replay")
     parser.add_argument("--ldv", metavar="PROGRAM", help="replay and audit it by this program, such as ./ldv")

@@ -60,15 +60,18 @@ class Statement:
         self.columns = column_names(question, document)
 
     def json(self) -> Json:
-        needs = [[table, [[need.row, need.version, need.rule] for need in rows]] for table, rows in self.asked.reads]
+        needs = [[table, [[need.row, need.version, need.rule] for need in rows]]
+                 for table, rows in self.asked.reads]
         made = [[table, [[each.row, each.version] for each in rows]] for table, rows in self.asked.made]
-        return {"step": self.step, "process": self.process, "text": self.text, "params": [cell(v) for v in self.params],
-                "columns": self.columns, "reply": reply_json(self.reply), "tables": self.asked.tables, "needs": needs,
-                "made": made}
+        return {"step": self.step, "process": self.process, "text": self.text,
+                "params": [cell(v) for v in self.params],
+                "columns": self.columns, "reply": reply_json(self.reply), "tables": self.asked.tables,
+                "needs": needs, "made": made}
 
 
 def statements_of(package: Package, outcome: Optional[Outcome]) -> List[Statement]:
-    """The statements of the trace; their texts from the outcome of the replay, or from the recorded replies."""
+    """The statements of the trace; their texts from the outcome of the replay,
+    or from the recorded replies."""
     names = package.process_names()
     found = [Statement(run.first.step, names[run.first.process], run.first.asked) for run in package.runs
              if run.first.act == ASKED and run.first.asked is not None]
@@ -81,7 +84,8 @@ def statements_of(package: Package, outcome: Optional[Outcome]) -> List[Statemen
         for statement in found:
             entry = left[statement.process].pop() if left.get(statement.process) else None
             if entry is not None:
-                statement.know(Question(statement.process, statement.step, 0, 0, entry.text, entry.params, entry.reply),
+                statement.know(Question(statement.process, statement.step, 0, 0, entry.text, entry.params,
+                                        entry.reply),
                                document)
     return found
 
@@ -123,7 +127,8 @@ def writers(package: Package) -> Dict[str, List[Json]]:
             times = found.setdefault(run.first.path, {}).setdefault(
                 (names[run.first.process], act.told), [run.first.step, last])
             times[1] = max(times[1], last)
-    return {path: [[process, told, *times] for (process, told), times in ways.items()] for path, ways in found.items()}
+    return {path: [[process, told, *times] for (process, told), times in ways.items()]
+            for path, ways in found.items()}
 
 
 def touched_json(package: Package, outcome: Optional[Outcome]) -> Json:
@@ -131,12 +136,14 @@ def touched_json(package: Package, outcome: Optional[Outcome]) -> Json:
     by = writers(package)
     after = dict(outcome.touched) if outcome else {}
     paths = list(after) if outcome else sorted(by, key=lambda path: path.encode())
-    return [{"path": path, "known": path in after, "content": bytes_json(after.get(path)), "by": by.get(path, [])}
+    return [{"path": path, "known": path in after, "content": bytes_json(after.get(path)),
+             "by": by.get(path, [])}
             for path in paths]
 
 
 def marks_of(package: Package) -> Json:
-    """The picture over steps: for each process and path the columns in which something happened, by its kind."""
+    """The picture over steps: for each process and path the columns in which something happened,
+    by its kind."""
     names = package.process_names()
     width = max(1, package.steps)
     lanes: Dict[Tuple[str, str], Dict[str, Set[int]]] = {}
@@ -154,7 +161,8 @@ def marks_of(package: Package) -> Json:
         mark(lane, "ask" if event.act == ASKED else "act", event.step, run.times, run.stride)
     ordered = sorted(lanes, key=lambda lane: lane[0] == "path")
     return {"columns": COLUMNS, "steps": package.steps,
-            "lanes": [[*lane, {kind: sorted(found) for kind, found in lanes[lane].items()}] for lane in ordered]}
+            "lanes": [[*lane, {kind: sorted(found) for kind, found in lanes[lane].items()}]
+                      for lane in ordered]}
 
 
 def graph_json(package: Package) -> Json:
@@ -165,15 +173,16 @@ def graph_json(package: Package) -> Json:
             "edges": [[*ends, *times] for ends, times in graph.edges.items()]}
 
 
-def page_json(package: Package, name: str, size: int, outcome: Optional[Outcome], verdict: Optional[str]) -> Json:
+def page_json(package: Package, name: str, size: int, outcome: Optional[Outcome],
+              verdict: Optional[str]) -> Json:
     """All that a page shows."""
     statements = statements_of(package, outcome)
     replies = [statement.reply for statement in statements if statement.reply is not None]
     processes = process_json(package, outcome)
     return {
-        "name": name, "size": size, "kind": package.mode, "version": package.version, "digest": package.digest,
-        "start": package.start, "seed": str(package.seed), "steps": package.steps, "events": package.event_count(),
-        "verdict": verdict, "replayed": outcome is not None,
+        "name": name, "size": size, "kind": package.mode, "version": package.version,
+        "digest": package.digest, "start": package.start, "seed": str(package.seed), "steps": package.steps,
+        "events": package.event_count(), "verdict": verdict, "replayed": outcome is not None,
         "replies": len(replies), "refused": sum(reply.kind == "refused" for reply in replies),
         "misused": sum(process["misuse"] is not None for process in processes),
         "rules": RULE_TEXTS,

@@ -8,13 +8,13 @@
                                                           needed it first: FILE has what `inspect rows` writes
     tools/picture.py --limit N ..                         a picture of at most N arrows (default 200)
 
-Paths are drawn as ovals, processes as boxes, statements with their replies as boxes with round corners, rows as
-notes. An arrow goes from what was read to what read it, with the step, or the first and the last one, at which
-something went along it. docs/FORMATS.md has the events. The trace doesn't say which versions a statement made, so
-arrows between changes of a row aren't drawn.
+Paths are drawn as ovals, processes as boxes, statements with their replies as boxes with round corners, rows
+as notes. An arrow goes from what was read to what read it, with the step, or the first and the last one, at
+which something went along it. docs/FORMATS.md has the events. The trace doesn't say which versions a
+statement made, so arrows between changes of a row aren't drawn.
 
-Statuses: 0 drawn; 1 an input doesn't have this form, the trace has more arrows than the limit, a file can't be
-read or written, or dot isn't installed or fails; 2 wrong words.
+Statuses: 0 drawn; 1 an input doesn't have this form, the trace has more arrows than the limit, a file can't
+be read or written, or dot isn't installed or fails; 2 wrong words.
 """
 from __future__ import annotations
 
@@ -25,7 +25,7 @@ import subprocess
 import sys
 from typing import Dict, Iterable, List, Optional, Sequence, Set, Tuple
 
-from .errors import Malformed, Refused, command
+from .errors import Malformed, Refused, command, words_of
 from .language import ACT_NAMED, RULES
 from .outcome import read_input, write_out
 
@@ -42,7 +42,8 @@ class TooMany(Refused):
 
 
 class Picture:
-    """Nodes and arrows in the order in which they came up, no more arrows than a limit. A node is its kind and name."""
+    """Nodes and arrows in the order in which they came up, no more arrows than a limit.
+    A node is its kind and name."""
 
     def __init__(self, limit: int) -> None:
         # Node -> the lines of its label. Arrow -> its first and its last step.
@@ -193,8 +194,10 @@ MARKED = {"path": "filled", "process": "filled", "statement": "rounded,filled", 
 
 
 def quoted(lines: Iterable[str]) -> str:
-    """Lines of a label, each shown as it is. In the language of dot a backslash begins an escape, `&` an entity."""
-    return '"' + "\\n".join(line.replace("\\", "\\\\").replace('"', '\\"').replace("&", "&amp;") for line in lines) + '"'
+    """Lines of a label, each shown as it is.
+    In the language of dot a backslash begins an escape, `&` an entity."""
+    return '"' + "\\n".join(line.replace("\\", "\\\\").replace('"', '\\"').replace("&", "&amp;")
+                            for line in lines) + '"'
 
 
 def dot_text(picture: Picture, found: Set[Node]) -> str:
@@ -216,12 +219,14 @@ def dot_text(picture: Picture, found: Set[Node]) -> str:
 def write_svg(text: str, path: str, program: str) -> None:
     """By the program dot."""
     if shutil.which(program) is None:
-        raise Refused(f"{program} isn't installed: it is in the package graphviz. Without --svg the graph is written "
+        raise Refused(f"{program} isn't installed: it is in the package graphviz. Without --svg the graph "
+                      "is written "
                       "for it")
-    done = subprocess.run([program, "-Tsvg"], input=text.encode(), stdout=subprocess.PIPE, stderr=subprocess.PIPE,
-                          check=False)
+    done = subprocess.run([program, "-Tsvg"], input=text.encode(), stdout=subprocess.PIPE,
+                          stderr=subprocess.PIPE, check=False)
     if done.returncode != 0:
-        raise Refused(f"{program} ended with {done.returncode}: {done.stderr.decode(errors='replace').strip()}")
+        raise Refused(f"{program} ended with {done.returncode}: "
+                      f"{done.stderr.decode(errors='replace').strip()}")
     with open(path, "wb") as file:
         file.write(done.stdout)
 
@@ -244,13 +249,14 @@ def read(path: Optional[str]) -> str:
 
 
 def given_words(words: Optional[Sequence[str]]) -> argparse.Namespace:
-    parser = argparse.ArgumentParser(prog="picture.py", description=__doc__,
-                                     formatter_class=argparse.RawDescriptionHelpFormatter)
-    parser.add_argument("trace", nargs="?", help="what `inspect trace` wrote; standard input where it isn't given")
+    parser = words_of("picture.py", __doc__)
+    parser.add_argument("trace", nargs="?",
+                        help="what `inspect trace` wrote; standard input where it isn't given")
     parser.add_argument("--rows", metavar="FILE", help="what `inspect rows` wrote")
     parser.add_argument("--depends", metavar="FILE", help="what `inspect depends PATH` wrote")
     parser.add_argument("--svg", metavar="FILE", help="write an image to this file, and no graph")
-    parser.add_argument("--dot", metavar="PROGRAM", default="dot", help="the program that makes it (default dot)")
+    parser.add_argument("--dot", metavar="PROGRAM", default="dot",
+                        help="the program that makes it (default dot)")
     parser.add_argument("--limit", type=int, metavar="N", default=LIMIT, help=f"of arrows (default {LIMIT})")
     return parser.parse_args(words)
 

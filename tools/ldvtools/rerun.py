@@ -1,7 +1,8 @@
-"""Runs the scripts of a world again over the replies of its outcome, as `ldv replay` does with recorded replies.
+"""Runs the scripts of a world again over the replies of its outcome,
+as `ldv replay` does with recorded replies.
 
-So it is known which statement, with which parameters, each reply of an outcome belongs to, and at which step it was
-asked. docs/SCRIPTS.md has the language.
+So it is known which statement, with which parameters, each reply of an outcome belongs to, and at which step
+it was asked. docs/SCRIPTS.md has the language.
 """
 from __future__ import annotations
 
@@ -21,7 +22,8 @@ Order = Tuple[int, int, bytes]
 
 
 class Question(NamedTuple):
-    """A statement that a process asked: the step, its number in the run and in its process, from 0, and its reply."""
+    """A statement that a process asked: the step, its number in the run and in its process,
+    from 0, and its reply."""
 
     process: str
     step: int
@@ -348,8 +350,8 @@ class Machine:
         if not isinstance(text, str):
             raise Misuse(KIND)
         reply = self.answer(process.name, process.asked, text, list(params))
-        self.questions.append(Question(process.name, self.step, len(self.questions), process.asked, text, list(params),
-                                       reply))
+        self.questions.append(Question(process.name, self.step, len(self.questions), process.asked, text,
+                                       list(params), reply))
         process.asked += 1
         process.cursors[here.names[0]] = Cursor(reply)
 
@@ -393,7 +395,8 @@ def answers_of(replies: Mapping[str, Sequence[Reply]]) -> Callable[[str, int, st
     def answer(process: str, place: int, text: str, params: Row) -> Reply:
         found = replies.get(process, ())
         if place >= len(found):
-            raise Malformed(f"process {process} asks a statement {place + 1}, and the outcome has {len(found)} replies: "
+            raise Malformed(f"process {process} asks a statement {place + 1}, and the outcome has "
+                            f"{len(found)} replies: "
                             "it isn't of this world")
         return found[place]
     return answer
@@ -415,7 +418,8 @@ def differences(machine: Machine, outcome: Outcome) -> Iterator[str]:
     """How a run differs from an outcome."""
     made = {process.name: process for process in machine.processes}
     if set(made) != {process.name for process in outcome.processes}:
-        yield f"the run has {plain_count(len(made), 'process', 'processes')}, and the outcome {len(outcome.processes)}"
+        yield (f"the run has {plain_count(len(made), 'process', 'processes')}, "
+               f"and the outcome {len(outcome.processes)}")
         return
     for process in outcome.processes:
         own = made[process.name]
@@ -424,7 +428,8 @@ def differences(machine: Machine, outcome: Outcome) -> Iterator[str]:
         elif "".join(own.printed) != process.printed:
             yield f"process {process.name} prints something else"
         elif own.asked != len(process.replies):
-            yield f"process {process.name} asks {own.asked} statements, and the outcome has {len(process.replies)} replies"
+            yield (f"process {process.name} asks {own.asked} statements, "
+                   f"and the outcome has {len(process.replies)} replies")
     after = {path: machine.files.get(path) for path in machine.touched}
     if after != dict(outcome.touched):
         yield "the run leaves other files"

@@ -35,9 +35,10 @@ FORMS = {
     "status": "status x c",
 }
 # How other languages say it.
-OTHERS = {"set": "let", "var": "let", "echo": "print", "return": "exit", "while": "goto", "for": "goto", "jump": "goto",
-          "select": "sql", "insert": "sql", "update": "sql", "delete": "sql", "read": "readline", "append": "write",
-          "end": "exit", "call": "spawn", "run": "spawn", "else": "if", "elif": "if", "then": "if", "stop": "exit"}
+OTHERS = {"set": "let", "var": "let", "echo": "print", "return": "exit", "while": "goto", "for": "goto",
+          "jump": "goto", "select": "sql", "insert": "sql", "update": "sql", "delete": "sql",
+          "read": "readline", "append": "write", "end": "exit", "call": "spawn", "run": "spawn", "else": "if",
+          "elif": "if", "then": "if", "stop": "exit"}
 
 
 class BadLine(Exception):
@@ -224,7 +225,8 @@ def why_no_value(token: str) -> str:
 
 def glued(token: str) -> str:
     """That blanks are missing, where a token looks so."""
-    is_glued = token[0] != '"' and re.search(r"[a-z0-9\"](\+\+|[-+*=<>]+)|^[-+*=<>]+[a-z0-9\"]|[a-z]\"", token)
+    is_glued = token[0] != '"' and re.search(r"[a-z0-9\"](\+\+|[-+*=<>]+)|^[-+*=<>]+[a-z0-9\"]|[a-z]\"",
+                                             token)
     return ": blanks stand between names, values and signs" if is_glued else ""
 
 

@@ -63,7 +63,8 @@ def asking(parts: Sequence[str], text: str, begun: int, name: str) -> List[str]:
     statement = "".join(parts).rstrip(" ")
     length = len(statement.encode())
     if length > MAX_TEXT:
-        raise Refused(f"{name} line {line_at(text, begun)}: a statement of {length} bytes; the limit is {MAX_TEXT}")
+        raise Refused(f"{name} line {line_at(text, begun)}: a statement of {length} bytes; the limit is "
+                      f"{MAX_TEXT}")
     return [f'sql q "{escaped(statement)}"'] if statement else []
 
 

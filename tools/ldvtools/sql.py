@@ -1,4 +1,5 @@
-"""Reads statements of the dialect of docs/SQL.md, and says of a text without a reading what to write instead."""
+"""Reads statements of the dialect of docs/SQL.md, and says of a text without a reading
+what to write instead."""
 from __future__ import annotations
 
 import re
@@ -19,7 +20,8 @@ class NoReading(Exception):
 
 
 class Token(NamedTuple):
-    """A token: a "word" in lower case, a "number", a "text", a "sign", the "end", or "bad" with what is wrong."""
+    """A token: a "word" in lower case, a "number", a "text", a "sign", the "end",
+    or "bad" with what is wrong."""
 
     kind: str
     text: str
@@ -31,8 +33,8 @@ class Token(NamedTuple):
 class Expr:
     """An expression: its form, where it begins, and its depth.
 
-    Forms are constant, parameter, column, negate, not, arithmetic, compare, logic, isnull and aggregate. `word` is the
-    operator, the aggregate or the column's name, and `source` the name before a column's dot.
+    Forms are constant, parameter, column, negate, not, arithmetic, compare, logic, isnull and aggregate.
+    `word` is the operator, the aggregate or the column's name, and `source` the name before a column's dot.
     """
 
     form: str
@@ -132,9 +134,11 @@ def token_at(text: str, at: int) -> Token:
     if found := DIGITS.match(text, at):
         digits = found.group().lstrip("0")
         if WORD.match(text, found.end()):
-            return Token("bad", f"a word that follows the number {found.group()[:20]} without a blank", at, found.end())
+            return Token("bad", f"a word that follows the number {found.group()[:20]} without a blank", at,
+                         found.end())
         if len(digits) > 19 or int(digits or "0") > MAX_INT:
-            return Token("bad", f"the number {found.group()[:30]}, which is outside 64 bits,", at, found.end())
+            return Token("bad", f"the number {found.group()[:30]}, which is outside 64 bits,", at,
+                         found.end())
         return Token("number", digits or "0", at, found.end())
     if text[at] == "'":
         found = TEXT.match(text, at)
@@ -277,7 +281,8 @@ class Parser:
         self.take()
         is_negative = self.skip_word("not")
         self.word("null")
-        return self.made(Expr("isnull", left.at, 1 + left.depth, (left,), "is not null" if is_negative else "is null"))
+        return self.made(Expr("isnull", left.at, 1 + left.depth, (left,),
+                              "is not null" if is_negative else "is null"))
 
     def sum(self) -> Expr:
         left = self.product()
@@ -416,7 +421,8 @@ class Parser:
         elif self.is_name():
             name = self.take()
             if name.text in JOIN_WORDS and self.is_word("join"):
-                self.warnings.append(f"{name.text.upper()} before JOIN is read as another name of {table.text}: "
+                self.warnings.append(f"{name.text.upper()} before JOIN is read as another name of "
+                                     f"{table.text}: "
                                      f"this is an inner join; {JOIN_WORDS[name.text]}")
         core.sources.append(Source(table.text, name.text, table.at))
 

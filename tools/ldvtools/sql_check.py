@@ -1,4 +1,5 @@
-"""Judges statements by the tables that they are asked of: the codes 1 to 4 of docs/SQL.md, with their cause."""
+"""Judges statements by the tables that they are asked of: the codes 1 to 4 of docs/SQL.md,
+with their cause."""
 from __future__ import annotations
 
 import difflib
@@ -28,7 +29,8 @@ class Finding(NamedTuple):
 
 
 class Judged(NamedTuple):
-    """What is known of a statement: the refusal, the names of its columns, and what a reader could misread."""
+    """What is known of a statement: the refusal, the names of its columns,
+    and what a reader could misread."""
 
     finding: Optional[Finding]
     names: List[Optional[str]]
@@ -88,7 +90,8 @@ def check_tables(statement: Statement, schemas: Schemas) -> None:
     for source in sources:
         if source.table not in schemas:
             there = ", ".join(sorted(schemas)) or "none"
-            refuse(2, source.at, f"there is no table {source.table} (tables: {there}){closest(source.table, list(schemas))}")
+            refuse(2, source.at, f"there is no table {source.table} (tables: "
+                                 f"{there}){closest(source.table, list(schemas))}")
     for core in statement.cores if isinstance(statement, Query) else []:
         names: Dict[str, Source] = {}
         for source in core.sources:
@@ -107,7 +110,8 @@ def place_of(expr: Expr, scope: Scope) -> int:
     if len(places) == 1:
         return places[0]
     if places:
-        refuse(3, expr.at, f"{shown(expr)} is a column of {' and of '.join(scope[place].source for place in places)}; "
+        refuse(3, expr.at, f"{shown(expr)} is a column of "
+                           f"{' and of '.join(scope[place].source for place in places)}; "
                            f"write {scope[places[0]].source}.{expr.word}")
     if expr.source and expr.source not in {known.source for known in scope}:
         sources = ", ".join(dict.fromkeys(known.source for known in scope)) or "none"
@@ -281,7 +285,8 @@ def check_counts(core: Core) -> None:
             if part.form != "aggregate":
                 continue
             if part.word == "count":
-                refuse(4, part.at, "COUNT over several sources; SUM(x * 0 + 1), with a column x of numbers that is never "
+                refuse(4, part.at, "COUNT over several sources; SUM(x * 0 + 1), with a column x of numbers "
+                                   "that is never "
                                    "NULL, counts")
             if part.word == "sum" and not names_column(part):
                 refuse(4, part.at, "SUM over several sources names a column: SUM(x * 0 + 1)")
@@ -358,7 +363,8 @@ def parsed(text: str, parameters: Sequence[Parameter]) -> Parsed:
     except NoReading as fault:
         raise Found(1, fault.at, str(fault)) from None
     if found.parameters != len(parameters):
-        raise Found(1, len(text), f"the text has {found.parameters} ?, and there are {len(parameters)} parameters")
+        raise Found(1, len(text), f"the text has {found.parameters} ?, and there are {len(parameters)} "
+                                  "parameters")
     return found
 
 

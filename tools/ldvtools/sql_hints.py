@@ -121,11 +121,13 @@ def end_hint(tokens: Sequence[HasText]) -> str:
 def word_hint(token: HasText, before: HasText, after: HasText) -> str:
     word = token.text
     if word == "not" and after.text in ("in", "like", "between", "exists"):
-        return ("a count of SELECT DISTINCT taken off, or the script, says which aren't in" if after.text == "in"
-                else "put NOT before the whole: NOT (" + HINTS[after.text] + ")")
+        if after.text == "in":
+            return "a count of SELECT DISTINCT taken off, or the script, says which aren't in"
+        return "put NOT before the whole: NOT (" + HINTS[after.text] + ")"
     if word == "select":
-        return ("INSERT takes VALUES: fetch the rows and insert them one by one" if before.text not in ("(", "union")
-                else SUBQUERY)
+        if before.text in ("(", "union"):
+            return SUBQUERY
+        return "INSERT takes VALUES: fetch the rows and insert them one by one"
     if word == "distinct":
         return "there is no DISTINCT in an aggregate: ask SELECT DISTINCT and count its rows"
     if word in JOIN_WORDS:
@@ -138,8 +140,8 @@ def word_hint(token: HasText, before: HasText, after: HasText) -> str:
         return "each statement is an instruction of its own"
     if word in ("union", "order", "limit") or before.text == "limit":
         return "ORDER BY and LIMIT stand once, at the end of the whole query"
-    if word in AGGREGATE_WORDS and before.kind == "word" and before.text not in RESERVED or word in RESERVED and (
-            before.text in ("as", "from", "join", ",", ".", "(")):
+    if (word in AGGREGATE_WORDS and before.kind == "word" and before.text not in RESERVED
+            or word in RESERVED and before.text in ("as", "from", "join", ",", ".", "(")):
         return f"{word} is a reserved word, and no name"
     if word not in RESERVED and (before.kind in ("number", "text") or before.text in (")",)
                                  or before.kind == "word" and before.text not in RESERVED):
@@ -152,7 +154,8 @@ def sign_hint(token: HasText, before: HasText, after: HasText) -> str:
     if sign == "-" and (before.text == "-" or after.text == "-"):
         return "there are no comments in a statement: -- is two minuses"
     if sign == "(" and before.kind == "word":
-        return HINTS.get(before.text, f"there is no function {before.text}" if before.text not in RESERVED else "")
+        return HINTS.get(before.text,
+                         f"there is no function {before.text}" if before.text not in RESERVED else "")
     if sign == "=" and before.text in ("=", "!", "<>"):
         return "equal is one ="
     if sign in ("=", "<>", "<", "<=", ">", ">="):

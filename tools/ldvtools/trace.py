@@ -17,7 +17,8 @@ KINDS = ("path", "process", "row", "ask", "reply")
 
 
 class Graph:
-    """Nodes in the order in which they come up, and edges from source to target with their first and last time."""
+    """Nodes in the order in which they come up, and edges from source to target with
+    their first and last time."""
 
     def __init__(self, processes: List[str]) -> None:
         self.made = {name: place for place, name in enumerate(processes)}
@@ -37,7 +38,8 @@ class Graph:
             return None
         latest = latest_times(self, self.nodes["path", path])
         names = list(self.nodes)
-        return [" ".join(map(str, node)) for node in sorted((names[place] for place in latest), key=self.in_order)]
+        return [" ".join(map(str, node))
+                for node in sorted((names[place] for place in latest), key=self.in_order)]
 
     def in_order(self, node: Node) -> Tuple[object, ...]:
         """Paths by bytes, processes as they were made, rows, asks and replies by their numbers."""
@@ -122,7 +124,8 @@ def add_asked(graph: Graph, asked: Asked, process: int, step: int) -> None:
 
 
 def lives(package: Package) -> Iterator[Tuple[str, str, int, int, Optional[int]]]:
-    """Of each process its name, its script, the step at which it was made and that at which it ended, and its status."""
+    """Of each process its name, its script, the step at which it was made and that at
+    which it ended, and its status."""
     names = package.process_names()
     scripts, begins = [""], [0]
     ends: Dict[int, Tuple[int, int]] = {}

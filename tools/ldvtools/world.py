@@ -14,8 +14,8 @@ number of 64 bits without a plus sign or needless zeros; else it is TEXT. An emp
 number of tenths, cents and so on, and a date is best a text such as 2019-01-31, which compares as the date
 does. A byte order mark says the encoding of a file.
 
-Scripts and statements are looked at as `tools/check.py` does. What they have wrong is a warning, and the world is
-made; a join that would mean another one, such as LEFT JOIN, is refused.
+Scripts and statements are looked at as `tools/check.py` does. What they have wrong is a warning, and the
+world is made; a join that would mean another one, such as LEFT JOIN, is refused.
 
 TABLE and COLUMN in an option are names in the world; OLD is a name in the file or database.
 
@@ -28,11 +28,11 @@ import gc
 import os
 import random
 import sys
-from typing import Dict, List, Optional, Sequence, Tuple
+from typing import Dict, List, NamedTuple, Optional, Sequence, Tuple
 
 from .check import findings_of
 from .documents import document, table_json, write_file
-from .errors import Misused, Refused, command
+from .errors import Misused, Refused, command, words_of
 from .language import MAX_FILE, MAX_FILES, MAX_PATH, MAX_START_WORDS, MAX_TABLES, MAX_TEXT
 from .progress import Progress
 from .scripts_of_statements import script_of
@@ -45,7 +45,8 @@ from .world_tables import Table, rows_json, settle
 
 # ---- what a world has
 
-def world_tables(words: argparse.Namespace, notes: List[str], hints: List[str], progress: Progress) -> List[Table]:
+def world_tables(words: argparse.Namespace, notes: List[str], hints: List[str],
+                 progress: Progress) -> List[Table]:
     settings = Settings(words)
     delimiter = "\t" if words.delimiter == "tab" else words.delimiter
     tables: List[Table] = []
@@ -159,8 +160,7 @@ def summary(table: Table) -> str:
 # ---- the command line
 
 def read_words(given: Optional[Sequence[str]]) -> argparse.Namespace:
-    parser = argparse.ArgumentParser(
-        prog="world.py", description=__doc__, formatter_class=argparse.RawDescriptionHelpFormatter)
+    parser = words_of("world.py", __doc__)
 
     def many(option: str, metavar: str, text: str) -> None:
         parser.add_argument(option, metavar=metavar, action="append", default=[], help=text)
@@ -179,20 +179,27 @@ def read_words(given: Optional[Sequence[str]]) -> argparse.Namespace:
     many("--scale", "TABLE.COLUMN=N", "a column of decimals: with N = 1, 3.4 is carried as 34")
     many("--empty", "TABLE.COLUMN=text", "in this column of a CSV file an empty cell is the empty text")
     many("--null", "WORD", "in CSV files WORD is NULL too, such as NA")
-    many("--rename", "OLD=NEW", "another name for the table OLD, for the column TABLE.OLD, or for the third column TABLE.#3")
+    many("--rename", "OLD=NEW",
+         "another name for the table OLD, for the column TABLE.OLD, or for the third column TABLE.#3")
     many("--leave-out", "NAME", "not the table OLD, or not the column TABLE.COLUMN")
     parser.add_argument("--decimal", default=".", metavar="CHARACTER", help="in --scale columns (default .)")
-    parser.add_argument("--round", action="store_true", help="round what has more decimals than --scale, half to even")
-    parser.add_argument("--skip-blank", action="store_true", help="no row for a line that has delimiters alone")
+    parser.add_argument("--round", action="store_true",
+                        help="round what has more decimals than --scale, half to even")
+    parser.add_argument("--skip-blank", action="store_true",
+                        help="no row for a line that has delimiters alone")
     parser.add_argument("--shuffle", type=int, metavar="SEED",
-                        help="the rows of each table in another order, which says nothing of the order that they had")
+                        help="the rows of each table in another order, which says nothing of the order that "
+                             "they had")
     parser.add_argument("--lower", action="store_true", help="names in lower case")
-    parser.add_argument("--tidy", action="store_true", help="what isn't a name is made one: 'Birth year' birth_year, "
+    parser.add_argument("--tidy", action="store_true",
+                        help="what isn't a name is made one: 'Birth year' birth_year, "
                         "and a header that is there twice gets its place behind it")
     parser.add_argument("--delimiter", default=",", help="of CSV files: one character, or tab (default ,)")
-    parser.add_argument("--tsv", action="store_true", help="the CSV files are as COPY of PostgreSQL and --batch of MySQL write "
+    parser.add_argument("--tsv", action="store_true",
+                        help="the CSV files are as COPY of PostgreSQL and --batch of MySQL write "
                         "them: tabs between cells, no quotes, \\t, \\n and \\\\ as escapes, \\N for NULL")
-    parser.add_argument("--encoding", default="utf-8", help="of CSV files without a byte order mark (default utf-8)")
+    parser.add_argument("--encoding", default="utf-8",
+                        help="of CSV files without a byte order mark (default utf-8)")
     parser.add_argument("-o", "--output", metavar="FILE", help="the document (default: standard output)")
     parser.add_argument("-q", "--quiet", action="store_true", help="say nothing but why it is refused")
     parser.add_argument("--strict", action="store_true", help="refuse where there is a note or a warning")
@@ -228,8 +235,18 @@ def check_scripts(files: Dict[str, bytes], tables: Sequence[Table]) -> List[str]
     return [f"warning: {finding.text}" for finding in found]
 
 
-def work(given: Optional[Sequence[str]]) -> int:
-    words = read_words(given)
+class World(NamedTuple):
+    """A world document, and what is said of it: notes on what it lacks, warnings, hints,
+    and a line for each table."""
+
+    data: bytes
+    notes: List[str]
+    warnings: List[str]
+    hints: List[str]
+    summaries: List[str]
+
+
+def made_world(words: argparse.Namespace) -> World:
     progress = Progress("world.py", words.quiet)
     notes: List[str] = []
     hints: List[str] = []
@@ -238,15 +255,27 @@ def work(given: Optional[Sequence[str]]) -> int:
     start = start_words(files, words)
     warnings = [] if words.no_check else check_scripts(files, tables)
     data = document(start, words.seed, files, list(map(table_of, tables)))
+    return World(data, notes, warnings, hints, [summary(table) for table in tables])
+
+
+def document_of(given: Sequence[str]) -> bytes:
+    """The world document that the command makes of these words."""
+    return made_world(read_words(given)).data
+
+
+def work(given: Optional[Sequence[str]]) -> int:
+    words = read_words(given)
+    made = made_world(words)
     if not words.quiet:
-        for note in notes:
+        for note in made.notes:
             print(f"world.py: note: {note}", file=sys.stderr)
-    if (notes or warnings) and words.strict:
-        raise Refused("a world hasn't all that the database has, or a script has a line that fails (--strict): "
-                      + (notes + warnings)[0])
-    write_file(data, words.output)
+    if (made.notes or made.warnings) and words.strict:
+        raise Refused("a world hasn't all that the database has, or a script has a line that fails "
+                      "(--strict): "
+                      + (made.notes + made.warnings)[0])
+    write_file(made.data, words.output)
     if not words.quiet:
-        for line in warnings + hints + [summary(table) for table in tables]:
+        for line in made.warnings + made.hints + made.summaries:
             print(f"world.py: {line}", file=sys.stderr)
     return 0
 

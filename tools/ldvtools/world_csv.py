@@ -52,7 +52,8 @@ def read_csv(word: str, settings: Settings, delimiter: str, encoding: str, hints
     check_header(path, header, delimiter)
     for place, row in enumerate(records, 1) if set(map(len, records)) - {len(header)} else ():
         if len(row) != len(header):
-            raise Refused(f"{path} line {lines.of(place)}: {plain_count(len(row), 'cell')}, but the header has "
+            raise Refused(f"{path} line {lines.of(place)}: {plain_count(len(row), 'cell')}, but the header "
+                          "has "
                           f"{len(header)}")
     kept: Sequence[int] = range(len(records))
     blank = blank_places(records)
@@ -86,7 +87,8 @@ def blank_places(records: List[List[str]]) -> List[int]:
 def hint_of_blank(lines: Lines, blank: Sequence[int]) -> str:
     shown = ", ".join(str(lines.of(place + 1)) for place in blank[:3])
     rest = f" and {len(blank) - 3} more" if len(blank) > 3 else ""
-    return (f"{lines.path}: line {shown}{rest} has delimiters alone, and is a row of NULL; --skip-blank leaves it out")
+    return (f"{lines.path}: line {shown}{rest} has delimiters alone, and is a row of NULL; --skip-blank "
+            "leaves it out")
 
 
 def text_of(path: str, encoding: str) -> str:
@@ -101,7 +103,8 @@ def text_of(path: str, encoding: str) -> str:
         # Some encodings have half surrogate pairs, which UTF-8 hasn't.
         text.encode()
     except UnicodeDecodeError as fault:
-        raise Refused(f"{path}: byte {fault.start} isn't {encoding}; give --encoding, such as cp1252 (of Windows) "
+        raise Refused(f"{path}: byte {fault.start} isn't {encoding}; give --encoding, such as cp1252 (of "
+                      "Windows) "
                       "or latin-1") from None
     except UnicodeError as fault:
         raise Refused(f"{path} isn't {encoding}: {fault}") from None
@@ -120,7 +123,8 @@ class Lines:
     def reader(self) -> Any:
         csv.field_size_limit(2**31 - 1)
         quoting = csv.QUOTE_NONE if self.is_tsv else csv.QUOTE_MINIMAL
-        return csv.reader(io.StringIO(self.text, newline=""), delimiter=self.delimiter, quoting=quoting, strict=True)
+        return csv.reader(io.StringIO(self.text, newline=""), delimiter=self.delimiter, quoting=quoting,
+                          strict=True)
 
     def of(self, place: int) -> int:
         if not self.found:

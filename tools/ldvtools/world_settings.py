@@ -16,7 +16,10 @@ def fold(name: str) -> str:
 
 def tidy_name(text: str) -> str:
     """A name that is as near to a text as a name may be."""
-    plain = unicodedata.normalize("NFKD", text.replace("ß", "ss").replace("æ", "ae").replace("ø", "o")).encode("ascii", "ignore")
+    plain = unicodedata.normalize("NFKD",
+                                  text.replace("ß", "ss").replace("æ",
+                                                                  "ae").replace("ø", "o")).encode("ascii",
+                                                                                                  "ignore")
     name = re.sub(r"[^a-z0-9_]+", "_", fold(plain.decode()).strip()).strip("_") or "column"
     name = ("_" + name if name[0].isdigit() else name)[:MAX_NAME - 5]
     return name + "_" if name in RESERVED else name
@@ -78,7 +81,8 @@ class Settings:
         return self.take("--leave-out", name) is not None
 
     def new_name(self, old: str, name: str, place: str = "") -> str:
-        """The name in the world of what is read as `name`, which --rename calls `old`, or calls by its place."""
+        """The name in the world of what is read as `name`, which --rename calls `old`,
+        or calls by its place."""
         by_place = self.take("--rename", place) if place else None
         return by_place or self.take("--rename", old) or (fold(name) if self.lower or self.tidy else name)
 

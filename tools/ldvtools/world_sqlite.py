@@ -15,7 +15,8 @@ from .world_csv import read_file
 from .world_settings import Settings, tidy_name, tidy_names
 from .world_tables import BadText, Column, Table, keep_columns
 
-# A column of PRAGMA table_xinfo: place, name, declared type, NOT NULL, default, place in the key from 1, hidden.
+# A column of PRAGMA table_xinfo: place, name, declared type, NOT NULL, default, place in the key from 1,
+# hidden.
 Shape = Tuple[int, str, str, int, Any, int, int]
 
 
@@ -50,7 +51,8 @@ def tables_of(path: str, only: Sequence[str], settings: Settings, notes: List[st
     base = connected(path, "ro")
     base.text_factory = decoded
     try:
-        entries = base.execute("SELECT type, name, tbl_name, sql FROM sqlite_master ORDER BY rowid").fetchall()
+        everything = "SELECT type, name, tbl_name, sql FROM sqlite_master ORDER BY rowid"
+        entries = base.execute(everything).fetchall()
         there = [name for kind, name, _, _ in entries if kind == "table" and not name.startswith("sqlite_")]
         for name in only:
             if name not in there:
@@ -96,7 +98,8 @@ def shadow_tables(base: sqlite3.Connection) -> Set[str]:
         return set()
 
 
-def read_table(base: sqlite3.Connection, name: str, sql: str, settings: Settings, notes: List[str]) -> List[Table]:
+def read_table(base: sqlite3.Connection, name: str, sql: str, settings: Settings,
+               notes: List[str]) -> List[Table]:
     if re.match(r"\s*create\s+virtual\b", sql, re.IGNORECASE):
         notes.append(f"the virtual table {name} isn't carried")
         return []
@@ -155,13 +158,15 @@ def note_constraints(base: sqlite3.Connection, name: str, new: str, sql: str, no
     for row in base.execute(f"PRAGMA foreign_key_list({quoted(name)})"):
         keys.setdefault(row[0], (row[2], []))[1].append(row[3])
     for _, (parent, names) in sorted(keys.items()):
-        notes.append(f"{new}: the foreign key ({', '.join(names)}) to {parent} isn't carried: nothing checks it here")
+        notes.append(f"{new}: the foreign key ({', '.join(names)}) to {parent} isn't carried: nothing "
+                     "checks it here")
     for row in base.execute(f"PRAGMA index_list({quoted(name)})").fetchall():
         if row[2] and row[3] != "pk":
             parts = base.execute(f"PRAGMA index_info({quoted(row[1])})")
             columns = ", ".join(str(part[2]) for part in parts)
             notes.append(f"{new}: UNIQUE ({columns}) isn't carried: a table has one key here")
-    words = re.sub(r"'[^']*'|\"[^\"]*\"|`[^`]*`|\[[^]]*\]|--[^\n]*|/\*.*?\*/", " ", sql, flags=re.DOTALL).upper()
+    words = re.sub(r"'[^']*'|\"[^\"]*\"|`[^`]*`|\[[^]]*\]|--[^\n]*|/\*.*?\*/", " ", sql,
+                   flags=re.DOTALL).upper()
     if re.search(r"\bCHECK\b", words):
         notes.append(f"{new}: CHECK isn't carried: nothing checks it here")
     if re.search(r"\bAUTOINCREMENT\b", words):

@@ -1,7 +1,7 @@
 """Tables of a world: names, kinds, cells and keys.
 
-A table is read with its cells as they are, column by column, and then settled: it gets its kinds, its cells are
-brought to them, and what doesn't fit is refused with its row and column.
+A table is read with its cells as they are, column by column, and then settled: it gets its kinds, its cells
+are brought to them, and what doesn't fit is refused with its row and column.
 """
 from __future__ import annotations
 
@@ -139,7 +139,8 @@ def scaled_number(value: Cell, scale: int, settings: Settings) -> int:
     sign, whole, part = match.group(1), match.group(2), match.group(3) or ""
     if part[scale:].strip("0"):
         if not settings.rounds:
-            raise Unfit(f"{shown(value)} has more than the {plain_count(scale, 'decimal')} of --scale; --round rounds")
+            raise Unfit(f"{shown(value)} has more than the {plain_count(scale, 'decimal')} of --scale; "
+                        "--round rounds")
         rounded = Decimal(f"{sign}0{whole}.{part}").quantize(Decimal(1).scaleb(-scale), ROUND_HALF_EVEN)
         return whole_number(str(int(rounded.scaleb(scale))))
     return whole_number(f"{sign}0{whole}{part[:scale].ljust(scale, '0')}")
@@ -217,10 +218,12 @@ def hint_of_form(table: Table, column: Column, cells: Sequence[str], hints: List
     decimals = [COMMA.match(cell) for cell in sample]
     if any(decimals) and all(found or WHOLE.match(cell) for cell, found in zip(sample, decimals)):
         scale = max(len(found[1]) for found in decimals if found)
-        hints.append(f"{name} is TEXT, and looks like decimals with a comma; --decimal , --scale {name}={scale} carries it as "
+        hints.append(f"{name} is TEXT, and looks like decimals with a comma; --decimal , --scale "
+                     f"{name}={scale} carries it as "
                      "whole numbers")
     elif sample and all(DAY_FIRST.match(cell) for cell in sample):
-        hints.append(f"{name} is TEXT, and looks like dates such as {shown(sample[0])}: these don't compare as dates; from the "
+        hints.append(f"{name} is TEXT, and looks like dates such as {shown(sample[0])}: these don't compare "
+                     "as dates; from the "
                      "year down, as 2019-01-31, they do")
 
 
@@ -283,15 +286,19 @@ def is_filled(column: Column) -> bool:
 
 
 def is_scaled(column: Column, settings: Settings) -> bool:
-    """Whether all cells were short decimals in plain digits, and are brought to their whole numbers by that."""
-    if column.scale is None or column.not_null or settings.decimal != "." or set(map(type, column.cells)) - {str, type(None)}:
+    """Whether all cells were short decimals in plain digits,
+    and are brought to their whole numbers by that."""
+    if column.scale is None or column.not_null or settings.decimal != ".":
+        return False
+    if set(map(type, column.cells)) - {str, type(None)}:
         return False
     scale = column.scale
     match = re.compile(rf"-?[0-9]{{1,{MAX_SCALE - scale or 1}}}(?:\.[0-9]{{0,{scale}}})?\Z").match
     texts = [cell for cell in column.cells if cell is not None]
     if scale >= MAX_SCALE or not all(map(match, texts)):
         return False
-    numbers = iter([int(whole + part.ljust(scale, "0")) for whole, _, part in (text.partition(".") for text in texts)])
+    numbers = iter([int(whole + part.ljust(scale, "0"))
+                    for whole, _, part in (text.partition(".") for text in texts)])
     column.cells = [None if cell is None else next(numbers) for cell in column.cells]
     return True
 
@@ -329,7 +336,8 @@ def check_columns(table: Table) -> None:
         by_place = f"{table.name}.#{place + 1}" if table.from_text else ""
         check_name(f"{table.name}: column {place + 1}", name, by_place)
         if name in names[:place]:
-            how = f"--rename \"{by_place}=NAME\" renames the column {place + 1}" if by_place else "give --rename"
+            how = (f"--rename \"{by_place}=NAME\" renames the column {place + 1}" if by_place
+                   else "give --rename")
             raise Refused(f"{table.name}: two columns have the name {name}; {how}")
     for place, name in enumerate(table.key):
         if name not in names:
@@ -349,7 +357,8 @@ def check_many(table: Table, names: Sequence[str]) -> None:
     words = " ".join(f'--rename "{table.name}.#{place + 1}={tidied[place]}"' for place in bad[:8])
     shown_names = ", ".join(f"{place + 1} {names[place]!r}" for place in bad[:8])
     rest = ", .." if len(bad) > 8 else ""
-    raise Refused(f"{table.name}: {len(bad)} columns need another name, column {shown_names}{rest}: a letter a to z or _, then "
+    raise Refused(f"{table.name}: {len(bad)} columns need another name, column {shown_names}{rest}: a "
+                  "letter a to z or _, then "
                   f"such letters, digits and _, no reserved word, and none twice; give --tidy, or {words}")
 
 
@@ -372,7 +381,8 @@ def settle_kind(table: Table, column: Column, settings: Settings) -> bool:
 
 def check_scales(tables: Sequence[Table], settings: Settings) -> None:
     """All columns with REAL values that need --scale, at once."""
-    needed = [(table, row, column, value) for table in tables if not table.from_text for column in table.columns
+    needed = [(table, row, column, value) for table in tables if not table.from_text
+              for column in table.columns
               if column.scale is None for row, value in first_float(column)]
     if not needed:
         return
@@ -382,7 +392,8 @@ def check_scales(tables: Sequence[Table], settings: Settings) -> None:
     if any(scale > MAX_SCALE for _, scale in scales):
         words += " --round"
     raise Refused(f"{table.at(row, column)}: {shown(value)} has no equal here; {words} carries "
-                  f"all of them as whole numbers, --leave-out {table.full_name(column)} leaves the column out")
+                  f"all of them as whole numbers, --leave-out {table.full_name(column)} leaves the column "
+                  "out")
 
 
 def first_float(column: Column) -> Iterator[Tuple[int, float]]:
@@ -404,7 +415,8 @@ def settle_cells(table: Table, column: Column, is_given: bool, settings: Setting
         column.kind = kind_of_values(table, column)
     fill_column(table, column, is_given, settings)
     if column.scale is not None and sum(map(abs, filter(None, column.cells))) > MAX_INT:
-        hints.append(f"{table.full_name(column)}: the sum of its rows may leave 64 bits at --scale {column.scale}, and "
+        hints.append(f"{table.full_name(column)}: the sum of its rows may leave 64 bits at --scale "
+                     f"{column.scale}, and "
                      "SUM is NULL there")
 
 

@@ -27,7 +27,8 @@ def read_world(data: bytes) -> Document:
         files = {path: file_bytes(content) for path, content in document["files"].items()}
         tables: Mapping[str, Any] = document.get("tables", {})
         schemas: Dict[str, List[Tuple[str, str]]] = {
-            name: [(str(column), str(kind)) for column, kind in table["columns"]] for name, table in tables.items()}
+            name: [(str(column), str(kind))
+                   for column, kind in table["columns"]] for name, table in tables.items()}
         start = [str(word) for word in document["start"]]
         world = World(start, int(document.get("seed", 0)), files)
     except (AttributeError, KeyError, TypeError, ValueError) as fault:
@@ -38,7 +39,8 @@ def read_world(data: bytes) -> Document:
 
 
 def file_bytes(content: Any) -> bytes:
-    return bytes.fromhex(content["hex"]) if isinstance(content, dict) else content.encode()  # type: ignore[no-any-return]
+    found: bytes = bytes.fromhex(content["hex"]) if isinstance(content, dict) else content.encode()
+    return found
 
 
 def world_of_package(package: Package) -> Document:

@@ -31,11 +31,11 @@ class Browser:
             os.dup2(commands, 3)
             os.dup2(answers, 4)
 
-        words = [program(), "--headless", "--no-sandbox", "--disable-gpu", "--disable-dev-shm-usage", "--no-first-run",
-                 "--remote-debugging-pipe", f"--user-data-dir={self.folder.name}",
+        words = [program(), "--headless", "--no-sandbox", "--disable-gpu", "--disable-dev-shm-usage",
+                 "--no-first-run", "--remote-debugging-pipe", f"--user-data-dir={self.folder.name}",
                  f"--window-size={width},{height}", "about:blank"]
-        self.process = subprocess.Popen(words, stdin=subprocess.DEVNULL, stdout=subprocess.DEVNULL, stderr=subprocess.DEVNULL,
-                                        preexec_fn=place, close_fds=False)
+        self.process = subprocess.Popen(words, stdin=subprocess.DEVNULL, stdout=subprocess.DEVNULL,
+                                        stderr=subprocess.DEVNULL, preexec_fn=place, close_fds=False)
         os.close(to_read)
         os.close(from_write)
         self.left, self.number, self.session, self.events = b"", 0, None, []
@@ -91,14 +91,16 @@ class Browser:
                           " e.scrollIntoView({block: 'center'}); const r = e.getBoundingClientRect();"
                           " return [r.x + r.width / 2, r.y + r.height / 2]; })()")
         for kind in ("mousePressed", "mouseReleased"):
-            self.send("Input.dispatchMouseEvent", type=kind, x=spot[0], y=spot[1], button="left", clickCount=1)
+            self.send("Input.dispatchMouseEvent", type=kind, x=spot[0], y=spot[1], button="left",
+                      clickCount=1)
 
     def texts(self, selector):
         return self.value(f"[...document.querySelectorAll({json.dumps(selector)})].map(e => e.textContent)")
 
     def named(self, selector, name):
         """An attribute of each element."""
-        return self.value(f"[...document.querySelectorAll({json.dumps(selector)})].map(e => e.getAttribute({json.dumps(name)}))")
+        return self.value(f"[...document.querySelectorAll({json.dumps(selector)})].map(e => "
+                          f"e.getAttribute({json.dumps(name)}))")
 
     def screenshot(self, path, full=True):
         data = self.send("Page.captureScreenshot", format="png", captureBeyondViewport=full)["data"]
@@ -107,8 +109,10 @@ class Browser:
 
     def problems(self):
         """Errors and warnings of the page, and each request that left it."""
-        found = [event["params"] for event in self.events if event.get("method") in ("Runtime.exceptionThrown", "Log.entryAdded")]
-        urls = [event["params"]["request"]["url"] for event in self.events if event.get("method") == "Network.requestWillBeSent"]
+        faults = ("Runtime.exceptionThrown", "Log.entryAdded")
+        found = [event["params"] for event in self.events if event.get("method") in faults]
+        urls = [event["params"]["request"]["url"]
+                for event in self.events if event.get("method") == "Network.requestWillBeSent"]
         return found + [url for url in urls if not url.startswith(("file:", "blob:", "about:"))]
 
     def close(self):

@@ -1,4 +1,5 @@
-"""Worlds of broken statements and scripts, with what check.py says of each, to be held against what the program does."""
+"""Worlds of broken statements and scripts, with what check.py says of each,
+to be held against what the program does."""
 import json
 import os
 import random
@@ -23,7 +24,8 @@ BYTES = b' "\\#:x1\t\r\xff\nAl='
 
 
 class Worlds:
-    """Random worlds of a seed. A statement is one that both SQLite and the program take, with some tokens changed."""
+    """Random worlds of a seed. A statement is one that both SQLite and the program take,
+    with some tokens changed."""
 
     def __init__(self, seed):
         self.chance = random.Random(seed)
@@ -34,7 +36,8 @@ class Worlds:
 
     def statement(self):
         made = against_sqlite.Maker(self.chance).statement(self.tables)
-        parts = [made.text[token.at:token.end] for token in tokens_of(made.text) if token.kind not in ("end", "bad")]
+        parts = [made.text[token.at:token.end]
+                 for token in tokens_of(made.text) if token.kind not in ("end", "bad")]
         change = self.other_names if self.chance.random() < 0.7 else self.other_tokens
         change(parts)
         params = list(made.params)
@@ -43,7 +46,8 @@ class Worlds:
         return " ".join(parts), params
 
     def other_names(self, parts):
-        """Names, numbers and texts of the statement put in the place of others: it mostly has a reading still."""
+        """Names, numbers and texts of the statement put in the place of others:
+        it mostly has a reading still."""
         places = [place for place, part in enumerate(parts)
                   if part[0] in "'0123456789" or part[0].isalpha() and part.lower() not in RESERVED]
         for _ in range(self.chance.choice((1, 1, 2)) if places else 0):
@@ -64,22 +68,25 @@ class Worlds:
     def script(self):
         """A script that ends at once, and is one or isn't."""
         lines = ["exit 0"] + [hostile.script_line(self.chance) for _ in range(self.chance.randrange(1, 4))]
-        data = bytearray("\n".join(lines).encode() + (b"\nl:\ne:\nend:\n" if self.chance.random() < 0.7 else b""))
+        data = bytearray("\n".join(lines).encode()
+                         + (b"\nl:\ne:\nend:\n" if self.chance.random() < 0.7 else b""))
         if self.chance.random() < 0.5:
             data[self.chance.randrange(len(data))] = self.chance.choice(BYTES)
         return bytes(data)
 
     def world(self, statements, scripts):
-        """A world whose script starts each of some scripts, printing 1 or 0, and asks statements; and what is expected:
-        these numbers, and the code from 1 to 4 of each statement, or 0."""
+        """A world whose script starts each of some scripts, printing 1 or 0, and asks statements; and what is
+        expected: these numbers, and the code from 1 to 4 of each statement, or 0."""
         made = against_sqlite.world_of(self.tables, [])
-        schemas = {name: [tuple(column) for column in table["columns"]] for name, table in made["tables"].items()}
+        schemas = {name: [tuple(column) for column in table["columns"]]
+                   for name, table in made["tables"].items()}
         lines, flags, codes = [], [], []
         for place in range(scripts):
             data = self.script()
             made["files"][f"c{place}"] = {"hex": data.hex()}
             flags.append(is_script(data))
-            lines += [f'spawn p "c{place}" else b{place}', "print 1", f"goto a{place}", f"b{place}:", "print 0", f"a{place}:"]
+            lines += [f'spawn p "c{place}" else b{place}', "print 1", f"goto a{place}", f"b{place}:",
+                      "print 0", f"a{place}:"]
         for _ in range(statements):
             text, params = self.statement()
             finding = judge(text, params, schemas).finding

@@ -1,4 +1,5 @@
 """bench/refused.py and bench/hostile.py, with answers that are given to them."""
+import collections
 import os
 import shutil
 import subprocess
@@ -6,14 +7,18 @@ import sys
 import unittest
 from unittest import mock
 
-import package
+import package_versions
 import packages
+
+from ldvtools.errors import Malformed
+from ldvtools.packages import read_package
 
 from .support import EXAMPLES, ROOT, InFolder, command, read, tool
 from .test_documents import INSTRUCTIONS
 
 sys.path.append(os.path.join(ROOT, "bench"))
 import hostile                                                               # noqa: E402
+import hostile_packages                                                      # noqa: E402
 import refused                                                               # noqa: E402
 
 
@@ -40,12 +45,13 @@ class RefusedMemory(InFolder):
         super().setUp()
         rows = {"s": [packages.row(0, 1)], "t": [packages.row(3, 1), packages.row(5, 2)], "u": []}
         tables = [packages.table(name, [packages.column("k")], rows=rows[name]) for name in rows]
-        trace = [packages.started(), packages.act("wrote", "f"), packages.act("opened append", "g"), packages.asked(),
-                 packages.ended()]
+        trace = [packages.started(), packages.act("wrote", "f"), packages.act("opened append", "g"),
+                 packages.asked(), packages.ended()]
         self.package = packages.encode(packages.package(steps=8, tables=tables, trace=trace))
 
     def answered(self, number="3\n", other=None):
-        """What refused.py ends with and prints where each command has so many requests, perhaps with one other answer."""
+        """What refused.py ends with and prints where each command has so many requests,
+        perhaps with one other answer."""
         def call(_, words, data, at=0, count=""):
             with open(count or os.devnull, "w", encoding="ascii") as file:
                 file.write(number)
@@ -91,6 +97,36 @@ class RefusedMemory(InFolder):
             program.requests([], b"")
 
 
+class Comparison(InFolder):
+    """bench/compare.py, with two programs that always write the same."""
+
+    def program(self, name, text):
+        path = self.put(name, f"#!/bin/sh\ncat > /dev/null\n{text}\n")
+        os.chmod(path, 0o755)
+        return path
+
+    def compared(self, before, after):
+        words = ["--sizes", "10", "--runs", "2", "--cases", "union", "--worlds", "pick"]
+        return command([sys.executable, os.path.join(ROOT, "bench/compare.py"), before, after, *words])
+
+    def test_rows(self):
+        same = self.program("same", "echo outcome")
+        status, out, err = self.compared(same, same)
+        self.assertEqual((status, err), (0, b""))
+        rows = [line.split()[:3] for line in out.decode().splitlines()[1:]]
+        self.assertEqual(rows, [["load", "t", "10"], ["union", "10", "run"], ["union", "10", "run,"],
+                                ["pick", "10", "run"], ["pick", "10", "record"], ["pick", "10", "replay"],
+                                ["pick", "10", "record"], ["pick", "10", "replay"]])
+
+    def test_differences(self):
+        """Two outcomes, and a program that fails."""
+        same = self.program("same", "echo outcome")
+        status, _, err = self.compared(same, self.program("other", "echo other"))
+        self.assertEqual((status, err), (1, b"compare: union: the two programs wrote other bytes\n"))
+        status, _, err = self.compared(same, self.program("failing", "exit 7"))
+        self.assertEqual((status, err), (1, f"compare: {self.folder}/failing run ended with 7\n".encode()))
+
+
 class FakeCalls:
     """In place of the calls of hostile.py: each gets the same answer, and what is asked is kept."""
 
@@ -108,16 +144,18 @@ class HostileInputs(InFolder):
     def test_complaints(self):
         line = b"ldv: a line\n"
         for words, right, answer in (
-                (["run"], True, (0, b"x", b"")), (["run"], True, (6, b"", line)), (["run"], True, (11, b"", line)),
-                (["table", "order", "0"], False, (2, b"", line)), (["inspect", "rows"], True, (0, b"", b"")),
+                (["run"], True, (0, b"x", b"")), (["run"], True, (6, b"", line)),
+                (["run"], True, (11, b"", line)), (["table", "order", "0"], False, (2, b"", line)),
+                (["inspect", "rows"], True, (0, b"", b"")),
                 (["inspect", "depends", "q"], True, (0, b"", b"")), (["replay"], True, (9, b"", line))):
             self.assertIsNone(hostile.complaint(words, right, answer), (words, answer))
         for words, right, answer in (
                 (["run"], True, (2, b"", line)), (["run", "run"], False, (0, b"x", b"")),
                 (["run", "run"], False, (6, b"", line)), (["run"], True, (0, b"", b"")),
                 (["inspect", "files"], True, (0, b"", b"")), (["run"], True, (0, b"x", line)),
-                (["run"], True, (6, b"x", line)), (["run"], True, (6, b"", line + line)), (["run"], True, (6, b"", b"")),
-                (["run"], True, (-11, b"", b"")), (["run"], True, (8, b"", line)), (["run"], True, (None, b"", b""))):
+                (["run"], True, (6, b"x", line)), (["run"], True, (6, b"", line + line)),
+                (["run"], True, (6, b"", b"")), (["run"], True, (-11, b"", b"")),
+                (["run"], True, (8, b"", line)), (["run"], True, (None, b"", b""))):
             self.assertIsNotNone(hostile.complaint(words, right, answer), (words, answer))
 
     def test_other_values(self):
@@ -130,9 +168,11 @@ class HostileInputs(InFolder):
         """The calls of a few inputs where each but `record` gets this answer."""
         asked_here, document = [], read(f"{EXAMPLES}/orders.json")
         made = packages.encode(packages.package())
-        job = ("program", {"modes": [[], ["--excluded"]]}, 1, 200, self.folder, list(hostile.STATUSES), self.folder)
+        job = ("program", {"modes": [[], ["--excluded"]]}, 1, 200, self.folder, list(hostile.STATUSES),
+               self.folder)
         with mock.patch("hostile.Calls", lambda *_: FakeCalls(answer, asked_here)), \
                 mock.patch("hostile.replays", lambda *_: None), \
+                mock.patch("hostile.migrates", lambda *_: None), \
                 mock.patch("hostile.corpus", lambda: ([document], [document], [made], [made])):
             hostile.work(job)
         return asked_here
@@ -143,14 +183,69 @@ class HostileInputs(InFolder):
         self.assertEqual(len(asked_here), 201)
         self.assertEqual(asked_here, self.asked((6, b"", b"ldv: not a world: shape\n")))
 
+    def test_packages(self):
+        """Packages are made of both versions, with right digests and wrong ones; of runs those at the limits
+        of their numbers, and those that could be longer."""
+        chance, counts = hostile.random.Random(1), collections.Counter()
+        loop = packages.encode(packages.BASES["loop"])
+        for base in (loop, packages.encode(packages.BASES["rows"])) * 1000:
+            made = hostile.package_input(chance, base)
+            try:
+                found = read_package(made)
+            except Malformed as fault:
+                counts["its digest is another one" if "digest" in str(fault) else made[:8]] += 1
+                continue
+            counts[found.version] += 1
+            counts["as many as may be"] += found.event_count() == 20_000_001
+            if found.version == 2 and found.event_count() < 100:
+                longest = packages.cut(package_versions.event_of(each) for each in found.events)
+                counts["could be longer"] += longest != hostile_packages.runs_of(found)
+        for each in (1, 2, b"LDVPACK1", b"LDVPACK2", "its digest is another one", "as many as may be",
+                     "could be longer"):
+            self.assertGreater(counts[each], 4, each)
+
+    def test_other_version(self):
+        """A package in the other version is the same package; what is none stays."""
+        for base in ("rows", "acts in runs", "logs"):
+            given = packages.encode(packages.BASES[base])
+            other = hostile_packages.in_other_version(given)
+            self.assertNotEqual(other[:8], given[:8])
+            self.assertEqual(list(read_package(other).events), list(read_package(given).events))
+            self.assertEqual(hostile_packages.in_other_version(other), given)
+        self.assertEqual(hostile_packages.in_other_version(b"LDVPACK1"), b"LDVPACK1")
+        # What only a program with foreign keys takes for a package.
+        rule = {"trace.1.reads.0.rows.0.rule": 4, "trace.1.reads.0.rows.1.rule": 5, "tables.0.rows.0.rule": 4}
+        given = packages.encode(packages.changed("rows", rule))
+        self.assertEqual(hostile_packages.in_other_version(hostile_packages.in_other_version(given)), given)
+
+    def test_migrated(self):
+        """What `migrate` wrote is judged by its version, by what it becomes again and by its replay."""
+        old, new = (packages.encode(packages.BASES[name]) for name in ("plain", "plain in runs"))
+        right = {("migrate", new): (0, new, b""),
+                 ("replay", old): (0, b"x", b""), ("replay", new): (0, b"x", b"")}
+
+        def told(package, **others):
+            answers = {**right, **{(word, new): answer for word, answer in others.items()}}
+            calls = mock.Mock(call=lambda words, data: answers[words[0], data])
+            return hostile.migrates(calls, old, package)
+
+        self.assertIsNone(told(new))
+        self.assertIsNone(told(new, replay=(11, b"", b"ldv: out of memory\n")))
+        self.assertIn("no package of version 2", told(old))
+        self.assertIn("something else", told(new, migrate=(0, old, b"")))
+        self.assertIn("something else", told(new, migrate=(8, b"", b"ldv: damaged: form\n")))
+        self.assertIn("replay", told(new, replay=(0, b"y", b"")))
+
     def test_scripts(self):
         """The scripts of both benches find their folder, and say where the program isn't there."""
         program = os.path.join(self.folder, "none")
         for name in ("hostile", "refused") if shutil.which("cc") else ("hostile",):
-            done = subprocess.run([f"bench/{name}.sh"], cwd=ROOT, stdout=subprocess.PIPE, stderr=subprocess.PIPE, check=False,
+            done = subprocess.run([f"bench/{name}.sh"], cwd=ROOT, stdout=subprocess.PIPE,
+                                  stderr=subprocess.PIPE, check=False,
                                   env={**os.environ, "CDPATH": ROOT, "LDV": program, "TMPDIR": self.folder})
             self.assertEqual((done.returncode, done.stdout), (2, b""), done.stderr)
-            self.assertTrue(done.stderr.endswith(f" {program}\n".encode() if name == "refused" else b" is no program\n"))
+            said = f" {program}\n".encode() if name == "refused" else b" is no program\n"
+            self.assertTrue(done.stderr.endswith(said))
             self.assertEqual(os.listdir(self.folder), [])
 
     def test_lines(self):

@@ -15,7 +15,8 @@ from ldvtools.worlds import read_world, world_of_package
 
 from .support import ASK, ROOT, InFolder, tool
 
-SCHEMAS = {"t": [("k", "INT NOT NULL"), ("g", "TEXT"), ("v", "INT")], "u": [("k", "INT"), ("w", "TEXT NOT NULL")]}
+SCHEMAS = {"t": [("k", "INT NOT NULL"), ("g", "TEXT"), ("v", "INT")],
+           "u": [("k", "INT"), ("w", "TEXT NOT NULL")]}
 BAD_LINE = re.compile(r"ldv: not a world: bad script line (\d+)\n")
 
 
@@ -28,7 +29,8 @@ def cases():
     for path in sorted(glob.glob(os.path.join(ROOT, "crates/conformance/data/*.json"))):
         with open(path, encoding="utf-8") as file:
             for case in json.load(file):
-                yield case["words"], bytes_of(case["input"]), case["status"], bytes_of(case["output"]), case["error"]
+                yield (case["words"], bytes_of(case["input"]), case["status"], bytes_of(case["output"]),
+                       case["error"])
 
 
 class AgainstCases(InFolder):
@@ -51,7 +53,8 @@ class AgainstCases(InFolder):
         self.assertTrue(bad > 20 and good > 200, (bad, good))
 
     def test_codes(self):
-        """A statement is refused by a code from 1 to 4 exactly where the reply says so, and has as many columns."""
+        """A statement is refused by a code from 1 to 4 exactly where the reply says so,
+        and has as many columns."""
         codes = {0: 0, 1: 0, 2: 0, 3: 0, 4: 0}
         for words, data, status, output, _ in cases():
             if status != 0 or words != ["run"]:
@@ -154,12 +157,14 @@ class Hints(InFolder):
     def test_lines(self):
         for line, said in (
                 ("prin 1", "perhaps print v v*"), ("x = 1", "let x = v"), ("let x=1", "blanks stand between"),
-                ("let x = 1.5", "no decimals"), ("let x = 'a'", 'a text stands in "'), ('print "a', 'closing "'),
-                ('print "\\q"', "\\q in a text"), ("goto nowhere", "no line is the label nowhere"),
+                ("let x = 1.5", "no decimals"), ("let x = 'a'", 'a text stands in "'),
+                ('print "a', 'closing "'), ('print "\\q"', "\\q in a text"),
+                ("goto nowhere", "no line is the label nowhere"),
                 ("open f x \"p\" else e", "r or w or a or n"), ("readline a b", "else is missing"),
                 ("Let x = 1", "perhaps let x = v"), ("cut x x 1", "the two variables are one"),
                 ("let x = 9223372036854775808", "outside 64 bits"), ("e: 1", "a line of its own"),
-                ('print "a""b"', "no blank"), ("exit", "a value is missing"), ("close F", "no upper-case letters")):
+                ('print "a""b"', "no blank"), ("exit", "a value is missing"),
+                ("close F", "no upper-case letters")):
             with self.assertRaises(BadLine) as caught:
                 read_script(f"e:\n{line}\n".encode())
             self.assertEqual(caught.exception.line, 2, line)
@@ -171,9 +176,11 @@ class Hints(InFolder):
 
 
 WORLD = {"start": ["main"], "files": {
-    "main": 'sql q "SELECT kk FROM t"\nlet s = "SELECT * FROM tt"\nsql q s\nsql r "SELECT k, g FROM t"\nfetch r a else e\n'
+    "main": 'sql q "SELECT kk FROM t"\nlet s = "SELECT * FROM tt"\nsql q s\nsql r "SELECT k, g FROM '
+            't"\nfetch r a else e\n'
             'spawn c "child" else e\ne:\nlet t = t ++ "x"\nsql q t\n',
-    "child": "prin 1\n", "data": "no script\n"}, "tables": {"t": {"columns": [["k", "INT"], ["g", "TEXT"]], "rows": []}}}
+    "child": "prin 1\n", "data": "no script\n"},
+    "tables": {"t": {"columns": [["k", "INT"], ["g", "TEXT"]], "rows": []}}}
 
 
 class Command(InFolder):
@@ -183,14 +190,15 @@ class Command(InFolder):
         status, out, err = tool(check, path)
         self.assertEqual((status, err), (1, ""))
         self.assertEqual(out.decode(), """\
-main line 1: the statement will be refused with code 3: there is no column kk (columns: k, g); did you mean k?; a text would \
-be 'kk'
+main line 1: the statement will be refused with code 3: there is no column kk (columns: k, g); did you mean \
+k?; a text would be 'kk'
     SELECT kk FROM t
            ^
 main line 3: the statement will be refused with code 2: there is no table tt (tables: t); did you mean t?
     SELECT * FROM tt
                   ^
-main line 5: fetch takes 1 column of a reply of 2: with the first row that is misuse, which ends the process with 240
+main line 5: fetch takes 1 column of a reply of 2: with the first row that is misuse, which ends the process \
+with 240
 child line 1: bad: 'prin' is no instruction; perhaps print v v*
 """)
         self.assertEqual(tool(check, "--statement", "SELECT k FROM t WHERE k = ?", path), (0, b"", ""))
@@ -198,13 +206,15 @@ child line 1: bad: 'prin' is no instruction; perhaps print v v*
         self.assertEqual(tool(check, given=b"{}")[0], 1)
 
     def test_good(self):
-        made = {"start": ["m"], "files": {"m": 'sql q "SELECT 1 FROM t"\n'}, "tables": {"t": {"columns": [["k", "INT"]]}}}
+        made = {"start": ["m"], "files": {"m": 'sql q "SELECT 1 FROM t"\n'},
+                "tables": {"t": {"columns": [["k", "INT"]]}}}
         status, out, err = tool(check, given=json.dumps(made).encode())
         self.assertEqual((status, out, err), (0, b"", "no bad line, and no refused statement among 1\n"))
 
     def test_outcome(self):
         """Of a run: each refused statement and each misuse, with its cause."""
-        made = {"start": ["m"], "files": {"m": 'sql q "INSERT INTO t VALUES (?)" "x"\nprint 1\nlet a = a + 1\n'},
+        made = {"start": ["m"], "files": {"m": 'sql q "INSERT INTO t VALUES (?)" "x"\nprint 1\nlet a = a + '
+                                               '1\n'},
                 "tables": {"t": {"columns": [["k", "INT"]]}}}
         world_path = self.put("w.json", json.dumps(made))
         path = self.put("o", "outcome 1 0\nprocess 0 240 2 1\n1\n\nrefused 4\n")

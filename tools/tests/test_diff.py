@@ -7,7 +7,8 @@ from ldvtools import diff
 
 from .support import EXAMPLES, InFolder, read, tool
 
-BEFORE = b"outcome 1 1\nprocess 0 0 4 2\na\nb\n\nrows 2\nrow 1\nint 1\nrow 1\nint 2\nchanged 1\nfile 1 2\nf\nx\n\n"
+BEFORE = (b"outcome 1 1\nprocess 0 0 4 2\na\nb\n\nrows 2\nrow 1\nint 1\nrow 1\nint 2\nchanged 1\n"
+          b"file 1 2\nf\nx\n\n")
 
 
 class Differences(InFolder):
@@ -23,7 +24,8 @@ class Differences(InFolder):
                 (b"int 1\nrow 1\nint 2", b"int 2\nrow 1\nint 1", b"the same rows in another order"),
                 (b"changed 1", b"refused 3", b"reply 2: 1 row changed, and refused with code 3"),
                 (b"f\nx\n", b"f\ny\n", b"file f: 2 bytes, and 2 bytes\n"),
-                (b"file 1 2\nf\nx\n\n", b"removed 1\nf\n", b"file f: the first has content, the second has none")):
+                (b"file 1 2\nf\nx\n\n", b"removed 1\nf\n",
+                 b"file f: the first has content, the second has none")):
             self.assertIn(old, BEFORE)
             status, out, err = self.compared(BEFORE, BEFORE.replace(old, new, 1))
             self.assertEqual((status, err), (1, ""), new)
@@ -47,7 +49,8 @@ class Differences(InFolder):
     def test_packages(self):
         columns = [packages.column("k", "INT NOT NULL")]
         tables = [packages.table("t", columns, next=5, rows=[packages.row(0, 1), packages.row(2, 3)])]
-        trace = [packages.started(), packages.asked(0, tables=["t"], reads=[packages.group("t", packages.read(0))]),
+        trace = [packages.started(),
+                 packages.asked(0, tables=["t"], reads=[packages.group("t", packages.read(0))]),
                  packages.ended()]
         base = dict(tables=tables, trace=trace)
         before = packages.encode(packages.package(**base))
@@ -67,10 +70,12 @@ class Differences(InFolder):
     def test_logs(self):
         def spelled(*entries):
             return packages.encode(packages.package(mode=2, logs=[packages.log([0], *entries)],
-                                                    trace=[packages.started(), packages.asked(0), packages.ended()]))
+                                                    trace=[packages.started(), packages.asked(0),
+                                                           packages.ended()]))
         before = spelled(packages.entry("SELECT 1", [1], dict(changed=1)))
         status, out, _ = self.compared(before, spelled(packages.entry("SELECT 2", [1], dict(changed=2))))
-        self.assertEqual(out.decode(), "process 0 statement 1 is another one\n  - SELECT 1 with 1\n  + SELECT 2 with 1\n"
+        self.assertEqual(out.decode(),
+                         "process 0 statement 1 is another one\n  - SELECT 1 with 1\n  + SELECT 2 with 1\n"
                                        "process 0 statement 1: 1 row changed, and 2 rows changed\n")
 
     def test_misuse(self):

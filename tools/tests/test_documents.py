@@ -16,8 +16,8 @@ from .support import ROOT, InFolder, command, read, tool
 from .test_examples import asked, in_sqlite, reply_text
 
 
-INSTRUCTIONS = """let cut goto if print exit open readline write copy close remove exists spawn wait sql fetch count
-    status""".split()
+INSTRUCTIONS = """let cut goto if print exit open readline write copy close remove exists spawn wait sql fetch
+    count status""".split()
 
 
 class ScriptsPage(unittest.TestCase):
@@ -40,7 +40,8 @@ class ScriptsPage(unittest.TestCase):
 
     def test_wrong_pages(self):
         """A page that says something else than the run is found."""
-        page = "# a\n\nWith the file `f`:\n\n    x\n\nthis script\n\n    print 1\n\nprints\n\n    1\n\nand leaves no `f`.\n"
+        page = ("# a\n\nWith the file `f`:\n\n    x\n\nthis script\n\n    print 1\n\nprints\n\n    1\n\n"
+                "and leaves no `f`.\n")
         right = b"outcome 1 1\nprocess 0 0 2 0\n1\n\nremoved 1\nf\n"
         printed = io.StringIO()
         with contextlib.redirect_stdout(printed):
@@ -48,7 +49,9 @@ class ScriptsPage(unittest.TestCase):
             for old, new in ((b"0 0 2", b"0 1 2"), (b"\n1\n", b"\n2\n"), (b"removed 1\nf", b"file 1 0\nf\n")):
                 wrong = right.replace(old, new, 1)
                 self.assertEqual(check_scripts.check(page, lambda given: (0, wrong, b"")), (1, 1))
-            self.assertEqual(check_scripts.check(page, lambda given: (7, b"", b"ldv: not ended after 1000000 steps\n")), (1, 1))
+            self.assertEqual(check_scripts.check(page,
+                                                 lambda given: (7, b"", b"ldv: not ended after 1000000 "
+                                                                        b"steps\n")), (1, 1))
         self.assertEqual(printed.getvalue().count("\n"), 4)
 
     def test_first_line(self):
@@ -91,14 +94,16 @@ class Pages(InFolder):
         self.assertIn(b"page: nothing\n    now:  examples\n", out)
         self.assertIn(b"3 commands, 1 differ", out)
         self.assertEqual(tool(check_page, "--fill", *words)[0], 0)
-        self.assertEqual(read(path).decode(), PAGE.replace("    one two\n", "    one two\n    examples\n    ldv\n    tools\n"))
+        self.assertEqual(read(path).decode(),
+                         PAGE.replace("    one two\n", "    one two\n    examples\n    ldv\n    tools\n"))
         self.assertEqual(tool(check_page, *words)[0], 0)
         self.put("page.md", read(path).decode().replace("    more\n", ""))
         self.assertIn(b"now:  more", tool(check_page, *words)[1])
         self.assertEqual(tool(check_page, "--program", program + "x", path)[0], 1)
 
     def test_empty_lines(self):
-        """An empty line that a command writes is kept on the page, and a line that isn't written is missed."""
+        """An empty line that a command writes is kept on the page,
+        and a line that isn't written is missed."""
         path = self.put("page.md", "    $ printf 'a\\n\\nb\\n'\n\ntext\n")
         words = ["--program", self.program(), path]
         for _ in range(2):
@@ -127,7 +132,8 @@ class StatementTables(InFolder):
         self.assertGreater(len(rows), 15)
         self.assertEqual(list(check_page.table_differences(page, self.asked)), [])
         made = json.loads(check_page.asked_world(files, [text for _, texts, _ in rows for text in texts]))
-        schemas = {name: [tuple(column) for column in table["columns"]] for name, table in made["tables"].items()}
+        schemas = {name: [tuple(column) for column in table["columns"]]
+                   for name, table in made["tables"].items()}
         for number, texts, _ in rows:
             for text in texts:
                 self.assertEqual(judge(text, [], schemas)[::2], (None, []), number)
@@ -161,7 +167,8 @@ class ManualPage(InFolder):
             os.makedirs(os.path.join(self.folder, "docs"), exist_ok=True)
             self.put(name, text)
         self.assertEqual(self.differences(), "")
-        self.put(check_docs.MANUAL, manual.replace("why", "how").replace("usage", "use") + ".It Cm record Fl -excluded\n")
+        self.put(check_docs.MANUAL,
+                 manual.replace("why", "how").replace("usage", "use") + ".It Cm record Fl -excluded\n")
         self.assertEqual(self.differences(), """\
 docs/ldv.1:2: docs/COMMANDS.md has no command inspect how TABLE ROW
 docs/COMMANDS.md:4: docs/ldv.1 has no command inspect why TABLE ROW
@@ -180,7 +187,8 @@ class Documents(InFolder):
     def test_paths(self):
         """A path that isn't there is found, whatever its letters; one with a word for others is none."""
         os.makedirs(os.path.join(self.folder, "docs"))
-        self.put("docs/HERE.md", "`docs/HERE.md`, `docs/NONE.md`, `docs/none`, `docs/PART/x.md`, `docs/*.md`\n")
+        self.put("docs/HERE.md", "`docs/HERE.md`, `docs/NONE.md`, `docs/none`, `docs/PART/x.md`, "
+                                 "`docs/*.md`\n")
         with contextlib.redirect_stdout(io.StringIO()) as printed:
             check_docs.check_paths(self.folder, "docs/HERE.md", check_docs.Differences())
         self.assertEqual(printed.getvalue(), "docs/HERE.md:1: there is no docs/NONE.md\n"

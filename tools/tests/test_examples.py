@@ -45,8 +45,8 @@ def reply_text(rows):
     return f"rows {len(rows)}\n" + "".join(texts)
 
 
-# What the examples ask whose scripts aren't a list of statements: the process, the first word of its statement, and
-# the parameters. Worked out by hand; the two imports of the night as their log says.
+# What the examples ask whose scripts aren't a list of statements: the process, the first word of its
+# statement, and the parameters. Worked out by hand; the two imports of the night as their log says.
 NORTH, SOUTH = "0.0", "0.1"
 
 
@@ -126,7 +126,8 @@ class Examples(InFolder):
             base = in_sqlite(made["tables"])
             for process, word, parameters in ASKED[name]:
                 text, = (text for text in texts if text.startswith(word))
-                self.assertEqual(self.reply(base, text, parameters), replies[process].pop(0).brief(), (name, text))
+                self.assertEqual(self.reply(base, text, parameters), replies[process].pop(0).brief(),
+                                 (name, text))
             self.assertFalse(any(replies.values()), name)
 
     @staticmethod

@@ -55,7 +55,8 @@ file bb was removed
 
     def test_control_characters(self):
         """What a terminal could take for a command is shown as an escape."""
-        given = FAMILY.replace(b"text 3\na\nb\n", b"text 5\na\x7f\xc2\x9b1\n").replace(b"a\nx\ny", b"a\n\x1bxy").replace(
+        given = FAMILY.replace(b"text 3\na\nb\n",
+                               b"text 5\na\x7f\xc2\x9b1\n").replace(b"a\nx\ny", b"a\n\x1bxy").replace(
             b"removed 2\nbb", b"removed 2\n\xc2\x9b")
         status, out, err = tool(outcome, given=given)
         self.assertEqual((status, err), (0, ""))
@@ -132,7 +133,9 @@ file bb was removed
         self.assertEqual(tool(outcome, "--strict", given=good)[0], 0)
         self.assertNotIn(b"refused", tool(outcome, given=good)[1])
         many = b"outcome 2 0\nprocess 0 241 0 2\n\nrefused 2\nrefused 3\nprocess 0.0 242 0 0\n\n"
-        self.assertTrue(tool(outcome, given=many)[1].endswith(b"\n2 of 2 statements were refused\n2 processes ended by misuse\n"))
+        self.assertTrue(tool(outcome,
+                             given=many)[1].endswith(b"\n2 of 2 statements were refused\n2 processes ended "
+                                                     b"by misuse\n"))
 
     def test_statements(self):
         """With its world or its package each reply has its statement and its columns' names."""
@@ -143,7 +146,8 @@ file bb was removed
             self.assertEqual((status, err), (0, ""))
             self.assertIn(b"  > INSERT INTO orders VALUES (?, ?, ?, 1)\n  > with 10, 2, pen\n", out)
             self.assertIn(b"    name | 2\n    -----+---\n    Ada  | 14\n", out)
-        status, out, _ = tool(outcome, "--csv", "--process", "0.0", "--reply", "1", "--world", f"{EXAMPLES}/orders.json", path)
+        world = f"{EXAMPLES}/orders.json"
+        status, out, _ = tool(outcome, "--csv", "--process", "0.0", "--reply", "1", "--world", world, path)
         self.assertEqual((status, out), (0, b"name,2\nAda,14\n"))
         self.assertIn("isn't of this world", tool(outcome, "--world", f"{EXAMPLES}/hello.json", path)[2])
         self.assertIn("isn't JSON", tool(outcome, "--world", path, path)[2])

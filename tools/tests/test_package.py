@@ -27,10 +27,12 @@ class Packages(InFolder):
         tables = [packages.table("t", columns, key=[0], next=5, rows=rows)]
         files = [packages.file("main", ""), packages.file("seen")]
         trace = [packages.started(), packages.asked(0), packages.asked(1), packages.ended()]
-        self.path = self.put("t.package", packages.encode(packages.package(tables=tables, files=files, trace=trace)))
+        self.path = self.put("t.package",
+                             packages.encode(packages.package(tables=tables, files=files, trace=trace)))
 
     def test_summary(self):
-        self.assertEqual(tool(package, given=read(self.path)), (0, b"""included, start main, seed 0, 1 step, 4 events
+        self.assertEqual(tool(package, given=read(self.path)),
+                         (0, b"""included, start main, seed 0, 1 step, 4 events
 file main: 0 bytes
 file seen: present
 table t (k INT NOT NULL, g TEXT, v INT, key k): 2 rows, next row 5
@@ -41,21 +43,25 @@ table t (k INT NOT NULL, g TEXT, v INT, key k): 2 rows, next row 5
         self.assertEqual(tool(package, "--csv", folder, self.path), (0, b"", ""))
         self.assertEqual(read(f"{folder}/t.csv"), b'k,g,v\r\n1,"a ""x"", y",\r\n3,"",-5\r\n')
         self.assertEqual(tool(package, "--csv", folder, "--reasons", self.path), (0, b"", ""))
-        self.assertEqual(read(f"{folder}/t.csv"), b'ldv_row,ldv_statement,ldv_rule,k,g,v\r\n0,0,L,1,"a ""x"", y",\r\n'
+        self.assertEqual(read(f"{folder}/t.csv"),
+                         b'ldv_row,ldv_statement,ldv_rule,k,g,v\r\n0,0,L,1,"a ""x"", y",\r\n'
                                                   b'2,1,K,3,"",-5\r\n')
 
     def test_sqlite(self):
         path = os.path.join(self.folder, "t.db")
         self.assertEqual(tool(package, "--sqlite", path, self.path), (0, b"", ""))
         base = sqlite3.connect(path)
-        self.assertEqual(base.execute("SELECT * FROM t ORDER BY k").fetchall(), [(1, 'a "x", y', None), (3, "", -5)])
+        self.assertEqual(base.execute("SELECT * FROM t ORDER BY k").fetchall(),
+                         [(1, 'a "x", y', None), (3, "", -5)])
         with self.assertRaises(sqlite3.IntegrityError):
             base.execute("INSERT INTO t VALUES (3, 'b', 1)")
         base.close()
-        self.assertEqual(tool(package, "--sqlite", path, self.path), (1, b"", f"package.py: {path} is there already\n"))
+        self.assertEqual(tool(package, "--sqlite", path, self.path),
+                         (1, b"", f"package.py: {path} is there already\n"))
 
     def test_sizes(self):
-        """Of the row 0: number, statement and rule have 9 bytes, the values 9, 5 + 8 and 1; of row 2: 9, 9, 5 and 9.
+        """Of the row 0: number, statement and rule have 9 bytes, the values 9, 5 + 8 and 1;
+        of row 2: 9, 9, 5 and 9.
 
         An event has 9 bytes and its fields: a path of 8, twice 10 of a statement without lists, a status.
         """
@@ -83,7 +89,8 @@ table t (k INT NOT NULL, g TEXT, v INT, key k): 2 rows, next row 5
             tables = [packages.table(name, [packages.column("k")], next=0) for name in names]
             status, _, err = tool(package, "--sqlite", os.path.join(self.folder, "t.db"),
                                   given=packages.encode(packages.package(tables=tables, trace=trace)))
-            self.assertEqual((status, err), (1, "package.py: object name reserved for internal use: sqlite_t\n"))
+            self.assertEqual((status, err),
+                             (1, "package.py: object name reserved for internal use: sqlite_t\n"))
             self.assertEqual(os.listdir(self.folder), ["t.package"])
 
     def test_stored_cases(self):
@@ -98,11 +105,12 @@ table t (k INT NOT NULL, g TEXT, v INT, key k): 2 rows, next row 5
             self.assertIn(said, err)
 
     def test_cases(self):
-        """Each package that the program reads is read, of whatever version, and spelled again to the same bytes, where its
-        trace isn't too long to be listed."""
+        """Each package that the program reads is read, of whatever version, and spelled again to the same
+        bytes, where its trace isn't too long to be listed."""
         versions = set()
         for words, data, status, output, _ in cases():
-            for each in ([data] if words[:1] in (["replay"], ["inspect"], ["table"]) and status in (0, 7, 9, 10) else []) + (
+            for each in ([data] if words[:1] in (["replay"], ["inspect"],
+                                                 ["table"]) and status in (0, 7, 9, 10) else []) + (
                     [output] if words[:1] == ["record"] and status == 0 else []):
                 if each[:8] == b"LDVJOIN1":
                     continue
@@ -113,7 +121,8 @@ table t (k INT NOT NULL, g TEXT, v INT, key k): 2 rows, next row 5
                 found.process_names()
                 again = read_package(version2.spelled(found))
                 self.assertEqual(list(again.events), list(found.events))
-                self.assertEqual((again.files, again.tables, again.logs), (found.files, found.tables, found.logs))
+                self.assertEqual((again.files, again.tables, again.logs),
+                                 (found.files, found.tables, found.logs))
                 if found.version == 2:
                     self.assertEqual(version2.spelled(found), each)
         self.assertTrue(versions)
@@ -143,10 +152,12 @@ table t (k INT NOT NULL, g TEXT, v INT, key k): 2 rows, next row 5
     def test_runs(self):
         """A run of equal events stands for all of them; what can't be one is refused."""
         event = "00000001 00000000 08 00000001 66"
-        body = ("4c44565041434b32 01 0001 000000046d61696e 0000000000000000 00000063 00000001 000000046d61696e 01 00000000"
+        body = ("4c44565041434b32 01 0001 000000046d61696e 0000000000000000 00000063 00000001 "
+                "000000046d61696e 01 00000000"
                 "0000 00000000 00000002 00000000 00000000 00 000000046d61696e 00000001 00000000" + event)
         for count, stride, said in (("00000003", "00000002", None), ("00000000", "00000000", "a run of 0"),
-                                    ("00000001", "00000001", "a run of 1"), ("01312d01", "00000001", "20000002 events")):
+                                    ("00000001", "00000001", "a run of 1"),
+                                    ("01312d01", "00000001", "20000002 events")):
             data = bytes.fromhex(body + count + stride)
             data += hashlib.sha256(data).digest()
             if said:
@@ -158,7 +169,8 @@ table t (k INT NOT NULL, g TEXT, v INT, key k): 2 rows, next row 5
 
     def test_many_events(self):
         """A few bytes that stand for twenty million events, or for too many processes, take no time."""
-        head = ("4c44565041434b32 01 0001 000000046d61696e 0000000000000000 00989680 00000001 000000046d61696e 01 00000000"
+        head = ("4c44565041434b32 01 0001 000000046d61696e 0000000000000000 00989680 00000001 "
+                "000000046d61696e 01 00000000"
                 "0000 00000000 00000002 00000000 00000000 00 000000046d61696e 00000001 00000000")
         for act, said in (("08", None), ("01", "20000001 processes; the limit is 65535")):
             data = bytes.fromhex(head + "00000001 00000000" + act + "00000001 66" + "01312d00" + "00000000")
@@ -169,12 +181,14 @@ table t (k INT NOT NULL, g TEXT, v INT, key k): 2 rows, next row 5
                     found.process_names()
             else:
                 self.assertEqual(found.process_names(), ["0"])
-                self.assertLess(len(json.dumps(page_data.page_json(found, "p", len(data), None, None))), 20_000)
+                self.assertLess(len(json.dumps(page_data.page_json(found, "p", len(data), None, None))),
+                                20_000)
 
     def test_joined(self):
         """A joined package is shown with both of its runs, and each of them as a package."""
         first = read_package(read(self.path))
-        second = first._replace(start=["main", "x"], tables=[first.tables[0]._replace(rows=first.tables[0].rows[:1])])
+        second = first._replace(start=["main", "x"],
+                                tables=[first.tables[0]._replace(rows=first.tables[0].rows[:1])])
         path = self.put("j", version2.joined(first, second))
         status, out, err = tool(package, path)
         self.assertEqual((status, err), (0, ""))
@@ -191,7 +205,8 @@ table t (k INT NOT NULL, g TEXT, v INT, key k): 2 rows, next row 5
         tables = [packages.table("t", [packages.column("k"), packages.column("g", "TEXT")], next=5,
                                  rows=[packages.row(0, 1, "a"), packages.row(2, 3, "b", rule="H")])]
         trace = [packages.started(), packages.asked(0), packages.asked(
-            1, 3, tables=["t"], reads=[packages.group("t", packages.read(0), packages.read(2, 1, "H"), packages.read(9))],
+            1, 3, tables=["t"],
+            reads=[packages.group("t", packages.read(0), packages.read(2, 1, "H"), packages.read(9))],
             made=[packages.group("t", packages.made(2))]), packages.ended(4)]
         data = packages.encode(packages.package(steps=4, tables=tables, trace=trace))
         self.assertEqual(tool(package, "--statement", "1", given=data), (0, b"""\
@@ -203,7 +218,8 @@ it needed 3 rows of t:
     2 |       1 | H    | 3 | b
     9 |       0 | L
 rule L: the row is in the lineage of a row of the reply, or was matched by an UPDATE or DELETE
-rule H: the row is in the lineage of a group that HAVING rejected, or of a row that LIMIT cut where rows stand for several
+rule H: the row is in the lineage of a group that HAVING rejected, or of a row that LIMIT cut \
+where rows stand for several
 it made 1 version of rows of t
 """, ""))
         self.assertIn(b"it needed no row", tool(package, "--statement", "0", given=data)[1])
@@ -228,8 +244,10 @@ it made 1 version of rows of t
             self.assertEqual(status, 1)
             self.assertIn("leads out of a folder", err)
         self.assertFalse(os.path.exists(os.path.join(self.folder, "other")))
-        data = packages.encode(packages.package(files=[packages.file("a", "x"), packages.file("a/b", "x")], start=["a"]))
-        self.assertIn("needs a folder", tool(package, "--files", os.path.join(self.folder, "third"), given=data)[2])
+        data = packages.encode(packages.package(files=[packages.file("a", "x"), packages.file("a/b", "x")],
+                                                start=["a"]))
+        self.assertIn("needs a folder",
+                      tool(package, "--files", os.path.join(self.folder, "third"), given=data)[2])
 
     def test_world(self):
         """A world of the packed rows, as it was or with another question."""
@@ -238,7 +256,8 @@ it made 1 version of rows of t
         made = json.loads(out)
         self.assertEqual(made["start"], ["main"])
         self.assertEqual(made["files"], {"main": "", "seen": ""})
-        self.assertEqual(made["tables"], {"t": {"columns": [["k", "INT NOT NULL"], ["g", "TEXT"], ["v", "INT"]], "key": ["k"],
+        self.assertEqual(made["tables"],
+                         {"t": {"columns": [["k", "INT NOT NULL"], ["g", "TEXT"], ["v", "INT"]], "key": ["k"],
                                                 "rows": [[1, 'a "x", y', None], [3, "", -5]], "next": 5}})
         made = json.loads(tool(package, "--world", "--ask", "SELECT k FROM t", self.path)[1])
         self.assertEqual(made["files"], {"main": 'sql q "SELECT k FROM t"\n'})

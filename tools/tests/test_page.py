@@ -23,7 +23,8 @@ def orders(mode=1):
     words = ["record"] if mode == 1 else ["record", "--excluded"]
     document = json.loads(read(f"{EXAMPLES}/orders.json"))
     for given, data, status, output, _ in cases():
-        if given == words and status == 0 and json.loads(data)["start"] == document["start"] and b"report.ldv" in data:
+        if (given == words and status == 0 and json.loads(data)["start"] == document["start"]
+                and b"report.ldv" in data):
             if json.loads(data)["files"] == document["files"]:
                 return output
     raise unittest.SkipTest("no case records the orders world")
@@ -35,7 +36,8 @@ def large(count):
     rows = [packages.row(n, n, f"row {n}") for n in range(count)]
     needs = [packages.group("t", *(packages.read(n) for n in range(count)))]
     trace = [packages.started(), packages.asked(0, tables=["t"], reads=needs), packages.ended(2)]
-    return packages.encode(packages.package(steps=2, tables=[packages.table("t", columns, [0], count, rows)], trace=trace))
+    return packages.encode(packages.package(steps=2, tables=[packages.table("t", columns, [0], count, rows)],
+                                            trace=trace))
 
 
 def hostile():
@@ -43,9 +45,12 @@ def hostile():
     columns = [packages.column("k"), packages.column("g", "TEXT")]
     rows = [packages.row(0, 9223372036854775807, HOSTILE), packages.row(1, None, "")]
     trace = [packages.started(HOSTILE), packages.act("wrote", HOSTILE, 1),
-             packages.asked(0, 2, tables=["t"], reads=[packages.group("t", packages.read(0))]), packages.ended(3)]
-    return packages.encode(packages.package(start=[HOSTILE], steps=3, files=[packages.file(HOSTILE, "exit 0")],
-                                            tables=[packages.table("t", columns, next=2, rows=rows)], trace=trace))
+             packages.asked(0, 2, tables=["t"], reads=[packages.group("t", packages.read(0))]),
+             packages.ended(3)]
+    return packages.encode(packages.package(start=[HOSTILE], steps=3,
+                                            files=[packages.file(HOSTILE, "exit 0")],
+                                            tables=[packages.table("t", columns, next=2, rows=rows)],
+                                            trace=trace))
 
 
 class PageMaker(InFolder):
@@ -57,7 +62,8 @@ class PageMaker(InFolder):
         return path
 
     def data_of(self, path):
-        found = re.search(r'(?s)<script type="application/json" id="data">(.*?)</script>', read(path).decode())
+        found = re.search(r'(?s)<script type="application/json" id="data">(.*?)</script>',
+                          read(path).decode())
         return json.loads(found[1])
 
 
@@ -68,7 +74,8 @@ class Pages(PageMaker):
         for data in (orders(), version2.spelled(read_package(orders()))):
             shown = self.data_of(self.made(data, outcome=outcome))
             self.assertEqual((shown["refused"], shown["replies"], shown["kind"]), (1, 3, "included"))
-            self.assertEqual([each["text"][:6] for each in shown["statements"]], ["INSERT", "INSERT", "SELECT"])
+            self.assertEqual([each["text"][:6] for each in shown["statements"]],
+                             ["INSERT", "INSERT", "SELECT"])
             self.assertEqual(shown["statements"][2]["columns"], ["name", "2"])
         shown = self.data_of(self.made(orders(2)))
         self.assertEqual((shown["refused"], shown["kind"], shown["tables"]), (1, "excluded", []))
@@ -82,7 +89,8 @@ class Pages(PageMaker):
             self.assertEqual((shown["seed"], len(shown["tables"]), shown["replayed"]), (seed, 3, False))
 
     def test_safe(self):
-        """Nothing of a package ends the data or begins an element, and the policy takes the page's own script alone."""
+        """Nothing of a package ends the data or begins an element,
+        and the policy takes the page's own script alone."""
         text = read(self.made(hostile())).decode()
         self.assertEqual(text.count("<script"), 2)
         self.assertEqual(text.count("</script>"), 2)
@@ -92,13 +100,16 @@ class Pages(PageMaker):
         self.assertIn("default-src 'none'", policy)
         script = re.search(r"(?s)<script>(.*?)</script>", text)[1]
         self.assertIn(page.source_hash(script), policy)
-        self.assertEqual(self.data_of(self.made(hostile()))["tables"][0]["rows"][0][3], {"i": "9223372036854775807"})
+        self.assertEqual(self.data_of(self.made(hostile()))["tables"][0]["rows"][0][3],
+                         {"i": "9223372036854775807"})
 
     def test_program(self):
         """--ldv replays and audits the package by a program."""
         outcome = read(f"{EXAMPLES}/orders.outcome")
         self.put("outcome", outcome)
-        program = self.put("fake", f'#!/bin/sh\ncat > /dev/null\n[ $1 = audit ] && echo sound || cat {self.folder}/outcome\n')
+        program = self.put("fake",
+                           '#!/bin/sh\ncat > /dev/null\n[ $1 = audit ] && echo sound || cat '
+                           f'{self.folder}/outcome\n')
         os.chmod(program, 0o755)
         shown = self.data_of(self.made(orders(), "--ldv", program))
         self.assertEqual((shown["verdict"], shown["replayed"]), ("sound", True))
@@ -137,7 +148,8 @@ class Browsers(PageMaker):
             browser.click(f'button[data-table="{table.name}"]')
             self.assertEqual(browser.texts("#packed"), [f"{len(table.rows)} of {table.next} rows packed"])
             wanted = [f"{table.name} {row.number}" for row in table.rows
-                      if any(name == table.name and any(need.row == row.number for need in rows) for name, rows in asked.reads)]
+                      if any(name == table.name and any(need.row == row.number for need in rows)
+                             for name, rows in asked.reads)]
             self.assertEqual(browser.named("tr.needed[data-row]", "data-row"), wanted)
         self.assertEqual(browser.named("li[data-rule]", "data-rule"), ["L", "H"])
         browser.click('tr[data-statement="1"]')
@@ -149,13 +161,14 @@ class Browsers(PageMaker):
         first = read_package(orders())
         acts = packages.encode(packages.changed("acts", {}))
         trace = [packages.started(), packages.spawned(1, 0), packages.spawned(2, 1), packages.spawned(3, 0),
-                 packages.act("read", "\uffee", 4, 3), packages.act("read", "\U0001f600", 4, 2), packages.waited(1, 5),
-                 packages.waited(2, 5, 1), packages.waited(3, 6), packages.waited(1, 6), packages.act("wrote", "out", 7),
+                 packages.act("read", "\uffee", 4, 3), packages.act("read", "\U0001f600", 4, 2),
+                 packages.waited(1, 5), packages.waited(2, 5, 1), packages.waited(3, 6),
+                 packages.waited(1, 6), packages.act("wrote", "out", 7),
                  packages.ended(8)]
         order = packages.encode(packages.package(steps=8, trace=trace))
         self.assertEqual(graph_of(read_package(order)).depends("out"), [
-            "path f", "path main", "path \uffee", "path \U0001f600", "process 0", "process 0.0", "process 0.0.0",
-            "process 0.1"])
+            "path f", "path main", "path \uffee", "path \U0001f600", "process 0", "process 0.0",
+            "process 0.0.0", "process 0.1"])
         kinds = [(order, []), (orders(2), []), (version2.spelled(first), []), (acts, []),
                  (version2.joined(first, first), ["--run", "2"]), (packages.encode(packages.package()), []),
                  (packages.encode(packages.changed("logs", {})), [])]
@@ -168,7 +181,8 @@ class Browsers(PageMaker):
             for kind, *name in list(graph.nodes):
                 if kind == "path":
                     browser.value(f"choosePath({json.dumps(name[0])})")
-                    self.assertEqual(browser.named("li[data-node]", "data-node"), graph.depends(name[0]), name)
+                    self.assertEqual(browser.named("li[data-node]", "data-node"), graph.depends(name[0]),
+                                     name)
             self.assertEqual(browser.problems(), [])
 
     def test_came_from(self):
@@ -187,7 +201,8 @@ class Browsers(PageMaker):
     def test_saved(self):
         """Tables and files are saved as they are."""
         browser = self.opened(orders(), outcome=read(f"{EXAMPLES}/orders.outcome"))
-        browser.value("window.saved = []; URL.createObjectURL = blob => { saved.push(blob); return 'blob:none'; }; "
+        browser.value("window.saved = []; URL.createObjectURL = blob => { saved.push(blob); return "
+                      "'blob:none'; }; "
                       "HTMLAnchorElement.prototype.click = function () { saved.push(this.download); }; 1")
         browser.click('button[data-table="orders"]')
         browser.value("[...document.querySelectorAll('#tables button')].pop().click()")
@@ -197,7 +212,8 @@ class Browsers(PageMaker):
         self.assertEqual(browser.value("saved[1]"), "orders.csv")
         for section, path in (("#files", "new.csv"), ("#outcome", "report.txt")):
             browser.value(f"saved.length = 0; [...document.querySelectorAll('{section} tr')].find("
-                          f"row => row.cells[0].textContent === '{path}').querySelector('button:last-of-type').click()")
+                          "row => row.cells[0].textContent === "
+                          f"'{path}').querySelector('button:last-of-type').click()")
             self.assertEqual(browser.value("saved[1]"), path)
         self.assertEqual(browser.value("saved[0].text()"), "Ada 14\n")
         self.assertEqual(browser.problems(), [])

@@ -11,7 +11,8 @@ from ldvtools import picture
 from .support import EXAMPLES, InFolder, read, tool
 
 
-# A script that tests a file, starts a child with an argument, waits for it and removes a file; the child asks twice.
+# A script that tests a file, starts a child with an argument, waits for it and removes a file; the child asks
+# twice.
 TRACE = """0 0 started main
 1 0 tested absent a "b" \\ c & &lt;
 2 0 spawned w
@@ -65,7 +66,8 @@ def shown_names(image):
     """The lines of each node of an image that dot made, and each arrow by the places of its nodes."""
     found = []
     for name, body in re.findall(r"(?s)class=\"(?:node|edge)\">\s*<title>(.*?)</title>(.*?)</g>", image):
-        texts = [html.unescape(text).replace("\xa0", " ") for text in re.findall(r"<text[^>]*>(.*?)</text>", body)]
+        texts = [html.unescape(text).replace("\xa0", " ")
+                 for text in re.findall(r"<text[^>]*>(.*?)</text>", body)]
         found.append((html.unescape(name), texts))
     return sorted(found)
 
@@ -99,7 +101,8 @@ class Pictures(InFolder):
         self.assertEqual(tool(picture, given=many.encode())[0], 0)
         many += "200 0 openedwrite g\nno event is read any more\n"
         self.assertEqual(tool(picture, given=many.encode()), (
-            1, b"", "picture.py: trace, line 201: the picture would have more than 200 arrows; --limit N takes N\n"))
+            1, b"",
+            "picture.py: trace, line 201: the picture would have more than 200 arrows; --limit N takes N\n"))
 
     def test_malformed(self):
         for old, new, message in (
@@ -150,7 +153,8 @@ class Pictures(InFolder):
     def test_stored_image(self):
         """The image of the page on packages is of the reports that the page shows."""
         page = read(check_page.PAGE).decode()
-        shown = {each.command: "".join(line + "\n" for line in each.lines) for each in check_page.commands(page)}
+        shown = {each.command: "".join(line + "\n" for line in each.lines)
+                 for each in check_page.commands(page)}
         trace, rows, depends = (shown[f"./ldv inspect {words} < orders.package"]
                                 for words in ("trace", "rows", "depends report.txt"))
         graph = picture.drawn(trace, rows, depends, picture.LIMIT)

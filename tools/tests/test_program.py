@@ -21,10 +21,12 @@ from ldvtools.language import RESERVED
 from ldvtools.outcomes import read_outcome
 
 from . import random_worlds, support
-from .support import ASK, EXAMPLES, LIBRARY, ROOT, TOOLS, TUTORIAL, WEATHER, InFolder, command, ldv, make_database, read, tool
+from .support import (ASK, EXAMPLES, LIBRARY, ROOT, TOOLS, TUTORIAL, WEATHER, InFolder, command, ldv,
+                      make_database, read, tool)
 
 
-# In place of rt: it "builds" a program that says how often it was built, by its words or what it does without input.
+# In place of rt: it "builds" a program that says how often it was built, by its words or what it does without
+# input.
 RT = """#!/bin/sh
 echo x >> "$RT_CALLS"
 mkdir -p crates/ldv/out
@@ -52,13 +54,15 @@ class Script(InFolder):
             self.put_folder("checkout/" + name)
         self.put_folder("bin")
         self.put_folder("tmp")
-        for name, text in (("checkout/crates.txt", "ldv:\nother:\n"), ("checkout/HANDLES", "none\n"), ("bin/rt", RT),
-                           ("checkout/crates/ldv/src/main.rt", "one\n"), ("checkout/crates/other/src/lib.rt", "one\n")):
+        for name, text in (("checkout/crates.txt", "ldv:\nother:\n"), ("checkout/HANDLES", "none\n"),
+                           ("bin/rt", RT), ("checkout/crates/ldv/src/main.rt", "one\n"),
+                           ("checkout/crates/other/src/lib.rt", "one\n")):
             self.put(name, text)
         os.chmod(os.path.join(self.folder, "bin/rt"), 0o755)
         shutil.copy(os.path.join(ROOT, "ldv"), self.root)
         self.env = {**os.environ, "PATH": os.path.join(self.folder, "bin") + os.pathsep + os.environ["PATH"],
-                    "TMPDIR": os.path.join(self.folder, "tmp"), "XDG_CACHE_HOME": os.path.join(self.folder, "cache"),
+                    "TMPDIR": os.path.join(self.folder, "tmp"),
+                    "XDG_CACHE_HOME": os.path.join(self.folder, "cache"),
                     "RT_CALLS": os.path.join(self.folder, "calls")}
 
     def put_folder(self, name):
@@ -67,8 +71,9 @@ class Script(InFolder):
         return path
 
     def run_script(self, *words, root=None, cwd=None):
-        done = subprocess.run([os.path.join(root or self.root, "ldv"), *words], stdin=subprocess.DEVNULL, stdout=subprocess.PIPE,
-                              stderr=subprocess.PIPE, env=self.env, check=False, cwd=cwd)
+        done = subprocess.run([os.path.join(root or self.root, "ldv"), *words], stdin=subprocess.DEVNULL,
+                              stdout=subprocess.PIPE, stderr=subprocess.PIPE, env=self.env, check=False,
+                              cwd=cwd)
         return done.returncode, done.stdout, done.stderr.decode()
 
     def builds(self):
@@ -83,7 +88,8 @@ class Script(InFolder):
         self.assertEqual(os.listdir(self.env["TMPDIR"]), [])
 
     def test_built_once(self):
-        """A source that is changed is built, and one that has the same content again isn't; nor is one of no matter."""
+        """A source that is changed is built, and one that has the same content again isn't;
+        nor is one of no matter."""
         status, out, err = self.run_script("version")
         self.assertEqual((status, out, self.builds()), (0, b"built\n", 1), err)
         self.assertIn("ldv: proving the program first: 1 crates", err)
@@ -101,6 +107,16 @@ class Script(InFolder):
         os.remove(os.path.join(self.root, "crates/ldv/src/more.rt"))
         self.run_script("version")
         self.assertEqual(self.builds(), 4)
+        # Another proof makes no other program, and definitions do.
+        self.put_folder("checkout/crates/ldv/proofs/step")
+        self.put("checkout/crates/ldv/proofs/step/Answers.antt", "")
+        self.assertEqual((self.run_script("version"), self.builds()), ((0, b"built\n", ""), 4))
+        self.put_folder("checkout/crates/ldv/specs")
+        self.put("checkout/crates/ldv/specs/Lib.antt", "")
+        self.run_script("version")
+        self.assertEqual(self.builds(), 5)
+        self.put("checkout/crates/ldv/proofs/step/Answers.antt", "another")
+        self.assertEqual((self.run_script("version"), self.builds()), ((0, b"built\n", ""), 5))
         self.assertEqual(os.listdir(self.env["TMPDIR"]), [])
 
     def test_other_program(self):
@@ -118,23 +134,28 @@ class Script(InFolder):
     def test_changed_meanwhile(self):
         """A source that is changed during the build is built by the next call."""
         source = os.path.join(self.root, "crates/ldv/src/main.rt")
-        self.put("bin/rt", RT + f"[ -e {self.folder}/changed ] || echo two > {source}\ntouch {self.folder}/changed\n"
+        self.put("bin/rt", RT + f"[ -e {self.folder}/changed ] || echo two > {source}\ntouch "
+                                f"{self.folder}/changed\n"
                  "echo '1 passed, 0 failed'\n")
         for builds in (1, 2, 2):
             self.run_script("version")
             self.assertEqual(self.builds(), builds)
 
     def test_copies(self):
-        """A copy of a built checkout has its program, and so has one that was only cloned, by another name or link too."""
+        """A copy of a built checkout has its program, and so has one that was only cloned,
+        by another name or link too."""
         self.run_script("version")
         copy = shutil.copytree(self.root, os.path.join(self.folder, "copy"))
-        clone = shutil.copytree(self.root, os.path.join(self.folder, "clone"), ignore=shutil.ignore_patterns("out"))
+        clone = shutil.copytree(self.root, os.path.join(self.folder, "clone"),
+                                ignore=shutil.ignore_patterns("out"))
         link = os.path.join(self.folder, "link")
         os.symlink("copy/ldv", link)
         for root in (copy, clone):
             for _ in range(2):
-                self.assertEqual((self.run_script("version", root=root), self.builds()), ((0, b"built\n", ""), 1))
-        done = subprocess.run(["./link", "version"], cwd=self.folder, env=self.env, stdout=subprocess.PIPE, check=False)
+                self.assertEqual((self.run_script("version", root=root), self.builds()),
+                                 ((0, b"built\n", ""), 1))
+        done = subprocess.run(["./link", "version"], cwd=self.folder, env=self.env, stdout=subprocess.PIPE,
+                              check=False)
         self.assertEqual((done.returncode, done.stdout, self.builds()), (0, b"built\n", 1))
         self.assertEqual(self.run_script("version", root="copy", cwd=self.folder), (0, b"built\n", ""))
         self.assertEqual(len(os.listdir(os.path.join(self.env["XDG_CACHE_HOME"], "ldv"))), 1)
@@ -157,8 +178,8 @@ class Script(InFolder):
     def on_terminal(self, *words):
         """What is written to a terminal that is standard error."""
         main, other = pty.openpty()
-        subprocess.run([os.path.join(self.root, "ldv"), *words], stdin=subprocess.DEVNULL, stdout=subprocess.DEVNULL,
-                       stderr=other, env=self.env, check=False, cwd=self.folder)
+        subprocess.run([os.path.join(self.root, "ldv"), *words], stdin=subprocess.DEVNULL,
+                       stdout=subprocess.DEVNULL, stderr=other, env=self.env, check=False, cwd=self.folder)
         os.close(other)
         shown = b""
         try:
@@ -172,10 +193,11 @@ class Script(InFolder):
     def test_terminal(self):
         """On a terminal wrong words get a second line, and a file's name another one."""
         self.run_script("version")
-        self.assertEqual(self.on_terminal("walk"), "ldv: usage\nldv: the words are in the manual page: man -l "
-                                                   f"{self.root}/docs/ldv.1\n")
+        self.assertEqual(self.on_terminal("walk"), "ldv: usage\nldv: the words are in the manual page: "
+                                                   f"man -l {self.root}/docs/ldv.1\n")
         self.put("world.json", "")
-        self.assertEqual(self.on_terminal("walk", "world.json"), "ldv: usage\nldv: world.json is a file, and the input comes "
+        self.assertEqual(self.on_terminal("walk", "world.json"),
+                         "ldv: usage\nldv: world.json is a file, and the input comes "
                                                                  "from standard input: ldv .. < world.json\n")
         self.assertEqual(self.run_script("walk"), (2, b"", "ldv: usage\n"))
 
@@ -240,8 +262,8 @@ class Program(InFolder):
         self.assertGreaterEqual(len(lines), 20)
         path = self.folder + os.pathsep + os.environ["PATH"]
         for line in lines:
-            done = subprocess.run(["sh", "-c", line], cwd=self.folder, stdout=subprocess.PIPE, stderr=subprocess.PIPE,
-                                  env={**os.environ, "PATH": path}, check=False)
+            done = subprocess.run(["sh", "-c", line], cwd=self.folder, stdout=subprocess.PIPE,
+                                  stderr=subprocess.PIPE, env={**os.environ, "PATH": path}, check=False)
             self.assertEqual((done.returncode, done.stderr), (0, b""), line)
 
     def test_packages_page(self):
@@ -255,14 +277,15 @@ class Program(InFolder):
 
     def test_against_sqlite(self):
         """A few random statements; a run of many is made by hand."""
-        words = ["--program", shlex.join([support.PROGRAM, "run"]), "--databases", "10", "--folder", self.folder]
+        words = ["--program", shlex.join([support.PROGRAM, "run"]), "--databases", "10", "--folder",
+                 self.folder]
         with contextlib.redirect_stdout(io.StringIO()) as printed:
             status = against_sqlite.main(words)
         self.assertEqual(status, 0, printed.getvalue())
 
     def test_findings(self):
-        """On random worlds check.py finds a bad line, and a statement that is refused by a code from 1 to 4, exactly where the
-        program does."""
+        """On random worlds check.py finds a bad line, and a statement that is refused
+        by a code from 1 to 4, exactly where the program does."""
         seen = set()
         for seed in range(1, 9):
             document, flags, codes = random_worlds.Worlds(seed).world(200, 60)

@@ -1,4 +1,5 @@
-"""The types of the tools by mypy and their style by ruff, where these are installed; the package, and what .ci/run says."""
+"""The types of the tools by mypy and their style by ruff, where these are installed; the package,
+and what .ci/run says."""
 import os
 import re
 import shutil
@@ -30,14 +31,14 @@ class Style(unittest.TestCase):
         self.assertEqual(status, 0, out)
 
     def test_lines(self):
-        """No line is longer than 130 columns, and no file than 800 lines."""
-        for folder in ("ldvtools", "tests"):
-            for name in sorted(os.listdir(os.path.join(TOOLS, folder))):
+        """No line is longer than 110 columns, and no file than 800 lines."""
+        for folder in ("tools", "tools/ldvtools", "tools/tests", "bench", "bench/python"):
+            for name in sorted(os.listdir(os.path.join(ROOT, folder))):
                 if name.endswith(".py"):
-                    text = read(os.path.join(TOOLS, folder, name)).decode()
+                    text = read(os.path.join(ROOT, folder, name)).decode()
                     self.assertLess(text.count("\n"), 800, name)
                     for number, line in enumerate(text.split("\n"), 1):
-                        self.assertLessEqual(len(line), 130, f"{name}:{number}")
+                        self.assertLessEqual(len(line), 110, f"{folder}/{name}:{number}")
 
 
 class Package(InFolder):
@@ -49,8 +50,8 @@ class Package(InFolder):
         self.assertEqual(re.search(r'(?m)^version = "(.*)"$', text)[1], ldvtools.__version__)
         for name in COMMANDS:
             for words in ([os.path.join(TOOLS, name + ".py")], [sys.executable, "-m", f"ldvtools.{name}"]):
-                done = subprocess.run([*words, "--help"], stdout=subprocess.PIPE, stderr=subprocess.PIPE, check=False,
-                                      cwd=self.folder, env={**os.environ, "PYTHONPATH": TOOLS})
+                done = subprocess.run([*words, "--help"], stdout=subprocess.PIPE, stderr=subprocess.PIPE,
+                                      check=False, cwd=self.folder, env={**os.environ, "PYTHONPATH": TOOLS})
                 self.assertEqual((done.returncode, done.stderr), (0, b""), words)
                 self.assertIn(f"usage: {name}.py".encode(), done.stdout)
 
@@ -69,7 +70,8 @@ class Package(InFolder):
         self.put("bin/rt", "#!/bin/sh\nexit 0\n")
         done = subprocess.run([script], env=env, stdout=subprocess.PIPE, stderr=subprocess.PIPE, check=False)
         self.assertEqual(done.returncode, 0, done.stderr)
-        for name in ("python3:", "dot (graphviz):", "chromium:", "sqlite3:", "groff:", "mandoc:", "cc:", "mypy:", "ruff:"):
+        for name in ("python3:", "dot (graphviz):", "chromium:", "sqlite3:", "groff:", "mandoc:", "cc:",
+                     "mypy:", "ruff:"):
             self.assertIn(f"  {name}".encode(), done.stdout)
 
     @unittest.skipUnless(shutil.which("sqlite3"), "sqlite3 isn't installed")

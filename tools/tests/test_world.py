@@ -64,19 +64,23 @@ class CsvFiles(InFolder):
         self.assertEqual(self.table('a,b\n"x\ny",1\n')["rows"], [["x\ny", 1]])
 
     def test_excel(self):
-        """What Excel writes: a mark, a decimal comma, lines of delimiters alone, headers twice, and workbooks."""
-        table = self.table("\ufeffa;b\r\n1;2,5\r\n;\r\n3;-0,25\r\n", "--delimiter", ";", "--decimal", ",", "--scale", "t.b=2")
+        """What Excel writes: a mark, a decimal comma, lines of delimiters alone, headers twice,
+        and workbooks."""
+        table = self.table("\ufeffa;b\r\n1;2,5\r\n;\r\n3;-0,25\r\n", "--delimiter", ";", "--decimal", ",",
+                           "--scale", "t.b=2")
         self.assertEqual(table["rows"], [[1, 250], [None, None], [3, -25]])
         path = self.put("t.csv", "a;b\n1;2\n;\n;\n;\n;\n")
         status, out, err = tool(world, "--csv", path, "--delimiter", ";", *ASK)
-        self.assertIn("t.csv: line 3, 4, 5 and 1 more has delimiters alone, and is a row of NULL; --skip-blank", err)
+        self.assertIn("t.csv: line 3, 4, 5 and 1 more has delimiters alone, and is a row of NULL; "
+                      "--skip-blank", err)
         table = self.table("a;b\n1;2\n;\n3;x\n", "--delimiter", ";", "--skip-blank")
         self.assertEqual(table["rows"], [[1, "2"], [3, "x"]])
-        self.csv_refused("t.csv line 4 (row 1 of t), column b: 'x'", "a;b\n1;2\n;\n3;x\n", "--delimiter", ";", "--skip-blank",
-                         "--kind", "t.b=INT")
+        self.csv_refused("t.csv line 4 (row 1 of t), column b: 'x'", "a;b\n1;2\n;\n3;x\n", "--delimiter", ";",
+                         "--skip-blank", "--kind", "t.b=INT")
         table = self.table("a,a,\n1,2,3\n", "--rename", "t.#2=b", "--rename", "t.#3=c")
         self.assertEqual(table["columns"], [["a", "INT"], ["b", "INT"], ["c", "INT"]])
-        self.csv_refused("two columns have the name a; --rename \"t.#2=NAME\" renames the column 2", "a,a\n1,2\n")
+        self.csv_refused("two columns have the name a; --rename \"t.#2=NAME\" renames the column 2",
+                         "a,a\n1,2\n")
         self.csv_refused('isn\'t a name: a letter a to z or _, then such letters, digits and _; '
                          'give --rename "t.#2=NAME"', "a,\n1,2\n")
         for encoding in ("utf-16", "utf-32"):
@@ -93,22 +97,39 @@ class CsvFiles(InFolder):
         self.assertEqual(table["columns"], [["a", "INT"], ["b", "TEXT"], ["c", "TEXT"]])
         self.assertEqual(table["rows"], [[1, 'says "hi"', None], [2, "", "x\ty\nz\\n"], [3, '"open', None]])
 
+    def test_duckdb(self):
+        """A table as DuckDB's documentation says that COPY .. (HEADER, NULLSTR 'NULL') writes it."""
+        text = ('id,ok,dose,day,note\n1,true,2.50,2024-01-15,"says ""hi"", twice"\n2,false,NULL,NULL,\n'
+                '3,NULL,10.00,2024-02-01,NULL\n4,true,-0.05,2024-02-29,"a\nb"\n')
+        table = self.table(text, "--null", "NULL", "--empty", "t.note=text", "--key", "t=id",
+                           "--scale", "t.dose=2")
+        self.assertEqual(table["columns"], [["id", "INT NOT NULL"], ["ok", "TEXT"], ["dose", "INT"],
+                                            ["day", "TEXT"], ["note", "TEXT"]])
+        self.assertEqual(table["rows"], [[1, "true", 250, "2024-01-15", 'says "hi", twice'],
+                                         [2, "false", None, None, ""], [3, None, 1000, "2024-02-01", None],
+                                         [4, "true", -5, "2024-02-29", "a\nb"]])
+
     def test_tidy(self):
         """Headers that aren't names are named at once, and made names on demand."""
         text = "Pat.Nr;Größe (cm);Dose;Dose;order;;2nd\n1;2;3;4;5;6;7\n"
-        self.csv_refused("t: 6 columns need another name, column 1 'pat.nr', 2 'größe (cm)', 4 'dose', 5 'order', 6 '', "
+        self.csv_refused("t: 6 columns need another name, column 1 'pat.nr', 2 'größe (cm)', 4 'dose', 5 "
+                         "'order', 6 '', "
                          "7 '2nd': ", text, "--delimiter", ";", "--lower")
-        self.csv_refused('give --tidy, or --rename "t.#1=pat_nr" --rename "t.#2=grosse_cm" --rename "t.#4=dose_4" --rename '
-                         '"t.#5=order_" --rename "t.#6=column" --rename "t.#7=_2nd"', text, "--delimiter", ";", "--lower")
+        self.csv_refused('give --tidy, or --rename "t.#1=pat_nr" --rename "t.#2=grosse_cm" --rename '
+                         '"t.#4=dose_4" --rename '
+                         '"t.#5=order_" --rename "t.#6=column" --rename "t.#7=_2nd"', text, "--delimiter",
+                         ";", "--lower")
         table = self.table(text, "--delimiter", ";", "--tidy", "--rename", "t.#6=note")
         self.assertEqual([name for name, _ in table["columns"]],
                          ["pat_nr", "grosse_cm", "dose", "dose_4", "order_", "note", "_2nd"])
         path = self.put("My data.csv", "a\n1\n")
-        self.assertEqual(list(json.loads(tool(world, "--csv", path, "--tidy", *ASK)[1])["tables"]), ["my_data"])
+        self.assertEqual(list(json.loads(tool(world, "--csv", path, "--tidy", *ASK)[1])["tables"]),
+                         ["my_data"])
 
     def test_hints(self):
         """What looks like decimals with a comma, or like dates that don't compare, is said."""
-        err = tool(world, "--csv", self.put("t.csv", 'a;b;c\n1,75;01.02.2024;x\n2;3.2.2024;y\n'), "--delimiter", ";", *ASK)[2]
+        err = tool(world, "--csv", self.put("t.csv", 'a;b;c\n1,75;01.02.2024;x\n2;3.2.2024;y\n'),
+                   "--delimiter", ";", *ASK)[2]
         self.assertIn("t.a is TEXT, and looks like decimals with a comma; --decimal , --scale t.a=2", err)
         self.assertIn("t.b is TEXT, and looks like dates such as '01.02.2024'", err)
         self.assertEqual(err.count("looks like"), 2)
@@ -139,7 +160,8 @@ class CsvFiles(InFolder):
         path, old = self.put("t.csv", "a\n1\n"), self.put("w.json", "old")
         self.refused("the key names b", "--csv", path, *ASK, "--key", "t=b", "-o", old)
         self.assertEqual(read(old), b"old")
-        self.assertEqual(tool(world, "--csv", path, "--ask", "SELECT x FROM t", "-q", "-o", old), (0, b"", ""))
+        self.assertEqual(tool(world, "--csv", path, "--ask", "SELECT x FROM t", "-q", "-o", old),
+                         (0, b"", ""))
         self.assertEqual(json.loads(read(old))["tables"]["t"]["rows"], [[1]])
         self.assertEqual(sorted(os.listdir(self.folder)), ["t.csv", "w.json"])
         self.refused("No such file", "--csv", path, *ASK, "-o", os.path.join(self.folder, "none", "w.json"))
@@ -195,7 +217,8 @@ class CsvFiles(InFolder):
         self.refused("the table 'my data' isn't a name", "--csv", path, *ASK)
         self.refused("two tables have the name t", "--csv", f"t={path}", "--csv", f"t={path}", *ASK)
         self.refused("the table '\\udcff' isn't a name", "--csv", f"\udcff={path}", *ASK)
-        self.refused("257 tables; the limit is 256", *(word for n in range(257) for word in ("--csv", f"t{n}={path}")), *ASK)
+        self.refused("257 tables; the limit is 256",
+                     *(word for n in range(257) for word in ("--csv", f"t{n}={path}")), *ASK)
 
 
 class ScriptsAndFiles(InFolder):
@@ -313,7 +336,8 @@ class Databases(InFolder):
     def test_values(self):
         words = self.database("CREATE TABLE t (a REAL);"
                               "INSERT INTO t VALUES (2.5), (3), (NULL), (-0.1), (1e2);")
-        self.refused("row 0 of t, column a: the REAL value 2.5 has no equal here; --scale t.a=1 carries all", *words)
+        self.refused("row 0 of t, column a: the REAL value 2.5 has no equal here; --scale t.a=1 carries all",
+                     *words)
         status, out, err = tool(world, *words, "--scale", "t.a=1")
         self.assertEqual(json.loads(out)["tables"]["t"]["rows"], [[25], [30], [None], [-1], [1000]], err)
         for statements, message in (
@@ -336,9 +360,11 @@ class Databases(InFolder):
         words = self.database("CREATE TABLE t (a REAL, b INT, c REAL, d REAL);"
                               "INSERT INTO t VALUES (1.5, 1, 0.125, 1e-30), (2, 2, 1.5, 1);"
                               "CREATE TABLE u (e REAL); INSERT INTO u VALUES (0.25);")
-        self.refused("--scale t.a=1 --scale t.c=3 --scale t.d=18 --scale u.e=2 --round carries all of them", *words)
+        self.refused("--scale t.a=1 --scale t.c=3 --scale t.d=18 --scale u.e=2 --round carries all of them",
+                     *words)
         words += ["--scale", "u.e=2"]
-        status, out, err = tool(world, *words, "--scale", "t.a=1", "--scale", "t.c=3", "--scale", "t.d=2", "--round")
+        scales = ["--scale", "t.a=1", "--scale", "t.c=3", "--scale", "t.d=2"]
+        status, out, err = tool(world, *words, *scales, "--round")
         self.assertEqual(json.loads(out)["tables"]["t"]["rows"], [[15, 1, 125, 0], [20, 2, 1500, 100]], err)
 
     def test_paths_and_names(self):
@@ -351,7 +377,8 @@ class Databases(InFolder):
                          [["a", "INT"], ["check", "INT"], ["autoincrement", "INT"]])
 
     def test_write_ahead_log(self):
-        """Reading leaves the database as it was, with no file beside it, and takes away no log that was there."""
+        """Reading leaves the database as it was, with no file beside it,
+        and takes away no log that was there."""
         words = self.database("PRAGMA journal_mode = WAL; CREATE TABLE t (a INT); INSERT INTO t VALUES (1);")
         before = read(words[1])
         self.assertEqual(tool(world, *words, "-q")[0], 0)
