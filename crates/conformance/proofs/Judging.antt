@@ -13,16 +13,16 @@ same_when false old new counts none = absurd (omega (arith, counts, none))
 
 wanted_by : (case : Case) (d : Differences) → IsJudged case d → (is_none d.status && is_none d.steady_status && is_none d.output && is_none d.error) ≡ true → IsAsWanted case
 wanted_by case d is all =
-    let one = and-parts (is_none d.status) (is_none d.steady_status && is_none d.output && is_none d.error) all in
-    let two = and-parts (is_none d.steady_status) (is_none d.output && is_none d.error) one.1 in
-    let three = and-parts (is_none d.output) (is_none d.error) two.1 in
+    let one = and-parts (is_none d.status && is_none d.steady_status && is_none d.output) (is_none d.error) all in
+    let two = and-parts (is_none d.status && is_none d.steady_status) (is_none d.output) one.0 in
+    let three = and-parts (is_none d.status) (is_none d.steady_status) two.0 in
     record {
       ended = is.ended;
       run = is.run;
-      status = is.status.0 (is_none-true d.status one.0);
-      steady_status = is.steady_status.0 (is_none-true d.steady_status two.0);
-      output = is.output.0 (is_none-true d.output three.0);
-      error = is.error.0 (is_none-true d.error three.1);
+      status = is.status.0 (is_none-true d.status three.0);
+      steady_status = is.steady_status.0 (is_none-true d.steady_status three.1);
+      output = is.output.0 (is_none-true d.output two.1);
+      error = is.error.0 (is_none-true d.error one.1);
     }
 
 pub as_wanted : (case : Case) {E : Type 0} (judged : Result Differences E) (old new : ℕ) → IfOk judged (IsJudged case) → new ≡ (if is_same judged then old else min (old + 1) (2 ^ 64 - 1)) → new ≡ 0 → IsAsWanted case
