@@ -26,5 +26,5 @@ wanted_by case d is all =
     }
 
 pub as_wanted : (case : Case) {E : Type 0} (judged : Result Differences E) (old new : ℕ) → IfOk judged (IsJudged case) → new ≡ (if is_same judged then old else min (old + 1) (2 ^ 64 - 1)) → new ≡ 0 → IsAsWanted case
-as_wanted case (Ok d) old new is counts none = wanted_by case d is (same_when (is_same (Ok d)) old new counts none)
-as_wanted case (Err e) old new is counts none = absurd (omega (arith, counts, none))
+as_wanted case {E} (Ok d) old new is counts none = wanted_by case d is (same_when (is_same {E = E} (Ok d)) old new counts none)
+as_wanted case {E} (Err e) old new is counts none = absurd (omega (arith, counts, none))
