@@ -35,6 +35,15 @@ pub record IsRun (words : List (List ℕ)) (input : List ℕ) (ended : Ended) : 
 abbrev pub IsRunOf : Case → Ended → Type 0
 IsRunOf case ended = IsRun (map string_bytes case.words.items) case.input ended
 
+-- a run of the case ends as the case wants it
+pub record IsAsWanted (case : Case) : Type 0 where
+  pub ended : Ended
+  pub run : IsRunOf case ended
+  pub status : ended.status ≡ case.status
+  pub steady_status : ended.steady_status ≡ case.status
+  pub output : ended.output ≡ case.output
+  pub error : ended.error ≡ case.error
+
 -- what is told of a case are the differences of a run of its words and its input from what it wants
 pub record IsJudged (case : Case) (differences : Differences) : Type 0 where
   pub ended : Ended

@@ -2,7 +2,7 @@
 
 ghost use Rattle.std.specs.Prelude.{◌≡◌, ◌≢◌, ◌<◌, ◌≤◌, ◌↔◌, ◌-◌, ◌^◌, ◌+◌, if◌then◌else◌, min, []};
 ghost use Rattle.std.specs.Prelude.{option_map, IsErr, IfOk, OnOk};
-ghost use Rattle.conformance.specs.Runs.{IsJudged};
+ghost use Rattle.conformance.specs.Runs.{IsAsWanted, IsJudged};
 ghost use Rattle.conformance.specs.Same.{is_same};
 ghost use Rattle.conformance.specs.Wanted.{is_wanted, wanted_count};
 ghost use Rattle.conformance.specs.Counts.{CountsCases};
@@ -131,11 +131,12 @@ fn check_name(
     Ok(())
 }
 
-// Runs a case. It counts as the same only where the program was run and none of the four differs (`judge`,
-// `count_judged`).
+// Runs a case. It counts as the same only where the program was run and none of the four differs.
+#[tactic(auto, using(crate::proofs::Judging::as_wanted))]
 fn check_case<R: Print + AllocGlobal>(rt: &R, case: &Case, tally: &mut Tally) -> io::Result<()>
     ensures cases { tally.new.cases ≡ min (tally.old.cases + 1) (2 ^ 64 - 1) }
     ensures kept { tally.old.differences ≤ tally.new.differences }
+    ensures same { tally.new.differences ≡ 0 → IsAsWanted case.now }
 {
     let judged = judge(rt.alloc(), case);
     count_judged(&judged, tally);

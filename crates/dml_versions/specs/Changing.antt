@@ -44,7 +44,8 @@ IsCheckedOver db checked = checked_of checked.statement (catalog_of db) ≡ Ok c
 
 -- the reply of a statement and, where they are kept, the versions that it makes and the rows that it needs at
 -- their versions
-pub record IsChange (statement : Statement) (keep : Bool) (store : StoreHistory) (change : Change) : Type 0 where
+pub record IsChange (statement : Statement) (keep : Bool) (store : StoreHistory)
+    (change : Change) : Type 0 where
   pub reply : change.reply ≡ reply_of (Some statement) (tables_now store)
   pub made : IsTrue keep → change.made ≡ made_by (versions_now store) (Some statement) (tables_now store)
   pub needs : IsTrue keep

@@ -26,8 +26,8 @@ nodes_report events nodes = flat_map (node_line (processes_of events)) nodes
 abbrev pub place_of : Parts → List ℕ → Option ℕ
 place_of graph path = position (same_node (Path path)) graph.nodes
 
--- the nodes from which a path of edges leads to a place of the graph, at times that never fall, the last at most
--- the given one
+-- the nodes from which a path of edges leads to a place of the graph, at times that never fall, the last at
+-- most the given one
 abbrev pub depends_at : List Event → ℕ → ℕ → List ℕ
 depends_at events time place = nodes_report events (depends_of (graph_of events) place time)
 

@@ -1,5 +1,5 @@
--- How the processes of a trace lie in memory, without their names: where the parent of each is, and its number
--- among the parent's children. A name is made from these where a report has it.
+-- How the processes of a trace lie in memory, without their names: where the parent of each is, and its
+-- number among the parent's children. A name is made from these where a report has it.
 use Rattle.std.specs.Prelude.{ℕ, ◌+◌, ◌<◌, ◌^◌, List, [], ◌∷◌, ◌++◌, length, Option, Some, None}
 use Rattle.std.specs.Prelude.{slice_index_or, slice_set}
 use Rattle.std.specs.List.{All}
@@ -39,7 +39,8 @@ named_of ms = named_by_all (names_of ms) ms
 
 -- the parent of each but the first comes before it
 abbrev pub ComeAfter : List Made → Type 0
-ComeAfter ms = (place : ℕ) (d : Made) → place < length ms → 0 < place → (slice_index_or ms place d).parent < place
+ComeAfter ms = (place : ℕ) (d : Made) → place < length ms → 0 < place
+    → (slice_index_or ms place d).parent < place
 
 -- ---- one child more
 

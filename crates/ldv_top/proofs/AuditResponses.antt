@@ -5,7 +5,7 @@ use Rattle.ldv_value.specs.Limits.{input_limit}
 use Rattle.run_model.specs.declared.package.Package.{Package}
 use Rattle.run_model.specs.Package.{own_world}
 use Rattle.run_model.specs.WorldRun.{ends_within}
-use Rattle.replay_db.proofs.BudgetLaw.{ended_outcome, going_outcome}
+use Rattle.run_laws.proofs.BudgetLaw.{ended_outcome, going_outcome}
 use Rattle.replay_db.specs.Auditing.{Audits, own_spelling}
 use Rattle.replay_db.specs.declared.soundness.AuditStop.{AuditStop}
 use Rattle.replay_db.specs.declared.soundness.AuditStop.TheVariants as stops

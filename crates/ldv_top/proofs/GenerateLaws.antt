@@ -12,7 +12,7 @@ use Rattle.run_model.specs.Package.{own_world, package_of}
 use Rattle.run_model.specs.WorldRun.{ends_within, outcome_within}
 use Rattle.package_layout.specs.Valid.{Valid}
 use Rattle.package_layout.specs.Whole.{spelling}
-use Rattle.replay_db.proofs.BudgetLaw.{ended_outcome, going_outcome}
+use Rattle.run_laws.proofs.BudgetLaw.{ended_outcome, going_outcome}
 use Rattle.replay_db.proofs.RecordedRuns.{package_is, package_none}
 use Rattle.replay_db.specs.Runs.{package_within}
 use Rattle.replay_db.specs.Worlds.{ValidPackageLaw, ValidWorld, WorldTablesLaw}

@@ -17,12 +17,12 @@ use Rattle.package_layout.specs.Version.{version_of}
 use Rattle.package_layout.specs.declared.version.Version.{Version}
 use Rattle.package_layout.specs.declared.version.Version.TheVariants.{Two}
 use Rattle.package_layout.specs.Whole.{spelling_as, spelling, IsTyped}
-use Rattle.replay_db.proofs.BudgetLaw.{outcome_ends, ended_outcome, enough_outcome}
-use Rattle.replay_db.proofs.EndedLaw.{ended_starts}
-use Rattle.replay_db.proofs.TraceValid.{steps_at_most}
+use Rattle.run_laws.proofs.BudgetLaw.{outcome_ends, ended_outcome, enough_outcome}
+use Rattle.run_laws.proofs.EndedLaw.{ended_starts}
+use Rattle.run_laws.proofs.RunSteps.{steps_at_most}
 use Rattle.replay_db.specs.Auditing.{SoundLaw, RecordedSoundLaw, IsOwn}
-use Rattle.replay_db.specs.Laws.{SameRun, ReplayLaw}
-use Rattle.replay_db.specs.LogLaws.{PickedLogLaw}
+use Rattle.run_laws.specs.Laws.{SameRun, ReplayLaw}
+use Rattle.run_laws.specs.LogLaws.{PickedLogLaw}
 use Rattle.replay_db.specs.Worlds.{TypedFor, TypedWorld, ValidWorld, WorldTablesLaw, ValidPackageLaw, TypedPackageLaw}
 use Rattle.world_json.specs.Reading.{world_reading}
 use Rattle.ldv_top.specs.declared.exit.Exit.TheVariants.{Done}

@@ -11,7 +11,7 @@ use Rattle.run_model.specs.Package.{package_of}
 use Rattle.run_model.specs.WorldRun.{ends_within}
 use Rattle.package_layout.specs.Whole.{spelling}
 use Rattle.replay_db.specs.Runs.{package_within}
-use Rattle.replay_db.proofs.BudgetLaw.{ended_outcome, going_outcome}
+use Rattle.run_laws.proofs.BudgetLaw.{ended_outcome, going_outcome}
 use Rattle.replay_db.proofs.RecordedRuns.{package_is, package_none}
 use Rattle.ldv_top.specs.declared.exit.Exit.TheVariants.{Done, NotEnded, PackageTooLong}
 use Rattle.ldv_top.specs.Due.{Due, refused, done, due_outcome, is_too_long, due_spelling, package_due, recorded_world}

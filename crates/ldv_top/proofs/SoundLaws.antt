@@ -16,7 +16,7 @@ use Rattle.package_layout.specs.Version.{version_of}
 use Rattle.package_layout.specs.declared.version.Version.{Version}
 use Rattle.package_layout.specs.declared.version.Version.TheVariants.{One, Two}
 use Rattle.package_layout.specs.Whole.{spelling_as}
-use Rattle.replay_db.proofs.BudgetLaw.{outcome_ends, ended_outcome}
+use Rattle.run_laws.proofs.BudgetLaw.{outcome_ends, ended_outcome}
 use Rattle.replay_db.specs.Auditing.{SoundLaw, verdict_on, own_spelling}
 use Rattle.replay_db.specs.declared.soundness.Verdict.{Verdict}
 use Rattle.replay_db.specs.declared.soundness.Verdict.TheVariants.{Sound, Unsound}

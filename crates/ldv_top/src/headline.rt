@@ -12,7 +12,8 @@ ghost use Rattle.ldv_top.specs.Headline.{IsPackageOf, Recorded};
 ghost use Rattle.ldv_top.specs.declared.exit.Exit.{Exit};
 
 use package_layout::round_trip_law;
-use replay_db::{audit_law, between_law, log_law, package_law};
+use replay_db::{audit_law, package_law};
+use run_laws::{between_law, log_law};
 
 /// The package of a valid world's run, with the needed rows or with the recorded replies, is replayed, within
 /// any budget of at least the steps of that run, as the world is run; and what is recorded of a world document

@@ -1,4 +1,4 @@
-//! The set of processes that may run, by hand: what is in it, and whom the scheduler chooses. In a run with
+//! The set of processes that may run, by hand: what is in it, and which one comes next. In a run with
 //! `--fail-alloc` a set whose room can't grow is as it was.
 
 use ready_set::ReadySet;
@@ -132,14 +132,10 @@ fn empties(rt: HostRuntime) -> Result<(), Fail> {
     Ok(())
 }
 
-// In turn: the seed is 0, and the generator doesn't count.
+// In turn, as under seed 0.
 fn expect_turn(rt: &impl Abort, set: &ReadySet, last: u32, want: u32) {
     assert!(rt; 0 < set.len());
-    assert_eq!(rt;
-        set.pick(0, last, 12_345_678_901_234_567_890),
-        want,
-        "after {last}"
-    );
+    assert_eq!(rt; set.pick_next(last), want, "after {last}");
 }
 
 #[test]
@@ -165,10 +161,10 @@ fn takes_turns(rt: HostRuntime) -> Result<(), Fail> {
     Ok(())
 }
 
-// At random: the last one doesn't count, nor do the 33 lowest bits of the generator.
+// At random: by the generator without its 33 lowest bits.
 fn expect_draw(rt: &impl Abort, set: &ReadySet, x: u64, want: u32) {
     assert!(rt; 0 < set.len());
-    assert_eq!(rt; set.pick(7, 1, x), want, "by {x}");
+    assert_eq!(rt; set.pick_at(x >> 33), want, "by {x}");
 }
 
 // What the generator has after the steps 2, 3 and 4 under seed 7, without its 33 lowest bits.

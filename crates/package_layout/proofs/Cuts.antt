@@ -1,5 +1,5 @@
 -- Events that are read one after another and joined to runs as they come.
-use Rattle.std.proofs.Common.{◌≡◌, ℕ, suc, ◌+◌, ◌-◌, ◌≤◌, ◌<◌, List, [], ◌∷◌, ◌++◌, Some, None, Err, refl, sym, ap, ◌∙◌, append_assoc, arith, true, false}
+use Rattle.std.proofs.Common.{◌≡◌, ℕ, suc, ◌+◌, ◌-◌, ◌≤◌, ◌<◌, List, [], ◌∷◌, ◌++◌, Some, None, Err, refl, sym, ap, ◌∙◌, arith}
 use Rattle.run_model.specs.declared.event.Event.{Event}
 use Rattle.package_layout.specs.declared.cutting.Cut.{Cut}
 use Rattle.package_layout.specs.declared.decode_error.DecodeError.{DecodeError}
@@ -7,7 +7,7 @@ use Rattle.package_layout.specs.declared.decode_error.DecodeError.TheVariants.{N
 use Rattle.package_layout.specs.Cutting.{cut_onto}
 use Rattle.package_layout.specs.Events.{event_at}
 use Rattle.package_layout.specs.Fields.{Found, ◌>>=◌, Gives, items_at, made_at}
-use Rattle.package_layout.specs.Runs.{Run, Begun, joins, grown, single, runs_from, runs_of}
+use Rattle.package_layout.specs.Runs.{Run, runs_of}
 
 -- the runs of what was read before and of what is still read
 abbrev pub with_cut : Cut → Found (List Event) → Found (List Run)
@@ -59,18 +59,3 @@ is_done cut runs count i bytes total le all so_far =
     let k : count - i ≡ 0 = omega arith in
     let one : with_cut cut (items_at event_at (count - i) bytes) ≡ Some (runs, bytes) = rw k (ap (λ (l : List Run). Some (l, bytes)) (sym all)) in
     sym so_far ∙ one
-
--- ---- one more event
-
-abbrev of_begun : List Run → Begun → Cut
-of_begun done b = record { done = done; begun = Some b }
-
-pub joined_cut : (done : List Run) (b : Begun) (e : Event) → joins b e ≡ true → (es : List Event) → cut_onto (of_begun done (grown b e)) es ≡ cut_onto (of_begun done b) (e ∷ es)
-joined_cut done b e on es =
-    let step : runs_from b (e ∷ es) ≡ runs_from (grown b e) es = rw on refl in
-    ap (λ (l : List Run). done ++ l) (sym step)
-
-pub ended_cut : (done more : List Run) (b : Begun) (e : Event) → joins b e ≡ false → more ≡ done ++ b.run ∷ [] → (es : List Event) → cut_onto (of_begun more (single e)) es ≡ cut_onto (of_begun done b) (e ∷ es)
-ended_cut done more b e off is es =
-    let step : runs_from b (e ∷ es) ≡ b.run ∷ runs_from (single e) es = rw off refl in
-    ap (λ (l : List Run). l ++ runs_from (single e) es) is ∙ append_assoc done (b.run ∷ []) (runs_from (single e) es) ∙ ap (λ (l : List Run). done ++ l) (sym step)

@@ -21,7 +21,8 @@ use Rattle.package_layout.specs.Valid.{rules, before_digest, middle, kept_if, pa
 use Rattle.package_layout.specs.Version.{Version, One, Two}
 use Rattle.package_layout.specs.Whole.{bare_at, trace_at, with_events}
 use Rattle.package_layout.proofs.Laws.{IsBytes, IsBytes-take, IsBytes-drop}
-use Rattle.package_layout.proofs.Runs.{events_again, runs_good, events-length, small_events}
+use Rattle.package_layout.proofs.Runs.{events_again, runs_good, events-length}
+use Rattle.package_layout.proofs.RunFields.{small_events}
 use Rattle.package_layout.proofs.Whole.{bare_took, events_took}
 
 -- ---- the trace

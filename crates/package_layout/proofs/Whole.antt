@@ -22,7 +22,7 @@ use Rattle.package_layout.specs.Room.{some_thousands, table_room, log_room}
 use Rattle.package_layout.specs.Counts.{IsCountable, CountedList, CountedFile, CountedTable, CountedLog}
 use Rattle.package_layout.specs.Counted.{CountedTrace, IsCounted}
 use Rattle.package_layout.specs.Runs.{max_events, few_events, trace_room}
-use Rattle.package_layout.proofs.Runs.{runs_law}
+use Rattle.package_layout.proofs.RunFields.{runs_law}
 use Rattle.std.specs.Prelude.{nat_le}
 use Rattle.ldv_value.proofs.Booleans.{and-parts, and-from}
 use Rattle.package_layout.specs.Reading.{file_at, table_at, log_at}

@@ -2,7 +2,7 @@
 
 ghost use Rattle.std.specs.Prelude.{◌≡◌, ◌↔◌, [], true, false, Some, None, Ok, Err, IfOk, IfSome, IsSome};
 ghost use Rattle.package_layout.specs.ReadResult.{ReadsAs, RunsReadAs, damage_before};
-ghost use Rattle.package_layout.specs.RunPackages.{whole, run_rules, runs_in};
+ghost use Rattle.package_layout.specs.RunPackages.{whole, runs_in};
 ghost use Rattle.package_layout.specs.Runs.{IsCut, are_runs};
 ghost use Rattle.package_layout.specs.Fields.{Makes};
 ghost use Rattle.package_layout.specs.Valid.{Valid, HasDigest, IsSpelled, IsUnspelled, has_digest};

@@ -1,6 +1,6 @@
 //! All of a package between its magic and its digest.
 
-ghost use Rattle.std.specs.Prelude.{◌≡◌, ◌++◌, [], OnOk};
+ghost use Rattle.std.specs.Prelude.{◌≡◌, ◌++◌, OnOk};
 ghost use Rattle.std.specs.List.{AllByRecursion};
 ghost use Rattle.package_layout.specs.Bare.{BareParts, BareNumbers, BareTyped};
 ghost use Rattle.package_layout.specs.Fields.{Gives, Makes};

@@ -32,7 +32,7 @@ fn encode_runs(events: &[Event], to: &mut Bytes) -> Result<(), AllocError>
     }
 }
 
-#[tactic(auto, using(crate::proofs::Runs::stands_first))]
+#[tactic(auto, using(crate::proofs::RunFields::stands_first))]
 fn encode_from(first: &Event, rest: &[Event], to: &mut Bytes) -> Result<(), AllocError>
     ensures bytes { OnOk result (to.new ≡ to.old
         ++ flat_map run_spelling (runs_from (single first.now) rest.now)) }

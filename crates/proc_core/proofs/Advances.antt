@@ -3,9 +3,9 @@ use Rattle.std.proofs.Common.{◌≡◌, ℕ, zero, suc, ◌+◌, ◌≤◌, Lis
 use Rattle.std.specs.Prelude.{Option, Some, None, slice_get, is_none, is_some, not, ◌&&◌, ◌||◌, ◌==◌}
 use Rattle.std.specs.List.{list_all}
 use Rattle.std.proofs.lemmas.Bool.{cases_Bool, and_parts, ne_eqb}
-use Rattle.ready_set.specs.Flags.{runnable_flags}
+use Rattle.proc_core.specs.Flags.{runnable_flags}
 use Rattle.ready_set.specs.Ready.{Ready, numbers}
-use Rattle.ready_set.proofs.FlagLaws.{flags_runnable}
+use Rattle.proc_core.proofs.FlagLaws.{flags_runnable}
 use Rattle.run_model.specs.Core.{Process, Core, all_ended, is_over}
 use Rattle.run_model.specs.Core.{has_ended as process_ended}
 use Rattle.run_model.specs.Database.{Base}

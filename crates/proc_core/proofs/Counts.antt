@@ -1,9 +1,11 @@
--- No step but one that asks makes the replies of a process more.
-use Rattle.std.proofs.Common.{◌≡◌, ℕ, zero, suc, ◌+◌, ◌<◌, List, [], ◌∷◌, ◌++◌, length, refl, sym, ap, subst, Bool, true, false, arith, inl, inr, length-append}
+-- No step but one that asks makes the replies of a process more, and none but a `spawn` makes its children more.
+use Rattle.std.proofs.Common.{◌≡◌, ℕ, zero, suc, ◌+◌, ◌<◌, ◌^◌, List, [], ◌∷◌, ◌++◌, length, refl, sym, ap, ◌∙◌, subst, Bool, true, false, arith, inl, inr, length-append}
 use Rattle.std.specs.Prelude.{Option, Some, None, option_and_then, slice_get, slice_set, nat_lt, ◌==◌}
 use Rattle.std.specs.List.{AllByRecursion}
 use Rattle.sql_model.specs.declared.reply.Reply.{Reply}
 use Rattle.std.proofs.lemmas.Bool.{cases_Bool}
+use Rattle.std.proofs.lemmas.List.{length-set}
+use Rattle.ready_set.specs.Ready.{Ready}
 use Rattle.ldv_value.specs.FileState.{FileState, FileRefusal, open_refusal, is_there, read_line, has_room, rest_at}
 use Rattle.ldv_value.specs.Limits.{printed_limit}
 use Rattle.ldv_value.specs.Order.{order, meets}
@@ -29,21 +31,22 @@ use Rattle.proc_core.specs.declared.machine.Machine.{Machine}
 use Rattle.proc_core.specs.declared.process.SlotCursor.{SlotCursor}
 use Rattle.proc_core.specs.declared.process.SlotProcess.{SlotProcess}
 use Rattle.proc_core.specs.SlotAsk.{slot_replied}
-use Rattle.proc_core.specs.Counts.{HaveFewer, AskedFewer}
+use Rattle.proc_core.specs.Counts.{counted_of, AreBelow, HaveFewer, CountsBelow, MaySpawn}
 use Rattle.proc_core.specs.SlotFiles.{slot_open_unless, slot_open_path, slot_open_for, slot_take_line, slot_read_next, slot_write_where, slot_write_text, slot_copy_where, slot_copy_between, slot_remove_found, slot_remove, slot_exists, slot_on_files}
 use Rattle.proc_core.specs.SlotOwn.{slot_own}
 use Rattle.proc_core.specs.SlotReplies.{slot_close_file, slot_with_values, slot_one_more, slot_take_row, slot_fetch_row, slot_next_row, slot_fetch_from}
 use Rattle.proc_core.specs.SlotSpawn.{HasChild, IsNoChild, slot_parent}
-use Rattle.proc_core.specs.SlotStep.{slot_wait_until, slot_wait_with, slot_child_status, slot_effect}
+use Rattle.proc_core.specs.SlotReady.{marked_by, marked, marked_parent, marked_above, refreshed}
+use Rattle.proc_core.specs.SlotStep.{slot_wait_until, slot_wait_with, slot_child_status, slot_is_runnable, slot_status_in, slot_effect}
 use Rattle.proc_core.specs.SlotVariables.{slot_cut_parts, parts_of, slot_jump_where, slot_print_line}
 use Rattle.proc_core.specs.Slots.{open_at, cursor_of, cursor_at, child_at, slot_value, slot_values, slot_assign, slot_with_variable}
 use Rattle.proc_core.proofs.Machines.{get_some}
 
 -- ---- an instruction that changes its own process only
 
--- the same replies
+-- the same replies, and as many children were made
 abbrev Same : SlotProcess → SlotProcess → Type 0
-Same r q = q.replies ≡ r.replies
+Same r q = counted_of q ≡ counted_of r
 
 module _ (r : SlotProcess) where
   assigned : (to : ℕ) (v : Computed) → Same r (slot_assign to v r)
@@ -175,19 +178,19 @@ module _ (r : SlotProcess) where
 
   -- ---- any that asks nothing
 
-  pub effect_replies : (o : Option SlotInstr) (rs : List SlotProcess) (st : FileState) → (slot_effect o rs r st).process.replies ≡ r.replies
-  effect_replies None rs st = refl
-  effect_replies (Some (Own o)) rs st = own_so o
-  effect_replies (Some (OnFiles o)) rs st = files_so o st
-  effect_replies (Some (Spawn child path arguments place)) rs st = refl
-  effect_replies (Some (Wait to child)) rs st = waited (child_at child r) (slot_child_status (child_at child r) rs) to st
-  effect_replies (Some (Sql cursor text params)) rs st = refl
+  pub effect_counts : (o : Option SlotInstr) (rs : List SlotProcess) (st : FileState) → Same r (slot_effect o rs r st).process
+  effect_counts None rs st = refl
+  effect_counts (Some (Own o)) rs st = own_so o
+  effect_counts (Some (OnFiles o)) rs st = files_so o st
+  effect_counts (Some (Spawn child path arguments place)) rs st = refl
+  effect_counts (Some (Wait to child)) rs st = waited (child_at child r) (slot_child_status (child_at child r) rs) to st
+  effect_counts (Some (Sql cursor text params)) rs st = refl
 
 -- ---- of all processes
 
 module _ (n : ℕ) where
   abbrev HasFewer : SlotProcess → Type 0
-  HasFewer r = length r.replies < n
+  HasFewer r = AreBelow n (counted_of r)
 
   abbrev All : List SlotProcess → Type 0
   All rs = AllByRecursion HasFewer rs
@@ -217,79 +220,112 @@ module _ (n : ℕ) where
   fewer_end rs q each fewer = at_by (rs ++ q ∷ []) (all_end rs q (all_by rs each) fewer)
 
 fewer_more : (n : ℕ) (rs : List SlotProcess) → HaveFewer n rs → HaveFewer (n + 1) rs
-fewer_more n rs each k r at = omega (arith, each k r at)
+fewer_more n rs each k r at =
+    let below : (length r.replies < n) × (r.spawned < n) = each k r at in
+    let replies : length r.replies < n + 1 = omega (arith, below.0) in
+    let spawned : r.spawned < n + 1 = omega (arith, below.1) in
+    (replies, spawned)
 
 -- ---- of a machine
 
 module _ (m after : Machine) where
-  -- a process stands in place of another, with the same replies
-  pub fewer_kept : (number : ℕ) (f : SlotProcess → SlotProcess) → ((r : SlotProcess) → (f r).replies ≡ r.replies) → number < length m.processes.items
+  -- a process stands in place of another, of which as much is counted
+  pub fewer_kept : (number : ℕ) (f : SlotProcess → SlotProcess) → ((r : SlotProcess) → Same r (f r)) → number < length m.processes.items
       → ((r : SlotProcess) → slice_get m.processes.items number ≡ Some r → after.processes.items ≡ slice_set m.processes.items number (f r))
-      → after.asked ≡ m.asked → (n : ℕ) → AskedFewer n m → AskedFewer n after
-  fewer_kept number f same within items asked n fewer =
+      → after.asked ≡ m.asked → after.ready ≡ m.ready → (n : ℕ) → CountsBelow n m → CountsBelow n after
+  fewer_kept number f same within items asked ready n fewer =
       let there = get_some m.processes.items number within in
       let r : SlotProcess = there.0 in
-      let own : length (f r).replies < n = subst (λ (k : ℕ). k < n) (sym (ap length (same r))) (fewer.each number r there.1) in
+      let own : AreBelow n (counted_of (f r)) = subst (AreBelow n) (sym (same r)) (fewer.each number r there.1) in
       record {
         all = subst (λ (k : ℕ). k < n) (sym asked) fewer.all;
         each = subst (HaveFewer n) (sym (items r there.1)) (fewer_set n m.processes.items number (f r) fewer.each own);
+        flags = omega (
+          arith,
+          fewer.flags,
+          ap (λ (set : Ready). length set.flags) ready,
+          ap length (items r there.1) ∙ length-set m.processes.items number (f r),
+        );
       }
 
   -- a child was made
   pub fewer_child : (number slot index : ℕ) (code : Code) (r : SlotProcess) (arguments : List Value) → HasChild m number slot index code r arguments after
-      → slice_get m.processes.items number ≡ Some r → (n : ℕ) → AskedFewer n m → AskedFewer n after
+      → slice_get m.processes.items number ≡ Some r → (n : ℕ) → CountsBelow n m → CountsBelow (n + 1) after
   fewer_child number slot index code r arguments child at n fewer =
+      let parent : SlotProcess = slot_parent (length m.processes.items) slot r in
+      let front : List SlotProcess = slice_set m.processes.items number parent in
       let none : length child.child.replies ≡ 0 = ap length (child.held []).replies in
-      let some : 0 < n = omega (arith, fewer.all) in
+      let first : child.child.spawned ≡ 0 = (child.held []).spawned in
+      let own : (length r.replies < n) × (r.spawned < n) = fewer.each number r at in
+      let replies : length r.replies < n + 1 = omega (arith, own.0) in
+      let spawned : r.spawned + 1 < n + 1 = omega (arith, own.1) in
+      let new_replies : length child.child.replies < n + 1 = omega (arith, none) in
+      let new_spawned : child.child.spawned < n + 1 = omega (arith, first) in
+      let more_flags : length after.ready.flags ≡ length m.ready.flags + 1 = ap length child.ready ∙ length-append m.ready.flags (true ∷ []) in
+      let more : length after.processes.items ≡ length m.processes.items + 1 =
+      ap length child.items ∙ length-append front (child.child ∷ []) ∙ ap (λ (k : ℕ). k + 1) (length-set m.processes.items number parent) in
       record {
-        all = subst (λ (k : ℕ). k < n) (sym child.others.asked) fewer.all;
-        each = subst (HaveFewer n) (sym child.items)
-            (fewer_end n (slice_set m.processes.items number (slot_parent (length m.processes.items) slot r)) child.child
-            (fewer_set n m.processes.items number (slot_parent (length m.processes.items) slot r) fewer.each (fewer.each number r at))
-            (omega (arith, none, some)));
+        all = omega (arith, child.others.asked, fewer.all);
+        each = subst (HaveFewer (n + 1)) (sym child.items)
+            (fewer_end (n + 1) front child.child
+            (fewer_set (n + 1) m.processes.items number parent (fewer_more n m.processes.items fewer.each) (replies, spawned))
+            (new_replies, new_spawned));
+        flags = omega (arith, fewer.flags, more_flags, more);
       }
 
-  -- the same processes
-  pub fewer_same : after.processes.items ≡ m.processes.items → after.asked ≡ m.asked → (n : ℕ) → AskedFewer n m → AskedFewer n after
-  fewer_same items asked n fewer = record {
+  -- another where nothing is counted more
+  pub fewer_same : after.processes.items ≡ m.processes.items → after.asked ≡ m.asked → length after.ready.flags ≡ length m.ready.flags
+      → (n : ℕ) → CountsBelow n m → CountsBelow n after
+  fewer_same items asked flags n fewer = record {
     all = subst (λ (k : ℕ). k < n) (sym asked) fewer.all;
     each = subst (HaveFewer n) (sym items) fewer.each;
+    flags = omega (arith, fewer.flags, flags, ap length items);
   }
 
-pub fewer_next : (m : Machine) (n : ℕ) → AskedFewer n m → AskedFewer (n + 1) m
-fewer_next m n fewer = record { all = omega (arith, fewer.all); each = fewer_more n m.processes.items fewer.each }
+pub fewer_next : (m : Machine) (n : ℕ) → CountsBelow n m → CountsBelow (n + 1) m
+fewer_next m n fewer = record { all = omega (arith, fewer.all); each = fewer_more n m.processes.items fewer.each; flags = fewer.flags }
 
 module _ (m after : Machine) where
   -- a process has its reply
   pub fewer_taken : (number cursor : ℕ) (x : Reply) → number < length m.processes.items
       → ((r : SlotProcess) → slice_get m.processes.items number ≡ Some r → after.processes.items ≡ slice_set m.processes.items number (slot_replied cursor x r))
-      → after.asked ≡ m.asked + 1 → (n : ℕ) → AskedFewer n m → AskedFewer (n + 1) after
-  fewer_taken number cursor x within items asked n fewer =
+      → after.asked ≡ m.asked + 1 → after.ready ≡ m.ready → (n : ℕ) → CountsBelow n m → CountsBelow (n + 1) after
+  fewer_taken number cursor x within items asked ready n fewer =
       let there = get_some m.processes.items number within in
       let r : SlotProcess = there.0 in
-      let long : length (slot_replied cursor x r).replies ≡ length r.replies + 1 = length-append r.replies (x ∷ []) in
-      let own : length (slot_replied cursor x r).replies < n + 1 = omega (arith, long, fewer.each number r there.1) in
+      let q : SlotProcess = slot_replied cursor x r in
+      let long : length q.replies ≡ length r.replies + 1 = length-append r.replies (x ∷ []) in
+      let below : (length r.replies < n) × (r.spawned < n) = fewer.each number r there.1 in
+      let replies : length q.replies < n + 1 = omega (arith, long, below.0) in
+      let spawned : r.spawned < n + 1 = omega (arith, below.1) in
       record {
         all = omega (arith, asked, fewer.all);
         each = subst (HaveFewer (n + 1)) (sym (items r there.1))
-            (fewer_set (n + 1) m.processes.items number (slot_replied cursor x r) (fewer_more n m.processes.items fewer.each) own);
+            (fewer_set (n + 1) m.processes.items number q (fewer_more n m.processes.items fewer.each) (replies, spawned));
+        flags = omega (
+          arith,
+          fewer.flags,
+          ap (λ (set : Ready). length set.flags) ready,
+          ap length (items r there.1) ∙ length-set m.processes.items number q,
+        );
       }
 
   -- of one of the processes
-  pub fewer_of : (number : ℕ) (r : SlotProcess) (n : ℕ) → AskedFewer n m → slice_get m.processes.items number ≡ Some r → length r.replies < n
-  fewer_of number r n fewer at = fewer.each number r at
+  pub fewer_of : (number : ℕ) (r : SlotProcess) (n : ℕ) → CountsBelow n m → slice_get m.processes.items number ≡ Some r → length r.replies < n
+  fewer_of number r n fewer at = (fewer.each number r at).0
 
 module _ (m after : Machine) (number : ℕ) where
   -- no process was made
-  pub fewer_idle : (f : SlotProcess → SlotProcess) → ((r : SlotProcess) → (f r).replies ≡ r.replies) → number < length m.processes.items
+  pub fewer_idle : (f : SlotProcess → SlotProcess) → ((r : SlotProcess) → Same r (f r)) → number < length m.processes.items
       → ((r : SlotProcess) → slice_get m.processes.items number ≡ Some r → after.processes.items ≡ slice_set m.processes.items number (f r))
-      → IsNoChild m after → (n : ℕ) → AskedFewer n m → AskedFewer n after
-  fewer_idle f same within items idle = fewer_kept m after number f same within items idle.others.asked
+      → IsNoChild m after → (n : ℕ) → CountsBelow n m → CountsBelow (n + 1) after
+  fewer_idle f same within items idle n fewer =
+      fewer_next after n (fewer_kept m after number f same within items idle.others.asked idle.ready n fewer)
 
   -- a child was made, which runs a script that is there
   pub fewer_known : (slot index : ℕ) (code : Code) (arguments : List Value) → number < length m.processes.items → slice_get m.codes index ≡ Some code
       → ((r : SlotProcess) (k : Code) → slice_get m.processes.items number ≡ Some r → slice_get m.codes index ≡ Some k → HasChild m number slot index k r arguments after)
-      → (n : ℕ) → AskedFewer n m → AskedFewer n after
+      → (n : ℕ) → CountsBelow n m → CountsBelow (n + 1) after
   fewer_known slot index code arguments within at makes n fewer =
       let there = get_some m.processes.items number within in
       fewer_child m after number slot index code there.0 arguments (makes there.0 code there.1 at) there.1 n fewer
@@ -298,14 +334,59 @@ module _ (m after : Machine) (number : ℕ) where
   pub fewer_new : (slot index : ℕ) (code : Code) (arguments : List Value) → number < length m.processes.items
       → ((r : SlotProcess) → slice_get m.processes.items number ≡ Some r
       → HasChild (record m { codes = m.codes ++ code ∷ [] }) number slot index code r arguments after)
-      → (n : ℕ) → AskedFewer n m → AskedFewer n after
+      → (n : ℕ) → CountsBelow n m → CountsBelow (n + 1) after
   fewer_new slot index code arguments within makes n fewer =
       let there = get_some m.processes.items number within in
       let more : Machine = record m { codes = m.codes ++ code ∷ [] } in
-      fewer_child more after number slot index code there.0 arguments (makes there.0 there.1) there.1 n (record { all = fewer.all; each = fewer.each })
+      fewer_child more after number slot index code there.0 arguments (makes there.0 there.1) there.1 n
+      (record { all = fewer.all; each = fewer.each; flags = fewer.flags })
 
 -- of a machine with one process
-pub fewer_first : (m : Machine) (r : SlotProcess) → m.asked ≡ 0 → m.processes.items ≡ r ∷ [] → length r.replies ≡ 0 → AskedFewer 1 m
-fewer_first m r asked items none =
-    let own : length r.replies < 1 = omega (arith, none) in
-    record { all = omega (arith, asked); each = subst (HaveFewer 1) (sym items) (at_by 1 (r ∷ []) (own, tt)) }
+pub fewer_first : (m : Machine) (r : SlotProcess) → m.asked ≡ 0 → m.processes.items ≡ r ∷ [] → length r.replies ≡ 0 → r.spawned ≡ 0
+    → m.ready.flags ≡ true ∷ [] → CountsBelow 1 m
+fewer_first m r asked items none first ready =
+    let replies : length r.replies < 1 = omega (arith, none) in
+    let spawned : r.spawned < 1 = omega (arith, first) in
+    let one : length m.ready.flags ≡ 1 = ap length ready in
+    let long : length m.processes.items ≡ 1 = ap length items in
+    record {
+      all = omega (arith, asked);
+      each = subst (HaveFewer 1) (sym items) (at_by 1 (r ∷ []) ((replies, spawned), tt));
+      flags = omega (arith, one, long);
+    }
+
+-- ---- who makes a child
+
+may_spawn_by : (n : ℕ) (o : Option SlotProcess) → ((r : SlotProcess) → o ≡ Some r → r.spawned < n) → n < 2 ^ 32 → MaySpawn o
+may_spawn_by n None below small = tt
+may_spawn_by n (Some r) below small = omega (arith, below r refl, small)
+
+pub may_spawn : (m : Machine) (number n : ℕ) → CountsBelow n m → n < 2 ^ 32 → MaySpawn (slice_get m.processes.items number)
+may_spawn m number n fewer small = may_spawn_by n (slice_get m.processes.items number) (λ r at. (fewer.each number r at).1) small
+
+-- ---- the set of those that may run, brought up to date
+
+module _ (codes : List Code) (rs : List SlotProcess) where
+  marked_by_long : (number : ℕ) (o : Option SlotProcess) (flags : List Bool) → length (marked_by codes rs number o flags) ≡ length flags
+  marked_by_long number None flags = refl
+  marked_by_long number (Some r) flags = length-set flags number (slot_is_runnable codes rs r)
+
+  parent_long : (parent : Option ℕ) (flags : List Bool) → length (marked_parent codes rs parent flags) ≡ length flags
+  parent_long None flags = refl
+  parent_long (Some parent) flags = marked_by_long parent (slice_get rs parent) flags
+
+  above_long : (status parent : Option ℕ) (flags : List Bool) → length (marked_above codes rs status parent flags) ≡ length flags
+  above_long None parent flags = refl
+  above_long (Some status) parent flags = parent_long parent flags
+
+  refreshed_long : (parents : List ℕ) (number : ℕ) (flags : List Bool) → length (refreshed codes rs parents number flags) ≡ length flags
+  refreshed_long parents number flags =
+      above_long (slot_status_in rs number) (slice_get parents number) (marked codes rs number flags)
+      ∙ marked_by_long number (slice_get rs number) flags
+
+pub fewer_refreshed : (after last : Machine) (number n : ℕ)
+    → last.ready.flags ≡ refreshed after.codes after.processes.items after.parents number after.ready.flags
+    → last ≡ record after { ready = last.ready } → CountsBelow n after → CountsBelow n last
+fewer_refreshed after last number n flags others fewer =
+    fewer_same after last (ap (λ (x : Machine). x.processes.items) others) (ap (λ (x : Machine). x.asked) others)
+    (ap length flags ∙ refreshed_long after.codes after.processes.items after.parents number after.ready.flags) n fewer

@@ -9,6 +9,7 @@ pub mod CutPlaces
 pub mod Ends
 pub mod FetchedValues
 pub mod FileSame
+pub mod FlagLaws
 pub mod Growing
 pub mod Holding
 pub mod KnownNames

@@ -6,9 +6,9 @@ use Rattle.std.proofs.lemmas.Bool.{cases_Bool, cases_eq}
 use Rattle.std.proofs.lemmas.List.{length-set, length-map}
 use Rattle.std.proofs.lemmas.Option.{slice_get_past, slice_get_within}
 use Rattle.ready_set.specs.Ready.{Ready}
-use Rattle.ready_set.specs.Flags.{runnable_flags, awaited}
-use Rattle.ready_set.specs.FlagsLaw.{OthersPass}
-use Rattle.ready_set.proofs.FlagLaws.{get-set_same, get-set_other, get-append_left, get-append_end, awaited_named, goes_on, ends, ends_under, spawns, new_runs}
+use Rattle.proc_core.specs.Flags.{runnable_flags, awaited}
+use Rattle.proc_core.specs.FlagsLaw.{OthersPass}
+use Rattle.proc_core.proofs.FlagLaws.{get-set_same, get-set_other, get-append_left, get-append_end, awaited_named, goes_on, ends, ends_under, spawns, new_runs}
 use Rattle.proc_core.specs.Types.{Value, Instr}
 use Rattle.run_model.specs.Core.{Binding, is_bound, lookup, unbind, Process, Core, all_ended}
 use Rattle.run_model.specs.RunLaw.{MayRun}

@@ -2,9 +2,9 @@
 use Rattle.std.proofs.Common.{◌≡◌, ℕ, zero, suc, ◌+◌, List, [], ◌∷◌, refl, ap, ◌∙◌}
 use Rattle.std.specs.Prelude.{Option, Some, None, slice_get, not, ◌&&◌, is_none, if◌then◌else◌}
 use Rattle.script_parse.specs.declared.script.Instr.TheVariants as instr
-use Rattle.ready_set.specs.Flags.{runnable_flags}
+use Rattle.proc_core.specs.Flags.{runnable_flags}
 use Rattle.ready_set.specs.Ready.{numbers}
-use Rattle.ready_set.proofs.FlagLaws.{flags_runnable}
+use Rattle.proc_core.proofs.FlagLaws.{flags_runnable}
 use Rattle.proc_core.specs.Types.{Instr}
 use Rattle.run_model.specs.Core.{Process, Core, lookup}
 use Rattle.run_model.specs.Schedule.{still_runs, waits_for, waits_at, is_waiting, is_runnable, runnable_from, runnable, choose, pick_of, moved_x}

@@ -4,7 +4,7 @@ use Rattle.std.specs.Prelude.{Option, Some, None, slice_get, is_some, option_and
 use Rattle.std.specs.List.{AllByRecursion}
 use Rattle.ldv_value.specs.FileState.{FileState, content_at, untouched}
 use Rattle.script_parse.specs.Script.{script_of}
-use Rattle.ready_set.proofs.FlagLaws.{new_runs}
+use Rattle.proc_core.proofs.FlagLaws.{new_runs}
 use Rattle.proc_core.specs.Types.{File, Instr, Text}
 use Rattle.run_model.specs.Core.{Process, Core, new_process, first_process, start_core}
 use Rattle.run_model.specs.RunLaw.{started}

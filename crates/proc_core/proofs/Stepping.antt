@@ -3,7 +3,7 @@ use Rattle.std.proofs.Common.{◌≡◌, ℕ, ◌<◌, List, [], ◌++◌, lengt
 use Rattle.std.specs.Prelude.{Option, Some, None, slice_get}
 use Rattle.std.proofs.lemmas.Option.{slice_get_within}
 use Rattle.ldv_value.proofs.Lists.{append-nil}
-use Rattle.ready_set.specs.Flags.{runnable_flags}
+use Rattle.proc_core.specs.Flags.{runnable_flags}
 use Rattle.proc_core.specs.Types.{Event}
 use Rattle.run_model.specs.Core.{Core}
 use Rattle.run_model.specs.Database.{Base}

@@ -1,5 +1,7 @@
 pub mod Acts
 pub mod Counts
+pub mod Flags
+pub mod FlagsLaw
 pub mod Names
 pub mod Resolved
 pub mod Running

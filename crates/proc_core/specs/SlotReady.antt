@@ -2,7 +2,7 @@
 use Rattle.std.specs.Prelude.{◌≡◌, ℕ, suc, ◌<◌, List, [], ◌∷◌, ◌++◌, length, slice_get, slice_set, Bool, true}
 use Rattle.std.specs.Prelude.{Option, Some, None}
 use Rattle.std.specs.List.{AllByRecursion}
-use Rattle.ready_set.specs.Flags.{runnable_flags}
+use Rattle.proc_core.specs.Flags.{runnable_flags}
 use Rattle.run_model.specs.Core.{Binding, Process, Core}
 use Rattle.proc_core.specs.declared.code.Code.{Code}
 use Rattle.proc_core.specs.declared.machine.Machine.{Machine}

@@ -2,9 +2,8 @@
 
 ghost use Rattle.std.specs.Int.{w64};
 ghost use Rattle.std.specs.Option.{SomeIff};
-ghost use Rattle.std.specs.Prelude.{◌≡◌, ◌++◌, ℤ, nat_lt, FitsSigned, IfOk, OnOk};
+ghost use Rattle.std.specs.Prelude.{◌≡◌, ◌++◌, ℤ, FitsSigned, IfOk, OnOk};
 ghost use Rattle.ldv_value.specs.Shown.{shown};
-ghost use Rattle.ldv_value.specs.Limits.{text_limit};
 ghost use Rattle.sql_model.specs.Meaning.{is_null};
 ghost use Rattle.run_model.specs.StepBase.{number_within};
 ghost use Rattle.run_model.specs.StepVariables.{calculated, glued, text_within, to_number, result_of};

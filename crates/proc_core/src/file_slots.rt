@@ -1,6 +1,6 @@
 //! The open files of a process, by slot.
 
-ghost use Rattle.std.specs.Prelude.{◌≡◌, IsTrue, Some, None, IfOk, OnOk, replicate, slice_get, slice_set};
+ghost use Rattle.std.specs.Prelude.{◌≡◌, IsTrue, Some, None, IfOk, replicate, slice_get, slice_set};
 ghost use Rattle.std.specs.Prelude.{option_map};
 ghost use Rattle.ldv_value.specs.Names.{path_test};
 ghost use Rattle.run_model.specs.Core.{OpenFile};

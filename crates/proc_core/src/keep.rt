@@ -1,13 +1,13 @@
 //! Steps that ask nothing.
 
-ghost use Rattle.std.specs.Prelude.{◌≡◌, ◌+◌, ◌<◌, ◌^◌, length, Some, None, map, slice_get, slice_set};
+ghost use Rattle.std.specs.Prelude.{◌≡◌, ◌+◌, ◌<◌, ◌^◌, length, Some, map, slice_get, slice_set};
 ghost use Rattle.std.specs.Prelude.{ℕ, IfOk, OnOk, OnSome};
 ghost use Rattle.std.specs.Option.{option_map};
 ghost use Rattle.run_model.specs.Core.{Core};
 ghost use Rattle.run_model.specs.Events.{event_at};
 ghost use Rattle.run_model.specs.Step.{quiet};
 ghost use Rattle.proc_core.specs.SlotOwn.{slot_own};
-ghost use Rattle.proc_core.specs.Counts.{AskedFewer};
+ghost use Rattle.proc_core.specs.Counts.{CountsBelow};
 ghost use Rattle.proc_core.specs.SlotReady.{Grows};
 ghost use Rattle.proc_core.specs.SlotStep.{HasRoom, IsKept, next_slotted, slot_effect};
 ghost use Rattle.ldv_value.specs.FileState.{FileState};
@@ -226,7 +226,7 @@ pub(crate) fn keep<T: Tracer>(
         → Told T.KEEPS (T.events tracer.old) (T.events tracer.new) (map (event_at who.step who.number)
         (quiet who.number c).acts)) }
     ensures grows { IfOk result (λ after. Grows machine who.number after) }
-    ensures counted { IfOk result (λ after. (n : ℕ) → AskedFewer n machine → AskedFewer n after) }
+    ensures counted { IfOk result (λ after. (n : ℕ) → CountsBelow n machine → CountsBelow n after) }
 {
     let past = who.number >= machine.processes.len();
     if past {

@@ -1,14 +1,14 @@
 //! A step of a `spawn`.
 
-ghost use Rattle.std.specs.Prelude.{◌≡◌, ◌++◌, ◌∷◌, [], ◌<◌, Some, length, map, slice_get, slice_set};
-ghost use Rattle.std.specs.Prelude.{ℕ, IfOk, OnOk};
+ghost use Rattle.std.specs.Prelude.{◌≡◌, ◌+◌, ◌++◌, ◌∷◌, [], ◌<◌, Some, length, map, slice_get, slice_set};
+ghost use Rattle.std.specs.Prelude.{IfOk, OnOk};
 ghost use Rattle.ldv_value.specs.Limits.{max_processes};
 ghost use Rattle.proc_core.specs.Types.{Spawned, Unspawned};
 ghost use Rattle.run_model.specs.Core.{Core};
 ghost use Rattle.run_model.specs.Events.{event_at};
 ghost use Rattle.run_model.specs.Step.{quiet};
 ghost use Rattle.run_model.specs.StepBase.{bad_path};
-ghost use Rattle.proc_core.specs.Counts.{AskedFewer};
+ghost use Rattle.proc_core.specs.Counts.{CountsBelow};
 ghost use Rattle.proc_core.specs.SlotReady.{Grows};
 ghost use Rattle.proc_core.specs.SlotSpawn.{HasChild, IsNoChild, slot_spawning_at};
 ghost use Rattle.proc_core.specs.SlotStep.{HasRoom};
@@ -116,6 +116,7 @@ fn launch<T: Tracer>(
     requires few { length machine.processes.items < max_processes }
     requires held { index < length machine.codes }
     requires room { HasRoom (slice_get machine.processes.items who.number) }
+    requires counted { CountsBelow who.step machine }
     ensures made { IfOk result (λ after. (r : SlotProcess) (code : Code)
         → slice_get machine.processes.items who.number ≡ Some r → slice_get machine.codes index ≡ Some code
         → HasChild machine who.number slot index code r arguments.now after) }
@@ -141,6 +142,7 @@ fn launch_new<T: Tracer>(
     requires within { who.number < length machine.processes.items }
     requires few { length machine.processes.items < max_processes }
     requires room { HasRoom (slice_get machine.processes.items who.number) }
+    requires counted { CountsBelow who.step machine }
     ensures made { IfOk result (λ after. (r : SlotProcess)
         → slice_get machine.processes.items who.number ≡ Some r
         → HasChild (record machine { codes = machine.codes ++ code ∷ [] }) who.number slot
@@ -166,13 +168,14 @@ fn spawn_path<T: Tracer>(
         ≡ Some (record { child = child; path = Some path; arguments = arguments; place = place }) }
     requires within { who.number < length machine.processes.items }
     requires room { HasRoom (slice_get machine.processes.items who.number) }
+    requires counted { CountsBelow who.step machine }
     ensures core { IfOk result (λ after. (c : Core) → IsCore machine c
         → IsCore after (quiet who.number c).core) }
     ensures told { OnOk result ((c : Core) → IsCore machine c
         → Told T.KEEPS (T.events tracer.old) (T.events tracer.new) (map (event_at who.step who.number)
         (quiet who.number c).acts)) }
     ensures grows { IfOk result (λ after. Grows machine who.number after) }
-    ensures counted { IfOk result (λ after. (n : ℕ) → AskedFewer n machine → AskedFewer n after) }
+    ensures counted { IfOk result (CountsBelow (who.step + 1)) }
 {
     match program_at(&machine, &path)? {
         Program::Absent => Ok(refuse(machine, who, &path, false, place, tracer)?),
@@ -196,13 +199,14 @@ pub(crate) fn spawn<T: Tracer>(
     requires says { slot_spawning_at machine who.number ≡ Some spawning }
     requires within { who.number < length machine.processes.items }
     requires room { HasRoom (slice_get machine.processes.items who.number) }
+    requires counted { CountsBelow who.step machine }
     ensures core { IfOk result (λ after. (c : Core) → IsCore machine c
         → IsCore after (quiet who.number c).core) }
     ensures told { OnOk result ((c : Core) → IsCore machine c
         → Told T.KEEPS (T.events tracer.old) (T.events tracer.new) (map (event_at who.step who.number)
         (quiet who.number c).acts)) }
     ensures grows { IfOk result (λ after. Grows machine who.number after) }
-    ensures counted { IfOk result (λ after. (n : ℕ) → AskedFewer n machine → AskedFewer n after) }
+    ensures counted { IfOk result (CountsBelow (who.step + 1)) }
 {
     let Spawning {
         child,

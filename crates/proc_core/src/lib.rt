@@ -4,6 +4,11 @@
 //! process holds values by slot (`specs/Slots.antt`), and each instruction is said over slots in the files
 //! beside it whose names begin with `Slot`. `specs/Stands.antt` says when a run is in a state of `run_model`;
 //! lemmas in `proofs/` say that a step over slots is then the step that `run_model` defines.
+//!
+//! Who may run is kept in a `ReadySet`: of each process whether it is runnable (`specs/Flags.antt`). The sorted
+//! list of its numbers is then the one that the scheduler chooses from; what happens to the flags as a process
+//! goes on, waits, ends, wakes another or is made, stands in `flags_law` (`specs/FlagsLaw.antt`), for proofs as
+//! lemmas in `proofs/FlagLaws.antt`.
 #![tactic(auto)]
 
 mod ask;
@@ -18,6 +23,7 @@ mod file_slots;
 mod files;
 mod keep;
 mod launch;
+mod law;
 mod machine;
 mod names;
 mod outcome;
@@ -36,5 +42,6 @@ mod stop;
 mod tell;
 mod variables;
 
+pub use law::flags_law;
 pub use run::Run;
 pub use stop::{RunStop, Stopped};

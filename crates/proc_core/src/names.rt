@@ -1,8 +1,7 @@
 //! Tables of names.
 
-ghost use Rattle.std.specs.Prelude.{◌≡◌, ◌∷◌, [], ℕ, List as Items, None, Some, bytes_eq, cond, false};
-ghost use Rattle.std.specs.Prelude.{length};
-ghost use Rattle.std.specs.Prelude.{IfOk, OnErr, OnOk};
+ghost use Rattle.std.specs.Prelude.{◌≡◌, ℕ, List as Items, None, Some, bytes_eq, cond, false};
+ghost use Rattle.std.specs.Prelude.{length, OnErr, OnOk};
 ghost use Rattle.std.specs.BTreeMap.{get_by_text};
 ghost use Rattle.std.specs.List.{list_any};
 ghost use Rattle.proc_core.specs.Names.{Distinct, HasName, IsFound, IsNamed, IsSlot, Keeps};

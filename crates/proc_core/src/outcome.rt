@@ -1,6 +1,6 @@
 //! The outcome of a run.
 
-ghost use Rattle.std.specs.Prelude.{◌≡◌, IfOk, map, unwrap_or};
+ghost use Rattle.std.specs.Prelude.{◌≡◌, IfOk, unwrap_or};
 ghost use Rattle.ldv_value.specs.FileState.{content_at};
 ghost use Rattle.run_model.specs.Outcome.{outcome_of_path, outcomes_of_paths};
 ghost use Rattle.proc_core.specs.SlotOutcome.{slot_outcome, slot_outcomes, slot_outcomes_by_name};

@@ -1,6 +1,6 @@
 //! Processes, with slots in place of names.
 
-ghost use Rattle.std.specs.Prelude.{◌≡◌, ◌+◌, ◌<◌, ◌^◌, OnOk, OnErr};
+ghost use Rattle.std.specs.Prelude.{◌≡◌, ◌+◌, ◌<◌, ◌^◌};
 ghost use Rattle.proc_core.specs.Slots.{slot_ended, slot_went_on, slot_went_to, slot_with_variable};
 
 use crate::file_slots::FileSlots;

@@ -12,7 +12,7 @@ ghost use Rattle.run_model.specs.Run.{move, run as state_after, steps as steps_m
 ghost use Rattle.run_model.specs.RunLaw.{MayRun, started};
 ghost use Rattle.run_model.specs.Schedule.{choose};
 ghost use Rattle.run_model.specs.State.{State};
-ghost use Rattle.proc_core.specs.Counts.{AskedFewer};
+ghost use Rattle.proc_core.specs.Counts.{CountsBelow};
 ghost use Rattle.proc_core.specs.Running.{Stands, has_ended};
 ghost use Rattle.proc_core.specs.Stands.{HasStartScript, IsStartScript, Told};
 ghost use Rattle.proc_core.specs.Stops.{HasStopped, HasRunStopped};
@@ -38,7 +38,7 @@ pub struct Run<D: Database, T: Tracer> {
     tracer: T,
     steps: u32,
     ghost asked: { D.latest db ≤ steps },
-    ghost counted: { AskedFewer (steps + 1) machine },
+    ghost counted: { CountsBelow (steps + 1) machine },
 }
 
 impl<D: Database, T: Tracer> Run<D, T> {

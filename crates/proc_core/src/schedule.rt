@@ -1,11 +1,11 @@
 //! The scheduler: which process makes the next step.
 
-ghost use Rattle.std.specs.Prelude.{◌≡◌, None, slice_get};
+ghost use Rattle.std.specs.Prelude.{◌≡◌, ◌<◌, None, length, slice_get};
 ghost use Rattle.std.specs.Option.{option_map};
 ghost use Rattle.run_model.specs.Core.{Core};
-ghost use Rattle.ready_set.specs.Flags.{runnable_flags};
+ghost use Rattle.proc_core.specs.Flags.{runnable_flags};
 ghost use Rattle.ready_set.specs.Ready.{numbers};
-ghost use Rattle.run_model.specs.Schedule.{choose, scheduled, moved_x, pick_of};
+ghost use Rattle.run_model.specs.Schedule.{choose, scheduled, moved_x, at_random, pick_of};
 ghost use Rattle.proc_core.specs.SlotStep.{slot_is_runnable, slot_waits_at, slot_waits_for};
 ghost use Rattle.proc_core.specs.SlotStep.{slot_still_runs};
 ghost use Rattle.proc_core.specs.Slots.{child_at};
@@ -89,14 +89,34 @@ fn moved_x(seed: u64, x: u64) -> u64
     }
 }
 
-// The number that the scheduler picks, 0 where no process may run.
+// The number at the index that the generator's high bits give, counted round.
+fn pick_random(ready: &ReadySet, x: u64) -> u32
+    requires { 0 < length (numbers ready.now.flags) }
+    ensures { result ≡ at_random x (numbers ready.now.flags) }
+{
+    ready.pick_at(x >> 33)
+}
+
+// The number that the scheduler picks: by turns under seed 0, and at random under any other.
+fn pick_one(ready: &ReadySet, seed: u64, last: u32, x: u64) -> u32
+    requires { 0 < length (numbers ready.now.flags) }
+    ensures { result ≡ pick_of seed last x (numbers ready.now.flags) }
+{
+    if seed == 0 {
+        ready.pick_next(last)
+    } else {
+        pick_random(ready, x)
+    }
+}
+
+// The same, and 0 where no process may run.
 fn pick(ready: &ReadySet, seed: u64, last: u32, x: u64) -> u32
     ensures { result ≡ pick_of seed last x (numbers ready.now.flags) }
 {
     if ready.len() == 0 {
         0
     } else {
-        ready.pick(seed, last, x)
+        pick_one(ready, seed, last, x)
     }
 }
 

@@ -1,11 +1,12 @@
 //! `spawn`: a child runs the script at a path.
 
-ghost use Rattle.std.specs.Prelude.{◌≡◌, ◌+◌, ◌++◌, ◌∷◌, [], ◌<◌, ◌^◌, Some, true, length, slice_get};
+ghost use Rattle.std.specs.Prelude.{◌≡◌, ◌+◌, ◌++◌, ◌∷◌, [], ◌<◌, ◌≤◌, ◌^◌, Some, true, length, slice_get};
 ghost use Rattle.std.specs.Prelude.{slice_set};
 ghost use Rattle.std.specs.Prelude.{IfOk, OnOk, List as Items};
 ghost use Rattle.ldv_value.specs.Limits.{max_processes};
 ghost use Rattle.proc_core.specs.Types.{Instr};
 ghost use Rattle.run_model.specs.Core.{new_process};
+ghost use Rattle.proc_core.specs.Counts.{MaySpawn};
 ghost use Rattle.proc_core.specs.SlotSpawn.{HasChild, slot_parent, slot_with_new};
 ghost use Rattle.proc_core.specs.SlotStep.{HasRoom};
 ghost use Rattle.proc_core.specs.Slots.{Holds, slot_with_child};
@@ -30,32 +31,25 @@ fn set_child(slot: usize, number: u32, process: &mut SlotProcess)
 }
 
 // A process is the parent of a child that has a creation number.
-fn become_parent(number: u32, slot: usize, process: &mut SlotProcess) -> Result<(), AllocError>
-    requires { process.old.place + 1 < 2 ^ 64 }
-    ensures { OnOk result (process.new ≡ slot_parent number slot process.old) }
+fn become_parent(number: u32, slot: usize, process: &mut SlotProcess)
+    requires room { process.old.place + 1 < 2 ^ 64 }
+    requires spawns { process.old.spawned + 1 < 2 ^ 32 }
+    ensures { process.new ≡ slot_parent number slot process.old }
 {
-    let Some(spawned) = process.spawned.checked_add(1) else {
-        return Err(AllocError);
-    };
     set_child(slot, number, process);
-    process.spawned = spawned;
+    process.spawned += 1;
     process.go_on();
-    Ok(())
 }
 
-fn parent_at(
-    child: u32,
-    slot: usize,
-    number: usize,
-    processes: &mut Vec<SlotProcess>,
-) -> Result<(), AllocError>
+fn parent_at(child: u32, slot: usize, number: usize, processes: &mut Vec<SlotProcess>)
     requires within { number < length processes.old.items }
     requires room { HasRoom (slice_get processes.old.items number) }
-    ensures { OnOk result ((r : SlotProcess) → slice_get processes.old.items number ≡ Some r
-        → processes.new.items ≡ slice_set processes.old.items number (slot_parent child slot r)) }
+    requires spawns { MaySpawn (slice_get processes.old.items number) }
+    ensures { (r : SlotProcess) → slice_get processes.old.items number ≡ Some r
+        → processes.new.items ≡ slice_set processes.old.items number (slot_parent child slot r) }
 {
     let process = &mut processes[number];
-    become_parent(child, slot, process)
+    become_parent(child, slot, process);
 }
 
 // Adds a child of a process.
@@ -68,22 +62,21 @@ fn add_child(
     requires within { number < length processes.old.items }
     requires few { length processes.old.items < max_processes }
     requires room { HasRoom (slice_get processes.old.items number) }
+    requires spawns { MaySpawn (slice_get processes.old.items number) }
     ensures { OnOk result ((r : SlotProcess) → slice_get processes.old.items number ≡ Some r
         → processes.new.items ≡ slot_with_new number slot child r processes.old.items) }
 {
     let made = processes.len() as u32;
-    parent_at(made, slot, number, processes)?;
+    parent_at(made, slot, number, processes);
     processes.push(child)?;
     Ok(())
 }
 
 // A new process may run.
 fn add_ready(ready: &mut ReadySet) -> Result<(), AllocError>
+    requires { length ready.old.flags < max_processes }
     ensures { OnOk result (ready.new.flags ≡ ready.old.flags ++ true ∷ []) }
 {
-    if ready.made() >= 1_073_741_824 {
-        return Err(AllocError);
-    }
     ready.reserve()?;
     ready.push(true);
     Ok(())
@@ -139,6 +132,8 @@ pub(crate) fn make_child(
     requires few { length machine.processes.items < max_processes }
     requires held { index < length machine.codes }
     requires room { HasRoom (slice_get machine.processes.items number) }
+    requires spawns { MaySpawn (slice_get machine.processes.items number) }
+    requires flags { length machine.ready.flags ≤ length machine.processes.items }
     ensures { IfOk result (λ after. (r : SlotProcess) (code : Code)
         → slice_get machine.processes.items number ≡ Some r → slice_get machine.codes index ≡ Some code
         → HasChild machine number slot index code r arguments.now after) }

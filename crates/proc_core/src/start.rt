@@ -6,7 +6,7 @@ ghost use Rattle.ldv_value.specs.FileState.{content_at, untouched};
 ghost use Rattle.script_parse.specs.Script.{script_of};
 ghost use Rattle.proc_core.specs.Types.{Instr, File, Text};
 ghost use Rattle.run_model.specs.Core.{new_process, start_core};
-ghost use Rattle.proc_core.specs.Counts.{AskedFewer};
+ghost use Rattle.proc_core.specs.Counts.{CountsBelow};
 ghost use Rattle.proc_core.specs.Resolved.{IsCode};
 ghost use Rattle.proc_core.specs.SlotReady.{IsReady};
 ghost use Rattle.proc_core.specs.SlotSpawn.{IsRead};
@@ -93,7 +93,7 @@ pub(crate) fn machine_at(
         → IsCore m (start_core (path.now ∷ words.now) seed files script)) }
     ensures ready { IfOk result (λ m. (script : Items Instr) (files : Items File)
         → IsReady m (start_core (path.now ∷ words.now) seed files script)) }
-    ensures counted { IfOk result (AskedFewer 1) }
+    ensures counted { IfOk result (CountsBelow 1) }
 {
     let code = code_at(alloc, &tree, path)?;
     let process = first_process(alloc, &code, words)?;

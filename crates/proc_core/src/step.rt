@@ -6,7 +6,7 @@ ghost use Rattle.run_model.specs.Core.{Core};
 ghost use Rattle.run_model.specs.Events.{event_at, events_of_step};
 ghost use Rattle.run_model.specs.State.{State};
 ghost use Rattle.run_model.specs.Step.{Ask, ask_at, ends_at, quiet, status_acts, step as next_step, took};
-ghost use Rattle.proc_core.specs.Counts.{AskedFewer};
+ghost use Rattle.proc_core.specs.Counts.{CountsBelow};
 ghost use Rattle.proc_core.specs.SlotAsk.{slot_ask_at};
 ghost use Rattle.proc_core.specs.SlotReady.{Grows};
 ghost use Rattle.proc_core.specs.SlotSpawn.{slot_spawning_at};
@@ -31,13 +31,14 @@ use std::alloc::AllocError;
 // The step of a process that asks nothing and makes no process, with the end of the process.
 fn keep_on<T: Tracer>(machine: Machine, who: Who, tracer: &mut T) -> Result<Machine, AllocError>
     requires kept { IsKept (next_slotted machine.codes (slice_get machine.processes.items who.number)) }
+    requires counted { CountsBelow who.step machine }
     ensures core { IfOk result (λ after. (c : Core) → IsCore machine c
         → IsCore after (quiet who.number c).core) }
     ensures told { IfOk result (λ after. (c : Core) → IsCore machine c
         → Told T.KEEPS (T.events tracer.old) (T.events tracer.new) (map (event_at who.step who.number)
         ((quiet who.number c).acts ++ ends_at who.number (quiet who.number c).core))) }
     ensures grows { IfOk result (λ after. Grows machine who.number after) }
-    ensures counted { IfOk result (λ after. (n : ℕ) → AskedFewer n machine → AskedFewer n after) }
+    ensures counted { IfOk result (CountsBelow (who.step + 1)) }
 {
     let after = keep(machine, who, tracer)?;
     tell_status(who, status_in(&after.processes, who.number), tracer)?;
@@ -54,13 +55,14 @@ fn spawn_on<T: Tracer>(
     requires says { slot_spawning_at machine who.number ≡ Some spawning }
     requires within { who.number < length machine.processes.items }
     requires room { HasRoom (slice_get machine.processes.items who.number) }
+    requires counted { CountsBelow who.step machine }
     ensures core { IfOk result (λ after. (c : Core) → IsCore machine c
         → IsCore after (quiet who.number c).core) }
     ensures told { IfOk result (λ after. (c : Core) → IsCore machine c
         → Told T.KEEPS (T.events tracer.old) (T.events tracer.new) (map (event_at who.step who.number)
         ((quiet who.number c).acts ++ ends_at who.number (quiet who.number c).core))) }
     ensures grows { IfOk result (λ after. Grows machine who.number after) }
-    ensures counted { IfOk result (λ after. (n : ℕ) → AskedFewer n machine → AskedFewer n after) }
+    ensures counted { IfOk result (CountsBelow (who.step + 1)) }
 {
     let after = spawn(machine, who, spawning, tracer)?;
     tell_status(who, status_in(&after.processes, who.number), tracer)?;
@@ -69,13 +71,14 @@ fn spawn_on<T: Tracer>(
 
 // The step of a process that asks nothing, with the end of the process.
 fn quiet_on<T: Tracer>(machine: Machine, who: Who, tracer: &mut T) -> Result<Machine, AllocError>
+    requires { CountsBelow who.step machine }
     ensures core { IfOk result (λ after. (c : Core) → IsCore machine c
         → IsCore after (quiet who.number c).core) }
     ensures told { IfOk result (λ after. (c : Core) → IsCore machine c
         → Told T.KEEPS (T.events tracer.old) (T.events tracer.new) (map (event_at who.step who.number)
         ((quiet who.number c).acts ++ ends_at who.number (quiet who.number c).core))) }
     ensures grows { IfOk result (λ after. Grows machine who.number after) }
-    ensures counted { IfOk result (λ after. (n : ℕ) → AskedFewer n machine → AskedFewer n after) }
+    ensures counted { IfOk result (CountsBelow (who.step + 1)) }
 {
     match spawning_at(&machine, who.number)? {
         None => keep_on(machine, who, tracer),
@@ -159,7 +162,7 @@ fn take(machine: Machine, number: usize, cursor: usize, reply: Reply) -> Result<
         → slot_ask_at machine number ≡ Some t → t.cursor ≡ cursor
         → (a : Ask) → ask_at number c ≡ Some a → IsCore after (took number a reply c)) }
     ensures grows { IfOk result (λ after. Grows machine number after) }
-    ensures counted { IfOk result (λ after. (n : ℕ) → AskedFewer n machine → AskedFewer (n + 1) after) }
+    ensures counted { IfOk result (λ after. (n : ℕ) → CountsBelow n machine → CountsBelow (n + 1) after) }
 {
     let Machine {
         alloc,
@@ -199,7 +202,7 @@ fn take_on<T: Tracer>(
     tracer: &mut T,
 ) -> Result<Machine, AllocError>
     requires within { who.number < length machine.processes.items }
-    requires counted { AskedFewer who.step machine }
+    requires counted { CountsBelow who.step machine }
     requires room { HasRoom (slice_get machine.processes.items who.number) }
     ensures core { IfOk result (λ after. (c : Core) (t : Statement) → IsCore machine c
         → slot_ask_at machine who.number ≡ Some t → t.cursor ≡ cursor
@@ -208,7 +211,7 @@ fn take_on<T: Tracer>(
         (map (event_at who.step who.number)
         (status_acts (slot_status_in after.processes.items who.number)))) }
     ensures grows { IfOk result (λ after. Grows machine who.number after) }
-    ensures counted { IfOk result (AskedFewer (who.step + 1)) }
+    ensures counted { IfOk result (CountsBelow (who.step + 1)) }
 {
     let after = take(machine, who.number, cursor, reply)?;
     tell_status(who, status_in(&after.processes, who.number), tracer)?;
@@ -230,7 +233,7 @@ fn ask_as<D: Database, T: Tracer>(
     requires within { who.number < length machine.processes.items }
     requires room { HasRoom (slice_get machine.processes.items who.number) }
     requires step { asker.step ≡ who.step }
-    requires counted { AskedFewer who.step machine }
+    requires counted { CountsBelow who.step machine }
     requires later { D.latest db.old < who.step }
     ensures state { IfOk result (λ after. (s : State D.Db) → IsState machine (D.seen db.old) s
         → IsState after (D.seen db.new) (next_step D.base who.number s).state) }
@@ -241,7 +244,7 @@ fn ask_as<D: Database, T: Tracer>(
         → HasStopped stop (next_step D.base who.number s).state) }
     ensures latest { OnOk result (D.latest db.new ≤ who.step) }
     ensures grows { IfOk result (λ after. Grows machine who.number after) }
-    ensures counted { IfOk result (AskedFewer (who.step + 1)) }
+    ensures counted { IfOk result (CountsBelow (who.step + 1)) }
 {
     match db.ask(&asker, &statement.text, &statement.params, tracer) {
         Ok(reply) => match take_on(machine, who, statement.cursor, reply, tracer) {
@@ -264,7 +267,7 @@ fn ask_on<D: Database, T: Tracer>(
 ) -> Result<Machine, Stopped>
     requires asks { slot_ask_at machine who.number ≡ Some statement }
     requires room { HasRoom (slice_get machine.processes.items who.number) }
-    requires counted { AskedFewer who.step machine }
+    requires counted { CountsBelow who.step machine }
     requires later { D.latest db.old < who.step }
     ensures state { IfOk result (λ after. (s : State D.Db) → IsState machine (D.seen db.old) s
         → IsState after (D.seen db.new) (next_step D.base who.number s).state) }
@@ -275,7 +278,7 @@ fn ask_on<D: Database, T: Tracer>(
         → HasStopped stop (next_step D.base who.number s).state) }
     ensures latest { OnOk result (D.latest db.new ≤ who.step) }
     ensures grows { IfOk result (λ after. Grows machine who.number after) }
-    ensures counted { IfOk result (AskedFewer (who.step + 1)) }
+    ensures counted { IfOk result (CountsBelow (who.step + 1)) }
 {
     match asker_of(&machine, who) {
         Ok(asker) => ask_as(machine, who, asker, statement, db, tracer),
@@ -293,7 +296,7 @@ fn move_by<D: Database, T: Tracer>(
 ) -> Result<Machine, Stopped>
     requires asked { asked ≡ slot_ask_at machine who.number }
     requires room { OnSome asked (HasRoom (slice_get machine.processes.items who.number)) }
-    requires counted { AskedFewer who.step machine }
+    requires counted { CountsBelow who.step machine }
     requires later { D.latest db.old < who.step }
     ensures state { IfOk result (λ after. (s : State D.Db) → IsState machine (D.seen db.old) s
         → IsState after (D.seen db.new) (next_step D.base who.number s).state) }
@@ -304,7 +307,7 @@ fn move_by<D: Database, T: Tracer>(
         → HasStopped stop (next_step D.base who.number s).state) }
     ensures latest { OnOk result (D.latest db.new ≤ who.step) }
     ensures grows { IfOk result (λ after. Grows machine who.number after) }
-    ensures counted { IfOk result (AskedFewer (who.step + 1)) }
+    ensures counted { IfOk result (CountsBelow (who.step + 1)) }
 {
     match asked {
         None => match quiet_on(machine, who, tracer) {
@@ -322,7 +325,7 @@ pub(crate) fn move_on<D: Database, T: Tracer>(
     db: &mut D,
     tracer: &mut T,
 ) -> Result<Machine, Stopped>
-    requires counted { AskedFewer who.step machine }
+    requires counted { CountsBelow who.step machine }
     requires later { D.latest db.old < who.step }
     ensures state { IfOk result (λ after. (s : State D.Db) → IsState machine (D.seen db.old) s
         → IsState after (D.seen db.new) (next_step D.base who.number s).state) }
@@ -333,7 +336,7 @@ pub(crate) fn move_on<D: Database, T: Tracer>(
         → HasStopped stop (next_step D.base who.number s).state) }
     ensures latest { OnOk result (D.latest db.new ≤ who.step) }
     ensures grows { IfOk result (λ after. Grows machine who.number after) }
-    ensures counted { IfOk result (AskedFewer (who.step + 1)) }
+    ensures counted { IfOk result (CountsBelow (who.step + 1)) }
 {
     match ask_at(&machine, who.number) {
         Ok(asked) => move_by(machine, who, asked, db, tracer),

@@ -1,10 +1,9 @@
 //! `let`, `if`, `goto`, `print` and `exit`: they change their own process only.
 
-ghost use Rattle.std.specs.Prelude.{◌≡◌, ◌+◌, ◌++◌, ◌^◌, ◌<◌, length, map, nat_lt, IfOk, OnOk};
+ghost use Rattle.std.specs.Prelude.{◌≡◌, ◌+◌, ◌++◌, ◌^◌, ◌<◌, nat_lt, IfOk, OnOk};
 ghost use Rattle.std.specs.List.{flat_map};
 ghost use Rattle.ldv_value.specs.Limits.{printed_limit};
 ghost use Rattle.ldv_value.specs.Shown.{shown};
-ghost use Rattle.ldv_value.specs.Order.{order, meets};
 ghost use Rattle.proc_core.specs.Types.{Int};
 ghost use Rattle.run_model.specs.StepVariables.{printed_line, exit_status};
 ghost use Rattle.proc_core.specs.Slots.{slot_value, slot_values, slot_assign, computed};

@@ -1,3 +1,4 @@
+pub mod Absorbs
 pub mod Agree
 pub mod Finishes
 pub mod Indexes
@@ -5,7 +6,6 @@ pub mod KeyedLaws
 pub mod LeavingLaws
 pub mod Levels
 pub mod Merges
-pub mod Onces
 pub mod Picks
 pub mod Probes
 pub mod Product

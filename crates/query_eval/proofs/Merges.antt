@@ -1,5 +1,5 @@
 -- Answers by their values.
-use Rattle.std.proofs.Common.{◌≡◌, ◌∙◌, sym, ap, subst, refl, ℕ, Bool, true, false, List, [], ◌∷◌, ◌++◌, map, inl, inr}
+use Rattle.std.proofs.Common.{◌≡◌, ◌∙◌, sym, ap, subst, refl, ℕ, Bool, true, false, List, [], ◌∷◌, map, inl, inr}
 use Rattle.std.specs.Prelude.{filter}
 use Rattle.std.proofs.lemmas.Bool.{cases_Bool}
 use Rattle.std.specs.FinMap.{empty}
@@ -8,23 +8,12 @@ use Rattle.lineage.specs.StandsFor.{StandsFor}
 use Rattle.lineage.specs.declared.answer.Answer.{Answer}
 use Rattle.lineage.proofs.Origins.{stands-empty}
 use Rattle.lineage.proofs.RowLaws.{kept-union, answers-values}
-use Rattle.core_parts.proofs.Listings.{item_listed}
-use Rattle.core_parts.specs.declared.refs_by.RefsBy.{RefsBy}
 use Rattle.lineage.proofs.Unions.{version_union}
-use Rattle.sql_model.specs.KeyOrder.{values_order}
-use Rattle.query_eval.specs.Merging.{united, own_values, with_values, merged, listed, answer_added}
+use Rattle.query_eval.specs.Merging.{united, own_values, with_values, merged}
 use Rattle.query_eval.specs.Types.{Value}
 use Rattle.sql_model.specs.Keys.{same_values}
 use Rattle.sql_model.specs.Needs.{Versions}
 use Rattle.sql_model.specs.QueryAnswer.{AnswerRow, answer_values, lineage_of, has_values, merged_row, distinct, merge}
-
--- ---- a map of answers
-
--- an answer that is listed goes from those that are left to those that are there
-pub group_on : (m n : RefsBy (List Value) Answer) (answer : Answer) (rest : List Answer)
-    → ((v : List Value) → listed n v ≡ answer_added answer v (listed m v)) → (v : List Value)
-    → listed n v ++ filter (with_values v) rest ≡ listed m v ++ filter (with_values v) (answer ∷ rest)
-group_on = item_listed values_order own_values
 
 -- ---- merged answers stand for merged rows
 

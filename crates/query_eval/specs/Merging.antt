@@ -1,10 +1,9 @@
 -- How answers of the same values are merged.
-use Rattle.std.specs.Prelude.{List, [], ◌∷◌, map, filter, Bool, not}
-use Rattle.std.specs.BTreeSet as treeset
-use Rattle.std.specs.BTreeSet.{BTreeSet}
+use Rattle.std.specs.Prelude.{◌≡◌, ℕ, suc, List, [], ◌∷◌, map, filter, Bool, Option, Some, None, if◌then◌else◌}
+use Rattle.std.specs.BTreeMap as tree
+use Rattle.std.specs.BTreeMap.{BTreeMap}
+use Rattle.std.specs.Option.{option_map}
 use Rattle.std.specs.FinMap.{empty}
-use Rattle.core_parts.specs.Listing as listing
-use Rattle.core_parts.specs.declared.refs_by.RefsBy.{RefsBy}
 use Rattle.lineage.specs.Lineage.{Lineage, union_of}
 use Rattle.lineage.specs.declared.answer.Answer.{Answer}
 use Rattle.sql_model.specs.KeyOrder.{values_order}
@@ -28,14 +27,27 @@ merged answers values = record { values = values; lineage = united (filter (with
 
 -- ---- steps
 
--- those that a set doesn't have
-abbrev pub unseen : BTreeSet (List Value) → List (List Value) → List (List Value)
-unseen seen values = filter (λ value. not (treeset.contains values_order seen value)) values
+-- the place of the answer of some values
+abbrev pub place_of : List Value → List Answer → Option ℕ
+place_of values [] = None
+place_of values (answer ∷ answers) =
+    if same_values answer.values values then Some 0 else option_map suc (place_of values answers)
 
--- the answers that a map has under some values
-abbrev pub listed : RefsBy (List Value) Answer → List Value → List Answer
-listed map values = listing.listed values_order map values
+-- an answer with the lineage of another too
+abbrev pub with_more : Answer → Answer → Answer
+with_more answer other =
+    record { values = answer.values; lineage = union_of answer.lineage other.lineage }
 
--- an answer more under its values
-abbrev pub answer_added : Answer → List Value → List Answer → List Answer
-answer_added answer values answers = listing.item_added values_order answer.values answer values answers
+-- answers of different values, and one more
+abbrev pub absorbed : List Answer → Answer → List Answer
+absorbed [] other = other ∷ []
+absorbed (answer ∷ answers) other = if same_values answer.values other.values
+    then with_more answer other ∷ answers else answer ∷ absorbed answers other
+
+abbrev pub merged_onto : List Answer → List Answer → List Answer
+merged_onto made [] = made
+merged_onto made (answer ∷ answers) = merged_onto (absorbed made answer) answers
+
+-- a map has the place of each answer, by its values
+abbrev pub IsIndex : BTreeMap (List Value) ℕ → List Answer → Type 0
+IsIndex places answers = (values : List Value) → tree.get values_order places values ≡ place_of values answers

@@ -21,7 +21,6 @@
 #![tactic(auto)]
 
 mod conditions;
-mod distinct;
 mod finishing;
 mod index;
 mod joining;

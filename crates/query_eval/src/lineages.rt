@@ -1,11 +1,11 @@
 //! The union of the lineages of answers.
 
-ghost use Rattle.std.specs.Prelude.{◌≡◌, ◌∷◌, List as Items, map, IfOk, OnOk};
+ghost use Rattle.std.specs.Prelude.{◌≡◌, ◌∷◌, List as Items, IfOk, OnOk};
 ghost use Rattle.lineage.specs.Lineage.{union_of};
 ghost use Rattle.lineage.specs.declared.answer.Answer.{Answer as Given};
 ghost use Rattle.query_eval.specs.Merging.{united};
 
-use lineage::{Answer, LineageRows, LineageSet};
+use lineage::{Answer, LineageSet};
 use std::alloc::{AllocError, Global};
 
 // Adds the lineage of an answer to a set.
@@ -24,25 +24,6 @@ pub fn united_set(alloc: Global, answers: &[Answer]) -> Result<LineageSet, Alloc
     let mut lineage = LineageSet::empty(alloc);
     for answer in answers {
         add_to_set(&mut lineage, answer)?;
-    }
-    Ok(lineage)
-}
-
-// Adds the lineage of an answer to a list.
-fn add_to_rows(lineage: &mut LineageRows, answer: &Answer) -> Result<(), AllocError>
-    ensures { OnOk result ((rest : Items Given)
-        → union_of lineage.new (united rest) ≡ union_of lineage.old (united (answer.now ∷ rest))) }
-{
-    lineage.union(&answer.lineage)
-}
-
-/// The union of the lineages of answers, as a list.
-pub(crate) fn united_rows(alloc: Global, answers: &[&Answer]) -> Result<LineageRows, AllocError>
-    ensures { IfOk result (λ lineage. lineage ≡ united (map (λ r. r.now) answers.now)) }
-{
-    let mut lineage = LineageRows::empty(alloc);
-    for answer in answers {
-        add_to_rows(&mut lineage, *answer)?;
     }
     Ok(lineage)
 }

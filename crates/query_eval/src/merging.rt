@@ -1,27 +1,23 @@
 //! Answers of the same values made one, with the union of their lineages.
 
-ghost use Rattle.std.specs.Prelude.{◌≡◌, [], ℕ, Bool, List as Items, map, filter, IfOk};
-ghost use Rattle.std.specs.Prelude.{OnOk, None, unwrap_or};
-ghost use Rattle.std.specs.Option.{option_map};
+ghost use Rattle.std.specs.Prelude.{◌≡◌, ◌++◌, ◌∷◌, [], ℕ, Bool, List as Items, map, IfOk, OnOk};
+ghost use Rattle.std.specs.Prelude.{Some, None};
+ghost use Rattle.std.specs.BTreeMap as tree;
 ghost use Rattle.lineage.specs.Rows.{AnswersStandFor};
-ghost use Rattle.query_eval.specs.Merging.{united, own_values, with_values, merged, listed, answer_added};
-ghost use Rattle.lineage.specs.declared.answer.Answer.{Answer as Given};
+ghost use Rattle.query_eval.specs.Merging.{own_values, merged, place_of, with_more, absorbed, IsIndex};
 ghost use Rattle.query_eval.specs.Types.{Value as Seen};
+ghost use Rattle.sql_model.specs.KeyOrder.{values_order};
 ghost use Rattle.sql_model.specs.Needs.{Versions};
 ghost use Rattle.sql_model.specs.QueryAnswer.{AnswerRow, distinct, merge};
 
-use crate::distinct::distinct_of;
-use crate::lineages::united_rows;
-use core_parts::{ByOrder, Refs, RefsBy};
+use core_parts::ByOrder;
 use ldv_value::{List, Values};
 use lineage::{Answer, Answers, LineageRows};
 use std::alloc::{AllocError, Global};
+use std::collections::BTreeMap;
 
-// Answers by their values, in their order.
-#[derive(Drop)]
-struct Groups<'a> {
-    map: RefsBy<'a, ByOrder<'a, Values>, Answer>,
-}
+// The places of answers, by their values.
+type Places<'a> = BTreeMap<ByOrder<'a, Values>, usize>;
 
 /// One answer for all of the same values, at the place of the first, with the union of their lineages. NULL
 /// is the same as NULL. A row has one version in all these lineages.
@@ -38,95 +34,96 @@ pub fn merge(answers: Answers) -> Result<Answers, AllocError>
 fn merged_answers(alloc: Global, answers: &[Answer]) -> Result<Answers, AllocError>
     ensures { IfOk result (λ made. made ≡ map (merged answers.now) (distinct (map own_values answers.now))) }
 {
-    let groups = groups_of(alloc, answers)?;
-    let rows = values_of(alloc, answers)?;
-    answers_under(alloc, &groups, &distinct_of(alloc, &rows)?, answers)
-}
-
-// The values of answers.
-fn values_of<'a>(alloc: Global, answers: &'a [Answer]) -> Result<Refs<'a, Values>, AllocError>
-    ensures { IfOk result (λ values. values ≡ map own_values answers.now) }
-{
-    let mut values = Refs::new(alloc);
+    let mut places = BTreeMap::new(alloc);
+    let mut made = Vec::new(alloc);
     for answer in answers {
-        values.push(&answer.values)?;
+        add_answer(alloc, &mut places, &mut made, answer)?;
     }
-    Ok(values)
+    Ok(List::of_vec(made))
 }
 
-// Adds an answer under its values.
+// Adds an answer, or its lineage to that of the answer of the same values.
 fn add_answer<'a>(
-    map: &mut RefsBy<'a, ByOrder<'a, Values>, Answer>,
+    alloc: Global,
+    places: &mut Places<'a>,
+    made: &mut Vec<Answer>,
     answer: &'a Answer,
 ) -> Result<(), AllocError>
-    ensures { OnOk result ((v : Items Seen)
-        → listed map.new v ≡ answer_added answer.now v (listed map.old v)) }
+    requires { IsIndex places.old made.old.items }
+    ensures index { OnOk result (IsIndex places.new made.new.items) }
+    ensures made { OnOk result (made.new.items ≡ absorbed made.old.items answer.now) }
 {
-    map.add(ByOrder::of(&answer.values), answer)
-}
-
-// Answers by their values.
-#[tactic(auto, using(crate::proofs::Merges::group_on))]
-fn groups_of<'a>(alloc: Global, answers: &'a [Answer]) -> Result<Groups<'a>, AllocError>
-    ensures { IfOk result (λ groups. (v : Items Seen)
-        → listed groups.map v ≡ filter (with_values v) answers.now) }
-{
-    let mut map = RefsBy::new(alloc);
-    for answer in answers {
-        add_answer(&mut map, answer)?;
-    }
-    Ok(Groups { map })
-}
-
-fn group_at<'b, 'a>(groups: &'b Groups<'a>, values: &'a Values) -> Option<&'b Refs<'a, Answer>>
-    ensures { unwrap_or (option_map (λ r. r.now) result) [] ≡ listed groups.now.map values.now }
-{
-    groups.map.get(&ByOrder::of(values))
-}
-
-// The union of the lineages under some values.
-fn lineage_under<'a>(
-    alloc: Global,
-    groups: &Groups<'a>,
-    values: &'a Values,
-) -> Result<LineageRows, AllocError>
-    ensures { IfOk result (λ lineage. lineage ≡ united (listed groups.now.map values.now)) }
-{
-    match group_at(groups, values) {
-        None => Ok(LineageRows::empty(alloc)),
-        Some(answers) => united_rows(alloc, answers.items()),
+    match place_in(places, &answer.values) {
+        Some(place) => add_again(made, place, answer),
+        None => add_first(alloc, places, made, answer),
     }
 }
 
-// The answer of some values.
-fn answer_under<'a>(
-    alloc: Global,
-    groups: &Groups<'a>,
-    values: &'a Values,
-) -> Result<Answer, AllocError>
-    ensures { IfOk result (λ made. (answers : Items Given) → ((v : Items Seen)
-        → listed groups.now.map v ≡ filter (with_values v) answers)
-        → made ≡ merged answers values.now) }
+fn place_in<'a>(places: &Places<'a>, values: &'a Values) -> Option<usize>
+    ensures { result ≡ tree.get values_order places.now values.now }
+{
+    places.get(&ByOrder::of(values)).copied()
+}
+
+// Adds the lineage of another answer of the same values.
+fn take_lineage(answer: &mut Answer, other: &Answer) -> Result<(), AllocError>
+    ensures { OnOk result (answer.new ≡ with_more answer.old other.now) }
+{
+    answer.lineage.union(&other.lineage)
+}
+
+// Adds the lineage of an answer to that of the answer at a place.
+#[tactic(auto, using(crate::proofs::Absorbs::place_within))]
+fn add_again(made: &mut Vec<Answer>, place: usize, answer: &Answer) -> Result<(), AllocError>
+    requires { place_of answer.now.values made.old.items ≡ Some place }
+    ensures made { OnOk result (made.new.items ≡ absorbed made.old.items answer.now) }
+    ensures places { OnOk result ((v : Items Seen)
+        → place_of v made.new.items ≡ place_of v made.old.items) }
+{
+    take_lineage(&mut made[place], answer)
+}
+
+// A copy of some rows.
+fn copy_of(alloc: Global, rows: &LineageRows) -> Result<LineageRows, AllocError>
+    ensures { IfOk result (λ copy. copy ≡ rows.now) }
+{
+    let mut copy = LineageRows::empty(alloc);
+    copy.union(rows)?;
+    Ok(copy)
+}
+
+// A copy of an answer.
+fn copy_answer(alloc: Global, answer: &Answer) -> Result<Answer, AllocError>
+    ensures { IfOk result (λ copy. copy ≡ answer.now) }
 {
     Ok(Answer {
-        values: values.copy()?,
-        lineage: lineage_under(alloc, groups, values)?,
+        values: answer.values.copy()?,
+        lineage: copy_of(alloc, &answer.lineage)?,
     })
 }
 
-// The answers of some rows of values.
-fn answers_under<'a>(
-    alloc: Global,
-    groups: &Groups<'a>,
-    rows: &Refs<'a, Values>,
-    answers: &[Answer],
-) -> Result<Answers, AllocError>
-    requires { (v : Items Seen) → listed groups.now.map v ≡ filter (with_values v) answers.now }
-    ensures { IfOk result (λ made. made ≡ map (merged answers.now) rows.now) }
+fn push_copy(alloc: Global, made: &mut Vec<Answer>, answer: &Answer) -> Result<(), AllocError>
+    ensures { OnOk result (made.new.items ≡ made.old.items ++ answer.now ∷ []) }
 {
-    let mut made = List::new(alloc);
-    for values in rows.items() {
-        made.push(answer_under(alloc, groups, *values)?)?;
-    }
-    Ok(made)
+    let copy = copy_answer(alloc, answer)?;
+    made.push(copy)?;
+    Ok(())
+}
+
+// Adds the first answer of its values.
+fn add_first<'a>(
+    alloc: Global,
+    places: &mut Places<'a>,
+    made: &mut Vec<Answer>,
+    answer: &'a Answer,
+) -> Result<(), AllocError>
+    requires index { IsIndex places.old made.old.items }
+    requires none { place_of answer.now.values made.old.items ≡ None }
+    ensures index { OnOk result (IsIndex places.new made.new.items) }
+    ensures made { OnOk result (made.new.items ≡ absorbed made.old.items answer.now) }
+{
+    let place = made.len();
+    push_copy(alloc, made, answer)?;
+    places.insert(ByOrder::of(&answer.values), place)?;
+    Ok(())
 }

@@ -2,4 +2,3 @@ pub mod TreeLaws
 pub mod WayLaws
 pub mod NumberLaws
 pub mod SeenLaws
-pub mod FlagLaws

@@ -4,8 +4,7 @@ use Rattle.std.specs.Prelude.{Option, Some, None, find, nat_lt, slice_get}
 use Rattle.std.proofs.lemmas.Bool.{lt-ltb, le-ltb}
 use Rattle.std.proofs.lemmas.List.{get_or_past}
 use Rattle.std.proofs.lemmas.Option.{slice_get_past, get_or_from_slice_get}
-use Rattle.run_model.specs.Schedule.{next_or_least, round_robin}
-use Rattle.ready_set.specs.Ready.{numbers_from, numbers, count_below}
+use Rattle.ready_set.specs.Ready.{numbers_from, numbers, count_below, or_least, next_round}
 
 -- the first flag counts first
 count_first : (flag : Bool) (flags : List Bool) (n : ℕ) → count_below (flag ∷ flags) (suc n) ≡ cond flag 1 0 + count_below flags n
@@ -79,10 +78,10 @@ find_none last flags past =
     find_next last flags ∙ slice_get_past (numbers flags) (count_below flags (last + 1))
     (omega (arith, length-numbers_from 0 flags, count_past_at flags (last + 1) past))
 
--- ---- the scheduler's choice
+-- ---- the next one round
 
-pub next_is : (last n : ℕ) (ns : List ℕ) → find (nat_lt last) ns ≡ Some n → n ≡ round_robin last ns
-next_is last n ns found = sym (ap (λ (o : Option ℕ). next_or_least o ns) found)
+pub next_is : (last n : ℕ) (ns : List ℕ) → find (nat_lt last) ns ≡ Some n → n ≡ next_round last ns
+next_is last n ns found = sym (ap (λ (o : Option ℕ). or_least o ns) found)
 
-pub least_is : (last n : ℕ) (ns : List ℕ) → find (nat_lt last) ns ≡ None → slice_get ns 0 ≡ Some n → n ≡ round_robin last ns
-least_is last n ns none first = sym (get_or_from_slice_get ns 0 n 0 first) ∙ sym (ap (λ (o : Option ℕ). next_or_least o ns) none)
+pub least_is : (last n : ℕ) (ns : List ℕ) → find (nat_lt last) ns ≡ None → slice_get ns 0 ≡ Some n → n ≡ next_round last ns
+least_is last n ns none first = sym (get_or_from_slice_get ns 0 n 0 first) ∙ sym (ap (λ (o : Option ℕ). or_least o ns) none)

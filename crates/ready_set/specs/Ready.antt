@@ -1,5 +1,6 @@
 -- Which numbers are in a set, and their sorted list.
-use Rattle.std.specs.Prelude.{ℕ, zero, suc, ◌+◌, List, [], ◌∷◌, Bool, false, slice_index_or, if◌then◌else◌}
+use Rattle.std.specs.Prelude.{ℕ, zero, suc, ◌+◌, ◌%◌, List, [], ◌∷◌, length, find, nat_lt, Bool, false}
+use Rattle.std.specs.Prelude.{slice_index, slice_index_or, if◌then◌else◌, Option, Some, None}
 
 -- what contracts see of a set
 pub record Ready : Type 0 where
@@ -20,3 +21,17 @@ numbers flags = numbers_from 0 flags
 abbrev pub count_below : List Bool → ℕ → ℕ
 count_below flags zero = 0
 count_below flags (suc n) = count_below flags n + (if slice_index_or flags n false then 1 else 0)
+
+-- ---- one of the numbers, where there are any
+
+abbrev pub or_least : Option ℕ → List ℕ → ℕ
+or_least (Some number) numbers = number
+or_least None numbers = slice_index numbers 0
+
+-- the least one above a number, or else the least
+abbrev pub next_round : ℕ → List ℕ → ℕ
+next_round last numbers = or_least (find (nat_lt last) numbers) numbers
+
+-- the one at an index of the sorted list, counted round
+abbrev pub at_round : List ℕ → ℕ → ℕ
+at_round numbers k = slice_index numbers (k % length numbers)

@@ -1,18 +1,17 @@
-//! The set of processes that may run.
+//! A set of numbers that are made one after another.
 
-ghost use Rattle.std.specs.Prelude.{◌≡◌, ◌+◌, ◌/◌, ◌^◌, ◌<◌, ◌≤◌, ◌↔◌, [], ◌∷◌, ◌++◌, length, find, nat_lt};
+ghost use Rattle.std.specs.Prelude.{◌≡◌, ◌+◌, ◌^◌, ◌<◌, ◌≤◌, ◌↔◌, [], ◌∷◌, ◌++◌, length, find, nat_lt};
 ghost use Rattle.std.specs.Prelude.{IfOk, OnOk, OnErr, IsTrue, true, false, slice_get, slice_set};
 ghost use Rattle.std.specs.Prelude.{slice_index_or, if◌then◌else◌};
-ghost use Rattle.run_model.specs.Schedule.{round_robin, pick_in, at_random, pick_of};
-ghost use Rattle.ready_set.specs.Ready.{numbers, count_below};
+ghost use Rattle.ready_set.specs.Ready.{numbers, count_below, next_round, at_round};
 ghost use Rattle.ready_set.specs.Tree.{IsTree, SetsLeaf};
 
 use crate::tree::{count_before, leaf_at, set_leaf, widened};
 use std::alloc::{AllocError, Global};
 use std::marker::Model;
 
-/// A set of the numbers of processes, which are made one after another from 0 on. Contracts see a flag for
-/// each number made so far, and for how many numbers there is room.
+/// A set of numbers, which are made one after another from 0 on. Contracts see a flag for each number made so
+/// far, and for how many numbers there is room.
 #[derive(Drop)]
 pub struct ReadySet {
     // a tree with a leaf for each number that there is room for
@@ -151,10 +150,10 @@ impl ReadySet {
         }
     }
 
-    /// The least number in the set above the one that ran last, or else the least.
+    /// The least number in the set above one, or else the least of all.
     pub fn pick_next(&self, last: u32) -> u32
         requires { 0 < length (numbers self.now.flags) }
-        ensures { result ≡ round_robin last (numbers self.now.flags) }
+        ensures { result ≡ next_round last (numbers self.now.flags) }
     {
         match self.next_after(last) {
             Some(number) => number,
@@ -165,29 +164,9 @@ impl ReadySet {
     /// The number at an index of the sorted list, counted round.
     pub fn pick_at(&self, k: u64) -> u32
         requires { 0 < length (numbers self.now.flags) }
-        ensures { result ≡ pick_in (numbers self.now.flags) k }
+        ensures { result ≡ at_round (numbers self.now.flags) k }
     {
         self.number_at((k % u64::from(self.len())) as u32)
-    }
-
-    /// The number at the index that the high bits of the generator's state give, counted round.
-    pub fn pick_random(&self, x: u64) -> u32
-        requires { 0 < length (numbers self.now.flags) }
-        ensures { result ≡ at_random x (numbers self.now.flags) }
-    {
-        self.pick_at(x >> 33)
-    }
-
-    /// The number that the scheduler picks: by turns under seed 0, and at random under any other.
-    pub fn pick(&self, seed: u64, last: u32, x: u64) -> u32
-        requires { 0 < length (numbers self.now.flags) }
-        ensures { result ≡ pick_of seed last x (numbers self.now.flags) }
-    {
-        if seed == 0 {
-            self.pick_next(last)
-        } else {
-            self.pick_random(x)
-        }
     }
 
     // The number at an index of the sorted list.

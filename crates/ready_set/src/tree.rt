@@ -1,7 +1,7 @@
 //! A binary tree of counts in one slice: node 1 is the root, the children of node i are nodes 2 i and
 //! 2 i + 1, and the leaves come last, one for each number that there is room for.
 
-ghost use Rattle.std.specs.Prelude.{◌≡◌, ℕ, ◌+◌, ◌-◌, ◌*◌, ◌/◌, ◌%◌, ◌^◌, ◌<◌, ◌≤◌};
+ghost use Rattle.std.specs.Prelude.{◌≡◌, ℕ, ◌+◌, ◌-◌, ◌*◌, ◌%◌, ◌^◌, ◌<◌, ◌≤◌};
 ghost use Rattle.std.specs.Prelude.{length, slice_index, IfOk};
 ghost use Rattle.ready_set.specs.Tree.{IsTree, SetsLeaf, IsWidened, sum_before};
 

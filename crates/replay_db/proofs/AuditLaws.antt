@@ -12,14 +12,14 @@ use Rattle.package_layout.specs.Valid.{Valid}
 use Rattle.package_layout.specs.declared.version.Version.{Version}
 use Rattle.package_layout.specs.Whole.{spelling_as, IsTyped}
 use Rattle.replay_db.specs.Auditing.{SoundLaw, RecordedSoundLaw, OwnSoundLaw, verdict_on}
-use Rattle.replay_db.specs.Laws.{SameRun}
+use Rattle.run_laws.specs.Laws.{SameRun}
 use Rattle.replay_db.specs.Types.{Included, Package, World}
 use Rattle.replay_db.specs.declared.soundness.Verdict.TheVariants.{Sound, Unsound}
-use Rattle.replay_db.proofs.BudgetLaw.{enough_package, enough_ends}
+use Rattle.run_laws.proofs.BudgetLaw.{enough_package, enough_ends}
 use Rattle.replay_db.proofs.RecordedRuns.{package_is, package_none}
 use Rattle.replay_db.specs.Runs.{OwnWorldLaw, package_within}
 use Rattle.replay_db.specs.Worlds.{ValidPackageLaw, TypedPackageLaw, WorldTablesLaw, ValidWorld}
-use Rattle.replay_db.proofs.WorldLaws.{replay_law}
+use Rattle.run_laws.proofs.WorldLaws.{replay_law}
 
 same_bytes : (bytes due : List ℕ) → verdict_on bytes due ≡ Sound → bytes ≡ due
 same_bytes bytes due sound = elim (cases_Bool (bytes_eq bytes due)) [

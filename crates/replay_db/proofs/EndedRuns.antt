@@ -20,7 +20,7 @@ use Rattle.run_model.specs.WorldRun.{core_after, ends_in, ends_within, outcome_i
 use Rattle.sql_model.specs.Tables.{have_distinct_columns}
 use Rattle.sql_model.specs.Tables.{are_distinct, is_database, is_described, tables_test}
 use Rattle.sql_model.specs.declared.table.Table.{Table}
-use Rattle.replay_db.proofs.BudgetLaw.{going_outcome}
+use Rattle.run_laws.proofs.BudgetLaw.{going_outcome}
 use Rattle.replay_db.specs.Recording.{HasNotEnded}
 use Rattle.replay_db.specs.Runs.{Stops}
 use Rattle.replay_db.specs.declared.stop.EndStop.{EndStop}

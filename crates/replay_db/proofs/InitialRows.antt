@@ -22,10 +22,10 @@ use Rattle.run_model.proofs.NeverStuck.{Ordered}
 use Rattle.slicer.specs.InitialRows.{is_row_of, ReadsInitialRows}
 use Rattle.replay_db.specs.Laws.{InitialRowsLaw}
 use Rattle.replay_db.proofs.RunRows.{RowEvents, quiet_event, run_rows}
-use Rattle.replay_db.proofs.RunSame.{database_of}
-use Rattle.replay_db.proofs.SortedNeeds.{rows_sorted}
+use Rattle.run_laws.proofs.RunSame.{database_of}
+use Rattle.run_laws.proofs.SortedNeeds.{rows_sorted}
 use Rattle.replay_db.proofs.StatementRows.{is_used, lacks}
-use Rattle.replay_db.proofs.TraceState.{GoodList}
+use Rattle.run_laws.proofs.TraceState.{GoodList}
 
 -- a number in rows is below one that all of them are below
 under : (next row : ℕ) (rows : List TableRow) → list_all (λ (r : TableRow). nat_lt r.number next) rows ≡ true

@@ -13,8 +13,8 @@ use Rattle.ldv_value.proofs.SameBytes.{bytes_eq-true, bytes_eq-itself}
 use Rattle.std.proofs.lemmas.List.{append-nil}
 use Rattle.sql_model.specs.Sorting.{put_sorted, sorted_by}
 use Rattle.replay_db.specs.Types.{Log}
-use Rattle.replay_db.specs.declared.recorder.Kept.{Kept}
-use Rattle.replay_db.specs.KeptReplies.{name_cmp, new_log, with_first, put_where, put_first, logs_kept}
+use Rattle.run_laws.specs.declared.kept.Kept.{Kept}
+use Rattle.run_laws.specs.KeptReplies.{name_cmp, new_log, with_first, put_where, put_first, logs_kept}
 use Rattle.replay_db.specs.KeptGroups.{kept_cmp, is_of, with_last, joined, with_kept, grouped_onto, grouped}
 
 pub kept_total : IsTotalOrder kept_cmp

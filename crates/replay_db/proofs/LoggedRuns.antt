@@ -10,16 +10,16 @@ use Rattle.run_model.specs.Slice.{files_needed}
 use Rattle.run_model.specs.SqlDatabase.{SqlDatabase, sql_base, unchanged}
 use Rattle.run_model.specs.Start.{start_script, start_state}
 use Rattle.run_model.specs.WorldRun.{ends_within, steps_by, events_within, logs_in, logs_by}
-use Rattle.replay_db.specs.KeptLaw.{KeepsRun}
-use Rattle.replay_db.specs.KeptReplies.{Keeping, keeping_base, logs_kept}
+use Rattle.run_laws.specs.KeptLaw.{KeepsRun}
+use Rattle.run_laws.specs.KeptReplies.{Keeping, keeping_base, logs_kept}
 use Rattle.replay_db.specs.Logging.{kept_start, IsLogged, packed_logs}
 use Rattle.replay_db.specs.Runs.{package_within}
 use Rattle.replay_db.specs.Types.{Excluded, Event, Instr, Log, Package, World}
 use Rattle.replay_db.specs.declared.logged.Logged.{Logged}
 use Rattle.replay_db.proofs.EndedRuns.{ends_as, counts_as, told_all}
-use Rattle.replay_db.proofs.KeptRuns.{kept_law}
+use Rattle.run_laws.proofs.KeptRuns.{kept_law}
 use Rattle.replay_db.proofs.RecordedRuns.{package_is}
-use Rattle.replay_db.proofs.SqlAnswers.{never_diverged}
+use Rattle.run_laws.proofs.SqlAnswers.{never_diverged}
 
 module _ (n : ℕ) (w : World) (script : List Instr) (is : start_script w ≡ Some script) where
   keeps : KeepsRun sql_base n [] (kept_start w script) (start_state w script)

@@ -28,10 +28,11 @@ use Rattle.replay_db.proofs.PackageLogs.{logs_valid, logs_roomy, logs_typed}
 use Rattle.replay_db.proofs.PackageValidParts.{files_valid, whole_found, tables_valid}
 use Rattle.replay_db.proofs.PackageValidTyped.{files_typed, tables_typed}
 use Rattle.replay_db.proofs.TableRooms.{rooms_met}
-use Rattle.replay_db.proofs.TraceValid.{trace_is, steps_at_least_one, steps_at_most, reasons_valid, room_is, typed_is}
+use Rattle.run_laws.proofs.RunSteps.{steps_at_most}
+use Rattle.replay_db.proofs.TraceValid.{trace_is, steps_at_least_one, reasons_valid, room_is, typed_is}
 use Rattle.run_model.proofs.ValidWorlds.{Ruled, ruled_by, RuledList, ruled_list, world_tables}
 use Rattle.replay_db.proofs.WorldValues.{good_world}
-use Rattle.replay_db.proofs.EndedLaw.{ended_starts}
+use Rattle.run_laws.proofs.EndedLaw.{ended_starts}
 
 -- ---- start words
 

@@ -22,10 +22,10 @@ use Rattle.run_model.proofs.Equations.{events-zero, events-over, events-suc}
 use Rattle.run_model.proofs.NeverStuck.{Ordered, move_ordered}
 use Rattle.trace_graph.specs.VersionLaws.{has_version, makes_version}
 use Rattle.slicer.specs.InitialRows.{at_first, is_seen, is_made}
-use Rattle.replay_db.proofs.RunSame.{database_of}
+use Rattle.run_laws.proofs.RunSame.{database_of}
 use Rattle.replay_db.proofs.StatementRows.{is_needed, is_used, lacks, is_first, reason_is, unneeded, needed_named, first_needed, first_unneeded, seen_is, used_unmade, used_after, lacks_after, version_after}
 use Rattle.replay_db.proofs.TraceRun.{Kind, Quiet, Asks, db_then, StepOf, move_step, events_by_kind, step_events}
-use Rattle.replay_db.proofs.TraceState.{GoodList, PlainAct, PlainActs}
+use Rattle.run_laws.proofs.TraceState.{GoodList, PlainAct, PlainActs}
 
 -- one or the other is there
 either : (now later : Option Reason) → is_some (option_or now later) ≡ (is_some now || is_some later)

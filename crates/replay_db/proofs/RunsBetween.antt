@@ -7,15 +7,15 @@ use Rattle.sql_model.specs.Tables.{tables_test}
 use Rattle.run_model.specs.Between.{Between}
 use Rattle.run_model.specs.Package.{package_of}
 use Rattle.run_model.specs.WorldRun.{ends_within, outcome_within}
-use Rattle.replay_db.specs.Laws.{SameRun, SettledRun}
+use Rattle.run_laws.specs.Laws.{SameRun, SettledRun}
 use Rattle.replay_db.specs.Runs.{Stops, package_within, IsNoMemory, RunsAs, RecordsAs}
 use Rattle.replay_db.specs.Types.{Mode, Outcome, Package, World}
 use Rattle.replay_db.specs.declared.stop.EndStop.{EndStop}
 use Rattle.replay_db.specs.declared.stop.EndStop.TheVariants.{NotEnded, NoMemory}
-use Rattle.replay_db.proofs.BudgetLaw.{ended_outcome, outcome_ends}
-use Rattle.replay_db.proofs.EndedLaw.{ended_law, ended_starts}
+use Rattle.run_laws.proofs.BudgetLaw.{ended_outcome, outcome_ends}
+use Rattle.run_laws.proofs.EndedLaw.{ended_law, ended_starts}
 use Rattle.replay_db.proofs.RecordedRuns.{package_is}
-use Rattle.replay_db.proofs.WorldLaws.{between_law}
+use Rattle.run_laws.proofs.WorldLaws.{between_law}
 
 -- where something is due, `NotEnded` doesn't come
 is_due : {X : Type 0} (r : Result X EndStop) (due : Option X) (x : X) → due ≡ Some x → Gives Stops r due

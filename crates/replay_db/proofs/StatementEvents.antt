@@ -38,11 +38,11 @@ use Rattle.package_layout.specs.Typed.{IsU32}
 use Rattle.replay_db.proofs.NeedsSorted.{row_under, needs_rise, reads_rise}
 use Rattle.sql_laws.proofs.NeedsSound.{needs_good}
 use Rattle.replay_db.proofs.RowGroups.{is_name_of, groups_few}
-use Rattle.replay_db.proofs.RunSame.{database_of}
-use Rattle.replay_db.proofs.SortedNeeds.{rows_sorted}
-use Rattle.replay_db.proofs.StatementNames.{names_after}
-use Rattle.replay_db.proofs.StatementVersions.{next_of, members_from, made_of, made_if, made_parts, made_none, target_rises}
-use Rattle.replay_db.proofs.Targets.{valid_table}
+use Rattle.run_laws.proofs.RunSame.{database_of}
+use Rattle.run_laws.proofs.SortedNeeds.{rows_sorted}
+use Rattle.run_laws.proofs.StatementNames.{names_after}
+use Rattle.run_laws.proofs.StatementVersions.{next_of, members_from, made_of, made_if, made_parts, made_none, target_rises}
+use Rattle.run_laws.proofs.Targets.{valid_table}
 use Rattle.replay_db.proofs.TraceLists.{all_filter, all_map, all_of_map, filter_rises, filter_most, equal_itself}
 
 -- ---- a database

@@ -38,7 +38,7 @@ use Rattle.trace_graph.specs.Links.{version_before, at_version}
 use Rattle.trace_graph.specs.VersionLaws.{is_read, is_changed}
 use Rattle.slicer.specs.InitialRows.{at_first}
 use Rattle.replay_db.specs.Types.{Statement, Table, TableRow, Member}
-use Rattle.replay_db.proofs.StatementVersions.{next_of, origin_of, made_if, updated_if, made_parts, updated_parts, made_none, updated_none, target_rises}
+use Rattle.run_laws.proofs.StatementVersions.{next_of, origin_of, made_if, updated_if, made_parts, updated_parts, made_none, updated_none, target_rises}
 
 -- ---- tests
 

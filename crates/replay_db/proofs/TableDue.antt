@@ -14,8 +14,8 @@ use Rattle.replay_db.specs.TableAt.{IsDueStop, judged, stored, table_after, tabl
 use Rattle.replay_db.specs.Types.{Instr, Table, World}
 use Rattle.replay_db.specs.declared.table.TableStop.{TableStop}
 use Rattle.replay_db.specs.declared.table.TableStop.TheVariants.{NoTable, NotEnded, NoStep, NoMemory}
-use Rattle.replay_db.proofs.RunSteps.{steps_most}
-use Rattle.replay_db.proofs.TableSteps.{run_on, steps_on}
+use Rattle.run_laws.proofs.RunSteps.{steps_most}
+use Rattle.run_laws.proofs.TableSteps.{run_on, steps_on}
 
 -- what is the same as what is due is given
 pub gives_due : (r due : Result Table TableStop) → r ≡ due → GivesOr IsDueStop r due

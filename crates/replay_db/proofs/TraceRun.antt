@@ -23,7 +23,7 @@ use Rattle.package_layout.specs.Events.{act_room, TypedAct}
 use Rattle.package_layout.specs.Trace.{act_rule, made_after, is_asked, asked_after, follows}
 use Rattle.replay_db.proofs.StatementEvents.{RuledNames, GoodDatabase, good_after, asked_ruled}
 use Rattle.replay_db.proofs.TraceLists.{all_append}
-use Rattle.replay_db.proofs.TraceState.{GoodList, PlainAct, PlainActs, made_by, plain_append, made_append, QuietStep, quiet_step, TookStep, took_step, ends_plain}
+use Rattle.run_laws.proofs.TraceState.{GoodList, PlainAct, PlainActs, made_by, plain_append, made_append, QuietStep, quiet_step, TookStep, took_step, ends_plain}
 
 -- so many steps are left
 steps_left : (n number total : ℕ) (picks : List ℕ) (s : State SqlDatabase) → is_over s.core ≡ false

@@ -1,26 +1,25 @@
 -- The events of the run of a valid world are a valid trace.
-use Rattle.std.proofs.Common.{◌≡◌, ℕ, zero, suc, ◌<◌, ◌≤◌, List, [], ◌∷◌, ◌++◌, refl, sym, ap, ◌∙◌, subst, true, false, arith, inl, inr}
+use Rattle.std.proofs.Common.{◌≡◌, ℕ, zero, suc, ◌<◌, ◌≤◌, List, [], ◌∷◌, ◌++◌, refl, sym, ap, ◌∙◌, subst, true, false, arith}
 use Rattle.std.specs.Prelude.{Option, Some, None, map, slice_get, bytes_eq, IsTrue}
 use Rattle.std.specs.List.{list_all, AllByRecursion}
 use Rattle.std.specs.Str.{IsUtf8}
-use Rattle.std.proofs.lemmas.Bool.{cases_Bool}
-use Rattle.ldv_value.proofs.Cases.{cases-option}
 use Rattle.ldv_value.proofs.SameBytes.{bytes_eq-itself}
 use Rattle.ldv_value.proofs.Lists.{tested-all}
 use Rattle.ldv_value.proofs.Booleans.{and-from}
 use Rattle.sql_model.specs.Needs.{table_name}
 use Rattle.sql_model.specs.Tables.{tables_test}
 use Rattle.replay_db.specs.Types.{Instr, Act, Started, Asked, Event, World}
-use Rattle.run_model.specs.Core.{all_ended, is_over}
+use Rattle.run_model.specs.Core.{all_ended}
 use Rattle.run_model.specs.Events.{event_at, events, start_events}
-use Rattle.run_model.specs.Run.{first_pick, later_picks, move, run, steps}
+use Rattle.run_model.specs.Run.{run, steps}
 use Rattle.run_model.specs.Slice.{tables_needed}
 use Rattle.run_model.specs.SqlDatabase.{SqlDatabase, sql_base}
 use Rattle.run_model.specs.Start.{start_script, start_state}
 use Rattle.run_model.specs.State.{State}
 use Rattle.run_model.specs.WorldRun.{ends_in, ends_by, steps_in, steps_by, events_in, events_by}
 use Rattle.run_model.specs.ValidTrace.{named_rule, are_named, ValidTrace}
-use Rattle.run_model.proofs.Equations.{run-zero, steps-zero, steps-over, steps-suc}
+use Rattle.run_model.proofs.Equations.{run-zero, steps-suc}
+use Rattle.run_laws.proofs.RunSteps.{steps_most}
 use Rattle.package_layout.specs.Events.{TypedEvent, event_room}
 use Rattle.package_layout.specs.Trace.{follows, at_start, starts, trace_test, asked_count}
 use Rattle.package_layout.specs.Typed.{IsU32}
@@ -31,25 +30,11 @@ use Rattle.replay_db.proofs.TraceLists.{all_append}
 use Rattle.replay_db.proofs.TraceReasons.{reasons_asked}
 use Rattle.run_model.proofs.NeverStuck.{Ordered}
 use Rattle.replay_db.proofs.TraceRun.{plain_room, plain_typed, run_follows, run_good}
-use Rattle.replay_db.proofs.TraceState.{GoodList, PlainAct}
+use Rattle.run_laws.proofs.TraceState.{GoodList, PlainAct}
 use Rattle.run_model.proofs.ValidWorlds.{ruled_by}
 use Rattle.replay_db.proofs.WorldRules.{few_names, texts_of_names}
 
 -- ---- the number of steps
-
-few_steps : (n : ℕ) (picks : List ℕ) (s : State SqlDatabase) → steps sql_base n picks s ≤ n
-few_steps zero picks s = omega (arith, steps-zero sql_base picks s)
-few_steps (suc n) picks s = elim (cases_Bool (is_over s.core)) [
-  | inl over ↦ omega (arith, steps-over sql_base (suc n) picks s over)
-  | inr going ↦ omega (arith, steps-suc sql_base n picks s going, few_steps n (later_picks picks) (move sql_base (first_pick picks) s).state)
-]
-
--- a run ends within no more steps than it may have
-pub steps_at_most : (n : ℕ) (picks : List ℕ) (w : World) → steps_by n picks w ≤ n
-steps_at_most n picks w = elim (cases-option (start_script w)) [
-  | inl none ↦ omega (arith, ap (steps_in n picks w) none)
-  | inr found ↦ omega (arith, ap (steps_in n picks w) found.1, few_steps n picks (start_state w found.0))
-]
 
 module _ (n : ℕ) (picks : List ℕ) (w : World) (script : List Instr) (is : start_script w ≡ Some script) where
   abbrev start : State SqlDatabase
@@ -178,7 +163,7 @@ module _ (n : ℕ) (picks : List ℕ) (w : World) (script : List Instr) (is : st
 
     run_typed : TypedWorld w → n ≤ 10000000 → AllByRecursion TypedEvent later_events
     run_typed typed small =
-        let most : steps sql_base n picks begun ≤ n = few_steps n picks begun in
+        let most : steps sql_base n picks begun ≤ n = steps_most sql_base n picks begun in
         let u32 : (number : ℕ) → number ≤ steps sql_base n picks begun → IsU32 number = λ number within. omega arith in
         let small_number : (process : ℕ) → process < 65535 → IsU32 process = λ process below. omega (arith, below) in
         run_good names TypedEvent (steps sql_base n picks begun)

@@ -5,8 +5,8 @@ use Rattle.std.specs.Ordering.{nat_cmp}
 use Rattle.std.specs.declared.cmp.Ordering.{Ordering}
 use Rattle.std.specs.Cmp.Lexicographic.{slice_cmp}
 use Rattle.replay_db.specs.Types.{Log}
-use Rattle.replay_db.specs.declared.recorder.Kept.{Kept}
-use Rattle.replay_db.specs.KeptReplies.{new_log}
+use Rattle.run_laws.specs.declared.kept.Kept.{Kept}
+use Rattle.run_laws.specs.KeptReplies.{new_log}
 
 abbrev pub kept_cmp : Kept → Kept → Ordering
 kept_cmp a b = slice_cmp nat_cmp a.process.parts b.process.parts

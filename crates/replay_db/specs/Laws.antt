@@ -1,67 +1,18 @@
--- The law of worlds between: a world from which nothing was cut that a run needs runs as the whole world
--- does, and yields the same package. It holds for all statements, over every world whose tables are valid.
---
--- Where a package's own world lies between, replay of the package gives what the recorded run gave.
-use Rattle.std.specs.Prelude.{◌≡◌, ◌↔◌, ℕ, ◌≤◌, List, [], true, Some, IsTrue}
+-- What a world between is, by what is in it, and what a run reads of the initial rows.
+use Rattle.std.specs.Prelude.{◌≡◌, ◌↔◌, ℕ, List, true, Some, IsTrue}
 use Rattle.script_parse.specs.declared.script.Instr.{Instr}
 use Rattle.sql_model.specs.Tables.{tables_test}
-use Rattle.replay_db.specs.Types.{Event, Mode, Included, World}
-use Rattle.run_model.specs.Between.{LiesBetween, CutOf, Between, slice_of}
-use Rattle.run_model.specs.Package.{package_by, package_of, own_world}
+use Rattle.replay_db.specs.Types.{Event, World}
+use Rattle.run_model.specs.Between.{LiesBetween, CutOf}
 use Rattle.run_model.specs.Start.{start_script}
-use Rattle.run_model.specs.WorldRun.{ends_by, outcome_by, events_by}
+use Rattle.run_model.specs.WorldRun.{events_by}
 use Rattle.slicer.specs.InitialRows.{ReadsInitialRows}
 use Rattle.replay_db.specs.Worlds.{world_rules}
-
--- a run of at most so many steps, the first by given picks and the others by the seed, has the same script,
--- outcome (or none yet), events and packages
-pub record SameRun (n : ℕ) (picks : List ℕ) (v w : World) (script : List Instr) : Type 0 where
-  pub script_same : start_script v ≡ Some script
-  pub ends : ends_by n picks v ≡ ends_by n picks w
-  pub outcome : outcome_by n picks v ≡ outcome_by n picks w
-  pub events : events_by n picks v ≡ events_by n picks w
-  pub packed : (mode : Mode) → package_by mode n picks v ≡ package_by mode n picks w
-
--- any world between the slice and the world
-abbrev pub BetweenLaw : Type 0
-BetweenLaw = (n : ℕ) (w v : World) (script : List Instr) → start_script w ≡ Some script
-    → tables_test w.tables ≡ true
-    → Between n v w
-    → SameRun n [] v w script
-
--- the same where both runs go by one list of picks, whatever they are; needs and slice are those of that run
-abbrev pub InterleavingLaw : Type 0
-InterleavingLaw = (n : ℕ) (picks : List ℕ) (w v : World) (script : List Instr) → start_script w ≡ Some script
-    → tables_test w.tables ≡ true
-    → CutOf (events_by n picks w) v w
-    → SameRun n picks v w script
 
 -- of worlds that meet the rules: what is in them says the same as what was cut
 abbrev pub MembershipLaw : Type 0
 MembershipLaw = (events : List Event) (v w : World) → IsTrue (world_rules v) → IsTrue (world_rules w)
     → LiesBetween events v w ↔ CutOf events v w
-
--- the slice is itself between, and is the package's own world
-abbrev pub SliceLaw : Type 0
-SliceLaw = (n : ℕ) (w : World) → Between n (slice_of n w) w
-
-abbrev pub OwnLaw : Type 0
-OwnLaw = (n : ℕ) (w : World) → own_world (package_of Included n w) ≡ slice_of n w
-
--- the package's own world has the outcome of the recorded run, and that very package
-abbrev pub ReplayLaw : Type 0
-ReplayLaw = (n : ℕ) (w : World) (script : List Instr) → start_script w ≡ Some script
-    → tables_test w.tables ≡ true
-    → SameRun n [] (own_world (package_of Included n w)) w script
-
--- a run that has ended stays as it is: with more steps it yields the same
-pub record SettledRun (n budget : ℕ) (picks : List ℕ) (w : World) : Type 0 where
-  pub outcome : outcome_by budget picks w ≡ outcome_by n picks w
-  pub packed : (mode : Mode) → package_by mode budget picks w ≡ package_by mode n picks w
-
-abbrev pub EndedLaw : Type 0
-EndedLaw = (n budget : ℕ) (picks : List ℕ) (w : World) → ends_by n picks w ≡ true → n ≤ budget
-    → SettledRun n budget picks w
 
 -- the events of a run read each initial row first as it was at first, and make none of them
 abbrev pub InitialRowsLaw : Type 0

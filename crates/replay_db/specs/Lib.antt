@@ -1,10 +1,7 @@
 pub mod Auditing
 pub mod KeptGroups
-pub mod KeptLaw
-pub mod KeptReplies
 pub mod Laws
 pub mod Logging
-pub mod LogLaws
 pub mod Recording
 pub mod Runs
 pub mod TableAt

@@ -5,11 +5,11 @@ use Rattle.run_model.specs.Slice.{files_needed}
 use Rattle.run_model.specs.SqlDatabase.{SqlDatabase, unchanged}
 use Rattle.run_model.specs.State.{State}
 use Rattle.run_model.specs.WorldRun.{ends_within, events_within, steps_by, logs_by}
-use Rattle.replay_db.specs.KeptLaw.{nothing_kept}
-use Rattle.replay_db.specs.KeptReplies.{Keeping}
+use Rattle.run_laws.specs.KeptLaw.{nothing_kept}
+use Rattle.run_laws.specs.KeptReplies.{Keeping}
 use Rattle.replay_db.specs.Types.{Excluded, Instr, Package, World}
 use Rattle.replay_db.specs.declared.logged.Logged.{Logged}
-use Rattle.replay_db.specs.declared.recorder.Kept.{Kept}
+use Rattle.run_laws.specs.declared.kept.Kept.{Kept}
 
 -- a database with what was kept
 abbrev pub keeping : SqlDatabase → List Kept → Keeping SqlDatabase

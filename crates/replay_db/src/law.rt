@@ -1,28 +1,24 @@
-//! The laws on which replay rests.
+//! The laws of packages: what they have of a world, that they are valid, and that they are found sound.
 
-ghost use Rattle.replay_db.specs.Laws.{BetweenLaw, InterleavingLaw, MembershipLaw, SliceLaw, OwnLaw};
-ghost use Rattle.replay_db.specs.Laws.{ReplayLaw, EndedLaw, InitialRowsLaw};
+ghost use Rattle.replay_db.specs.Laws.{MembershipLaw, InitialRowsLaw};
 ghost use Rattle.replay_db.specs.Auditing.{SoundLaw, RecordedSoundLaw, OwnSoundLaw};
 ghost use Rattle.replay_db.specs.Runs.{WorldRunsLaw, OwnRunsLaw, OwnWorldLaw};
-ghost use Rattle.replay_db.specs.LogLaws.{LogLaw, PickedLogLaw};
 ghost use Rattle.replay_db.specs.Worlds.{WorldTablesLaw, ValidPackageLaw, TypedPackageLaw};
 
 use package_layout::round_trip_law;
 use run_model::world_events_law;
 use value_laws::steps_law;
 
-/// A world from which nothing was cut that a run needs runs as the whole world does, whatever statements it
-/// asks; the own world of the run's package is such a world. A run's events read each initial row first as it
-/// was at first, and make none of them. The function has no body: its contract is the theorem.
-pub fn between_law()
-    ensures between { BetweenLaw }
-    ensures interleaved { InterleavingLaw }
-    ensures members { MembershipLaw }
-    ensures slice { SliceLaw }
-    ensures own { OwnLaw }
-    ensures replay { ReplayLaw }
-    ensures settled { EndedLaw }
-    ensures initial { InitialRowsLaw }
+/// Of worlds that meet the rules, that one lies between the slice of a run and its world is said by what is in
+/// it as by what was cut. The function has no body: its contract is the theorem.
+pub fn members_law()
+    ensures { MembershipLaw }
+{}
+
+/// A run's events read each initial row first as it was at first, and make none of them. The function has no
+/// body: its contract is the theorem.
+pub fn initial_rows_law()
+    ensures { InitialRowsLaw }
 {}
 
 /// The package of a valid world's run that has ended is itself valid, so its spelling is read back as it,
@@ -40,14 +36,6 @@ pub fn package_law()
     steps_law();
     world_events_law();
 }
-
-/// The package of a run's recorded replies runs without the database as the world ran with it: it diverges
-/// nowhere and has the run's outcome, within every budget and by any picks. The function has no body: its
-/// contract is the theorem.
-pub fn log_law()
-    ensures seeded { LogLaw }
-    ensures picked { PickedLogLaw }
-{}
 
 /// The audit of a package finds it sound exactly where its bytes are those of the package of its own world's
 /// run, in their own version; so it finds every recorded package sound. A valid package is found sound in both

@@ -13,18 +13,11 @@
 //! - where the world lies between the slice of a larger one and that one, what they return is the outcome and
 //!   the package of the larger one, for each budget within which that one ends (`RunsAs`, `RecordsAs`).
 //!
-//! `between_law` says the same of the definitions alone (`specs/Laws.antt`), of every world with valid tables,
-//! any script and all statements:
-//! - a world that lies between the slice of a run and the run's world has the same outcome, events and
-//!   packages;
-//! - the same holds where both runs go by one list of picks, so for every interleaving of the processes;
-//! - for worlds that meet the rules of documents, "lies between" said of what is in the two worlds, and
-//!   the cut by which the other laws say it are the same;
-//! - the slice lies between, and is the own world of the run's package, so replay of the package yields
-//!   what the run yielded, and its own package is that very package;
-//! - a run that has ended has the same outcome and packages with more steps;
-//! - the events of a run read each initial row first as it was at first, and make none of them; every other
-//!   row is made before it is read (`ReadsInitialRows` of `slicer`).
+//! `between_law` and `log_law` of `run_laws` say the same of the definitions alone. Here `members_law` says,
+//! for worlds that meet the rules of documents, that "lies between" said of what is in the two worlds and
+//! the cut by which the laws say it are the same; and `initial_rows_law` that the events of a run read each
+//! initial row first as it was at first, and make none of them: every other row is made before it is read
+//! (`ReadsInitialRows` of `slicer`). Both are in `specs/Laws.antt`.
 //!
 //! `package_law` says that the package of a valid world's run that has ended is itself valid, whether it has
 //! the rows that were needed or the replies that were recorded (`specs/Worlds.antt`), so its spelling is read
@@ -36,14 +29,9 @@
 //! package are, that a package is found sound exactly where its bytes are those that are due, and that a valid one
 //! is so in both versions or in none.
 //!
-//! It promises, in `log_law` (`specs/LogLaws.antt`), of every world with valid tables whose run ends, that the
-//! package of the recorded replies runs without the tables as the world ran with them: it diverges nowhere,
-//! and within every budget it has the run's outcome, or none yet where the run has none. The same holds where
-//! both runs go by one list of picks.
-//!
 //! `Recorder` is a database whose replies are those of the database in it, and it keeps each question with
-//! its reply (`specs/KeptReplies.antt`). `kept_law` says that a run over it is the run over that database, and
-//! that the logs made of what it keeps are those of the run's processes (`specs/KeptLaw.antt`).
+//! its reply (`specs/KeptReplies.antt` of `run_laws`). `kept_law` there says that a run over it is the run
+//! over that database, and that the logs made of what it keeps are those of the run's processes.
 //!
 //! The laws use of SQL only what `sql_laws` promises of a statement, of a cut and of valid tables, and what
 //! `value_laws` promises of the values that a run makes.
@@ -63,10 +51,10 @@ mod stop;
 mod table;
 mod trace;
 
-pub use law::{audit_law, between_law, log_law, package_law};
+pub use law::{audit_law, initial_rows_law, members_law, package_law};
 pub use own::own_world;
 pub use record::record_world;
-pub use recorder::{Kept, Recorder, kept_law};
+pub use recorder::Recorder;
 pub use replay::replay_included;
 pub use run::{run_owned, run_world};
 pub use soundness::{AuditStop, Verdict, audit};

@@ -6,7 +6,7 @@ ghost use Rattle.proc_core.specs.Running.{Stands};
 ghost use Rattle.run_model.specs.Events.{start_events};
 ghost use Rattle.run_model.specs.Start.{start_script};
 ghost use Rattle.sql_engine.specs.Asking.{database};
-ghost use Rattle.replay_db.specs.KeptReplies.{logs_kept};
+ghost use Rattle.run_laws.specs.KeptReplies.{logs_kept};
 ghost use Rattle.replay_db.specs.Logging.{IsLogged, keeping, kept_start};
 ghost use Rattle.replay_db.specs.Recording.{HasNotEnded};
 ghost use Rattle.replay_db.specs.Runs.{CanRun};

@@ -3,22 +3,15 @@
 ghost use Rattle.std.specs.Prelude.{◌≡◌, ◌++◌, [], IfOk, OnOk};
 ghost use Rattle.sql_model.specs.Sorting.{sorted_by};
 ghost use Rattle.run_model.specs.Database.{asked_by};
-ghost use Rattle.replay_db.specs.KeptLaw.{KeptLaw};
-ghost use Rattle.replay_db.specs.KeptReplies.{kept_of, logs_kept, new_log};
+ghost use Rattle.run_laws.specs.KeptReplies.{kept_of, logs_kept, new_log};
 ghost use Rattle.replay_db.specs.KeptGroups.{kept_cmp, grouped, is_of, joined, with_kept, with_last};
 
 use ldv_value::{CopyItem, List, Utf8, Values};
-use run_model::{Asker, Database, Entries, Entry, Log, Logs, ProcName, Stop, Tracer};
+use run_laws::Kept;
+use run_model::{Asker, Database, Entries, Entry, Log, Logs, Stop, Tracer};
 use sql_model::Reply;
 use std::alloc::{AllocError, Global};
 use std::cmp::Ordering;
-
-/// A question of a process with its reply.
-#[derive(Drop)]
-pub struct Kept {
-    pub process: ProcName,
-    pub entry: Entry,
-}
 
 /// A database whose replies are those of the database in it. It keeps each question with its reply.
 #[derive(Drop)]
@@ -73,7 +66,7 @@ fn keep(
 }
 
 impl<D: Database> Database for Recorder<D> {
-    ghost use Rattle.replay_db.specs.KeptReplies.{Keeping, keeping_base};
+    ghost use Rattle.run_laws.specs.KeptReplies.{Keeping, keeping_base};
 
     ghost Db = { Keeping D.Db };
 
@@ -190,9 +183,3 @@ fn logs_of(alloc: Global, kept: List<Kept>) -> Result<Logs, AllocError>
     let sorted = sort_by_process(kept)?;
     grouped(alloc, sorted)
 }
-
-/// Over any database, a run whose replies are kept is the run over that database, and what is kept are the
-/// logs of its processes. The function has no body: its contract is the theorem.
-pub fn kept_law<Db>()
-    ensures { KeptLaw Db }
-{}

@@ -1,4 +1,5 @@
 pub mod DueLaws
+pub mod FreshLaws
 pub mod InitialLaws
 pub mod NameLaws
 pub mod ReasonLaws

@@ -9,12 +9,14 @@
 //! `slice_files` gives the files alone, of any events.
 //!
 //! Files come from the events, rows from the graph, and the events only give each row its reason. The rows that
-//! wait for one are bits, so that all reads of a row but the first cost the test of a bit. The time is linear in
-//! the graph, the events and the world, but for the search of a table by its name and of a row that is needed by
+//! statements needed so far are bits. Of each statement the rows that are new are taken, and united with these, as
+//! whole words, block by block of a table, and only the new ones are looked up. The time is linear in the graph, the
+//! events and the world, but for the search of a table by its name, and of a block and of a row that is needed by
 //! its number.
 #![tactic(auto)]
 
 mod files;
+mod fresh;
 mod initial;
 mod lists;
 mod names;
@@ -22,5 +24,6 @@ mod needed;
 mod reasons;
 mod row_set;
 mod tables;
+mod united;
 
 pub use needed::{Sliced, slice, slice_files};

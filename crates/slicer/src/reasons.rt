@@ -1,14 +1,18 @@
 //! The first statement that needs each row.
 
-ghost use Rattle.std.specs.Prelude.{◌≡◌, OnOk, IfOk, List, ℕ, Option, None};
+ghost use Rattle.std.specs.Prelude.{◌≡◌, ◌&&◌, ◌%◌, ◌<◌, OnOk, IfOk, List as Items, ℕ, Option, None};
+ghost use Rattle.std.specs.Prelude.{length, true};
 ghost use Rattle.std.specs.BTreeMap.{get_by_text};
 ghost use Rattle.slicer.specs.Marks.{reason_at, reason_of_read, reason_of_row, row_reason};
 ghost use Rattle.std.specs.Option.{option_or};
 ghost use Rattle.ldv_value.specs.Options.{only_if};
 ghost use Rattle.run_model.specs.Slice.{Reason, reason_in, act_reason, first_reason};
-ghost use Rattle.slicer.specs.Rows.{due, has_row};
+ghost use Rattle.lanes.specs.Sets.{member};
+ghost use Rattle.slicer.specs.Rows.{are_of_block, due, has_row};
 
-use crate::row_set::{RowSet, has_row, remove_row};
+use crate::fresh::{fresh_rows, split_block};
+use crate::row_set::{RowSet, has_bit, has_row};
+use ldv_value::List;
 use run_model::{Act, Event};
 use sql_model::{Need, Rule};
 use std::alloc::{AllocError, Global};
@@ -47,7 +51,7 @@ fn note_table(
     need: &Need,
 ) -> Result<(), AllocError>
     requires { get_by_text reasons.old need.now.member.table ≡ None }
-    ensures { OnOk result ((table : List ℕ) (row : ℕ) → reason_at reasons.new table row
+    ensures { OnOk result ((table : Items ℕ) (row : ℕ) → reason_at reasons.new table row
         ≡ option_or (reason_at reasons.old table row) (reason_of_read statement need.now table row)) }
 {
     let key = String::from_str(alloc, need.member.table.as_str())?;
@@ -71,7 +75,7 @@ fn note_need(
     statement: u32,
     need: &Need,
 ) -> Result<(), AllocError>
-    ensures { OnOk result ((table : List ℕ) (row : ℕ) → reason_at reasons.new table row
+    ensures { OnOk result ((table : Items ℕ) (row : ℕ) → reason_at reasons.new table row
         ≡ option_or (reason_at reasons.old table row) (reason_of_read statement need.now table row)) }
 {
     match reasons.get_mut(need.member.table.as_str()) {
@@ -87,39 +91,109 @@ fn note_need(
     }
 }
 
-// Notes a row that a statement needs, if it waits for its reason. Then it waits no more.
-fn note_read(
+fn is_noted(initial_rows: &RowSet, fresh: &List<u64>, need: &Need) -> bool
+    ensures { result ≡ (member fresh.now (need.now.member.row % 4096)
+        && has_row initial_rows.now need.now.member.table need.now.member.row) }
+{
+    has_bit(fresh, need.member.row % 4_096)
+        && has_row(initial_rows, &need.member.table, need.member.row)
+}
+
+// Notes a row that a statement needs, if it is initial, and among the words of its block.
+fn note_fresh(
     alloc: Global,
     reasons: &mut Reasons,
-    waiting: &mut RowSet,
+    initial_rows: &RowSet,
+    fresh: &List<u64>,
     statement: u32,
     need: &Need,
 ) -> Result<(), AllocError>
-    ensures { OnOk result ((table : List ℕ) (row : ℕ) (later : Option Reason)
-        → due reasons.new waiting.new table row later ≡ due reasons.old waiting.old table row
-        (option_or (reason_of_read statement need.now table row) later)) }
+    ensures { OnOk result ((table : Items ℕ) (row : ℕ) → reason_at reasons.new table row
+        ≡ option_or (reason_at reasons.old table row)
+        (only_if (member fresh.now (row % 4096) && has_row initial_rows.now table row)
+        (reason_of_read statement need.now table row))) }
 {
-    if !has_row(waiting, &need.member.table, need.member.row) {
-        return Ok(());
+    if is_noted(initial_rows, fresh, need) {
+        return note_need(alloc, reasons, statement, need);
     }
-    note_need(alloc, reasons, statement, need)?;
-    remove_row(waiting, &need.member.table, need.member.row);
     Ok(())
+}
+
+fn note_all_fresh(
+    alloc: Global,
+    reasons: &mut Reasons,
+    initial_rows: &RowSet,
+    fresh: &List<u64>,
+    statement: u32,
+    needs: &[Need],
+) -> Result<(), AllocError>
+    ensures { OnOk result ((table : Items ℕ) (row : ℕ) → reason_at reasons.new table row
+        ≡ option_or (reason_at reasons.old table row)
+        (only_if (member fresh.now (row % 4096) && has_row initial_rows.now table row)
+        (reason_in statement table row needs.now))) }
+{
+    for need in needs {
+        note_fresh(alloc, reasons, initial_rows, fresh, statement, need)?;
+    }
+    Ok(())
+}
+
+// Notes the rows of one block that a statement is the first to need. Now they are needed.
+fn note_block(
+    alloc: Global,
+    reasons: &mut Reasons,
+    initial_rows: &RowSet,
+    needed: &mut RowSet,
+    statement: u32,
+    needs: &[Need],
+) -> Result<(), AllocError>
+    requires { are_of_block needs.now ≡ true }
+    ensures { OnOk result ((table : Items ℕ) (row : ℕ) (later : Option Reason)
+        → due reasons.new initial_rows.now needed.new table row later
+        ≡ due reasons.old initial_rows.now needed.old table row
+        (option_or (reason_in statement table row needs.now) later)) }
+{
+    let fresh = fresh_rows(alloc, needed, needs)?;
+    note_all_fresh(alloc, reasons, initial_rows, &fresh, statement, needs)
+}
+
+// Notes the rows of the block of the first read, and returns the reads of other blocks.
+fn note_first_block<'a>(
+    alloc: Global,
+    reasons: &mut Reasons,
+    initial_rows: &RowSet,
+    needed: &mut RowSet,
+    statement: u32,
+    needs: &'a [Need],
+) -> Result<&'a [Need], AllocError>
+    ensures due { IfOk result (λ left. (table : Items ℕ) (row : ℕ) (later : Option Reason)
+        → due reasons.new initial_rows.now needed.new table row
+        (option_or (reason_in statement table row left.now) later)
+        ≡ due reasons.old initial_rows.now needed.old table row
+        (option_or (reason_in statement table row needs.now) later)) }
+    ensures shorter { IfOk result (λ left. 0 < length needs.now → length left.now < length needs.now) }
+{
+    let (own, others) = split_block(needs);
+    note_block(alloc, reasons, initial_rows, needed, statement, own)?;
+    Ok(others)
 }
 
 fn note_reads(
     alloc: Global,
     reasons: &mut Reasons,
-    waiting: &mut RowSet,
+    initial_rows: &RowSet,
+    needed: &mut RowSet,
     statement: u32,
     needs: &[Need],
 ) -> Result<(), AllocError>
-    ensures { OnOk result ((table : List ℕ) (row : ℕ) (later : Option Reason)
-        → due reasons.new waiting.new table row later ≡ due reasons.old waiting.old table row
+    ensures { OnOk result ((table : Items ℕ) (row : ℕ) (later : Option Reason)
+        → due reasons.new initial_rows.now needed.new table row later
+        ≡ due reasons.old initial_rows.now needed.old table row
         (option_or (reason_in statement table row needs.now) later)) }
 {
-    for need in needs {
-        note_read(alloc, reasons, waiting, statement, need)?;
+    let mut left = needs;
+    while !left.is_empty() {
+        left = note_first_block(alloc, reasons, initial_rows, needed, statement, left)?;
     }
     Ok(())
 }
@@ -127,11 +201,13 @@ fn note_reads(
 fn note_act(
     alloc: Global,
     reasons: &mut Reasons,
-    waiting: &mut RowSet,
+    initial_rows: &RowSet,
+    needed: &mut RowSet,
     act: &Act,
 ) -> Result<(), AllocError>
-    ensures { OnOk result ((table : List ℕ) (row : ℕ) (later : Option Reason)
-        → due reasons.new waiting.new table row later ≡ due reasons.old waiting.old table row
+    ensures { OnOk result ((table : Items ℕ) (row : ℕ) (later : Option Reason)
+        → due reasons.new initial_rows.now needed.new table row later
+        ≡ due reasons.old initial_rows.now needed.old table row
         (option_or (act_reason table row act.now) later)) }
 {
     match act {
@@ -140,24 +216,32 @@ fn note_act(
             tables: _,
             reads,
             made: _,
-        } => note_reads(alloc, reasons, waiting, *statement, reads.items()),
+        } => note_reads(
+            alloc,
+            reasons,
+            initial_rows,
+            needed,
+            *statement,
+            reads.items(),
+        ),
         _ => Ok(()),
     }
 }
 
-/// The first reason for each row that waits for one. A row that gets its reason waits no more, so that each
-/// further read of it costs the test of a bit.
+/// The first reason for each initial row. The rows that statements needed are taken out of those that a later one
+/// needs, so that only the first reads of a row are looked up.
 pub(crate) fn reasons_in(
     alloc: Global,
     events: &[Event],
-    waiting: &mut RowSet,
+    initial_rows: &RowSet,
 ) -> Result<Reasons, AllocError>
-    ensures { IfOk result (λ reasons. (table : List ℕ) (row : ℕ) → reason_at reasons table row
-        ≡ only_if (has_row waiting.old table row) (first_reason table row events.now)) }
+    ensures { IfOk result (λ reasons. (table : Items ℕ) (row : ℕ) → reason_at reasons table row
+        ≡ only_if (has_row initial_rows.now table row) (first_reason table row events.now)) }
 {
     let mut reasons = Reasons::new(alloc);
+    let mut needed = RowSet::new(alloc);
     for event in events {
-        note_act(alloc, &mut reasons, waiting, &event.act)?;
+        note_act(alloc, &mut reasons, initial_rows, &mut needed, &event.act)?;
     }
     Ok(reasons)
 }

@@ -1,7 +1,7 @@
 //! Sets of rows, as bits.
 
-ghost use Rattle.std.specs.Prelude.{◌≡◌, ◌==◌, ◌||◌, ◌&&◌, ◌<◌, ◌/◌, List as Items, ℕ, not, length, None};
-ghost use Rattle.std.specs.Prelude.{OnOk};
+ghost use Rattle.std.specs.Prelude.{◌≡◌, ◌==◌, ◌||◌, ◌&&◌, ◌<◌, ◌≤◌, ◌/◌, List as Items, ℕ, not, length};
+ghost use Rattle.std.specs.Prelude.{None, OnOk};
 ghost use Rattle.std.specs.BTreeMap.{get, get_by_text};
 ghost use Rattle.std.specs.Ordering.{nat_cmp};
 ghost use Rattle.lanes.specs.Sets.{member};
@@ -11,8 +11,8 @@ use ldv_value::{List, Utf8};
 use std::alloc::{AllocError, Global};
 use std::collections::BTreeMap;
 
-/// Numbers in blocks of 65,536: bit i of word j of block b is the number 65,536 * b + 64 * j + i. A block has the
-/// words up to that of its greatest number, and maybe more.
+/// Numbers in blocks of 4,096: bit i of word j of block b is the number 4,096 * b + 64 * j + i. A block has the
+/// words up to that of its greatest number, and maybe more, so a number far from all others takes 512 bytes.
 pub(crate) type Numbers = BTreeMap<u32, List<u64>>;
 
 /// Rows by table and number. A table's name is copied once.
@@ -20,7 +20,8 @@ pub(crate) type RowSet = BTreeMap<String, Numbers>;
 
 // ---- the bits of a block
 
-fn has_bit(words: &List<u64>, number: u32) -> bool
+/// Whether a number is in a block.
+pub(crate) fn has_bit(words: &List<u64>, number: u32) -> bool
     ensures { result ≡ member words.now number }
 {
     let place = (number / 64) as usize;
@@ -30,13 +31,14 @@ fn has_bit(words: &List<u64>, number: u32) -> bool
     (words.items()[place] >> (number % 64)) & 1 == 1
 }
 
-// Makes words up to that at a place.
+/// Makes a number of words, where there are fewer.
 #[tactic(auto, using(crate::proofs::RowSetLaws::padded))]
-fn grow(words: &mut List<u64>, place: usize) -> Result<(), AllocError>
-    ensures room { OnOk result (place < length words.new) }
+pub(crate) fn grow(words: &mut List<u64>, count: usize) -> Result<(), AllocError>
+    ensures room { OnOk result (count ≤ length words.new) }
+    ensures exact { OnOk result (length words.old ≤ count → length words.new ≡ count) }
     ensures bits { OnOk result ((n : ℕ) → member words.new n ≡ member words.old n) }
 {
-    while words.len() <= place {
+    while words.len() < count {
         words.push(0)?;
     }
     Ok(())
@@ -51,10 +53,11 @@ fn set_there(words: &mut List<u64>, number: u32)
     words.replace(place, word | (1 << (number % 64)));
 }
 
-fn set_bit(words: &mut List<u64>, number: u32) -> Result<(), AllocError>
+/// Adds a number to a block.
+pub(crate) fn set_bit(words: &mut List<u64>, number: u32) -> Result<(), AllocError>
     ensures { OnOk result ((n : ℕ) → member words.new n ≡ (n == number || member words.old n)) }
 {
-    grow(words, (number / 64) as usize)?;
+    grow(words, (number / 64) as usize + 1)?;
     set_there(words, number);
     Ok(())
 }
@@ -75,28 +78,28 @@ fn clear_bit(words: &mut List<u64>, number: u32)
 fn has_number(numbers: &Numbers, number: u32) -> bool
     ensures { result ≡ has_number numbers.now number }
 {
-    match numbers.get(&(number / 65_536)) {
+    match numbers.get(&(number / 4_096)) {
         None => false,
-        Some(words) => has_bit(words, number % 65_536),
+        Some(words) => has_bit(words, number % 4_096),
     }
 }
 
 // Adds a number whose block isn't there.
 fn add_block(alloc: Global, numbers: &mut Numbers, number: u32) -> Result<(), AllocError>
-    requires { get nat_cmp numbers.old (number / 65536) ≡ None }
+    requires { get nat_cmp numbers.old (number / 4096) ≡ None }
     ensures { OnOk result ((n : ℕ) → has_number numbers.new n ≡ (number == n || has_number numbers.old n)) }
 {
     let mut words = List::new(alloc);
-    set_bit(&mut words, number % 65_536)?;
-    numbers.insert(number / 65_536, words)?;
+    set_bit(&mut words, number % 4_096)?;
+    numbers.insert(number / 4_096, words)?;
     Ok(())
 }
 
 fn add_number(alloc: Global, numbers: &mut Numbers, number: u32) -> Result<(), AllocError>
     ensures { OnOk result ((n : ℕ) → has_number numbers.new n ≡ (number == n || has_number numbers.old n)) }
 {
-    match numbers.get_mut(&(number / 65_536)) {
-        Some(words) => set_bit(words, number % 65_536),
+    match numbers.get_mut(&(number / 4_096)) {
+        Some(words) => set_bit(words, number % 4_096),
         None => add_block(alloc, numbers, number),
     }
 }
@@ -104,8 +107,8 @@ fn add_number(alloc: Global, numbers: &mut Numbers, number: u32) -> Result<(), A
 fn remove_number(numbers: &mut Numbers, number: u32)
     ensures { (n : ℕ) → has_number numbers.new n ≡ (not (number == n) && has_number numbers.old n) }
 {
-    match numbers.get_mut(&(number / 65_536)) {
-        Some(words) => clear_bit(words, number % 65_536),
+    match numbers.get_mut(&(number / 4_096)) {
+        Some(words) => clear_bit(words, number % 4_096),
         None => {}
     }
 }

@@ -121,7 +121,7 @@ pub(crate) fn needed_tables(
     ensures { IfOk result (λ packed. packed ≡ tables_from events.now graph.now tables.now) }
 {
     let names = tables_named(alloc, events)?;
-    let mut waiting = initial_rows(alloc, graph)?;
-    let reasons = reasons_in(alloc, events, &mut waiting)?;
+    let initial = initial_rows(alloc, graph)?;
+    let reasons = reasons_in(alloc, events, &initial)?;
     pack_tables(alloc, &names, &reasons, tables)
 }

@@ -10,12 +10,8 @@ pub mod GoodTokens
 pub mod ListParts
 pub mod LogsGood
 pub mod LowBytes
-pub mod ProcessNames
-pub mod ProcessPlaces
 pub mod RunGood
 pub mod ScriptTokens
-pub mod SortedNames
 pub mod StepGood
-pub mod StepTrails
 pub mod StepValues
 pub mod TextParts

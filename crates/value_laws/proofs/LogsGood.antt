@@ -27,9 +27,9 @@ use Rattle.value_laws.specs.Literals.{GoodScript, ScriptLiteralsLaw, StatementLi
 use Rattle.value_laws.specs.Steps.{GoodWorld, GoodLog, GoodLogs, StepsLaw}
 use Rattle.value_laws.specs.Values.{GoodValues, GoodEntry}
 use Rattle.value_laws.proofs.RunGood.{GoodTrail, GoodProcess, GoodList, GoodState, run_good}
-use Rattle.value_laws.proofs.SortedNames.{goes_first, first_trans, sorted_all, names_sorted}
+use Rattle.run_laws.proofs.SortedNames.{goes_first, first_trans, sorted_all, names_sorted}
 use Rattle.value_laws.proofs.StepGood.{arguments_good}
-use Rattle.value_laws.proofs.StepTrails.{trail}
+use Rattle.run_laws.proofs.StepTrails.{trail}
 
 -- ---- logs of processes
 

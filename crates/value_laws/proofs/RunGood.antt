@@ -39,10 +39,10 @@ use Rattle.run_model.proofs.StepKeeps.{IsStatus, exit_byte}
 use Rattle.value_laws.specs.Answers.{GoodAnswer, AnswersLaw, NoStatementLaw}
 use Rattle.value_laws.specs.Literals.{GoodInstr, GoodScript, ScriptLiteralsLaw, StatementLiteralsLaw}
 use Rattle.value_laws.specs.Values.{GoodValue, GoodValues, GoodTables, GoodReply, GoodEntry}
-use Rattle.value_laws.proofs.ProcessNames.{Later, later_trail, set_grows, names_set, Named, named_later, child_named}
-use Rattle.value_laws.proofs.ProcessPlaces.{set_length, found_all, set_all}
+use Rattle.run_laws.proofs.ProcessNames.{Later, later_trail, set_grows, names_set, Named, named_later, child_named}
+use Rattle.run_laws.proofs.ProcessPlaces.{set_length, found_all, set_all}
 use Rattle.value_laws.proofs.StepGood.{GoodParts, operand_good, operands_good, end_good, place_good, on_good, variable_good, assign_good, good_cut, good_jump, good_line, good_fetch, good_close, good_open, good_read, good_write, good_copy, good_remove, good_test, GoodCursor, bound, arguments_good}
-use Rattle.value_laws.proofs.StepTrails.{Trail, trail, trail_assign, trail_cut, trail_jump, trail_line, trail_fetch, trail_close, trail_open, trail_read, trail_write, trail_copy, trail_remove, trail_test}
+use Rattle.run_laws.proofs.StepTrails.{Trail, trail, trail_assign, trail_cut, trail_jump, trail_line, trail_fetch, trail_close, trail_open, trail_read, trail_write, trail_copy, trail_remove, trail_test}
 use Rattle.value_laws.proofs.StepValues.{small_good, calculated_good, glued_good, to_number_good, counted_good, status_value_good}
 
 -- ---- processes

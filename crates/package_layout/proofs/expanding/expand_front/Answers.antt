@@ -2,7 +2,7 @@ use Rattle.std.proofs.Common.{rules, ◌++◌, ◌+◌, ◌-◌, ◌<◌, ◌≤
 use Rattle.run_model.specs.declared.event.Event.{Event}
 use Rattle.package_layout.specs.declared.run.Run.{Run}
 use Rattle.package_layout.specs.Runs.{at_step, steps_from}
-use Rattle.package_layout.proofs.Runs.{small_first, some_first, unasked_run, small_next, step_next, expand_next, expand_last}
+use Rattle.package_layout.proofs.RunFields.{small_first, some_first, unasked_run, small_next, step_next, expand_next, expand_last}
 use Rattle.package_layout.proofs.expanding.expand_front.Goals as goal
 
 pub loop-left-init : goal.loop-left-init

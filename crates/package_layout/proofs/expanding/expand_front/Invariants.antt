@@ -1,6 +1,6 @@
 use Rattle.std.proofs.Common.{◌≡◌, ◌≤◌, ◌++◌, map}
 use Rattle.package_layout.specs.Runs.{at_step, steps_from, run_events}
-use Rattle.package_layout.proofs.Runs.{SmallFrom}
+use Rattle.package_layout.proofs.RunFields.{SmallFrom}
 use Rattle.package_layout.proofs.expanding.expand_front.Given as goal
 
 -- what is left are the last events of the run

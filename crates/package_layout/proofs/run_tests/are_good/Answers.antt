@@ -1,6 +1,6 @@
 use Rattle.std.proofs.Common.{rules, ◌≡◌, ◌-◌, length, refl, sym, ◌∙◌, take, drop, true}
 use Rattle.package_layout.specs.Runs.{is_run, stops_before}
-use Rattle.package_layout.proofs.Runs.{good_next, head_of, not_false}
+use Rattle.package_layout.proofs.RunFields.{good_next, head_of, not_false}
 use Rattle.package_layout.proofs.run_tests.are_good.Goals as goal
 
 pub loop-left-preserved : goal.loop-left-preserved

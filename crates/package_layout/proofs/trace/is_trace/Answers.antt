@@ -1,5 +1,5 @@
 use Rattle.std.proofs.Common.{refl, ◌∙◌}
-use Rattle.package_layout.proofs.Runs.{head_of}
+use Rattle.package_layout.proofs.RunFields.{head_of}
 use Rattle.package_layout.proofs.RunTraces.{whole_trace}
 use Rattle.package_layout.proofs.trace.is_trace.Goals as goal
 

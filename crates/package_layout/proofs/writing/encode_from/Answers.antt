@@ -3,7 +3,7 @@ use Rattle.std.proofs.lemmas.Result.{on_ok_weaker}
 use Rattle.ldv_value.proofs.Lists.{nil-from-length}
 use Rattle.run_model.specs.declared.event.Event.{Event}
 use Rattle.package_layout.specs.Runs.{Begun, joins}
-use Rattle.package_layout.proofs.Runs.{stands_grown, stands_next, stands_last, due_grown, due_next, head_of}
+use Rattle.package_layout.proofs.RunFields.{stands_grown, stands_next, stands_last, due_grown, due_next, head_of}
 use Rattle.package_layout.proofs.writing.encode_from.Goals as goal
 
 pub returns-in-empty-clause-typed : goal.returns-in-empty-clause-typed

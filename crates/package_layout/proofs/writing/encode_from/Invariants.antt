@@ -1,7 +1,7 @@
 use Rattle.std.proofs.Common.{◌≡◌, ◌++◌, ◌∷◌, length, ◌+◌, ◌≤◌}
 use Rattle.std.specs.List.{flat_map}
 use Rattle.package_layout.specs.Runs.{run_spelling, runs_from, single}
-use Rattle.package_layout.proofs.Runs.{Stands}
+use Rattle.package_layout.proofs.RunFields.{Stands}
 use Rattle.package_layout.proofs.writing.encode_from.Given as goal
 
 -- what is written, and what is still due of the run that has begun and the events that are left

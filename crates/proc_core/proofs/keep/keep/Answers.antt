@@ -2,7 +2,7 @@ use Rattle.std.proofs.Common.{◌≡◌, List, refl, sym, subst, rules}
 use Rattle.std.specs.Prelude.{option_map, slice_get}
 use Rattle.proc_core.specs.declared.process.SlotProcess.{SlotProcess}
 use Rattle.proc_core.specs.SlotStep.{IsKept, next_slotted, slot_effect}
-use Rattle.proc_core.proofs.Counts.{effect_replies, fewer_kept}
+use Rattle.proc_core.proofs.Counts.{effect_counts, fewer_kept}
 use Rattle.proc_core.proofs.Growing.{grows_kept}
 use Rattle.proc_core.proofs.Machines.{get_none, none_core, none_told, next_core, next_told}
 use Rattle.proc_core.proofs.keep.keep.Goals as goal
@@ -41,4 +41,4 @@ pub returns-clause-counted : goal.returns-clause-counted
 returns-clause-counted g c =
     let instr = option_map (λ i. i.now) c.next_of-instr.result in
     fewer_kept c.args.machine _ c.args.who.number (λ r. (slot_effect instr c.args.machine.processes.items r c.args.machine.tree).process)
-    (λ r. effect_replies r instr c.args.machine.processes.items c.args.machine.tree) (search rules) c.in_ok-keep_by.ensures.processes refl
+    (λ r. effect_counts r instr c.args.machine.processes.items c.args.machine.tree) (search rules) c.in_ok-keep_by.ensures.processes refl refl

@@ -1,3 +1,6 @@
+use Rattle.std.proofs.Common.{ap, length}
+use Rattle.proc_core.specs.declared.machine.Machine.{Machine}
+use Rattle.proc_core.proofs.Counts.{fewer_same}
 use Rattle.proc_core.proofs.Launching.{launched_new}
 use Rattle.proc_core.proofs.launch.launch_new.Goals as goal
 
@@ -5,3 +8,9 @@ pub returns-clause-made : goal.returns-clause-made
 returns-clause-made g c =
     launched_new c.args.machine c.in_ok-more.more c.in_ok-launch.field-0 c.args.who.number c.args.slot c.len-index.result c.args.code c.args.arguments.now
     c.in_ok-more.ensures c.len-index.ensures c.in_ok-launch.ensures.made
+
+pub launch-requires-clause-counted : goal.launch-requires-clause-counted
+launch-requires-clause-counted g c =
+    let is = c.in_ok-more.ensures in
+    fewer_same c.args.machine c.in_ok-more.more (ap (λ (m : Machine). m.processes.items) is) (ap (λ (m : Machine). m.asked) is)
+    (ap (λ (m : Machine). length m.ready.flags) is) c.args.who.step c.requires.counted

@@ -24,4 +24,4 @@ returns-in-None-clause-grows g c =
 pub returns-in-None-clause-counted : goal.returns-in-None-clause-counted
 returns-in-None-clause-counted g c =
     fewer_idle c.args.machine c.with_misuse.result c.args.who.number (slot_ended bad_path) (λ r. refl) c.requires.within
-    c.with_misuse.ensures.left c.with_misuse.ensures.others
+    c.with_misuse.ensures.left c.with_misuse.ensures.others c.args.who.step c.requires.counted

@@ -74,20 +74,20 @@ returns-in_ok-launch_new-in-New-clause-grows g c =
 pub returns-in_ok-refuse-in-Absent-clause-counted : goal.returns-in_ok-refuse-in-Absent-clause-counted
 returns-in_ok-refuse-in-Absent-clause-counted g c =
     fewer_idle c.args.machine c.in_ok-refuse-in-Absent.field-0 c.args.who.number (slot_went_to c.args.place) (λ r. refl) c.requires.within
-    c.in_ok-refuse-in-Absent.ensures.left c.in_ok-refuse-in-Absent.ensures.others
+    c.in_ok-refuse-in-Absent.ensures.left c.in_ok-refuse-in-Absent.ensures.others c.args.who.step c.requires.counted
 
 pub returns-in_ok-refuse-in-Refused-clause-counted : goal.returns-in_ok-refuse-in-Refused-clause-counted
 returns-in_ok-refuse-in-Refused-clause-counted g c =
     fewer_idle c.args.machine c.in_ok-refuse-in-Refused.field-0 c.args.who.number (slot_went_to c.args.place) (λ r. refl) c.requires.within
-    c.in_ok-refuse-in-Refused.ensures.left c.in_ok-refuse-in-Refused.ensures.others
+    c.in_ok-refuse-in-Refused.ensures.left c.in_ok-refuse-in-Refused.ensures.others c.args.who.step c.requires.counted
 
 pub returns-in_ok-launch-in-Known-clause-counted : goal.returns-in_ok-launch-in-Known-clause-counted
 returns-in_ok-launch-in-Known-clause-counted g c =
     let of = subst (IsProgram c.args.machine c.args.path) c.in-Known.is c.in_ok-program_at.ensures in
     fewer_known c.args.machine c.in_ok-launch-in-Known.field-0 c.args.who.number c.args.child c.in-Known.index of.2.1.2 c.args.arguments c.requires.within
-    of.2.1.5 c.in_ok-launch-in-Known.ensures.made
+    of.2.1.5 c.in_ok-launch-in-Known.ensures.made c.args.who.step c.requires.counted
 
 pub returns-in_ok-launch_new-in-New-clause-counted : goal.returns-in_ok-launch_new-in-New-clause-counted
 returns-in_ok-launch_new-in-New-clause-counted g c =
     fewer_new c.args.machine c.in_ok-launch_new-in-New.field-0 c.args.who.number c.args.child (length c.args.machine.codes) c.in-New.code c.args.arguments
-    c.requires.within c.in_ok-launch_new-in-New.ensures.made
+    c.requires.within c.in_ok-launch_new-in-New.ensures.made c.args.who.step c.requires.counted

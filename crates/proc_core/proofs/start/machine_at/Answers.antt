@@ -10,4 +10,5 @@ returns-clause-core c = λ script files same is.
 
 pub returns-clause-counted : goal.returns-clause-counted
 returns-clause-counted c =
-    fewer_first _ c.in_ok-process.process refl (search rules) (ap length (c.in_ok-process.ensures []).replies)
+    fewer_first _ c.in_ok-process.process refl (search rules) (ap length (c.in_ok-process.ensures []).replies) (c.in_ok-process.ensures []).spawned
+    c.in_ok-ready.ensures

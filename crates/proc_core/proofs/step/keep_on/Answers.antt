@@ -4,6 +4,7 @@ use Rattle.run_model.specs.Events.{event_at}
 use Rattle.run_model.specs.Step.{quiet, ends_at, status_acts}
 use Rattle.proc_core.specs.SlotStep.{slot_status_in}
 use Rattle.proc_core.specs.Stands.{Told}
+use Rattle.proc_core.proofs.Counts.{fewer_next}
 use Rattle.proc_core.proofs.Machines.{ends_same, told_more}
 use Rattle.proc_core.proofs.step.keep_on.Goals as goal
 
@@ -18,3 +19,7 @@ returns-clause-told g c = λ core is.
     (subst (λ (acts : List Act). Told g.T.Tracer.KEEPS mid new (map (event_at who.step who.number) acts))
     (ap status_acts status ∙ ends_same c.in_ok-after.after who.number (quiet who.number core).core (c.in_ok-after.ensures.core core is))
     c.in_ok-tell_status.ensures)
+
+pub returns-clause-counted : goal.returns-clause-counted
+returns-clause-counted g c =
+    fewer_next c.in_ok-after.after c.args.who.step (c.in_ok-after.ensures.counted c.args.who.step c.requires.counted)

@@ -1,5 +1,4 @@
 use Rattle.std.proofs.Common.{sym, ◌∙◌}
-use Rattle.proc_core.proofs.Counts.{fewer_next}
 use Rattle.proc_core.proofs.StepSame.{quiet_state, quiet_told}
 use Rattle.proc_core.proofs.step.move_by.Goals as goal
 
@@ -13,6 +12,3 @@ returns-in-Ok-clause-told g c = λ s is.
     quiet_told g.D.Database.base c.args.machine c.args.who.number c.args.who.step (g.D.Database.seen c.args.db.now) s
     g.T.Tracer.KEEPS (g.T.Tracer.events c.args.tracer.now) (g.T.Tracer.events c.quiet_on.new.tracer)
     (sym c.requires.asked ∙ c.in-None.is) c.in-Ok.ensures.told is
-
-pub returns-in-Ok-clause-counted : goal.returns-in-Ok-clause-counted
-returns-in-Ok-clause-counted g c = fewer_next c.in-Ok.after c.args.who.step (c.in-Ok.ensures.counted c.args.who.step c.requires.counted)

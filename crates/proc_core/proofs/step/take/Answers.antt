@@ -15,4 +15,4 @@ returns-clause-grows c =
 
 pub returns-clause-counted : goal.returns-clause-counted
 returns-clause-counted c =
-    fewer_taken c.args.machine _ c.args.number c.args.cursor c.args.reply c.requires.within c.in_ok-take_at.ensures (search rules)
+    fewer_taken c.args.machine _ c.args.number c.args.cursor c.args.reply c.requires.within c.in_ok-take_at.ensures (search rules) refl

@@ -5,7 +5,7 @@ use Rattle.run_model.specs.SqlDatabase.{SqlDatabase}
 use Rattle.sql_engine.specs.Asking.{database}
 use Rattle.run_model.proofs.StartScripts.{has_script, has_word}
 use Rattle.proc_core.proofs.StartScripts.{start_script_is}
-use Rattle.replay_db.specs.KeptReplies.{Keeping}
+use Rattle.run_laws.specs.KeptReplies.{Keeping}
 use Rattle.replay_db.specs.Logging.{keeping}
 use Rattle.replay_db.proofs.logged.begin.Goals as goal
 

@@ -7,7 +7,7 @@ use Rattle.run_model.specs.SqlDatabase.{sql_base}
 use Rattle.run_model.specs.Start.{start_state}
 use Rattle.run_model.proofs.StartScripts.{has_script}
 use Rattle.replay_db.proofs.EndedRuns.{ends_as, counts_as, told_all}
-use Rattle.replay_db.proofs.SqlAnswers.{never_diverged, not_over}
+use Rattle.run_laws.proofs.SqlAnswers.{never_diverged, not_over}
 use Rattle.replay_db.proofs.run.run_to_end.Goals as goal
 
 pub returns-in-Ok-clause-state : goal.returns-in-Ok-clause-state

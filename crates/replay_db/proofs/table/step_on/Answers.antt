@@ -7,7 +7,7 @@ use Rattle.proc_core.proofs.StepSame.{over_same}
 use Rattle.run_model.specs.Core.{is_over}
 use Rattle.run_model.specs.Run.{move}
 use Rattle.run_model.specs.SqlDatabase.{sql_base}
-use Rattle.replay_db.proofs.TableSteps.{step_answered}
+use Rattle.run_laws.proofs.TableSteps.{step_answered}
 use Rattle.replay_db.proofs.table.step_on.Goals as goal
 
 pub unreachable-requires : goal.unreachable-requires

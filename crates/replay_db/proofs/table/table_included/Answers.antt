@@ -5,7 +5,7 @@ use Rattle.sql_model.specs.Scope.{table_at}
 use Rattle.replay_db.specs.Runs.{CanRun}
 use Rattle.replay_db.specs.TableAt.{IsDueStop, table_of_run}
 use Rattle.replay_db.specs.Types.{World}
-use Rattle.replay_db.proofs.TableSteps.{own_there}
+use Rattle.run_laws.proofs.TableSteps.{own_there}
 use Rattle.replay_db.proofs.table.table_included.Goals as goal
 
 pub table_of_run-requires-clause-there : goal.table_of_run-requires-clause-there

@@ -4,7 +4,7 @@ use Rattle.sql_engine.specs.Asking.{database}
 use Rattle.sql_engine.specs.Types.{StoreHistory}
 use Rattle.sql_model.specs.Scope.{table_at}
 use Rattle.replay_db.specs.Types.{Table}
-use Rattle.replay_db.proofs.TableSteps.{first_or, kept_not, kept_there, no_table}
+use Rattle.run_laws.proofs.TableSteps.{first_or, kept_not, kept_there, no_table}
 use Rattle.replay_db.proofs.table.table_now.Goals as goal
 
 pub unreachable-requires : goal.unreachable-requires

@@ -11,7 +11,7 @@ use Rattle.sql_engine.specs.Types.{StoreHistory}
 use Rattle.sql_model.specs.Scope.{table_at}
 use Rattle.ldv_value.proofs.Options.{is_some-true}
 use Rattle.replay_db.proofs.TableDue.{due_is, gives_due, gone_ended, gone_steps}
-use Rattle.replay_db.proofs.TableSteps.{there_after}
+use Rattle.run_laws.proofs.TableSteps.{there_after}
 use Rattle.replay_db.proofs.table.table_of_run.Goals as goal
 
 pub go_on-requires-clause-stands : goal.go_on-requires-clause-stands

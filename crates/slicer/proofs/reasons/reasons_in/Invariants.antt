@@ -5,4 +5,4 @@ use Rattle.slicer.specs.Rows.{due, has_row}
 use Rattle.slicer.proofs.reasons.reasons_in.Given as goal
 
 abbrev pub invariant-loop-event : goal.invariant-loop-event
-invariant-loop-event l = (table : List ℕ) (row : ℕ) → due l.reasons l.waiting table row (first_reason table row (drop l.event-index l.events)) ≡ only_if (has_row l.fn.waiting table row) (first_reason table row l.events)
+invariant-loop-event l = (table : List ℕ) (row : ℕ) → due l.reasons l.initial_rows l.needed table row (first_reason table row (drop l.event-index l.events)) ≡ only_if (has_row l.initial_rows table row) (first_reason table row l.events)

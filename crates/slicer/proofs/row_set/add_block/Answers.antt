@@ -10,4 +10,4 @@ returns c =
     (ap (λ (o : Option (List ℕ)). unwrap_or o []) c.requires)
     c.in_ok-insert.ensures.updates
     (λ a b. a || b) (λ b. refl)
-    (λ k. c.in_ok-set_bit.ensures k ∙ ap (λ (ws : List ℕ). (k == c.args.number % 65536) || member ws k) c.new-words.ensures)
+    (λ k. c.in_ok-set_bit.ensures k ∙ ap (λ (ws : List ℕ). (k == c.args.number % 4096) || member ws k) c.new-words.ensures)

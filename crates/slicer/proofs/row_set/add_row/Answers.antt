@@ -20,6 +20,6 @@ returns-in-Some c =
     λ q. btree_map_updates_text text old new (Some made) ((c.get_mut.follows.holds made).3 (search rules)) q
     ∙ ap (λ (k : List ℕ). cond (bytes_eq k q) (Some made) (get_by_text old q)) is in
     on_ok_weaker c.add_number.result
-    (λ steps. rows_written old new table c.args.row made updates (λ a b. a || b) (λ b. refl)
+    (λ steps. rows_written old new table (λ r. c.args.row == r) made updates (λ a b. a || b) (λ b. refl)
     (λ r. steps r ∙ ap (λ (o : Option (BTreeMap ℕ (List ℕ))). (c.args.row == r) || has_among o r) was))
     c.add_number.ensures

@@ -20,4 +20,4 @@ returns c =
     λ r. c.in_ok-add_number.ensures r
     ∙ ap (λ b. (c.args.row == r) || b)
     (no_numbers c.new-numbers.result c.new-numbers.ensures.empty r ∙ ap (λ (o : Option (BTreeMap ℕ (List ℕ))). has_among o r) (sym c.requires)) in
-    rows_written old new table c.args.row numbers updates (λ a b. a || b) (λ b. refl) steps
+    rows_written old new table (λ r. c.args.row == r) numbers updates (λ a b. a || b) (λ b. refl) steps

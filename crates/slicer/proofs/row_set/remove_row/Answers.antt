@@ -18,5 +18,5 @@ returns-in-Some c =
     let updates : (q : List ℕ) → get_by_text new q ≡ cond (bytes_eq table q) (Some made) (get_by_text old q) =
     λ q. btree_map_updates_text text old new (Some made) ((c.get_mut.follows.holds made).3 (search rules)) q
     ∙ ap (λ (k : List ℕ). cond (bytes_eq k q) (Some made) (get_by_text old q)) is in
-    rows_written old new table c.args.row made updates (λ a b. not a && b) (λ b. refl)
+    rows_written old new table (λ r. c.args.row == r) made updates (λ a b. not a && b) (λ b. refl)
     (λ r. c.remove_number.ensures r ∙ ap (λ (o : Option (BTreeMap ℕ (List ℕ))). not (c.args.row == r) && has_among o r) was)

@@ -9,7 +9,7 @@ use Rattle.slicer.proofs.tables.needed_tables.Goals as goal
 pub returns : goal.returns
 returns c =
     let reasons : (table : List ℕ) (row : ℕ) → reason_at c.in_ok-reasons.reasons table row ≡ graph_reason c.args.events.now c.args.graph.now table row =
-    λ table row. c.in_ok-reasons.ensures table row ∙ ap (λ b. only_if b (first_reason table row c.args.events.now)) (c.in_ok-waiting.ensures table row) in
+    λ table row. c.in_ok-reasons.ensures table row ∙ ap (λ b. only_if b (first_reason table row c.args.events.now)) (c.in_ok-initial.ensures table row) in
     IfOk-weaker c.pack_tables.result _ _
     (λ packed is. is ∙ (λ i. tables_because (λ table row. reasons table row i) (λ name. c.in_ok-names.ensures name i) c.args.tables.now))
     c.pack_tables.ensures

@@ -1,6 +1,22 @@
+use Rattle.std.proofs.Common.{rules, ◌≡◌, ◌+◌, ap, length}
+use Rattle.ready_set.specs.Ready.{Ready}
 use Rattle.proc_core.proofs.Advances.{chosen_may_run}
+use Rattle.proc_core.proofs.Counts.{fewer_same, fewer_refreshed}
 use Rattle.proc_core.proofs.Stepping.{goes_on, tells, stops}
 use Rattle.proc_core.proofs.run.Run.advance.Goals as goal
+
+pub move_on-requires-clause-counted : goal.move_on-requires-clause-counted
+move_on-requires-clause-counted g c =
+    let scheduled = c.schedule-scheduled.result in
+    let is = c.schedule-scheduled.ensures in
+    let items : scheduled.processes.items ≡ c.args.self.machine.processes.items = search rules in
+    fewer_same c.args.self.machine scheduled items is.asked (ap (λ (set : Ready). length set.flags) is.ready)
+    (c.args.self.steps + 1) c.args.self.counted
+
+pub invariant_of-result-clause-counted : goal.invariant_of-result-clause-counted
+invariant_of-result-clause-counted g c =
+    fewer_refreshed c.in-Ok.after c.refresh.result c.choose-number.result (c.args.self.steps + 1 + 1)
+    c.refresh.ensures.flags c.refresh.ensures.others c.in-Ok.ensures.counted
 
 pub returns-in-Err-clause-runs : goal.returns-in-Err-clause-runs
 returns-in-Err-clause-runs g c = λ s is. chosen_may_run c.args.self.machine (g.D.Database.seen c.args.self.db) s c.requires.going is

@@ -1,4 +1,4 @@
-use Rattle.std.proofs.Common.{◌≡◌, ◌≤◌, ◌^◌, arith}
+use Rattle.std.proofs.Common.{arith}
 use Rattle.ready_set.proofs.SeenLaws.{seen_made, kept_small}
 use Rattle.ready_set.proofs.set.ReadySet.made.Goals as goal
 

@@ -1,4 +1,4 @@
-use Rattle.std.proofs.Common.{◌≡◌, ◌<◌, ◌∙◌, ℕ, ap, sym, arith}
+use Rattle.std.proofs.Common.{◌∙◌, ℕ, ap, sym, arith}
 use Rattle.std.specs.Prelude.{slice_get}
 use Rattle.ready_set.specs.Ready.{numbers}
 use Rattle.ready_set.proofs.NumberLaws.{find_next, find_none}

@@ -1,4 +1,4 @@
-use Rattle.std.proofs.Common.{◌≡◌, ◌<◌, ◌≤◌, ◌^◌, ◌∙◌, List, Bool, set, ap, arith}
+use Rattle.std.proofs.Common.{◌<◌, ◌∙◌, List, Bool, set, ap, arith}
 use Rattle.ready_set.proofs.SeenLaws.{seen_flags, seen_room, seen_made, seen_with, kept_small, flags-set, kept-set}
 use Rattle.ready_set.proofs.set.ReadySet.set.Goals as goal
 

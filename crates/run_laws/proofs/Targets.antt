@@ -1,0 +1,96 @@
+-- The table that a statement changes, in a database and in the same without what was cut.
+use Rattle.std.proofs.Common.{◌≡◌, ℕ, List, [], ◌∷◌, refl, sym, ap, ◌∙◌, Bool, true, inl, inr}
+use Rattle.std.specs.Prelude.{Option, Some, None, option_map, map, filter}
+use Rattle.std.specs.List.{list_any, list_all}
+use Rattle.std.proofs.lemmas.Bool.{cases_Bool, and_parts}
+use Rattle.sql_model.specs.declared.statement.Statement.TheVariants.{Query as TheQuery, Insert as TheInsert, Update as TheUpdate, Delete as TheDelete}
+use Rattle.sql_model.specs.Needs.{is_named, table_name, asked_tables}
+use Rattle.sql_model.specs.Scope.{is_table, table_at}
+use Rattle.sql_model.specs.Statements.{target}
+use Rattle.ldv_value.specs.Sorted.{is_strictly_sorted}
+use Rattle.ldv_value.proofs.SameBytes.{bytes_eq-true}
+use Rattle.sql_model.specs.Tables.{is_valid_table, table_precedes, is_database}
+use Rattle.sql_laws.specs.StatementLaw.{KeepsAsked}
+use Rattle.run_laws.specs.Types.{Statement, Table}
+use Rattle.run_model.specs.Between.{Cut, cut_table, cut_tables}
+
+-- ---- tables by name
+
+-- a table that is found is one of those that pass the test, where all do
+pub table_passes : (p : Table → Bool) (name : List ℕ) (db : List Table) (t : Table) → list_all p db ≡ true
+    → table_at name db ≡ Some t → p t ≡ true
+table_passes p name [] t all is = cc
+table_passes p name (u ∷ us) t all is =
+    let both = and_parts (p u) (list_all p us) all in
+    elim (cases_Bool (is_table name u)) [
+      | inl hit ↦ let e : Some u ≡ Some t = rw hit at is in let same : u ≡ t = cc in ap p (sym same) ∙ both.0
+      | inr miss ↦ table_passes p name us t both.1 (rw miss at is)
+    ]
+
+pub valid_table : (name : List ℕ) (db : List Table) (t : Table) → is_database db ≡ true → table_at name db ≡ Some t
+    → is_valid_table t ≡ true
+valid_table name db t valid is =
+    table_passes is_valid_table name db t (and_parts (list_all is_valid_table db) (is_strictly_sorted table_precedes db) valid).0 is
+
+module _ (cut : Cut) (name : List ℕ) where
+  -- a table that stays is found as it was, but for the rows that are cut
+  found_cut : cut.table name ≡ true → (db : List Table)
+      → table_at name (cut_tables cut db) ≡ option_map (cut_table cut) (table_at name db)
+  found_cut stays [] = refl
+  found_cut stays (t ∷ ts) = elim (cases_Bool (is_table name t)) [
+    | inl hit ↦
+        let here : cut.table t.name ≡ true = ap cut.table (bytes_eq-true t.name name hit) ∙ stays in
+        rw (here, hit) refl
+    | inr miss ↦ elim (cases_Bool (cut.table t.name)) [
+      | inl here ↦ rw (here, miss) (found_cut stays ts)
+      | inr goes ↦ rw (goes, miss) (found_cut stays ts)
+    ]
+  ]
+
+  none_cut : (db : List Table) → table_at name db ≡ None → table_at name (cut_tables cut db) ≡ None
+  none_cut [] none = refl
+  none_cut (t ∷ ts) none = elim (cases_Bool (is_table name t)) [
+    | inl hit ↦ let never : Some t ≡ None = rw hit at none in cc
+    | inr miss ↦
+        let rest : table_at name ts ≡ None = rw miss at none in
+        elim (cases_Bool (cut.table t.name)) [
+          | inl here ↦ rw (here, miss) (none_cut ts rest)
+          | inr goes ↦ rw goes (none_cut ts rest)
+        ]
+  ]
+
+  -- a table that is named and there stays
+  asked_stays : (asks : Table → Bool) → ((t : Table) → is_table name t ≡ true → asks t ≡ true) → (db : List Table) (t : Table)
+      → table_at name db ≡ Some t → KeepsAsked cut.table (map table_name (filter asks db)) → cut.table name ≡ true
+  asked_stays asks named [] t is k = cc
+  asked_stays asks named (u ∷ us) t is k = elim (cases_Bool (is_table name u)) [
+    | inl hit ↦
+        let kk : KeepsAsked cut.table (u.name ∷ map table_name (filter asks us)) = rw (named u hit) at k in
+        ap cut.table (sym (bytes_eq-true u.name name hit)) ∙ kk.0
+    | inr miss ↦ elim (cases_Bool (asks u)) [
+      | inl asked ↦
+          let kk : KeepsAsked cut.table (u.name ∷ map table_name (filter asks us)) = rw asked at k in
+          asked_stays asks named us t (rw miss at is) kk.1
+      | inr idle ↦ asked_stays asks named us t (rw miss at is) (rw idle at k)
+    ]
+  ]
+
+  at_cut : (asks : Table → Bool) → ((t : Table) → is_table name t ≡ true → asks t ≡ true) → (db : List Table)
+      → KeepsAsked cut.table (map table_name (filter asks db))
+      → table_at name (cut_tables cut db) ≡ option_map (cut_table cut) (table_at name db)
+  at_cut asks named db k = by (table_at name db) refl
+    where
+      by : (o : Option Table) → table_at name db ≡ o → table_at name (cut_tables cut db) ≡ option_map (cut_table cut) (table_at name db)
+      by None is = none_cut db is ∙ sym (ap (option_map (cut_table cut)) is)
+      by (Some t) is = found_cut (asked_stays asks named db t is k) db
+
+first_named : (name : List ℕ) (t : Table) → is_table name t ≡ true → list_any (λ other. is_table other t) (name ∷ []) ≡ true
+first_named name t hit = rw hit refl
+
+-- the table that a statement changes, where the tables that it names stay
+pub target_cut : (cut : Cut) (s : Statement) (db : List Table) → KeepsAsked cut.table (asked_tables (Some s) db)
+    → target s (cut_tables cut db) ≡ option_map (cut_table cut) (target s db)
+target_cut cut (TheQuery query) db k = refl
+target_cut cut (TheInsert insert) db k = at_cut cut insert.table (is_named (TheInsert insert)) (λ t hit. first_named insert.table t hit) db k
+target_cut cut (TheUpdate update) db k = at_cut cut update.table (is_named (TheUpdate update)) (λ t hit. first_named update.table t hit) db k
+target_cut cut (TheDelete delete) db k = at_cut cut delete.table (is_named (TheDelete delete)) (λ t hit. first_named delete.table t hit) db k
