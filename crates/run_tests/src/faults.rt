@@ -1,5 +1,5 @@
-//! The program over streams of which one call fails. Call by call fails, from the first on, until the program is
-//! done: the call that would fail then isn't made.
+//! The program over streams of which one call fails. Call by call fails, from the first on, until the
+//! program is done: the call that would fail then isn't made.
 
 use crate::streams::{Ended, call};
 use std::alloc::{AllocError, Global};
@@ -23,7 +23,8 @@ fn expect(rt: &impl Abort, ended: &Ended, status: u8, written: &str, line: &str)
     assert!(rt; ended.line.as_slice() == line.as_bytes());
 }
 
-// Whether a call of the program is done. Where it isn't, the fault is that of a read, and nothing was written.
+// Whether a call of the program is done. Where it isn't, the fault is that of a read, and nothing was
+// written.
 fn done_or_unread(rt: &impl Abort, ended: &Ended) -> bool {
     if ended.status == 0 {
         return true;
@@ -60,8 +61,8 @@ fn written(
     Ok(ended.written)
 }
 
-// Whether a call of the program is done. Where it isn't, the fault is that of a write, and of all that it writes
-// ten bytes stay by each write before.
+// Whether a call of the program is done. Where it isn't, the fault is that of a write, and of all that it
+// writes ten bytes stay by each write before.
 fn done_or_unwritten(rt: &impl Abort, ended: &Ended, whole: &[u8], before: usize) -> bool {
     assert!(rt; whole.starts_with(ended.written.as_slice()));
     if ended.status == 0 {

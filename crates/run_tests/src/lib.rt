@@ -1,14 +1,14 @@
-//! Tests of what neither a proof nor a case of bytes shows: which rows each part of an answer comes from, tables
-//! through time, sizes, streams that fail, and calls that no command makes.
+//! Tests of what neither a proof nor a case of bytes shows: which rows each part of an answer comes from,
+//! tables through time, sizes, streams that fail, and calls that no command makes.
 //!
 //! It has the tests of all that runs: queries, changes, worlds, packages and the program. `library_tests` has
 //! those of the libraries below. Neither has any code but tests, so that no library is proved twice for its
 //! tests; they are two so that the gate runs them side by side. What bytes can show belongs into the cases of
 //! `conformance`.
 //!
-//! Statements are over one table t with the columns k INT NOT NULL, g TEXT and v INT, the key k and a few rows
-//! (`rows.rt`), but for those over hundreds of thousands of rows (`sizes.rt`). What they give was worked out by
-//! hand.
+//! Statements are over one table t with the columns k INT NOT NULL, g TEXT and v INT, the key k and a few
+//! rows (`rows.rt`), but for those over hundreds of thousands of rows (`sizes.rt`). What they give was
+//! worked out by hand.
 #![tactic(auto)]
 
 #[cfg(test)]

@@ -41,8 +41,8 @@ fn document(alloc: Global, count: u32, first: &str, last: &str) -> Result<String
     Ok(text)
 }
 
-// A document within the limit: 1,023 rows of 65,536 letters, and one of fewer. A row takes more bytes in a package
-// than in JSON.
+// A document within the limit: 1,023 rows of 65,536 letters, and one of fewer. A row takes more bytes in a
+// package than in JSON.
 fn long_document(alloc: Global, last: usize) -> Result<String, AllocError> {
     let first = letters(alloc, 65_536)?;
     let last = letters(alloc, last)?;

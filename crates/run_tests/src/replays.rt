@@ -1,5 +1,5 @@
-//! Runs over recorded replies with a tracer that keeps events, and under a recorder. No command does the one or the
-//! other.
+//! Runs over recorded replies with a tracer that keeps events, and under a recorder. No command does the
+//! one or the other.
 
 ghost use Rattle.std.specs.Prelude.{◌≡◌, IfOk, true};
 ghost use Rattle.ldv_value.specs.FileState.{files_test, untouched};
