@@ -73,7 +73,7 @@ fn joining(alloc: Global, count: u32) -> Result<String, AllocError> {
 
 fn is_number(values: &Values, number: usize) -> bool {
     match values.items() {
-        [Value::Int(value)] => *value == number as i64,
+        [Value::Int(value)] => *value >= 0 && *value as u64 == number as u64,
         _ => false,
     }
 }

@@ -52,7 +52,7 @@ fn errors_of(alloc: Global, write: u64) -> Result<MemorySink, AllocError> {
     MemorySink::new(alloc, 100, 3, calls(alloc, write)?)
 }
 
-fn ended(
+fn left_by(
     alloc: Global,
     status: u8,
     sink: &MemorySink,
@@ -75,7 +75,7 @@ fn call_over(
     let mut sink = sink_of(alloc, faults.1)?;
     let mut errors = errors_of(alloc, faults.2)?;
     let status = ldv_main(alloc, words, source, &mut sink, &mut errors);
-    ended(alloc, status, &sink, &errors)
+    left_by(alloc, status, &sink, &errors)
 }
 
 /// Calls the program over streams of pieces of 10 bytes.
