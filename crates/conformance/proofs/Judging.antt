@@ -22,7 +22,7 @@ wanted_by case d is all =
       status = is.status.0 (is_none-true d.status one.0);
       steady_status = is.steady_status.0 (is_none-true d.steady_status two.0);
       output = is.output.0 (is_none-true d.output three.0);
-      error = is.error.0 (is_none-true d.error three.1)
+      error = is.error.0 (is_none-true d.error three.1);
     }
 
 pub as_wanted : (case : Case) {E : Type 0} (judged : Result Differences E) (old new : ℕ) → IfOk judged (IsJudged case) → new ≡ (if is_same judged then old else min (old + 1) (2 ^ 64 - 1)) → new ≡ 0 → IsAsWanted case

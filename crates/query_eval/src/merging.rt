@@ -3,6 +3,7 @@
 ghost use Rattle.std.specs.Prelude.{◌≡◌, ◌++◌, ◌∷◌, [], ℕ, Bool, List as Items, map, IfOk, OnOk};
 ghost use Rattle.std.specs.Prelude.{Some, None};
 ghost use Rattle.std.specs.BTreeMap as tree;
+ghost use Rattle.lineage.specs.Lineage.{union_of};
 ghost use Rattle.lineage.specs.Rows.{AnswersStandFor};
 ghost use Rattle.query_eval.specs.Merging.{own_values, merged, place_of, with_more, absorbed, IsIndex};
 ghost use Rattle.query_eval.specs.Types.{Value as Seen};
@@ -65,11 +66,19 @@ fn place_in<'a>(places: &Places<'a>, values: &'a Values) -> Option<usize>
     places.get(&ByOrder::of(values)).copied()
 }
 
+// Adds other rows.
+fn unite(rows: &mut LineageRows, other: &LineageRows) -> Result<(), AllocError>
+    ensures { OnOk result (rows.new ≡ union_of rows.old other.now) }
+{
+    rows.union(other)?;
+    Ok(())
+}
+
 // Adds the lineage of another answer of the same values.
 fn take_lineage(answer: &mut Answer, other: &Answer) -> Result<(), AllocError>
     ensures { OnOk result (answer.new ≡ with_more answer.old other.now) }
 {
-    answer.lineage.union(&other.lineage)
+    unite(&mut answer.lineage, &other.lineage)
 }
 
 // Adds the lineage of an answer to that of the answer at a place.
@@ -88,7 +97,7 @@ fn copy_of(alloc: Global, rows: &LineageRows) -> Result<LineageRows, AllocError>
     ensures { IfOk result (λ copy. copy ≡ rows.now) }
 {
     let mut copy = LineageRows::empty(alloc);
-    copy.union(rows)?;
+    unite(&mut copy, rows)?;
     Ok(copy)
 }
 

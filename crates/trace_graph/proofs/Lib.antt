@@ -9,3 +9,6 @@ pub mod GraphLaw
 pub mod TraceLaws
 pub mod GraphFacts
 pub mod VersionFacts
+pub mod Repeats
+pub mod WellFormedParts
+pub mod WellFormedTraces

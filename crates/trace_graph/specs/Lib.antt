@@ -4,3 +4,4 @@ pub mod Graph
 pub mod GraphLaws
 pub mod VersionLaws
 pub mod Building
+pub mod WellFormed

@@ -2,6 +2,7 @@
 
 ghost use Rattle.trace_graph.specs.GraphLaws.{NodesLaw, EdgesLaw, IntervalsLaw};
 ghost use Rattle.trace_graph.specs.VersionLaws.{VersionsLaw, MadeLaw};
+ghost use Rattle.trace_graph.specs.WellFormed.{WellFormedLaw, EndLaw};
 
 /// A graph has the nodes of its links and no other, goes from node to node exactly where they do, and has the
 /// time of each of them in an interval. So it has the row versions that statements read, make or change and
@@ -13,4 +14,11 @@ pub fn graph_law()
     ensures intervals { IntervalsLaw }
     ensures versions { VersionsLaw }
     ensures made { MadeLaw }
+{}
+
+/// The graph of a valid trace is well formed, where the run may have that many steps, and its edges end by the last
+/// of them.
+pub fn well_formed_law()
+    ensures formed { WellFormedLaw }
+    ensures end { EndLaw }
 {}

@@ -12,7 +12,10 @@
 //! - `NodeKey` is a node without a copy of its texts, `key_of` and `node_at` lead from one to the other
 //!   (`node_of` of `specs/Building.antt`);
 //! - `graph_law`: which nodes and edges a graph has, said of the links that it was made of
-//!   (`specs/GraphLaws.antt`), and which row versions, said of the events (`specs/VersionLaws.antt`).
+//!   (`specs/GraphLaws.antt`), and which row versions, said of the events (`specs/VersionLaws.antt`);
+//! - `Graph::of_parts` is the graph of a list of nodes and a list of edges that are well formed together
+//!   (`specs/WellFormed.antt`), `is_well_formed` tests it, and `well_formed_law` says so of the graph of a valid
+//!   trace.
 //!
 //! Nodes and edges are numbered by hash tables over the texts of the events, so that time and memory are
 //! linear in the trace. No clause says so. `place` keeps no table, and looks at each node.
@@ -26,9 +29,11 @@ mod law;
 mod linking;
 mod node;
 mod span;
+mod well_formed;
 
 pub use edge::{Edge, Edges};
 pub use graph::Graph;
 pub use key::{NodeKey, key_of, node_at};
-pub use law::graph_law;
+pub use law::{graph_law, well_formed_law};
 pub use node::{Node, Nodes};
+pub use well_formed::is_well_formed;
