@@ -14,8 +14,8 @@ fn row_of_t(number: u32) -> (i64, Option<&'static str>, Option<i64>) {
     }
 }
 
-/// Appends a number or NULL to a row.
-pub(crate) fn push_number(values: &mut Values, number: Option<i64>) -> Result<(), AllocError> {
+// Appends a number or NULL to a row.
+fn push_number(values: &mut Values, number: Option<i64>) -> Result<(), AllocError> {
     match number {
         Some(number) => values.push(Value::Int(number)),
         None => values.push(Value::Null),
@@ -36,15 +36,6 @@ fn push_row(alloc: Global, values: &mut Values, number: u32) -> Result<(), Alloc
     push_number(values, Some(k))?;
     push_text(alloc, values, g)?;
     push_number(values, v)
-}
-
-/// v and k of a row of t.
-pub(crate) fn v_and_k(alloc: Global, number: u32) -> Result<Values, AllocError> {
-    let (k, _g, v) = row_of_t(number);
-    let mut values = Values::new(alloc);
-    push_number(&mut values, v)?;
-    push_number(&mut values, Some(k))?;
-    Ok(values)
 }
 
 /// k, g and v of rows of t, one row after another.

@@ -4,7 +4,7 @@ ghost use Rattle.std.specs.Prelude.{◌≡◌, IfOk, true};
 ghost use Rattle.sql_model.specs.Tables.{have_distinct_columns, is_database};
 
 use crate::rows::joined;
-use crate::statements::schema;
+use crate::schemas::schema;
 use crate::validity::{have_distinct_columns, is_one_table};
 use ldv_value::Utf8;
 use sql_model::{Table, TableRow, TableRows, Tables};
