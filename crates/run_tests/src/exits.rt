@@ -1,0 +1,30 @@
+//! The status and the line of the exit that no input brings about.
+
+ghost use Rattle.std.specs.Prelude.{◌<◌};
+
+use ldv_io::MemorySink;
+use ldv_top::{Exit, exit_line, status};
+use ldv_value::Calls;
+use std::alloc::{AllocError, Global};
+use std::process::Abort;
+use std::test::Fail;
+
+fn expect(
+    rt: &impl Abort,
+    alloc: Global,
+    exit: &Exit,
+    number: u8,
+    line: &str,
+) -> Result<(), AllocError> {
+    let mut sink = MemorySink::new(alloc, 100, 7, Calls::new(alloc))?;
+    assert_eq!(rt; status(exit), number);
+    assert_eq!(rt; exit_line(exit, &mut sink), Ok(()));
+    assert!(rt; sink.taken() == line.as_bytes());
+    Ok(())
+}
+
+#[test]
+fn out_of_memory_has_a_status_and_a_line(rt: HostRuntime) -> Result<(), Fail> {
+    expect(&rt, rt.alloc(), &Exit::NoMemory, 11, "ldv: out of memory\n")?;
+    Ok(())
+}

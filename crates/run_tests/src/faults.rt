@@ -1,0 +1,230 @@
+//! The program over streams of which one call fails. Call by call fails, from the first on, until the
+//! program is done: the call that would fail then isn't made.
+
+use crate::streams::{Ended, call};
+use std::alloc::{AllocError, Global};
+use std::process::Abort;
+use std::test::Fail;
+
+const WORLD: &[u8] = br#"{"start":["main"],"files":{"main":"exit 0"}}"#;
+
+const OUTCOME: &str = "outcome 1 0\nprocess 0 0 0 0\n\n";
+
+// A world of which a row is needed.
+const ASKING: &[u8] = br#"{"start":["main"],"files":{"main":"sql q \"SELECT a FROM t\"\n"},
+    "tables":{"t":{"columns":[["a","INT"]],"rows":[[7]]}}}"#;
+
+// More calls than any of the runs below makes.
+const CALLS: u64 = 1_000;
+
+fn expect(rt: &impl Abort, ended: &Ended, status: u8, written: &str, line: &str) {
+    assert_eq!(rt; ended.status, status);
+    assert!(rt; ended.written.as_slice() == written.as_bytes());
+    assert!(rt; ended.line.as_slice() == line.as_bytes());
+}
+
+// Whether a call of the program is done. Where it isn't, the fault is that of a read, and nothing was
+// written.
+fn done_or_unread(rt: &impl Abort, ended: &Ended) -> bool {
+    if ended.status == 0 {
+        return true;
+    }
+    expect(rt, ended, 3, "", "ldv: read fault\n");
+    false
+}
+
+// Each read fails once. Gives the number of the first read that isn't made.
+fn every_read(
+    rt: &impl Abort,
+    alloc: Global,
+    command: &str,
+    input: &[u8],
+) -> Result<u64, AllocError> {
+    for read in 1..CALLS {
+        let ended = call(alloc, command, input, (read, 0, 0))?;
+        if done_or_unread(rt, &ended) {
+            return Ok(read);
+        }
+    }
+    panic!(rt; "reads without an end")
+}
+
+// What a run that is done writes.
+fn written(
+    rt: &impl Abort,
+    alloc: Global,
+    command: &str,
+    input: &[u8],
+) -> Result<Vec<u8>, AllocError> {
+    let ended = call(alloc, command, input, (0, 0, 0))?;
+    assert_eq!(rt; ended.status, 0);
+    Ok(ended.written)
+}
+
+// Whether a call of the program is done. Where it isn't, the fault is that of a write, and of all that it
+// writes ten bytes stay by each write before.
+fn done_or_unwritten(rt: &impl Abort, ended: &Ended, whole: &[u8], before: usize) -> bool {
+    assert!(rt; whole.starts_with(ended.written.as_slice()));
+    if ended.status == 0 {
+        assert_eq!(rt; ended.written.len(), whole.len());
+        return true;
+    }
+    assert_eq!(rt; ended.status, 4);
+    assert!(rt; ended.line.as_slice() == "ldv: write fault\n".as_bytes());
+    assert!(rt; ended.written.len() == before.saturating_mul(10));
+    false
+}
+
+// Each write fails once. Gives the number of the first write that isn't made.
+fn every_write(
+    rt: &impl Abort,
+    alloc: Global,
+    command: &str,
+    input: &[u8],
+) -> Result<u64, AllocError> {
+    let whole = written(rt, alloc, command, input)?;
+    for before in 0..CALLS {
+        let write = before.saturating_add(1);
+        let ended = call(alloc, command, input, (0, write, 0))?;
+        if done_or_unwritten(rt, &ended, whole.as_slice(), before as usize) {
+            return Ok(write);
+        }
+    }
+    panic!(rt; "writes without an end")
+}
+
+fn every_call(
+    rt: &impl Abort,
+    alloc: Global,
+    command: &str,
+    input: &[u8],
+) -> Result<(), AllocError> {
+    every_read(rt, alloc, command, input)?;
+    every_write(rt, alloc, command, input)?;
+    Ok(())
+}
+
+// ---- the replay of the least world
+
+// Its package has 107 bytes and their digest.
+fn least_package(rt: &impl Abort, alloc: Global) -> Result<Vec<u8>, AllocError> {
+    let package = written(rt, alloc, "record", WORLD)?;
+    assert_eq!(rt; package.len(), 139);
+    Ok(package)
+}
+
+// Fourteen reads give ten bytes or what is left, and one gives nothing.
+#[test]
+fn one_read_of_a_replay_fails(rt: HostRuntime) -> Result<(), Fail> {
+    let package = least_package(&rt, rt.alloc())?;
+    let first = every_read(&rt, rt.alloc(), "replay", package.as_slice())?;
+    assert_eq!(rt; first, 16);
+    Ok(())
+}
+
+// A write, the status where it fails, what was written, and the line.
+type Cut = (u64, u8, &'static str, &'static str);
+
+fn expect_cut(rt: &impl Abort, alloc: Global, package: &[u8], cut: Cut) -> Result<(), AllocError> {
+    let (write, status, taken, line) = cut;
+    let ended = call(alloc, "replay", package, (0, write, 0))?;
+    expect(rt, &ended, status, taken, line);
+    Ok(())
+}
+
+fn cuts() -> [Cut; 4] {
+    let line = "ldv: write fault\n";
+    [
+        (1, 4, "", line),
+        (2, 4, "outcome 1 ", line),
+        (3, 4, "outcome 1 0\nprocess ", line),
+        (4, 0, OUTCOME, ""),
+    ]
+}
+
+// The outcome has 29 bytes, which three writes take.
+#[test]
+fn one_write_of_a_replay_fails(rt: HostRuntime) -> Result<(), Fail> {
+    let package = least_package(&rt, rt.alloc())?;
+    for cut in cuts() {
+        expect_cut(&rt, rt.alloc(), package.as_slice(), cut)?;
+    }
+    Ok(())
+}
+
+// ---- every command
+
+// Those that read a world.
+#[test]
+fn one_call_on_a_world_fails(rt: HostRuntime) -> Result<(), Fail> {
+    for command in ["run", "record", "record --excluded"] {
+        every_call(&rt, rt.alloc(), command, ASKING)?;
+    }
+    Ok(())
+}
+
+// That reads nothing.
+#[test]
+fn one_write_of_a_generated_world_fails(rt: HostRuntime) -> Result<(), Fail> {
+    every_write(&rt, rt.alloc(), "gen 3", b"")?;
+    Ok(())
+}
+
+fn commands_on_packages() -> [&'static str; 9] {
+    [
+        "replay",
+        "table t 0",
+        "inspect rows",
+        "inspect files",
+        "inspect trace",
+        "inspect why t 0",
+        "inspect depends main",
+        "audit",
+        "migrate",
+    ]
+}
+
+// Those that read a package.
+#[test]
+fn one_call_on_a_package_fails(rt: HostRuntime) -> Result<(), Fail> {
+    let package = written(&rt, rt.alloc(), "record", ASKING)?;
+    for command in commands_on_packages() {
+        every_call(&rt, rt.alloc(), command, package.as_slice())?;
+    }
+    Ok(())
+}
+
+#[test]
+fn one_call_on_recorded_replies_fails(rt: HostRuntime) -> Result<(), Fail> {
+    let package = written(&rt, rt.alloc(), "record --excluded", ASKING)?;
+    for command in ["replay", "migrate"] {
+        every_call(&rt, rt.alloc(), command, package.as_slice())?;
+    }
+    Ok(())
+}
+
+// ---- calls that aren't made
+
+// The calls after the last one fail, and no more: the input has 44 bytes.
+#[test]
+fn ends_before_a_later_fault(rt: HostRuntime) -> Result<(), Fail> {
+    let ended = call(rt.alloc(), "run", WORLD, (7, 4, 1))?;
+    expect(&rt, &ended, 0, OUTCOME, "");
+    Ok(())
+}
+
+// Words that are no command: a read would fail, so the source isn't read.
+#[test]
+fn reads_nothing_for_other_words(rt: HostRuntime) -> Result<(), Fail> {
+    let ended = call(rt.alloc(), "", WORLD, (1, 1, 0))?;
+    expect(&rt, &ended, 2, "", "ldv: usage\n");
+    Ok(())
+}
+
+// That the line can't be written changes no status.
+#[test]
+fn a_line_that_is_cut_changes_no_status(rt: HostRuntime) -> Result<(), Fail> {
+    let ended = call(rt.alloc(), "run run", WORLD, (1, 1, 2))?;
+    expect(&rt, &ended, 2, "", "ldv");
+    Ok(())
+}

@@ -1,0 +1,94 @@
+//! Inputs and packages around the limit of 64 MiB, which are too long to be stored.
+
+ghost use Rattle.std.specs.Prelude.{◌<◌};
+
+use crate::long_packages::{longer_than_it_reads, world_of_long_rows};
+use crate::streams::words_of;
+use ldv_io::{DropSink, MemorySink, SteadySource};
+use ldv_top::ldv_main;
+use ldv_value::{Bytes, Calls};
+use std::alloc::{AllocError, Global};
+use std::process::Abort;
+use std::test::Fail;
+
+// A status, and the line that is written with it.
+type Want = (u8, &'static str);
+
+fn expect(
+    rt: &impl Abort,
+    alloc: Global,
+    command: &str,
+    input: Bytes,
+    want: Want,
+) -> Result<(), AllocError> {
+    let words = words_of(alloc, command)?;
+    let mut source = SteadySource::new(input, 1_000_000);
+    let mut errors = MemorySink::new(alloc, 100, 100, Calls::new(alloc))?;
+    let mut sink = DropSink::new();
+    let status = ldv_main(alloc, words.as_slice(), &mut source, &mut sink, &mut errors);
+    assert_eq!(rt; status, want.0);
+    assert!(rt; errors.taken() == want.1.as_bytes());
+    Ok(())
+}
+
+// So many blanks.
+fn blank(alloc: Global, length: usize) -> Result<Bytes, AllocError> {
+    Ok(Bytes::of_vec(vec![in alloc; 32u8; length]?))
+}
+
+fn expect_blank(
+    rt: &impl Abort,
+    alloc: Global,
+    command: &str,
+    length: usize,
+    want: Want,
+) -> Result<(), AllocError> {
+    let input = blank(alloc, length)?;
+    expect(rt, alloc, command, input, want)
+}
+
+const TOO_LONG: Want = (5, "ldv: input longer than 67108864 bytes\n");
+
+const NOT_JSON: Want = (6, "ldv: not a world: not json\n");
+
+const NO_MAGIC: Want = (8, "ldv: damaged: magic\n");
+
+#[test]
+fn reads_no_longer_input(rt: HostRuntime) -> Result<(), Fail> {
+    for command in [
+        "run",
+        "record",
+        "replay",
+        "audit",
+        "table t 0",
+        "inspect rows",
+        "migrate",
+    ] {
+        expect_blank(&rt, rt.alloc(), command, 67_108_865, TOO_LONG)?;
+    }
+    Ok(())
+}
+
+#[test]
+fn reads_inputs_at_the_limit(rt: HostRuntime) -> Result<(), Fail> {
+    expect_blank(&rt, rt.alloc(), "run", 67_108_864, NOT_JSON)?;
+    expect_blank(&rt, rt.alloc(), "replay", 67_108_864, NO_MAGIC)?;
+    Ok(())
+}
+
+const PACKAGE_TOO_LONG: Want = (12, "ldv: package longer than 67108864 bytes\n");
+
+#[test]
+fn records_no_longer_package(rt: HostRuntime) -> Result<(), Fail> {
+    let world = world_of_long_rows(rt.alloc(), 60_000)?;
+    expect(&rt, rt.alloc(), "record", world, PACKAGE_TOO_LONG)?;
+    Ok(())
+}
+
+// The package itself is just within the limit. That of its own world has all rows that are read in its trace.
+#[test]
+fn audits_no_longer_package(rt: HostRuntime) -> Result<(), Fail> {
+    let package = longer_than_it_reads(&rt, rt.alloc())?;
+    expect(&rt, rt.alloc(), "audit", package, PACKAGE_TOO_LONG)?;
+    Ok(())
+}

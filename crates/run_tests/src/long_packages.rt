@@ -1,0 +1,108 @@
+//! A world and a package of long rows, around the limit of 64 MiB.
+
+use crate::worlds::world_of_text;
+use ldv_value::{Bytes, Names, Utf8};
+use package_layout::spell;
+use replay_db::record_world;
+use run_model::{Act, Event, Events, Mode, Package};
+use sql_model::{Members, Needs};
+use std::alloc::{AllocError, Global};
+use std::process::Abort;
+
+// A row of one text of so many letters.
+fn push_row(text: &mut String, letters: &str) -> Result<(), AllocError> {
+    text.push_str("[\"")?;
+    text.push_str(letters)?;
+    text.push_str("\"]")
+}
+
+const FRONT: &str = r#"{"start":["main"],"files":{"main":"sql q \"SELECT * FROM t\""},
+"tables":{"t":{"columns":[["g","TEXT"]],"rows":["#;
+
+fn letters(alloc: Global, count: usize) -> Result<String, AllocError> {
+    "a".repeat(alloc, count)
+}
+
+// So many rows of the same letters, each before another.
+fn push_rows(text: &mut String, letters: &str, count: u32) -> Result<(), AllocError> {
+    for _ in 0..count {
+        push_row(text, letters)?;
+        text.push_str(",")?;
+    }
+    Ok(())
+}
+
+// A document of which all rows are needed: so many rows of the first letters, and one of the last.
+fn document(alloc: Global, count: u32, first: &str, last: &str) -> Result<String, AllocError> {
+    let mut text = String::from_str(alloc, FRONT)?;
+    push_rows(&mut text, first, count)?;
+    push_row(&mut text, last)?;
+    text.push_str("]}}}")?;
+    Ok(text)
+}
+
+// A document within the limit: 1,023 rows of 65,536 letters, and one of fewer. A row takes more bytes in a
+// package than in JSON.
+fn long_document(alloc: Global, last: usize) -> Result<String, AllocError> {
+    let first = letters(alloc, 65_536)?;
+    let last = letters(alloc, last)?;
+    document(alloc, 1_023, first.as_str(), last.as_str())
+}
+
+/// That document as bytes, with so many letters in its last row.
+pub(crate) fn world_of_long_rows(alloc: Global, last: usize) -> Result<Bytes, AllocError> {
+    Ok(Bytes::of_vec(long_document(alloc, last)?.into_bytes()))
+}
+
+fn event(step: u32, act: Act) -> Event {
+    Event {
+        step,
+        process: 0,
+        act,
+    }
+}
+
+fn started(alloc: Global) -> Result<Event, AllocError> {
+    let path = Utf8::of(alloc, "main")?;
+    Ok(event(0, Act::Started { path }))
+}
+
+fn asked_without_rows(alloc: Global) -> Result<Event, AllocError> {
+    let mut tables = Names::new(alloc);
+    tables.push(Utf8::of(alloc, "t")?)?;
+    let act = Act::Asked {
+        statement: 0,
+        tables,
+        reads: Needs::new(alloc),
+        made: Members::new(alloc),
+    };
+    Ok(event(1, act))
+}
+
+// The events of its run, but that no row is read: 9 bytes fewer for each row.
+fn events(alloc: Global) -> Result<Events, AllocError> {
+    let mut events = Events::new(alloc);
+    events.push(started(alloc)?)?;
+    events.push(asked_without_rows(alloc)?)?;
+    events.push(event(2, Act::Ended { status: 0 }))?;
+    Ok(events)
+}
+
+fn recorded(rt: &impl Abort, alloc: Global) -> Result<Package, AllocError> {
+    let text = long_document(alloc, 46_000)?;
+    let world = world_of_text(rt, alloc, text.as_str());
+    match record_world(alloc, &world, Mode::Included, 100) {
+        Ok(package) => Ok(package),
+        Err(stop) => panic!(rt; "{stop:?}"),
+    }
+}
+
+/// A package of about 5,000 bytes less than the limit. That of its own world has about 9,000 bytes more.
+pub(crate) fn longer_than_it_reads(rt: &impl Abort, alloc: Global) -> Result<Bytes, AllocError> {
+    let mut package = recorded(rt, alloc)?;
+    package.events = events(alloc)?;
+    match spell(alloc, &package) {
+        Ok(bytes) => Ok(bytes),
+        Err(stop) => panic!(rt; "{stop:?}"),
+    }
+}

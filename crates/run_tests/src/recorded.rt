@@ -1,0 +1,49 @@
+//! Packages that the program records, read back.
+
+ghost use Rattle.std.specs.Prelude.{IfOk};
+ghost use Rattle.package_layout.specs.Valid.{Valid};
+
+use ldv_io::{MemorySink, MemorySource};
+use ldv_top::{Exit, ldv};
+use ldv_value::{Bytes, Calls};
+use package_layout::read_package;
+use run_model::Package;
+use std::alloc::{AllocError, Global};
+use std::process::Abort;
+
+/// The package of the run of a world document.
+pub(crate) fn recorded(rt: &impl Abort, alloc: Global, world: &str) -> Result<Package, AllocError>
+    ensures { IfOk result (λ p. Valid p) }
+{
+    let written = written(rt, alloc, world)?;
+    match read_package(alloc, written.as_slice()) {
+        Ok(package) => Ok(package),
+        Err(_) => panic!(rt; "no package"),
+    }
+}
+
+// What `record` writes for a world document.
+fn written(rt: &impl Abort, alloc: Global, world: &str) -> Result<Vec<u8>, AllocError> {
+    let mut words = Vec::new(alloc);
+    words.push(String::from_str(alloc, "record")?)?;
+    let input = Bytes::of_slice(alloc, world.as_bytes())?;
+    let mut source = MemorySource::new(input, 4_096, Calls::new(alloc));
+    let mut sink = MemorySink::new(alloc, 65_536, 4_096, Calls::new(alloc))?;
+    let exit = ldv(alloc, &words, &mut source, &mut sink);
+    assert!(rt; matches!(&exit, Exit::Done));
+    Vec::from_slice(alloc, sink.taken())
+}
+
+/// A world whose script has these lines, with the table t and these files beside the script, as parts of a
+/// document.
+pub(crate) fn world_of(alloc: Global, script: &str, files: &str) -> Result<String, AllocError> {
+    let mut world = String::from_str(alloc, r#"{"start":["main"],"files":{"#)?;
+    world.push_str(files)?;
+    world.push_str(r#""main":""#)?;
+    world.push_str(script)?;
+    world.push_str(
+        r#""},"tables":{"t":{"columns":[["k","INT NOT NULL"],["g","TEXT"],["v","INT"]],"key":["k"],
+"next":5,"rows":[[1,"a",10],[2,"a",20],[3,"b",5],[4,"b",null],[5,"c",10]]}}}"#,
+    )?;
+    Ok(world)
+}

@@ -1,0 +1,151 @@
+//! Worlds of 300,000 rows and of 300,000 statements, within the default budget. A body that goes through
+//! all rows for each row isn't done in a test's time.
+
+ghost use Rattle.replay_db.specs.Runs.{CanRun};
+
+use crate::worlds::world_of_text;
+use ldv_value::{DEFAULT_STEPS, MAX_STEPS, RowList, Value, Values};
+use replay_db::{EndStop, run_world};
+use run_model::{Outcome, ProcOutcome, World};
+use sql_model::Reply;
+use std::alloc::{AllocError, Global};
+use std::fmt::Write;
+use std::process::Abort;
+use std::test::Fail;
+
+// A run of a world, with no more than so many steps.
+fn run(alloc: Global, world: &World, budget: u32) -> Result<Outcome, EndStop>
+    requires can_run { CanRun world.now }
+{
+    if budget > MAX_STEPS {
+        return Err(EndStop::NotEnded);
+    }
+    run_world(alloc, world, budget)
+}
+
+// The outcome of the run of a document's world.
+fn outcome_of(rt: &impl Abort, alloc: Global, text: &str, budget: u32) -> Outcome {
+    let world = world_of_text(rt, alloc, text);
+    match run(alloc, &world, budget) {
+        Ok(outcome) => outcome,
+        Err(stop) => panic!(rt; "{stop:?}"),
+    }
+}
+
+fn only_process<'a>(rt: &impl Abort, outcome: &'a Outcome) -> &'a ProcOutcome {
+    match outcome.processes.items() {
+        [process] => process,
+        _ => panic!(rt; "one process"),
+    }
+}
+
+// ---- a join
+
+// The numbers from 1 to below the count, as rows that follow another.
+fn push_numbers(text: &mut String, count: u32) -> Result<(), AllocError> {
+    for number in 1..count {
+        write!(text, ",[{number}]")?;
+    }
+    Ok(())
+}
+
+// A table of the numbers below the count, which are its key.
+fn push_table(text: &mut String, name: &str, count: u32) -> Result<(), AllocError> {
+    write!(
+        text,
+        "\"{name}\":{{\"columns\":[[\"id\",\"INT NOT NULL\"]],\"key\":[\"id\"],\"rows\":[[0]"
+    )?;
+    push_numbers(text, count)?;
+    text.push_str("]}")
+}
+
+const JOIN: &str =
+    r#"{"start":["main"],"files":{"main":"sql q \"SELECT a.id FROM a JOIN b ON a.id = b.id\""},"tables":{"#;
+
+fn joining(alloc: Global, count: u32) -> Result<String, AllocError> {
+    let mut text = String::from_str(alloc, JOIN)?;
+    push_table(&mut text, "a", count)?;
+    text.push_str(",")?;
+    push_table(&mut text, "b", count)?;
+    text.push_str("}}")?;
+    Ok(text)
+}
+
+fn is_number(values: &Values, number: usize) -> bool {
+    match values.items() {
+        [Value::Int(value)] => *value >= 0 && *value as u64 == number as u64,
+        _ => false,
+    }
+}
+
+// All numbers below the count, in order.
+fn are_numbers(rows: &RowList, count: usize) -> bool {
+    rows.len() == count
+        && rows
+            .items()
+            .iter()
+            .enumerate()
+            .all(|(place, values)| is_number(values, place))
+}
+
+fn expect_numbers(rt: &impl Abort, outcome: &Outcome, count: usize) {
+    match only_process(rt, outcome).replies.items() {
+        [Reply::Rows(rows)] => assert!(rt; are_numbers(rows, count)),
+        _ => panic!(rt; "one reply of rows"),
+    }
+}
+
+#[test]
+fn joins_large_tables(rt: HostRuntime) -> Result<(), Fail> {
+    let alloc = rt.alloc();
+    let text = joining(alloc, 300_000)?;
+    let outcome = outcome_of(&rt, alloc, text.as_str(), DEFAULT_STEPS);
+    expect_numbers(&rt, &outcome, 300_000);
+    Ok(())
+}
+
+// ---- insertions
+
+// A row is inserted in each turn of the loop.
+const INSERTIONS: &str = r#"{"start":["main"],"files":{
+"main":"let i = 0\nl:\nsql q \"INSERT INTO n VALUES (?)\" i\nlet i = i + 1\nif i < 300000 goto l\n"},
+"tables":{"n":{"columns":[["id","INT NOT NULL"]],"key":["id"],"rows":[]}}}"#;
+
+fn is_one_row(reply: &Reply) -> bool {
+    match reply {
+        Reply::Changed(count) => *count == 1,
+        _ => false,
+    }
+}
+
+fn are_insertions(replies: &[Reply], count: usize) -> bool {
+    replies.len() == count && replies.iter().all(|reply| is_one_row(reply))
+}
+
+fn expect_insertions(rt: &impl Abort, outcome: &Outcome, count: usize) {
+    let process = only_process(rt, outcome);
+    assert_eq!(rt; process.status, 0);
+    assert!(rt; are_insertions(process.replies.items(), count));
+}
+
+#[test]
+fn inserts_row_by_row(rt: HostRuntime) {
+    let outcome = outcome_of(&rt, rt.alloc(), INSERTIONS, DEFAULT_STEPS);
+    expect_insertions(&rt, &outcome, 300_000);
+}
+
+fn is_ended_within(rt: &impl Abort, alloc: Global, text: &str, budget: u32) -> bool {
+    let world = world_of_text(rt, alloc, text);
+    match run(alloc, &world, budget) {
+        Ok(_outcome) => true,
+        Err(EndStop::NotEnded) => false,
+        Err(EndStop::NoMemory) => panic!(rt; "out of memory"),
+    }
+}
+
+// The first line, three for each row, and the end.
+#[test]
+fn inserts_in_just_so_many_steps(rt: HostRuntime) {
+    assert!(rt; is_ended_within(&rt, rt.alloc(), INSERTIONS, 900_002));
+    assert!(rt; !is_ended_within(&rt, rt.alloc(), INSERTIONS, 900_001));
+}
