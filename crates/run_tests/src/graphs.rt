@@ -1,5 +1,6 @@
 //! The graphs of worked runs.
 
+ghost use Rattle.std.specs.Prelude.{◌<◌, length, IfOk, IfSome};
 ghost use Rattle.package_layout.specs.Valid.{Valid};
 
 use crate::recorded::{recorded, world_of};
@@ -143,7 +144,9 @@ fn one_edge_has_the_first_and_the_last_step(rt: HostRuntime) -> Result<(), Fail>
 
 // ---- places and times
 
-fn place_of(alloc: Global, graph: &Graph, path: &str) -> Result<Option<usize>, AllocError> {
+fn place_of(alloc: Global, graph: &Graph, path: &str) -> Result<Option<usize>, AllocError>
+    ensures { IfOk result (λ found. IfSome found (λ place. place < length graph.now.nodes)) }
+{
     let node = Node::Path(Utf8::of(alloc, path)?);
     Ok(graph.place(&node))
 }
