@@ -77,7 +77,7 @@ class RefusedMemory(InFolder):
         self.assertIn("no request of memory", self.answered(number="0\n")[0])
 
     def test_no_rows(self):
-        items = refused.items_of(package.Package(packages.encode(packages.package())))
+        items = refused.items_of(read_package(packages.encode(packages.package())))
         self.assertEqual(list(items), [["inspect", "depends", "main"]])
 
     @unittest.skipUnless(shutil.which("cc") and sys.platform == "linux", "there is no cc")
