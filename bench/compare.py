@@ -10,15 +10,14 @@ of the same tables whose script only ends. It ends with an error where the two o
 """
 import argparse
 import filecmp
-import json
 import os
 import subprocess
 import sys
 import tempfile
 
 import engine
-import package_worlds
 
+HERE = os.path.dirname(os.path.abspath(__file__))
 WORLDS = ('pick', 'change', 'groups')
 # A command with the file that it reads and the one that it writes; those of one world, in their order.
 COMMANDS = [
@@ -95,12 +94,17 @@ def compare_statements(sides, given, world):
             show(case, size, 'run, less load', *asked)
 
 
+def write_package_world(path, name, size):
+    """In a process of its own: the memory of this one counts as that of each program that it runs."""
+    with open(path, 'wb') as out:
+        subprocess.run([sys.executable, os.path.join(HERE, 'package_worlds.py'), name, str(size)], stdout=out,
+                       check=True)
+
+
 def compare_packages(sides, given, world):
     for name in given.worlds:
         for size in given.sizes:
-            files, tables = package_worlds.made(name, size)
-            with open(world, 'w', encoding='utf-8') as out:
-                json.dump({'start': ['main'], 'files': files, 'tables': tables}, out, separators=(',', ':'))
+            write_package_world(world, name, size)
             for words, read, written in COMMANDS:
                 def source(side, read=read):
                     return world if read == 'world' else side.path(read)

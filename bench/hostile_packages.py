@@ -70,11 +70,12 @@ def read(data):
 
 
 def in_other_version(data):
-    """The package that bytes spell in the other version; the bytes where they spell none."""
+    """The package that bytes spell in the other version; the bytes where they spell none, or one that has no
+    spelling there: a run may reach a step of more than 32 bits."""
     found = read(data)
     try:
         return in_version(3 - found.version, data) if found else data
-    except ValueError:
+    except (ValueError, OverflowError):
         return data
 
 

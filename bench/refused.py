@@ -21,7 +21,7 @@ import tempfile
 
 HERE = os.path.dirname(os.path.abspath(__file__))
 sys.path.insert(0, os.path.join(HERE, '..', 'tools'))
-from package import Package                                                  # noqa: E402
+from ldvtools.packages import read_package                                   # noqa: E402
 
 SECONDS = 60
 NO_MEMORY = 11
@@ -70,7 +70,7 @@ def calls_of(program, world):
     for words in (['run'], ['record'], ['record', '--excluded']):
         yield words, world
     for words in (['replay'], ['audit'], ['inspect', 'rows'], ['inspect', 'files'], ['inspect', 'trace'],
-                  *items_of(Package(included))):
+                  ['migrate'], *items_of(read_package(included))):
         yield words, included
     yield ['replay'], excluded
     yield ['gen', '2'], b''
@@ -78,13 +78,13 @@ def calls_of(program, world):
 
 def items_of(package):
     """The commands that name an item: the last path of the trace, a row, and its table at the last step."""
-    # Most acts have a path and nothing else; the first one has.
-    *_, path = (fields for _, _, _, fields in package.events if isinstance(fields, str))
+    # The first event has a path. An act that says whether the file was there may be one that found none.
+    *_, path = (event.path for event in package.events if event.path and event.found is None)
     yield ['inspect', 'depends', path]
     for table in reversed(package.tables):
-        for (number, _, _), _ in table['rows'][:1]:
-            yield ['inspect', 'why', table['name'], str(number)]
-            yield ['table', table['name'], str(package.steps)]
+        for row in table.rows[:1]:
+            yield ['inspect', 'why', table.name, str(row.number)]
+            yield ['table', table.name, str(package.steps)]
             return
 
 

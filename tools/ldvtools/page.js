@@ -11,7 +11,9 @@ function el(name, given, ...children) {
   const made = document.createElement(name);
   for (const [key, value] of Object.entries(given || {})) {
     if (key.startsWith("on")) made.addEventListener(key.slice(2), value);
-    else if (value !== null && value !== undefined && value !== false) made.setAttribute(key, value === true ? "" : value);
+    else if (value !== null && value !== undefined && value !== false) {
+      made.setAttribute(key, value === true ? "" : value);
+    }
   }
   put(made, children);
   return made;
@@ -40,7 +42,8 @@ const digits = value => value !== null && typeof value === "object" ? value.i : 
 
 function cell(value) {
   if (value === null) return el("td", {class: "null"}, "NULL");
-  if (typeof value === "string") return el("td", {}, value === "" ? el("span", {class: "soft"}, "(empty)") : value);
+  if (value === "") return el("td", {}, el("span", {class: "soft"}, "(empty)"));
+  if (typeof value === "string") return el("td", {}, value);
   return el("td", {class: "number"}, String(digits(value)));
 }
 
@@ -49,14 +52,17 @@ function paged(heads, rows, make, perPage = ROWS) {
   const body = el("tbody"), place = el("span", {class: "soft"}), holder = el("div");
   let page = 0;
   const pages = () => Math.max(1, Math.ceil(rows.length / perPage));
-  const step = (by, text) => el("button", {onclick: () => { page = Math.min(pages() - 1, Math.max(0, page + by)); show(); }}, text);
+  const step = (by, text) => el("button", {onclick: () => {
+    page = Math.min(pages() - 1, Math.max(0, page + by)); show(); }}, text);
   const back = step(-1, "‹"), on = step(1, "›");
   const goto = el("input", {type: "number", min: 1, size: 6, title: "page", onchange: event => {
     page = Math.min(pages() - 1, Math.max(0, Number(event.target.value) - 1 || 0)); show(); }});
   const bar = el("div", {class: "bar pager"}, back, place, on, goto);
   function show() {
     body.replaceChildren(...rows.slice(page * perPage, (page + 1) * perPage).map(make));
-    place.textContent = `${(page * perPage + 1).toLocaleString("en")} to ${Math.min(rows.length, (page + 1) * perPage).toLocaleString("en")} of ${rows.length.toLocaleString("en")}`;
+    const [first, last, all] = [page * perPage + 1, Math.min(rows.length, (page + 1) * perPage), rows.length]
+      .map(number => number.toLocaleString("en"));
+    place.textContent = `${first} to ${last} of ${all}`;
     back.disabled = page === 0;
     on.disabled = page >= pages() - 1;
     goto.value = page + 1;
@@ -74,19 +80,22 @@ function paged(heads, rows, make, perPage = ROWS) {
 // ---- saving
 
 function save(name, part) {
-  const link = el("a", {href: URL.createObjectURL(new Blob([part])), download: name.split("/").pop() || "file"});
+  const href = URL.createObjectURL(new Blob([part]));
+  const link = el("a", {href, download: name.split("/").pop() || "file"});
   link.click();
   setTimeout(() => URL.revokeObjectURL(link.href), 10000);
 }
 
 function bytes(content) {
-  return content.text !== undefined ? content.text : Uint8Array.from(atob(content.base64), c => c.charCodeAt(0));
+  if (content.text !== undefined) return content.text;
+  return Uint8Array.from(atob(content.base64), c => c.charCodeAt(0));
 }
 
 function field(value) {
   if (value === null) return "";
   const text = String(digits(value));
-  return typeof value === "string" && (text === "" || /[",\r\n]/.test(text)) ? '"' + text.replaceAll('"', '""') + '"' : text;
+  const isQuoted = typeof value === "string" && (text === "" || /[",\r\n]/.test(text));
+  return isQuoted ? '"' + text.replaceAll('"', '""') + '"' : text;
 }
 
 const csv = rows => rows.map(row => row.map(field).join(",") + "\r\n").join("");
@@ -96,7 +105,8 @@ function contentOf(path, content) {
   const text = content.text !== undefined ? content.text : hex(content.base64);
   const shown = el("pre", {}, text.slice(0, SHOWN));
   return el("details", {}, el("summary", {}, "content"), shown,
-    text.length > SHOWN && el("button", {onclick: event => { shown.textContent = text; event.target.remove(); }},
+    text.length > SHOWN && el("button",
+      {onclick: event => { shown.textContent = text; event.target.remove(); }},
       `show all ${counted(text.length, "character")}`),
     el("button", {onclick: () => save(path, bytes(content))}, "save"));
 }
@@ -110,7 +120,8 @@ function hex(base64) {
 
 function verdictBadge() {
   if (!D.verdict) return el("span", {class: "badge"}, "not audited");
-  return el("span", {class: "badge " + (D.verdict === "sound" ? "good" : "bad"), id: "verdict"}, "audit: " + D.verdict);
+  const name = D.verdict === "sound" ? "good" : "bad";
+  return el("span", {class: "badge " + name, id: "verdict"}, "audit: " + D.verdict);
 }
 
 function head() {
@@ -137,11 +148,13 @@ function head() {
 function processCard(process) {
   const status = process.status === null ? "unknown" : process.status;
   const isBad = process.misuse || process.status !== 0;
-  return el("div", {"data-process": process.name}, el("h3", {}, "process " + process.name), el("div", {class: "facts"},
-    el("span", {}, "script ", el("b", {}, process.script)),
-    el("span", {}, `steps ${process.first} to ${process.last}`),
-    el("span", {class: isBad ? "red" : ""}, `status ${status}` + (process.misuse ? `: ${process.misuse}` : "")),
-    process.statements !== null && el("span", {}, counted(process.statements, "statement"))),
+  const ended = `status ${status}` + (process.misuse ? `: ${process.misuse}` : "");
+  return el("div", {"data-process": process.name}, el("h3", {}, "process " + process.name),
+    el("div", {class: "facts"},
+      el("span", {}, "script ", el("b", {}, process.script)),
+      el("span", {}, `steps ${process.first} to ${process.last}`),
+      el("span", {class: isBad ? "red" : ""}, ended),
+      process.statements !== null && el("span", {}, counted(process.statements, "statement"))),
     process.printed ? el("pre", {}, process.printed.slice(0, SHOWN)) :
       process.printed === "" && el("div", {class: "soft"}, "it printed nothing"));
 }
@@ -153,15 +166,16 @@ function wayOf(way) {
 
 function touchedRow(file) {
   const size = file.content ? counted(file.content.size, "byte") : file.known ? "removed" : "not replayed";
-  return el("tr", {"data-file": file.path}, el("td", {}, el("a", {href: "#came", onclick: () => choosePath(file.path)},
-    file.path)), el("td", {}, size), el("td", {}, file.by.map(way => el("div", {}, wayOf(way)))),
+  return el("tr", {"data-file": file.path},
+    el("td", {}, el("a", {href: "#came", onclick: () => choosePath(file.path)}, file.path)),
+    el("td", {}, size), el("td", {}, file.by.map(way => el("div", {}, wayOf(way)))),
     el("td", {}, contentOf(file.path, file.content)));
 }
 
 function outcomeSection() {
   const cards = el("div");
-  const note = !D.replayed && el("p", {class: "soft"}, "What the processes printed and what the files became is in the " +
-    "replay: page.py --ldv ./ldv replays the package for the page.");
+  const note = !D.replayed && el("p", {class: "soft"}, "What the processes printed and what the files " +
+    "became is in the replay: page.py --ldv ./ldv replays the package for the page.");
   let shown = 0;
   const more = el("button", {onclick: () => add()}, "more processes");
   function add() {
@@ -171,27 +185,35 @@ function outcomeSection() {
   }
   add();
   return section("outcome", "Outcome", note, cards, more, el("h3", {}, "Files that it wrote or removed"),
-    D.touched.length ? paged(["file", "", "by", ""], D.touched, touchedRow) : el("p", {class: "soft"}, "none"));
+    D.touched.length ? paged(["file", "", "by", ""], D.touched, touchedRow)
+      : el("p", {class: "soft"}, "none"));
 }
 
 // ---- statements
 
 let chosen = null;
 const needsOf = new Map();   // "table row" -> [[statement, rule], ..]
-D.statements.forEach((statement, number) => statement.needs.forEach(([table, rows]) => rows.forEach(([row, , rule]) => {
+function noteNeed(number, table, [row, , rule]) {
   const name = table + " " + row;
   if (!needsOf.has(name)) needsOf.set(name, []);
   needsOf.get(name).push([number, rule]);
-})));
-const packed = new Map(D.tables.map(table => [table.name, new Map(table.rows.map((row, place) => [row[0], place]))]));
+}
+
+D.statements.forEach((statement, number) => statement.needs.forEach(([table, rows]) =>
+  rows.forEach(need => noteNeed(number, table, need))));
+const placesOf = table => new Map(table.rows.map((row, place) => [row[0], place]));
+const packed = new Map(D.tables.map(table => [table.name, placesOf(table)]));
 
 function statementRow(number) {
   const statement = D.statements[number];
   const isRefused = statement.reply && statement.reply.kind === "refused";
   const count = statement.needs.reduce((sum, [, rows]) => sum + rows.length, 0);
-  return el("tr", {"data-statement": number, class: number === chosen ? "chosen" : "", onclick: () => choose(number)},
-    el("td", {class: "number"}, number), el("td", {}, statement.process), el("td", {class: "number"}, statement.step),
-    el("td", {}, statement.text === null ? el("span", {class: "soft"}, "tables: " + (statement.tables.join(", ") || "none"))
+  const tables = "tables: " + (statement.tables.join(", ") || "none");
+  const chosenClass = number === chosen ? "chosen" : "";
+  return el("tr", {"data-statement": number, class: chosenClass, onclick: () => choose(number)},
+    el("td", {class: "number"}, number), el("td", {}, statement.process),
+    el("td", {class: "number"}, statement.step),
+    el("td", {}, statement.text === null ? el("span", {class: "soft"}, tables)
       : el("code", {}, statement.text.slice(0, 300))),
     el("td", {class: isRefused ? "red" : ""}, statement.reply ? statement.reply.title : ""),
     el("td", {class: "number"}, count));
@@ -200,7 +222,8 @@ function statementRow(number) {
 function replyOf(statement) {
   if (!statement.reply) return null;
   const rows = statement.reply.rows;
-  const title = el("h3", {class: statement.reply.kind === "refused" ? "red" : ""}, "Reply: " + statement.reply.title);
+  const isRefused = statement.reply.kind === "refused";
+  const title = el("h3", {class: isRefused ? "red" : ""}, "Reply: " + statement.reply.title);
   if (!rows.length) return title;
   const width = Math.max(...rows.slice(0, 1000).map(row => row.length));
   const names = Array.from({length: width}, (_, place) => statement.columns[place] || String(place + 1));
@@ -211,27 +234,33 @@ function replyOf(statement) {
 function needTable(name, rows) {
   const table = D.tables.find(each => each.name === name);
   const heads = ["row", "version", "rule", ...(table ? table.columns.map(column => column[0]) : [])];
-  return [el("h3", {}, `It needed ${counted(rows.length, "row")} of ${name}`), paged(heads, rows, ([row, version, rule]) => {
+  const needRow = ([row, version, rule]) => {
     const place = packed.get(name) && packed.get(name).get(row);
     const values = place === undefined ? [] : table.rows[place].slice(3);
-    return el("tr", {class: "needed", "data-need": `${name} ${row} ${rule}`}, el("td", {class: "number"}, row),
-      el("td", {class: "number"}, version), el("td", {title: D.rules[rule]}, rule), values.map(cell),
+    return el("tr", {class: "needed", "data-need": `${name} ${row} ${rule}`},
+      el("td", {class: "number"}, row), el("td", {class: "number"}, version),
+      el("td", {title: D.rules[rule]}, rule), values.map(cell),
       place === undefined && el("td", {class: "soft", colspan: 9}, "not packed: the run made it"));
-  }, 25)];
+  };
+  return [el("h3", {}, `It needed ${counted(rows.length, "row")} of ${name}`),
+    paged(heads, rows, needRow, 25)];
 }
 
 function detail(number) {
   const statement = D.statements[number];
   const rules = [...new Set(statement.needs.flatMap(([, rows]) => rows.map(row => row[2])))];
   rules.sort((a, b) => RULES.indexOf(a) - RULES.indexOf(b));
-  return [el("h3", {id: "detail"}, `Statement ${number}, which process ${statement.process} asked at step ${statement.step}`),
+  const asked = `which process ${statement.process} asked at step ${statement.step}`;
+  return [el("h3", {id: "detail"}, `Statement ${number}, ${asked}`),
     statement.text !== null && el("pre", {}, statement.text),
     statement.params.length > 0 && el("p", {}, "with ", el("code", {}, statement.params.join(", "))),
     replyOf(statement),
     statement.needs.map(([name, rows]) => needTable(name, rows)),
     !statement.needs.length && el("p", {class: "soft"}, "It needed no row."),
-    statement.made.map(([name, rows]) => el("p", {}, `It made ${counted(rows.length, "version")} of rows of ${name}.`)),
-    el("ul", {}, rules.map(rule => el("li", {"data-rule": rule}, el("b", {}, rule), ": the row " + D.rules[rule])))];
+    statement.made.map(([name, rows]) =>
+      el("p", {}, `It made ${counted(rows.length, "version")} of rows of ${name}.`)),
+    el("ul", {}, rules.map(rule =>
+      el("li", {"data-rule": rule}, el("b", {}, rule), ": the row " + D.rules[rule])))];
 }
 
 const statementPanel = el("div");
@@ -250,12 +279,15 @@ function choose(number) {
 
 function statementSection() {
   const numbers = D.statements.map((_, number) => number);
-  statementList = paged(["", "process", "step", "statement", "reply", "rows needed"], numbers, statementRow, 50);
+  const heads = ["", "process", "step", "statement", "reply", "rows needed"];
+  statementList = paged(heads, numbers, statementRow, 50);
   const refused = numbers.filter(n => D.statements[n].reply && D.statements[n].reply.kind === "refused");
-  const only = el("input", {type: "checkbox", onchange: event => statementList.use(event.target.checked ? refused : numbers)});
+  const onchange = event => statementList.use(event.target.checked ? refused : numbers);
+  const only = el("input", {type: "checkbox", onchange});
   return section("statements", "Statements", el("p", {class: "soft"},
     "A click on a statement shows its reply and marks the rows that it needed."),
-    refused.length > 0 && el("label", {class: "bar"}, only, "refused ones alone"), statementList, statementPanel);
+    refused.length > 0 && el("label", {class: "bar"}, only, "refused ones alone"),
+    statementList, statementPanel);
 }
 
 // ---- tables
@@ -273,25 +305,29 @@ function neededBy(name, row) {
 function tableRow(name, row) {
   const needs = needsOf.get(name + " " + row[0]) || [];
   const isNeeded = chosen !== null && needs.some(([number]) => number === chosen);
-  return el("tr", {class: isNeeded ? "needed" : "", "data-row": `${name} ${row[0]}`}, el("td", {class: "number soft"}, row[0]),
+  return el("tr", {class: isNeeded ? "needed" : "", "data-row": `${name} ${row[0]}`},
+    el("td", {class: "number soft"}, row[0]),
     row.slice(3).map(cell), el("td", {}, neededBy(name, row[0])));
 }
 
 function showTable() {
-  tableTabs.replaceChildren(...D.tables.map(table => el("button", {class: table.name === shownTable ? "on" : "",
-    "data-table": table.name, onclick: () => { shownTable = table.name; showTable(); }}, table.name)));
+  tableTabs.replaceChildren(...D.tables.map(({name}) => el("button", {class: name === shownTable ? "on" : "",
+    "data-table": name, onclick: () => { shownTable = name; showTable(); }}, name)));
   tablePanel.replaceChildren();
   const table = D.tables.find(each => each.name === shownTable);
   if (!table) return;
-  const rows = onlyNeeded.checked ? table.rows.filter(row => (needsOf.get(table.name + " " + row[0]) || []).some(
-    ([number]) => number === chosen)) : table.rows;
-  const list = paged(["row", ...table.columns.map(([name, kind]) => [name, el("div", {class: "soft"}, kind)]), "needed by"], rows,
-    row => tableRow(table.name, row));
-  const needed = chosen === null ? [] : D.statements[chosen].needs.filter(([name]) => name === table.name).flatMap(need => need[1]);
+  const needsOfRow = row => needsOf.get(table.name + " " + row[0]) || [];
+  const isNeeded = row => needsOfRow(row).some(([number]) => number === chosen);
+  const rows = onlyNeeded.checked ? table.rows.filter(isNeeded) : table.rows;
+  const columnHeads = table.columns.map(([name, kind]) => [name, el("div", {class: "soft"}, kind)]);
+  const list = paged(["row", ...columnHeads, "needed by"], rows, row => tableRow(table.name, row));
+  const needs = chosen === null ? [] : D.statements[chosen].needs;
+  const needed = needs.filter(([name]) => name === table.name).flatMap(need => need[1]);
   const numbers = new Set(needed.map(need => need[0])), first = rows.findIndex(row => numbers.has(row[0]));
   if (first > 0) list.to(first);
-  put(tablePanel, [el("p", {}, el("b", {id: "packed"}, `${table.rows.length.toLocaleString("en")} of ` +
-    `${counted(table.next, "row")} packed`), ", key ", table.key.join(", ") || "none", table.foreign.map(text => "; " + text)),
+  const count = `${table.rows.length.toLocaleString("en")} of ${counted(table.next, "row")} packed`;
+  put(tablePanel, [el("p", {}, el("b", {id: "packed"}, count), ", key ", table.key.join(", ") || "none",
+    table.foreign.map(text => "; " + text)),
     list,
     el("button", {onclick: () => save(table.name + ".csv", csv([table.columns.map(column => column[0]),
       ...table.rows.map(row => row.slice(3))]))}, "save as CSV")]);
@@ -299,9 +335,11 @@ function showTable() {
 
 function tableSection() {
   onlyNeeded = el("input", {type: "checkbox", disabled: true, onchange: () => showTable()});
-  const made = section("tables", "Tables", D.tables.length ? [tableTabs, el("label", {class: "bar"}, onlyNeeded,
-    "only rows that the chosen statement needed"), tablePanel] : el("p", {class: "soft"}, D.kind === "excluded" ?
-    "A package of recorded replies has no tables." : "The run asked no table."));
+  const only = el("label", {class: "bar"}, onlyNeeded, "only rows that the chosen statement needed");
+  const none = D.kind === "excluded" ? "A package of recorded replies has no tables."
+    : "The run asked no table.";
+  const made = section("tables", "Tables",
+    D.tables.length ? [tableTabs, only, tablePanel] : el("p", {class: "soft"}, none));
   showTable();
   return made;
 }
@@ -319,20 +357,26 @@ function timeSection() {
       kind === "process" ? "process " + name : name.length > 26 ? name.slice(0, 25) + "…" : name),
       svg("line", {class: "lane", x1: left, x2: left + columns, y1: y, y2: y})]);
     const life = kind === "process" && D.processes.find(process => process.name === name);
-    if (life) put(picture, [svg("line", {class: "life", x1: x(life.first), x2: x(life.last) + 1, y1: y, y2: y})]);
+    if (life) {
+      put(picture, [svg("line", {class: "life", x1: x(life.first), x2: x(life.last) + 1, y1: y, y2: y})]);
+    }
     for (const [what, found] of Object.entries(marks)) {
-      put(picture, [svg("path", {class: "m-" + what, "stroke-width": 1.6, d: found.map(column =>
-        `M${left + column + .5} ${y - (what === "ask" || what === "change" ? 8 : 5)}v${what === "ask" || what === "change" ? 16 : 10}`).join("")})]);
+      const half = what === "ask" || what === "change" ? 8 : 5;
+      const d = found.map(column => `M${left + column + .5} ${y - half}v${2 * half}`).join("");
+      put(picture, [svg("path", {class: "m-" + what, "stroke-width": 1.6, d})]);
     }
   });
   const bottom = shown.length * height + 30;
   put(picture, [0, .25, .5, .75, 1].map(part => svg("text", {x: x(part * steps) - 6, y: bottom},
     Math.round(part * steps).toLocaleString("en"))));
   const key = (color, text) => { const mark = el("i"); mark.style.background = color; return [mark, text]; };
-  return section("time", "Processes and files over steps", el("p", {class: "soft key"}, key("#b9cbe6", "a process is there"),
-    key("#1f5fa8", "an act"), key("#c77700", "a statement"), key("#7d9a66", "a file is read or looked for"),
-    key("#b3261e", "a file is changed")), el("div", {class: "wide"}, picture),
-    lanes.length > limit && el("p", {class: "soft"}, `${lanes.length - limit} more processes and files aren't drawn.`));
+  const leftOut = lanes.length - limit;
+  return section("time", "Processes and files over steps",
+    el("p", {class: "soft key"}, key("#b9cbe6", "a process is there"), key("#1f5fa8", "an act"),
+      key("#c77700", "a statement"), key("#7d9a66", "a file is read or looked for"),
+      key("#b3261e", "a file is changed")),
+    el("div", {class: "wide"}, picture),
+    leftOut > 0 && el("p", {class: "soft"}, `${leftOut} more processes and files aren't drawn.`));
 }
 
 // ---- what an output came from
@@ -340,10 +384,14 @@ function timeSection() {
 const camePanel = el("div");
 let cameSelect = null;
 
-// The nodes from which a way of edges leads to a node, each edge at a time that isn't before the one before it.
+// The nodes from which a way of edges leads to a node, each edge at a time that isn't before that of the one
+// before it.
 function cameFrom(target) {
   const into = new Map();
-  D.graph.edges.forEach((edge, place) => { if (!into.has(edge[1])) into.set(edge[1], []); into.get(edge[1]).push(place); });
+  D.graph.edges.forEach((edge, place) => {
+    if (!into.has(edge[1])) into.set(edge[1], []);
+    into.get(edge[1]).push(place);
+  });
   const found = new Map(), due = [];
   const look = (node, time) => (into.get(node) || []).forEach(place => {
     const [source, , first, last] = D.graph.edges[place], latest = Math.min(last, time);
@@ -387,7 +435,8 @@ const made = new Map(D.processes.map((process, place) => [process.name, place]))
 // By code points, which is the order of the bytes.
 function textOrder(one, other) {
   const a = [...one], b = [...other], place = a.findIndex((char, at) => char !== b[at]);
-  return place < 0 ? a.length - b.length : place >= b.length ? 1 : a[place].codePointAt(0) - b[place].codePointAt(0);
+  if (place < 0) return a.length - b.length;
+  return place >= b.length ? 1 : a[place].codePointAt(0) - b[place].codePointAt(0);
 }
 
 // Paths by bytes, processes as they were made, rows, asks and replies by their numbers.
@@ -396,7 +445,8 @@ function nodeOrder(a, b) {
   if (kind !== other[0]) return KINDS.indexOf(kind) - KINDS.indexOf(other[0]);
   if (kind === "path") return textOrder(one[1], other[1]);
   if (kind === "process") return made.get(one[1]) - made.get(other[1]);
-  return kind === "row" ? textOrder(one[1], other[1]) || one[2] - other[2] || one[3] - other[3] : one[1] - other[1];
+  if (kind === "row") return textOrder(one[1], other[1]) || one[2] - other[2] || one[3] - other[3];
+  return one[1] - other[1];
 }
 
 function choosePath(path) {
@@ -409,16 +459,30 @@ function showCame() {
   const target = D.graph.nodes.findIndex(node => node[0] === "path" && node[1] === cameSelect.value);
   if (target < 0) return;
   const found = cameFrom(target), places = [...found.keys()].sort(nodeOrder);
-  if (!places.length) { put(camePanel, [el("p", {id: "came-none"}, "It came from nothing: the run never wrote it.")]); return; }
-  const count = kind => places.filter(place => D.graph.nodes[place][0] === kind).length;
-  put(camePanel, [el("p", {id: "came-count"}, `${counted(count("path"), "file")}, ${counted(count("process"), "process", "processes")}, ` +
-    `${counted(count("row"), "row")} and ${counted(count("ask"), "statement")} can have had a part in it.`),
+  if (!places.length) {
+    put(camePanel, [el("p", {id: "came-none"}, "It came from nothing: the run never wrote it.")]);
+    return;
+  }
+  put(camePanel, [el("p", {id: "came-count"}, countOf(places) + " can have had a part in it."),
     drawnGraph(target, found),
-    el("details", {}, el("summary", {}, "as a list"), el("ul", {class: "columns"}, places.slice(0, 5000).map(place =>
-      el("li", {"data-node": D.graph.nodes[place].join(" ")}, D.graph.nodes[place].join(" ")))))]);
+    el("details", {}, el("summary", {}, "as a list"),
+      el("ul", {class: "columns"}, places.slice(0, 5000).map(nodeItem)))]);
 }
 
-// Statements stand for their replies, and rows are drawn together by table and by the statement that needed them first.
+// How many files, processes, rows and statements the places are.
+function countOf(places) {
+  const count = kind => places.filter(place => D.graph.nodes[place][0] === kind).length;
+  return `${counted(count("path"), "file")}, ${counted(count("process"), "process", "processes")}, ` +
+    `${counted(count("row"), "row")} and ${counted(count("ask"), "statement")}`;
+}
+
+function nodeItem(place) {
+  const name = D.graph.nodes[place].join(" ");
+  return el("li", {"data-node": name}, name);
+}
+
+// Statements stand for their replies, and rows are drawn together by table and by the statement that needed
+// them first.
 function groupOf(place) {
   const node = D.graph.nodes[place];
   if (node[0] === "reply") return "ask " + node[1];
@@ -439,32 +503,38 @@ function drawnGraph(target, found) {
     const from = groupOf(source), to = groupOf(end), time = end === target ? LAST : found.get(end);
     for (const name of [from, to]) groups.get(name).time = Math.min(groups.get(name).time, first);
     if (from !== to && first <= time) {
-      const known = edges.get(from + "\n" + to);
-      edges.set(from + "\n" + to, {from, to, first: Math.min(first, known ? known.first : first), last: Math.max(last, known ? known.last : last)});
+      const name = from + "\n" + to, known = edges.get(name) || {first, last};
+      edges.set(name, {from, to, first: Math.min(first, known.first), last: Math.max(last, known.last)});
     }
   }
-  if (groups.size > DRAWN) return el("p", {class: "soft"}, `It would be a picture of ${groups.size} boxes; the list has all.`);
+  if (groups.size > DRAWN) {
+    return el("p", {class: "soft"}, `It would be a picture of ${groups.size} boxes; the list has all.`);
+  }
   return layout(groups, edges, groupOf(target));
 }
 
 const LANES = ["path", "process", "ask", "row"];
 function layout(groups, edges, target) {
   const boxWidth = 150, gap = 34, high = 40, laneHigh = 110;
-  const ordered = [...groups.entries()].sort((a, b) => a[1].time - b[1].time || LANES.indexOf(a[1].kind) - LANES.indexOf(b[1].kind));
+  const laneOf = group => LANES.indexOf(group.kind);
+  const ordered = [...groups.entries()].sort(([, a], [, b]) => a.time - b.time || laneOf(a) - laneOf(b));
   const next = {}, spots = new Map();
   let column = 0;
   for (const [name, group] of ordered) {
     column = Math.max(column, next[group.kind] || 0);
-    spots.set(name, {x: 10 + column * (boxWidth + gap), y: 10 + LANES.indexOf(group.kind) * laneHigh});
+    spots.set(name, {x: 10 + column * (boxWidth + gap), y: 10 + laneOf(group) * laneHigh});
     next[group.kind] = column + 1;
     if (group.kind === "path" || group.kind === "row") column = Math.max(0, column);
   }
   const width = 20 + (Math.max(...[...spots.values()].map(spot => spot.x)) + boxWidth);
-  const picture = svg("svg", {width, height: 4 * laneHigh - 30, id: "graph", role: "img"}, svg("defs", {}, svg("marker", {id: "tip",
-    viewBox: "0 0 8 8", refX: 7, refY: 4, markerWidth: 7, markerHeight: 7, orient: "auto"}, svg("path", {d: "M0 0L8 4L0 8z",
-    fill: "#7c8995"}))));
+  const tip = svg("marker", {id: "tip", viewBox: "0 0 8 8", refX: 7, refY: 4, markerWidth: 7, markerHeight: 7,
+    orient: "auto"}, svg("path", {d: "M0 0L8 4L0 8z", fill: "#7c8995"}));
+  const picture = svg("svg", {width, height: 4 * laneHigh - 30, id: "graph", role: "img"},
+    svg("defs", {}, tip));
   for (const edge of edges.values()) put(picture, [drawnEdge(edge, spots, boxWidth, high)]);
-  for (const [name, group] of groups) put(picture, [drawnBox(name, group, spots.get(name), boxWidth, high, target)]);
+  for (const [name, group] of groups) {
+    put(picture, [drawnBox(name, group, spots.get(name), boxWidth, high, target)]);
+  }
   return el("div", {class: "wide"}, picture);
 }
 
@@ -475,57 +545,77 @@ function drawnEdge({from, to, first, last}, spots, boxWidth, high) {
   const bend = isLevel ? -38 : 0, middle = (y1 + y2) / 2;
   const d = isLevel ? `M${x1} ${y1}C${x1} ${y1 + bend} ${x2} ${y2 + bend} ${x2} ${y2}` :
     `M${x1} ${y1}C${x1} ${middle} ${x2} ${middle} ${x2} ${y2}`;
-  return svg("path", {class: "edge", d, "marker-end": "url(#tip)"}, svg("title", {}, `${from} to ${to}: step ${first}` + (last > first ? ` to ${last}` : "")));
+  const title = `${from} to ${to}: step ${first}` + (last > first ? ` to ${last}` : "");
+  return svg("path", {class: "edge", d, "marker-end": "url(#tip)"}, svg("title", {}, title));
+}
+
+// The lines of the text in a group's box.
+function linesOf(name, group) {
+  const [kind, ...rest] = name.split(" ");
+  if (kind === "path") return [name.slice(5)];
+  if (kind === "ask") return ["statement " + rest[0]];
+  if (kind === "process") return ["process " + rest[0]];
+  const numbers = group.places.map(place => D.graph.nodes[place][2]).sort((a, b) => a - b);
+  return [rest[0], "row " + [...new Set(numbers)].slice(0, 6).join(", ") + (numbers.length > 6 ? " .." : "")];
+}
+
+// Shows what a click on a group's box asks for: a file or a statement.
+function showGroup(name) {
+  const [kind, number] = name.split(" ");
+  if (kind === "path") choosePath(name.slice(5));
+  if (kind !== "ask") return;
+  if (chosen !== Number(number)) choose(Number(number));
+  location.hash = "statements";
 }
 
 function drawnBox(name, group, {x, y}, boxWidth, high, target) {
-  const [kind, ...rest] = name.split(" ");
-  const numbers = group.places.map(place => D.graph.nodes[place][2]).sort((a, b) => a - b);
-  const lines = kind === "path" ? [name.slice(5)] : kind === "row" ? [rest[0], "row " + [...new Set(numbers)].slice(0, 6).join(", ") +
-    (numbers.length > 6 ? " .." : "")] : kind === "ask" ? ["statement " + rest[0]] : ["process " + rest[0]];
-  const click = kind === "path" ? () => choosePath(lines[0]) : kind === "ask" ? () => { if (chosen !== Number(rest[0])) choose(Number(rest[0]));
-    location.hash = "statements"; } : null;
+  const kind = group.kind, lines = linesOf(name, group);
   const fit = text => text.length > 22 ? text.slice(0, 21) + "…" : text;
+  const middle = x + boxWidth / 2, top = y + high / 2 + 4 - (lines.length - 1) / 2 * 15;
   const box = svg("g", {class: `node ${kind}${name === target ? " target" : ""}`, "data-box": name},
     svg("rect", {x, y, width: boxWidth, height: high, rx: kind === "path" ? 18 : kind === "ask" ? 9 : 2}),
-    lines.map((line, place) => svg("text", {x: x + boxWidth / 2, y: y + high / 2 + 4 + (place - (lines.length - 1) / 2) * 15,
-      "text-anchor": "middle"}, fit(line))), svg("title", {}, lines.join(": ")));
-  if (click) box.addEventListener("click", click);
+    lines.map((line, place) =>
+      svg("text", {x: middle, y: top + place * 15, "text-anchor": "middle"}, fit(line))),
+    svg("title", {}, lines.join(": ")));
+  box.addEventListener("click", () => showGroup(name));
   return box;
 }
 
 function cameSection() {
   cameSelect = el("select", {id: "came-path", onchange: showCame});
   if (!D.graph.nodes) return section("came", "What a file came from", el("p", {class: "soft"},
-    `The trace has ${counted(D.graph.edges, "edge")}, and a page shows up to ${D.graph.limit}: ldv inspect depends answers it.`));
+    `The trace has ${counted(D.graph.edges, "edge")}, and a page shows up to ${D.graph.limit}: ` +
+    "ldv inspect depends answers it."));
   const paths = D.graph.nodes.filter(node => node[0] === "path").map(node => node[1]);
   const wrote = new Set(D.touched.map(file => file.path));
-  put(cameSelect, paths.sort((a, b) => wrote.has(b) - wrote.has(a)).map(path => el("option", {value: path},
-    path + (wrote.has(path) ? " (written)" : ""))));
+  put(cameSelect, paths.sort((a, b) => wrote.has(b) - wrote.has(a)).map(path =>
+    el("option", {value: path}, path + (wrote.has(path) ? " (written)" : ""))));
   showCame();
-  return section("came", "What a file came from", el("p", {class: "soft"}, "All that can have had a part in what the file is " +
-    "at the end. A click on a file in the picture asks for that one, a click on a statement shows it."),
+  return section("came", "What a file came from", el("p", {class: "soft"},
+    "All that can have had a part in what the file is at the end. A click on a file in the picture asks " +
+    "for that one, a click on a statement shows it."),
     el("label", {class: "bar"}, "file", cameSelect), camePanel);
 }
 
 // ---- files
 
 function fileSection() {
-  return section("files", "Files of the package", paged(["file", "", ""], D.files, file => el("tr", {},
-    el("td", {}, file.path), el("td", {}, file.content === null ? "only present" : counted(file.content.size, "byte")),
-    el("td", {}, contentOf(file.path, file.content)))));
+  const sizeOf = content => content === null ? "only present" : counted(content.size, "byte");
+  const fileRow = file => el("tr", {}, el("td", {}, file.path), el("td", {}, sizeOf(file.content)),
+    el("td", {}, contentOf(file.path, file.content)));
+  return section("files", "Files of the package", paged(["file", "", ""], D.files, fileRow));
 }
 
 // ---- the page
 
 function page() {
-  const titles = {outcome: "Outcome", statements: "Statements", tables: "Tables", time: "Over steps", came: "What a file came from",
-    files: "Files"};
+  const titles = {outcome: "Outcome", statements: "Statements", tables: "Tables", time: "Over steps",
+    came: "What a file came from", files: "Files"};
   onlyNeeded = el("input", {type: "checkbox"});
   const sections = [outcomeSection(), statementSection(), tableSection(), timeSection(), null, fileSection()];
   sections[4] = cameSection();
-  put(document.body, [head(), el("nav", {}, Object.entries(titles).map(([id, title]) => el("a", {href: "#" + id}, title))),
-    el("main", {}, sections)]);
+  const links = Object.entries(titles).map(([id, title]) => el("a", {href: "#" + id}, title));
+  put(document.body, [head(), el("nav", {}, links), el("main", {}, sections)]);
 }
 
 page();

@@ -77,7 +77,7 @@ class RefusedMemory(InFolder):
         self.assertIn("no request of memory", self.answered(number="0\n")[0])
 
     def test_no_rows(self):
-        items = refused.items_of(package.Package(packages.encode(packages.package())))
+        items = refused.items_of(read_package(packages.encode(packages.package())))
         self.assertEqual(list(items), [["inspect", "depends", "main"]])
 
     @unittest.skipUnless(shutil.which("cc") and sys.platform == "linux", "there is no cc")
@@ -217,6 +217,11 @@ class HostileInputs(InFolder):
         rule = {"trace.1.reads.0.rows.0.rule": 4, "trace.1.reads.0.rows.1.rule": 5, "tables.0.rows.0.rule": 4}
         given = packages.encode(packages.changed("rows", rule))
         self.assertEqual(hostile_packages.in_other_version(hostile_packages.in_other_version(given)), given)
+        # The second event's step has no spelling in 32 bits.
+        runs = [packages.run(packages.started()), packages.run(packages.act("tested", "f", 2**32 - 1), 2, 1)]
+        given = packages.encode(packages.package(2, runs=runs))
+        self.assertEqual([event.step for event in read_package(given).events], [0, 2**32 - 1, 2**32])
+        self.assertEqual(hostile_packages.in_other_version(given), given)
 
     def test_migrated(self):
         """What `migrate` wrote is judged by its version, by what it becomes again and by its replay."""

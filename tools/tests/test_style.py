@@ -34,7 +34,7 @@ class Style(unittest.TestCase):
         """No line is longer than 110 columns, and no file than 800 lines."""
         for folder in ("tools", "tools/ldvtools", "tools/tests", "bench", "bench/python"):
             for name in sorted(os.listdir(os.path.join(ROOT, folder))):
-                if name.endswith(".py"):
+                if name.endswith((".py", ".js", ".css")):
                     text = read(os.path.join(ROOT, folder, name)).decode()
                     self.assertLess(text.count("\n"), 800, name)
                     for number, line in enumerate(text.split("\n"), 1):
