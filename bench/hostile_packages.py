@@ -18,6 +18,9 @@ WORD = 2 ** 32
 MAX_EVENTS = 20_000_001
 # A package with more events isn't spelled in version 1, nor are its runs made others.
 FEW_EVENTS = 20_000
+# What spelling raises for a package that can be read and has no such spelling: steps that go down, or above
+# 32 bits, or a process without a number.
+NO_SPELLING = (ValueError, OverflowError)
 
 
 # ---- bytes
@@ -71,11 +74,11 @@ def read(data):
 
 def in_other_version(data):
     """The package that bytes spell in the other version; the bytes where they spell none, or one that has no
-    spelling there: a run may reach a step of more than 32 bits."""
+    spelling there."""
     found = read(data)
     try:
         return in_version(3 - found.version, data) if found else data
-    except (ValueError, OverflowError):
+    except NO_SPELLING:
         return data
 
 
@@ -122,14 +125,18 @@ def mutate_run(rng, runs):
 
 
 def with_other_runs(rng, data):
-    """The package that bytes spell in version 2, with other runs; None where they spell none."""
+    """The package that bytes spell in version 2, with other runs; None where they spell none, or one that has
+    no spelling there."""
     found = read(data)
     runs = runs_of(found) if found else []
     if not runs:
         return None
     for _ in range(rng.choice((1, 1, 2))):
         mutate_run(rng, runs)
-    return encode({**parts_of(found._replace(runs=[])), 'version': 2, 'magic': MAGIC[2], 'runs': runs})
+    try:
+        return encode({**parts_of(found._replace(runs=[])), 'version': 2, 'magic': MAGIC[2], 'runs': runs})
+    except NO_SPELLING:
+        return None
 
 
 def mutated_package(rng, data):

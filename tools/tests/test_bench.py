@@ -1,6 +1,7 @@
 """bench/refused.py and bench/hostile.py, with answers that are given to them."""
 import collections
 import os
+import random
 import shutil
 import subprocess
 import sys
@@ -222,6 +223,16 @@ class HostileInputs(InFolder):
         given = packages.encode(packages.package(2, runs=runs))
         self.assertEqual([event.step for event in read_package(given).events], [0, 2**32 - 1, 2**32])
         self.assertEqual(hostile_packages.in_other_version(given), given)
+
+    def test_no_other_runs(self):
+        """Steps that go down aren't those of runs, so that the package has no other runs."""
+        trace = [packages.started(), packages.act("tested", "f", 9), packages.act("tested", "f", 2)]
+        given = packages.encode(packages.package(trace=trace))
+        self.assertEqual([event.step for event in read_package(given).events], [0, 9, 2])
+        for seed in range(50):
+            other = hostile_packages.with_other_runs(random.Random(seed), given)
+            self.assertTrue(other is None or other.startswith(b"LDVPACK2"))
+            self.assertTrue(hostile_packages.mutated_package(random.Random(seed), given))
 
     def test_migrated(self):
         """What `migrate` wrote is judged by its version, by what it becomes again and by its replay."""
