@@ -1,11 +1,13 @@
 """The script ./ldv, and with the program the examples, the tutorial and the pages."""
 import contextlib
 import glob
+import hashlib
 import io
 import json
 import os
 import pty
 import re
+import resource
 import shlex
 import shutil
 import subprocess
@@ -207,6 +209,11 @@ class Script(InFolder):
         self.assertIn(b"none is no program", err)
 
 
+def within_64_mib():
+    """Lets this process have 64 MiB of addresses."""
+    resource.setrlimit(resource.RLIMIT_AS, (64 << 20, 64 << 20))
+
+
 class Program(InFolder):
     """With the real program."""
 
@@ -321,3 +328,25 @@ class Program(InFolder):
             tables = {"t": {"columns": [[word, "INT"]]}}
             document = json.dumps({"start": ["m"], "files": {"m": ""}, "tables": tables}).encode()
             self.assertEqual(ldv(["run"], document), (6, b"", b"ldv: not a world: name\n"), word)
+
+    def test_memory_of_runs(self):
+        """A few bytes that stand for more events than a package may have are refused within 64 MiB, so before
+        an event is made of them. Of as many as may be, only a report on events makes them."""
+        head = ("4c44565041434b32 01 0001 000000046d61696e 0000000000000000 00989680 00000001 "
+                "000000046d61696e 01 00000000"
+                "0000 00000000 00000002 00000000 00000000 00 000000046d61696e 00000001 00000000")
+        # The steps, from byte 27 on, are 00989680 here, and a script of no line has one.
+        answers = {"replay": (0, b"outcome 1 0\nprocess 0 0 0 0\n\n", b""),
+                   "audit": (0, b"unsound 28\n", b""),
+                   "inspect files": (0, b"whole 0 main\n", b""),
+                   "table t 0": (10, b"", b"ldv: no such item\n"),
+                   "inspect why t 0": (11, b"", b"ldv: out of memory\n")}
+        refused = (8, b"", b"ldv: damaged: form\n")
+        for count in (20_000_000, 20_000_001, 2 ** 32 - 1):
+            data = bytes.fromhex(head + "00000001 00000000 08 00000001 66" + f"{count:08x} 00000000")
+            data += hashlib.sha256(data).digest()
+            for words, answer in [*answers.items(), ("migrate", (0, data, b""))]:
+                done = subprocess.run([support.PROGRAM, *words.split()], input=data, capture_output=True,
+                                      preexec_fn=within_64_mib, check=False)
+                self.assertEqual((done.returncode, done.stdout, done.stderr),
+                                 answer if count == 20_000_000 else refused, (count, words))
