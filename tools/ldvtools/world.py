@@ -168,7 +168,7 @@ def read_words(given: Optional[Sequence[str]]) -> argparse.Namespace:
     many("--csv", "[TABLE=]FILE", "a table from a CSV file; its name is that of the file")
     many("--sqlite", "FILE", "the tables of an SQLite database, which is only read")
     many("--table", "OLD", "of the database, only this table; may be repeated")
-    parser.add_argument("--script", metavar="[PATH=]FILE", help="the start script (docs/SCRIPTS.md)")
+    many("--script", "[PATH=]FILE", "the start script (docs/SCRIPTS.md)")
     many("--sql", "FILE", "statements, each ended by a semicolon: the start script asks them one by one")
     many("--ask", "STATEMENT", "one more statement for the start script")
     many("--file", "[PATH=]FILE", "one more file of the world")
@@ -205,6 +205,9 @@ def read_words(given: Optional[Sequence[str]]) -> argparse.Namespace:
     parser.add_argument("--strict", action="store_true", help="refuse where there is a note or a warning")
     parser.add_argument("--no-check", action="store_true", help="don't look into scripts and statements")
     words = parser.parse_args(given)
+    if len(words.script) > 1:
+        raise Misused("--script is given twice; a child's script goes into the world by --file NAME=PATH")
+    words.script = words.script[0] if words.script else None
     check_words(words)
     return words
 

@@ -269,6 +269,14 @@ class ScriptsAndFiles(InFolder):
         files = [word for n in range(4) for word in ("--file", f"{n}={full}")]
         self.refused("the document has", "--script", script, *files)
 
+    def test_script_twice(self):
+        script, child = self.put("main.ldv", ""), self.put("child.ldv", "")
+        self.refused("--script is given twice; a child's script goes into the world by --file NAME=PATH",
+                     "--script", script, "--script", child, status=2)
+        status, out, err = tool(world, "--script", script, "--file", f"child={child}")
+        self.assertEqual((status, json.loads(out)["start"]), (0, ["main.ldv"]), err)
+        self.assertEqual(list(json.loads(out)["files"]), ["main.ldv", "child"])
+
     def test_misuse(self):
         script, path = self.put("s", ""), self.put("t.csv", "a\n1\n")
         for words in ([], ["--csv", path], ["--script", script, *ASK], ["--script", script, "--seed", "-1"],
