@@ -90,6 +90,19 @@ class CsvFiles(InFolder):
         self.csv_refused("is no CSV file, but a workbook", b"PK\x03\x04...")
         self.csv_refused("is no CSV file, but an SQLite database: give --sqlite", b"SQLite format 3\0...")
 
+    def test_other_delimiter(self):
+        """A file that would be one column because it has another delimiter is refused, with --tidy too."""
+        for given, there, word in ((";", ",", "','"), (",", ";", "';'"), ("tab", ",", "','"),
+                                   (";", "\t", "tab"), (",", "|", "'|'"), ("|", ";", "';'")):
+            for words in ([], ["--tidy"]):
+                message = f"one name, {'a' + there + 'b'!r}; give --delimiter {word}\n"
+                self.csv_refused(message, f"a{there}b\n1{there}2\n", "--delimiter", given, *words)
+                self.csv_refused(message, f"a{there}b\n", "--delimiter", given, *words)
+        self.csv_refused("give --delimiter ',', not --tsv", "a,b\n1,2\n", "--tsv", "--tidy")
+        table = self.table("Size, cm\n1\n", "--delimiter", ";", "--tidy")
+        self.assertEqual((table["columns"], table["rows"]), ([["size_cm", "INT"]], [[1]]))
+        self.assertEqual(self.table('"a, b"\n"1, 2"\n', "--tidy")["rows"], [["1, 2"]])
+
     def test_dumps(self):
         """Tables as COPY of PostgreSQL and --batch of MySQL write them."""
         text = 'a\tb\tc\n1\tsays "hi"\t\\N\n2\t\tx\\ty\\nz\\\\n\n3\t"open\tNULL\n'
