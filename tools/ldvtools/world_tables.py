@@ -35,13 +35,15 @@ class BadText:
 
 
 class Column:
-    """A column. `kind` is INT, TEXT, or None where the values decide; `old` is its name where it was read."""
+    """A column. `kind` is INT, TEXT, or None where the values decide; `old` is its name where it was read,
+    `default` what an INSERT there gives it."""
 
     def __init__(self, name: str, old: str, kind: Optional[str] = None, not_null: bool = False,
                  declared: str = "") -> None:
         self.name, self.old, self.declared = name, old, declared
         self.kind, self.not_null = kind, not_null
         self.scale: Optional[int] = None
+        self.default: Any = None
         self.cells: List[Cell] = []
 
     def full_kind(self) -> str:

@@ -388,6 +388,20 @@ class Databases(InFolder):
         status, out, err = tool(world, *words, *scales, "--round")
         self.assertEqual(json.loads(out)["tables"]["t"]["rows"], [[15, 1, 125, 0], [20, 2, 1500, 100]], err)
 
+    def test_defaults(self):
+        """A default isn't carried: a column that may have no NULL then refuses the INSERT."""
+        words = self.database("CREATE TABLE t (a INT DEFAULT 1, b INT NOT NULL DEFAULT 2, c INT DEFAULT 3);")
+        err = tool(world, *words, "--key", "t=c")[2]
+        for name, what in (("a: DEFAULT 1", "gives NULL"), ("b: DEFAULT 2", "is refused with code 5"),
+                           ("c: DEFAULT 3", "is refused with code 5")):
+            self.assertIn(f"world.py: note: t.{name} isn't carried: an INSERT that doesn't name the column "
+                          f"{what} here\n", err)
+
+    def test_views(self):
+        words = self.database(SHOP)
+        self.refused("all_lines is a view; CREATE TABLE t AS SELECT * FROM all_lines in a copy of the "
+                     "database makes it a table", *words, "--table", "all_lines")
+
     def test_paths_and_names(self):
         """A path of two slashes, and a table and columns in other quotes whose names are words of a note."""
         words = self.database("CREATE TABLE t (a INT, [check] INT, `autoincrement` INT);")
