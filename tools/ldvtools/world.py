@@ -28,7 +28,7 @@ import gc
 import os
 import random
 import sys
-from typing import Dict, List, NamedTuple, Optional, Sequence, Tuple
+from typing import Dict, Iterator, List, NamedTuple, Optional, Sequence, Tuple
 
 from .check import findings_of
 from .documents import document, table_json, write_file
@@ -49,19 +49,27 @@ def world_tables(words: argparse.Namespace, notes: List[str], hints: List[str],
                  progress: Progress) -> List[Table]:
     settings = Settings(words)
     delimiter = "\t" if words.delimiter == "tab" else words.delimiter
+
+    def read_all() -> Iterator[List[Table]]:
+        for word in words.csv:
+            yield [read_csv(word, settings, delimiter, words.encoding, hints, progress)]
+        for path in words.sqlite:
+            yield read_database(path, words.table, settings, notes)
+
     tables: List[Table] = []
-    for word in words.csv:
-        tables.append(read_csv(word, settings, delimiter, words.encoding, hints, progress))
-        settle(tables[-1:], settings, hints)
-        progress.tell(f"{tables[-1].name}: {tables[-1].count:,} rows are settled")
-    for path in words.sqlite:
-        found = read_database(path, words.table, settings, notes)
-        settle(found, settings, hints)
+    left = read_all()
+    for found in left:
+        tables += found
+        try:
+            settle(found, settings, hints)
+        except Refused:
+            check_names(tables, left, settings)
+            raise
         for table in found:
-            note_types(table, notes)
-            tables.append(table)
+            if not table.from_text:
+                note_types(table, notes)
             progress.tell(f"{table.name}: {table.count:,} rows are settled")
-    settings.check_used()
+    settings.check_used(names_of(tables))
     if words.shuffle is not None:
         shuffle(tables, words.shuffle)
     names = [table.name for table in tables]
@@ -71,6 +79,27 @@ def world_tables(words: argparse.Namespace, notes: List[str], hints: List[str],
     if len(tables) > MAX_TABLES:
         raise Refused(f"{len(tables)} tables; the limit is {MAX_TABLES}")
     return tables
+
+
+def check_names(tables: Sequence[Table], left: Iterator[List[Table]], settings: Settings) -> None:
+    """Where a table was refused: says first that an option names nothing, which may be why."""
+    there = list(tables)
+    try:
+        for found in left if settings.unused else ():
+            there += found
+    except Refused:
+        return
+    for table in there:
+        settings.take("--key", table.name)
+        for column in table.columns:
+            for option in ("--kind", "--scale", "--empty"):
+                settings.take(option, table.full_name(column))
+    settings.check_used(names_of(there))
+
+
+def names_of(tables: Sequence[Table]) -> Dict[str, List[Tuple[str, str]]]:
+    """The columns of each table, with their names where they were read and in the world."""
+    return {table.name: [(column.old, column.name) for column in table.columns] for table in tables}
 
 
 def shuffle(tables: Sequence[Table], seed: int) -> None:

@@ -19,6 +19,7 @@ from .world_settings import Settings, fold, tidy_names
 WHOLE = re.compile(r"[+-]?[0-9]+\Z")
 DECIMAL = re.compile(r"([+-]?)(?=\.?[0-9])([0-9]*)(?:\.([0-9]*))?\Z")
 MAX_SCALE = 18
+MANY_DIGITS = 15
 SAMPLE = 1000
 # Written in C where that is built.
 spelled_text: Callable[[str], str] = getattr(json.encoder, "encode_basestring")
@@ -144,8 +145,17 @@ def scaled_number(value: Cell, scale: int, settings: Settings) -> int:
             raise Unfit(f"{shown(value)} has more than the {plain_count(scale, 'decimal')} of --scale; "
                         "--round rounds")
         rounded = Decimal(f"{sign}0{whole}.{part}").quantize(Decimal(1).scaleb(-scale), ROUND_HALF_EVEN)
-        return whole_number(str(int(rounded.scaleb(scale))))
-    return whole_number(f"{sign}0{whole}{part[:scale].ljust(scale, '0')}")
+        return within(str(int(rounded.scaleb(scale))), value, scale)
+    return within(f"{sign}0{whole}{part[:scale].ljust(scale, '0')}", value, scale)
+
+
+def within(text: str, value: Cell, scale: int) -> int:
+    """The whole number that a text is. A message about it has the value as it was read."""
+    try:
+        return whole_number(text)
+    except Unfit:
+        raise Unfit(f"{shown(value)} is outside 64 bits at --scale {scale} ({MIN_INT} to {MAX_INT} by "
+                    f"{10 ** scale})") from None
 
 
 def text_value(value: Cell) -> str:
@@ -186,6 +196,20 @@ def scale_needed(column: Column, settings: Settings) -> Optional[int]:
     found = [decimals_of(cell, settings) for cell in column.cells if cell is not None and not isinstance(
         cell, (bytes, BadText))]
     return max((each for each in found if each is not None), default=None)
+
+
+def scale_advised(column: Column, settings: Settings) -> Tuple[int, bool]:
+    """The decimals for a column with REAL values, and whether some have more. A value of many digits, such as
+    0.30000000000000004, is most often what arithmetic left, and doesn't count."""
+    needed = scale_needed(column, settings) or 0
+    numbers = [cell for cell in column.cells if isinstance(cell, (int, float))]
+    short = [decimals_of(cell, settings) or 0 for cell in numbers
+             if len(decimal_text(cell, settings).replace(".", "").strip("-0")) < MANY_DIGITS]
+    scale = min(needed if len(short) == len(numbers) else min(needed, max(short + [1])), MAX_SCALE)
+    most = max((abs(number) for number in numbers), default=0)
+    while scale and most * 10 ** scale > MAX_INT:
+        scale -= 1
+    return scale, needed > scale
 
 
 def hint_of_text(table: Table, column: Column, settings: Settings, hints: List[str]) -> None:
@@ -389,13 +413,13 @@ def check_scales(tables: Sequence[Table], settings: Settings) -> None:
     if not needed:
         return
     table, row, column, value = needed[0]
-    scales = [(each.full_name(other), scale_needed(other, settings) or 0) for each, _, other, _ in needed]
-    words = " ".join(f"--scale {name}={min(scale, MAX_SCALE)}" for name, scale in scales)
-    if any(scale > MAX_SCALE for _, scale in scales):
-        words += " --round"
+    scales = [(each.full_name(other), *scale_advised(other, settings)) for each, _, other, _ in needed]
+    words = " ".join(f"--scale {name}={scale}" for name, scale, _ in scales)
+    are_rounded = any(is_rounded for _, _, is_rounded in scales)
+    words, how = (words + " --round", ", rounded") if are_rounded else (words, "")
     raise Refused(f"{table.at(row, column)}: {shown(value)} has no equal here; {words} carries "
-                  f"all of them as whole numbers, --leave-out {table.full_name(column)} leaves the column "
-                  "out")
+                  f"all of them as whole numbers{how}, --leave-out {table.full_name(column)} leaves the "
+                  "column out")
 
 
 def first_float(column: Column) -> Iterator[Tuple[int, float]]:

@@ -402,6 +402,44 @@ class Databases(InFolder):
         self.refused("all_lines is a view; CREATE TABLE t AS SELECT * FROM all_lines in a copy of the "
                      "database makes it a table", *words, "--table", "all_lines")
 
+    def test_long_decimals(self):
+        """Digits that arithmetic left are rounded away, and what is advised fits into 64 bits."""
+        def advice(values):
+            return self.database("CREATE TABLE r (a REAL); INSERT INTO r VALUES " + values)
+        for values, words in (("(0.1 + 0.2)", "--scale r.a=1 --round carries all of them as whole numbers, "
+                               "rounded, --leave-out"),
+                              ("(0.1 + 0.2), (1.25)", "--scale r.a=2 --round carries"),
+                              ("(1.0 / 3)", "--scale r.a=1 --round carries"),
+                              ("(1e15), (1e-5)", "--scale r.a=3 --round carries"),
+                              ("(1e300), (0.5)", "--scale r.a=0 --round carries"),
+                              ("(12.5), (NULL)", "--scale r.a=1 carries all of them as whole numbers, --l")):
+            self.refused(words, *advice(values))
+        self.refused("the REAL value 1e+300 is outside 64 bits at --scale 0", *advice("(1e300), (0.5)"),
+                     "--scale", "r.a=0", "--round")
+        status, out, err = tool(world, *advice("(0.1 + 0.2), (7)"), "--scale", "r.a=1", "--round")
+        self.assertEqual(json.loads(out)["tables"]["r"]["rows"], [[3], [70]], err)
+        self.csv_refused("'92233720368547758.08' is outside 64 bits at --scale 2 (-9223372036854775808 to "
+                         "9223372036854775807 by 100)", "a\n92233720368547758.08\n", "--scale", "t.a=2")
+
+    def test_names_of_nothing(self):
+        """An option that names nothing is said first, with the names that there are."""
+        first, second = self.put("t.csv", "Id,A\n1,2\n"), self.put("u.csv", "b\nx\n")
+        words = ["--csv", first, "--csv", second, *ASK]
+        for option, name, what in (("--rename=t.ID=id", "t.ID", "t has Id, A"),
+                                   ("--scale=t.c=1", "t.c", "t has Id, A"),
+                                   ("--key=v=b", "v", "the tables are t, u"),
+                                   ("--leave-out=w", "w", "the tables are t, u")):
+            self.refused(f"{option.partition('=')[0]} {name}: nothing that was read has this name; {what} (",
+                         *words, option, status=2)
+        self.refused("--scale t.c: nothing that was read has this name; t has id, a (", *words, "--lower",
+                     "--scale", "t.c=1", status=2)
+        self.refused("column 1 'Id': names have no upper-case", *words, "--key", "u=b", "--kind", "u.b=TEXT")
+        self.refused("column 1 'Id': names have no upper-case", *words, "--csv", second + "x", "--key", "v=b")
+        words = self.database("CREATE TABLE r (a REAL); INSERT INTO r VALUES (0.5); CREATE TABLE s (b INT);")
+        self.refused("--scale r.b: nothing that was read has this name; r has a (", *words, "--scale",
+                     "r.b=1", status=2)
+        self.refused("--scale r.a=1 carries", *words, "--key", "s=b")
+
     def test_paths_and_names(self):
         """A path of two slashes, and a table and columns in other quotes whose names are words of a note."""
         words = self.database("CREATE TABLE t (a INT, [check] INT, `autoincrement` INT);")
