@@ -12,7 +12,8 @@ A CSV file has a header; a blank line is no row. A column is INT where each cell
 number of 64 bits without a plus sign or needless zeros; else it is TEXT. An empty cell is NULL. --kind,
 --empty and --null say otherwise. A world has no decimals and no dates: --scale carries a decimal as a whole
 number of tenths, cents and so on, and a date is best a text such as 2019-01-31, which compares as the date
-does. A byte order mark says the encoding of a file.
+does. A byte order mark says the encoding of a file. --delimiter, --decimal, --encoding and --null hold for
+all CSV files: convert the odd one first.
 
 Scripts and statements are looked at as `tools/check.py` does. What they have wrong is a warning, and the
 world is made; a join that would mean another one, such as LEFT JOIN, is refused.

@@ -244,9 +244,10 @@ def hint_of_form(table: Table, column: Column, cells: Sequence[str], hints: List
     decimals = [COMMA.match(cell) for cell in sample]
     if any(decimals) and all(found or WHOLE.match(cell) for cell, found in zip(sample, decimals)):
         scale = max(len(found[1]) for found in decimals if found)
+        are_thousands = all(len(found[1]) == 3 for found in decimals if found)
+        rest = ", or, if these are thousands, take the separators out first" if are_thousands else ""
         hints.append(f"{name} is TEXT, and looks like decimals with a comma; --decimal , --scale "
-                     f"{name}={scale} carries it as "
-                     "whole numbers")
+                     f"{name}={scale} carries it as whole numbers{rest}")
     elif sample and all(DAY_FIRST.match(cell) for cell in sample):
         hints.append(f"{name} is TEXT, and looks like dates such as {shown(sample[0])}: these don't compare "
                      "as dates; from the "

@@ -146,6 +146,13 @@ class CsvFiles(InFolder):
         self.assertIn("t.a is TEXT, and looks like decimals with a comma; --decimal , --scale t.a=2", err)
         self.assertIn("t.b is TEXT, and looks like dates such as '01.02.2024'", err)
         self.assertEqual(err.count("looks like"), 2)
+        self.assertNotIn("thousands", err)
+        for cells, are_thousands in (("1,234 12,500", True), ("999 1,234", True), ("1,234 12,50", False)):
+            err = tool(world, "--csv", self.put("t.csv", "a;b\n" + cells.replace(" ", ";x\n") + ";x\n"),
+                       "--delimiter", ";", *ASK)[2]
+            self.assertIn("--decimal , --scale t.a=3 carries it as whole numbers", err)
+            rest = "whole numbers, or, if these are thousands, take the separators out first\n"
+            self.assertEqual(rest in err, are_thousands, cells)
 
     def test_rounding(self):
         table = self.table("a\n0.125\n0.375\n-0.125\n2.5\n1\n", "--scale", "t.a=2", "--round")
@@ -264,6 +271,11 @@ class ScriptsAndFiles(InFolder):
         """Lines are counted for a message only: many statements take no time that grows with their square."""
         with mock.patch("ldvtools.scripts_of_statements.line_at", side_effect=AssertionError):
             self.assertEqual(self.script("--a\nSELECT a FROM t;\n" * 3), '# a\nsql q "SELECT a FROM t"\n' * 3)
+
+    def test_help(self):
+        """What holds for all CSV files is said."""
+        self.assertIn("--delimiter, --decimal, --encoding and --null hold for\nall CSV files: convert the "
+                      "odd one first.\n", tool(world, "--help")[1].decode())
 
     def test_files(self):
         script, logo = self.put("go.ldv", "print 1\n"), self.put("logo", b"\x89PNG")
