@@ -7,7 +7,7 @@ from __future__ import annotations
 
 import json.encoder
 import re
-from decimal import ROUND_HALF_EVEN, Decimal
+from decimal import ROUND_HALF_EVEN, Context, Decimal
 from typing import Any, Callable, Dict, Iterator, List, Optional, Sequence, Tuple
 
 from .errors import Refused, Unfit
@@ -144,8 +144,9 @@ def scaled_number(value: Cell, scale: int, settings: Settings) -> int:
         if not settings.rounds:
             raise Unfit(f"{shown(value)} has more than the {plain_count(scale, 'decimal')} of --scale; "
                         "--round rounds")
-        rounded = Decimal(f"{sign}0{whole}.{part}").quantize(Decimal(1).scaleb(-scale), ROUND_HALF_EVEN)
-        return within(str(int(rounded.scaleb(scale))), value, scale)
+        exact = Context(prec=len(whole) + scale + 2, rounding=ROUND_HALF_EVEN)
+        rounded = exact.quantize(Decimal(f"{sign}0{whole}.{part}"), Decimal(1).scaleb(-scale))
+        return within(format(rounded, "f").replace(".", ""), value, scale)
     return within(f"{sign}0{whole}{part[:scale].ljust(scale, '0')}", value, scale)
 
 

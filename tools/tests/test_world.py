@@ -157,6 +157,15 @@ class CsvFiles(InFolder):
     def test_rounding(self):
         table = self.table("a\n0.125\n0.375\n-0.125\n2.5\n1\n", "--scale", "t.a=2", "--round")
         self.assertEqual(table["rows"], [[12], [38], [-12], [250], [100]])
+        table = self.table("a\n0.0000000000000000005\n-0.00000000000000000251\n9.2233720368547758074\n",
+                           "--scale", "t.a=18", "--round")
+        self.assertEqual(table["rows"], [[0], [-3], [9223372036854775807]])
+        table = self.table("a\n-0.04\n-0.5\n0.5\n1.5\n9.96\n", "--scale", "t.a=0", "--round")
+        self.assertEqual(table["rows"], [[0], [0], [0], [2], [10]])
+        for number in ("12345678901.1234567890123456789", "9" * 40 + ".0000000000000000001",
+                       "9.2233720368547758075"):
+            self.csv_refused("is outside 64 bits at --scale 18", f"a\n{number}\n", "--scale", "t.a=18",
+                             "--round")
         path = self.put("t.csv", "a\n90000000000000000.5\n90000000000000000\n")
         err = tool(world, "--csv", path, *ASK, "--scale", "t.a=1")[2]
         self.assertNotIn("may leave 64 bits", err)
