@@ -12,7 +12,8 @@ A CSV file has a header; a blank line is no row. A column is INT where each cell
 number of 64 bits without a plus sign or needless zeros; else it is TEXT. An empty cell is NULL. --kind,
 --empty and --null say otherwise. A world has no decimals and no dates: --scale carries a decimal as a whole
 number of tenths, cents and so on, and a date is best a text such as 2019-01-31, which compares as the date
-does. A byte order mark says the encoding of a file.
+does. A byte order mark says the encoding of a file. --delimiter, --decimal, --encoding and --null hold for
+all CSV files: convert the odd one first.
 
 Scripts and statements are looked at as `tools/check.py` does. What they have wrong is a warning, and the
 world is made; a join that would mean another one, such as LEFT JOIN, is refused.
@@ -28,7 +29,7 @@ import gc
 import os
 import random
 import sys
-from typing import Dict, List, NamedTuple, Optional, Sequence, Tuple
+from typing import Dict, Iterator, List, NamedTuple, Optional, Sequence, Tuple
 
 from .check import findings_of
 from .documents import document, table_json, write_file
@@ -49,19 +50,27 @@ def world_tables(words: argparse.Namespace, notes: List[str], hints: List[str],
                  progress: Progress) -> List[Table]:
     settings = Settings(words)
     delimiter = "\t" if words.delimiter == "tab" else words.delimiter
+
+    def read_all() -> Iterator[List[Table]]:
+        for word in words.csv:
+            yield [read_csv(word, settings, delimiter, words.encoding, hints, progress)]
+        for path in words.sqlite:
+            yield read_database(path, words.table, settings, notes)
+
     tables: List[Table] = []
-    for word in words.csv:
-        tables.append(read_csv(word, settings, delimiter, words.encoding, hints, progress))
-        settle(tables[-1:], settings, hints)
-        progress.tell(f"{tables[-1].name}: {tables[-1].count:,} rows are settled")
-    for path in words.sqlite:
-        found = read_database(path, words.table, settings, notes)
-        settle(found, settings, hints)
+    left = read_all()
+    for found in left:
+        tables += found
+        try:
+            settle(found, settings, hints)
+        except Refused:
+            check_names(tables, left, settings)
+            raise
         for table in found:
-            note_types(table, notes)
-            tables.append(table)
+            if not table.from_text:
+                note_types(table, notes)
             progress.tell(f"{table.name}: {table.count:,} rows are settled")
-    settings.check_used()
+    settings.check_used(names_of(tables))
     if words.shuffle is not None:
         shuffle(tables, words.shuffle)
     names = [table.name for table in tables]
@@ -71,6 +80,27 @@ def world_tables(words: argparse.Namespace, notes: List[str], hints: List[str],
     if len(tables) > MAX_TABLES:
         raise Refused(f"{len(tables)} tables; the limit is {MAX_TABLES}")
     return tables
+
+
+def check_names(tables: Sequence[Table], left: Iterator[List[Table]], settings: Settings) -> None:
+    """Where a table was refused: says first that an option names nothing, which may be why."""
+    there = list(tables)
+    try:
+        for found in left if settings.unused else ():
+            there += found
+    except Refused:
+        return
+    for table in there:
+        settings.take("--key", table.name)
+        for column in table.columns:
+            for option in ("--kind", "--scale", "--empty"):
+                settings.take(option, table.full_name(column))
+    settings.check_used(names_of(there))
+
+
+def names_of(tables: Sequence[Table]) -> Dict[str, List[Tuple[str, str]]]:
+    """The columns of each table, with their names where they were read and in the world."""
+    return {table.name: [(column.old, column.name) for column in table.columns] for table in tables}
 
 
 def shuffle(tables: Sequence[Table], seed: int) -> None:
@@ -168,7 +198,7 @@ def read_words(given: Optional[Sequence[str]]) -> argparse.Namespace:
     many("--csv", "[TABLE=]FILE", "a table from a CSV file; its name is that of the file")
     many("--sqlite", "FILE", "the tables of an SQLite database, which is only read")
     many("--table", "OLD", "of the database, only this table; may be repeated")
-    parser.add_argument("--script", metavar="[PATH=]FILE", help="the start script (docs/SCRIPTS.md)")
+    many("--script", "[PATH=]FILE", "the start script (docs/SCRIPTS.md)")
     many("--sql", "FILE", "statements, each ended by a semicolon: the start script asks them one by one")
     many("--ask", "STATEMENT", "one more statement for the start script")
     many("--file", "[PATH=]FILE", "one more file of the world")
@@ -205,6 +235,9 @@ def read_words(given: Optional[Sequence[str]]) -> argparse.Namespace:
     parser.add_argument("--strict", action="store_true", help="refuse where there is a note or a warning")
     parser.add_argument("--no-check", action="store_true", help="don't look into scripts and statements")
     words = parser.parse_args(given)
+    if len(words.script) > 1:
+        raise Misused("--script is given twice; a child's script goes into the world by --file NAME=PATH")
+    words.script = words.script[0] if words.script else None
     check_words(words)
     return words
 

@@ -49,7 +49,7 @@ def read_csv(word: str, settings: Settings, delimiter: str, encoding: str, hints
     if not records:
         raise Refused(f"{path} is empty; its first line has to name the columns")
     header = records.pop(0)
-    check_header(path, header, delimiter)
+    check_header(lines, header, records)
     for place, row in enumerate(records, 1) if set(map(len, records)) - {len(header)} else ():
         if len(row) != len(header):
             raise Refused(f"{path} line {lines.of(place)}: {plain_count(len(row), 'cell')}, but the header "
@@ -71,9 +71,15 @@ def read_csv(word: str, settings: Settings, delimiter: str, encoding: str, hints
                  row_name=lambda row: f"{path} line {lines.of(kept[row] + 1)} (row {row} of {name})")
 
 
-def check_header(path: str, header: Sequence[str], delimiter: str) -> None:
-    if len(header) == 1 and delimiter not in ";\t" and re.search("[;\t|]", header[0]):
-        raise Refused(f"{path}: the first line has one name, {header[0]!r}; give --delimiter ';' or tab")
+def check_header(lines: Lines, header: Sequence[str], records: List[List[str]]) -> None:
+    """Refuses a file that would be one column because it has another delimiter, which rows have too."""
+    for other in ",;\t|" if len(header) == 1 else "":
+        if other == lines.delimiter or other not in header[0]:
+            continue
+        if not records or any(other in cell for row in records for cell in row):
+            word = ("tab" if other == "\t" else f"'{other}'") + (", not --tsv" if lines.is_tsv else "")
+            raise Refused(f"{lines.path}: the first line has one name, {header[0]!r}; "
+                          f"give --delimiter {word}")
 
 
 def blank_places(records: List[List[str]]) -> List[int]:

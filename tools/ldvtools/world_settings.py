@@ -86,6 +86,12 @@ class Settings:
         by_place = self.take("--rename", place) if place else None
         return by_place or self.take("--rename", old) or (fold(name) if self.lower or self.tidy else name)
 
-    def check_used(self) -> None:
+    def check_used(self, there: Dict[str, List[Tuple[str, str]]]) -> None:
+        """Refuses an option that names nothing. `there` has the columns of each table: where they were read
+        they have the first name, in the world the second."""
         for option, name in sorted(self.unused):
-            raise Misused(f"{option} {name}: nothing that was read has this name")
+            table = name.partition(".")[0]
+            columns = [old if option == "--rename" else new for old, new in there.get(table, [])]
+            which = (f"{table} has {', '.join(columns)}" if columns and "." in name
+                     else f"the tables are {', '.join(there) or 'none'}")
+            raise Misused(f"{option} {name}: nothing that was read has this name; {which}")

@@ -54,7 +54,11 @@ def tables_of(path: str, only: Sequence[str], settings: Settings, notes: List[st
         everything = "SELECT type, name, tbl_name, sql FROM sqlite_master ORDER BY rowid"
         entries = base.execute(everything).fetchall()
         there = [name for kind, name, _, _ in entries if kind == "table" and not name.startswith("sqlite_")]
+        views = [name for kind, name, _, _ in entries if kind == "view"]
         for name in only:
+            if name in views:
+                raise Refused(f"{path}: {name} is a view; CREATE TABLE t AS SELECT * FROM {name} in a copy "
+                              "of the database makes it a table")
             if name not in there:
                 raise Refused(f"{path}: there is no table {name}; there are {', '.join(there) or 'none'}")
         hidden = shadow_tables(base)
@@ -107,9 +111,10 @@ def read_table(base: sqlite3.Connection, name: str, sql: str, settings: Settings
     shape: List[Shape] = [row for row in base.execute(f"PRAGMA table_xinfo({quoted(name)})") if row[6] != 1]
     columns = []
     plain = tidy_names([row[1] for row in shape]) if settings.tidy else [row[1] for row in shape]
-    for (_, old, declared, not_null, _, _, _), tidied in zip(shape, plain):
+    for (_, old, declared, not_null, default, _, _), tidied in zip(shape, plain):
         own = settings.new_name(f"{new}.{old}", tidied)
         columns.append(Column(own, old, kind_of_type(declared), bool(not_null), declared))
+        columns[-1].default = default
     key = [columns[place].name for _, place in sorted((row[5], row[0]) for row in shape if row[5])]
     chosen = ", ".join(quoted(row[1]) for row in shape)
     order = row_order(base, name, shape)
@@ -145,10 +150,7 @@ def row_order(base: sqlite3.Connection, name: str, shape: Sequence[Shape]) -> st
 
 
 def note_columns(table_name: str, shape: Sequence[Shape], notes: List[str]) -> None:
-    for _, name, _, _, default, _, hidden in shape:
-        if default is not None:
-            notes.append(f"{table_name}.{name}: DEFAULT {default} isn't carried: "
-                         "an INSERT that doesn't name the column gives NULL here")
+    for _, name, _, _, _, _, hidden in shape:
         if hidden in (2, 3):
             notes.append(f"{table_name}.{name} is GENERATED: its values are carried, its rule isn't")
 
@@ -176,8 +178,12 @@ def note_constraints(base: sqlite3.Connection, name: str, new: str, sql: str, no
 
 
 def note_types(table: Table, notes: List[str]) -> None:
-    """Notes the declared types of a settled table that have no equal here."""
+    """Notes the defaults and the declared types of a settled table that have no equal here."""
     for column in table.columns:
+        if column.default is not None:
+            what = "is refused with code 5 here" if column.not_null else "gives NULL here"
+            notes.append(f"{table.name}.{column.old}: DEFAULT {column.default} isn't carried: an INSERT that "
+                         f"doesn't name the column {what}")
         if kind_of_type(column.declared) is None and column.scale is None:
             declared = column.declared or "no type"
             isn_t = re.search("DATE|TIME", declared, re.IGNORECASE) and column.kind == "TEXT"

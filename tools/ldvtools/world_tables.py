@@ -7,7 +7,7 @@ from __future__ import annotations
 
 import json.encoder
 import re
-from decimal import ROUND_HALF_EVEN, Decimal
+from decimal import ROUND_HALF_EVEN, Context, Decimal
 from typing import Any, Callable, Dict, Iterator, List, Optional, Sequence, Tuple
 
 from .errors import Refused, Unfit
@@ -19,6 +19,7 @@ from .world_settings import Settings, fold, tidy_names
 WHOLE = re.compile(r"[+-]?[0-9]+\Z")
 DECIMAL = re.compile(r"([+-]?)(?=\.?[0-9])([0-9]*)(?:\.([0-9]*))?\Z")
 MAX_SCALE = 18
+MANY_DIGITS = 15
 SAMPLE = 1000
 # Written in C where that is built.
 spelled_text: Callable[[str], str] = getattr(json.encoder, "encode_basestring")
@@ -35,13 +36,15 @@ class BadText:
 
 
 class Column:
-    """A column. `kind` is INT, TEXT, or None where the values decide; `old` is its name where it was read."""
+    """A column. `kind` is INT, TEXT, or None where the values decide; `old` is its name where it was read,
+    `default` what an INSERT there gives it."""
 
     def __init__(self, name: str, old: str, kind: Optional[str] = None, not_null: bool = False,
                  declared: str = "") -> None:
         self.name, self.old, self.declared = name, old, declared
         self.kind, self.not_null = kind, not_null
         self.scale: Optional[int] = None
+        self.default: Any = None
         self.cells: List[Cell] = []
 
     def full_kind(self) -> str:
@@ -141,9 +144,19 @@ def scaled_number(value: Cell, scale: int, settings: Settings) -> int:
         if not settings.rounds:
             raise Unfit(f"{shown(value)} has more than the {plain_count(scale, 'decimal')} of --scale; "
                         "--round rounds")
-        rounded = Decimal(f"{sign}0{whole}.{part}").quantize(Decimal(1).scaleb(-scale), ROUND_HALF_EVEN)
-        return whole_number(str(int(rounded.scaleb(scale))))
-    return whole_number(f"{sign}0{whole}{part[:scale].ljust(scale, '0')}")
+        exact = Context(prec=len(whole) + scale + 2, rounding=ROUND_HALF_EVEN)
+        rounded = exact.quantize(Decimal(f"{sign}0{whole}.{part}"), Decimal(1).scaleb(-scale))
+        return within(format(rounded, "f").replace(".", ""), value, scale)
+    return within(f"{sign}0{whole}{part[:scale].ljust(scale, '0')}", value, scale)
+
+
+def within(text: str, value: Cell, scale: int) -> int:
+    """The whole number that a text is. A message about it has the value as it was read."""
+    try:
+        return whole_number(text)
+    except Unfit:
+        raise Unfit(f"{shown(value)} is outside 64 bits at --scale {scale} ({MIN_INT} to {MAX_INT} by "
+                    f"{10 ** scale})") from None
 
 
 def text_value(value: Cell) -> str:
@@ -186,6 +199,20 @@ def scale_needed(column: Column, settings: Settings) -> Optional[int]:
     return max((each for each in found if each is not None), default=None)
 
 
+def scale_advised(column: Column, settings: Settings) -> Tuple[int, bool]:
+    """The decimals for a column with REAL values, and whether some have more. A value of many digits, such as
+    0.30000000000000004, is most often what arithmetic left, and doesn't count."""
+    needed = scale_needed(column, settings) or 0
+    numbers = [cell for cell in column.cells if isinstance(cell, (int, float))]
+    short = [decimals_of(cell, settings) or 0 for cell in numbers
+             if len(decimal_text(cell, settings).replace(".", "").strip("-0")) < MANY_DIGITS]
+    scale = min(needed if len(short) == len(numbers) else min(needed, max(short + [1])), MAX_SCALE)
+    most = max((abs(number) for number in numbers), default=0)
+    while scale and most * 10 ** scale > MAX_INT:
+        scale -= 1
+    return scale, needed > scale
+
+
 def hint_of_text(table: Table, column: Column, settings: Settings, hints: List[str]) -> None:
     """Says that a column of a CSV file is TEXT where most of its cells are numbers."""
     there = [(row, cell) for row, cell in enumerate(column.cells) if cell is not None]
@@ -218,9 +245,10 @@ def hint_of_form(table: Table, column: Column, cells: Sequence[str], hints: List
     decimals = [COMMA.match(cell) for cell in sample]
     if any(decimals) and all(found or WHOLE.match(cell) for cell, found in zip(sample, decimals)):
         scale = max(len(found[1]) for found in decimals if found)
+        are_thousands = all(len(found[1]) == 3 for found in decimals if found)
+        rest = ", or, if these are thousands, take the separators out first" if are_thousands else ""
         hints.append(f"{name} is TEXT, and looks like decimals with a comma; --decimal , --scale "
-                     f"{name}={scale} carries it as "
-                     "whole numbers")
+                     f"{name}={scale} carries it as whole numbers{rest}")
     elif sample and all(DAY_FIRST.match(cell) for cell in sample):
         hints.append(f"{name} is TEXT, and looks like dates such as {shown(sample[0])}: these don't compare "
                      "as dates; from the "
@@ -387,13 +415,13 @@ def check_scales(tables: Sequence[Table], settings: Settings) -> None:
     if not needed:
         return
     table, row, column, value = needed[0]
-    scales = [(each.full_name(other), scale_needed(other, settings) or 0) for each, _, other, _ in needed]
-    words = " ".join(f"--scale {name}={min(scale, MAX_SCALE)}" for name, scale in scales)
-    if any(scale > MAX_SCALE for _, scale in scales):
-        words += " --round"
+    scales = [(each.full_name(other), *scale_advised(other, settings)) for each, _, other, _ in needed]
+    words = " ".join(f"--scale {name}={scale}" for name, scale, _ in scales)
+    are_rounded = any(is_rounded for _, _, is_rounded in scales)
+    words, how = (words + " --round", ", rounded") if are_rounded else (words, "")
     raise Refused(f"{table.at(row, column)}: {shown(value)} has no equal here; {words} carries "
-                  f"all of them as whole numbers, --leave-out {table.full_name(column)} leaves the column "
-                  "out")
+                  f"all of them as whole numbers{how}, --leave-out {table.full_name(column)} leaves the "
+                  "column out")
 
 
 def first_float(column: Column) -> Iterator[Tuple[int, float]]:

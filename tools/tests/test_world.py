@@ -90,6 +90,19 @@ class CsvFiles(InFolder):
         self.csv_refused("is no CSV file, but a workbook", b"PK\x03\x04...")
         self.csv_refused("is no CSV file, but an SQLite database: give --sqlite", b"SQLite format 3\0...")
 
+    def test_other_delimiter(self):
+        """A file that would be one column because it has another delimiter is refused, with --tidy too."""
+        for given, there, word in ((";", ",", "','"), (",", ";", "';'"), ("tab", ",", "','"),
+                                   (";", "\t", "tab"), (",", "|", "'|'"), ("|", ";", "';'")):
+            for words in ([], ["--tidy"]):
+                message = f"one name, {'a' + there + 'b'!r}; give --delimiter {word}\n"
+                self.csv_refused(message, f"a{there}b\n1{there}2\n", "--delimiter", given, *words)
+                self.csv_refused(message, f"a{there}b\n", "--delimiter", given, *words)
+        self.csv_refused("give --delimiter ',', not --tsv", "a,b\n1,2\n", "--tsv", "--tidy")
+        table = self.table("Size, cm\n1\n", "--delimiter", ";", "--tidy")
+        self.assertEqual((table["columns"], table["rows"]), ([["size_cm", "INT"]], [[1]]))
+        self.assertEqual(self.table('"a, b"\n"1, 2"\n', "--tidy")["rows"], [["1, 2"]])
+
     def test_dumps(self):
         """Tables as COPY of PostgreSQL and --batch of MySQL write them."""
         text = 'a\tb\tc\n1\tsays "hi"\t\\N\n2\t\tx\\ty\\nz\\\\n\n3\t"open\tNULL\n'
@@ -133,10 +146,26 @@ class CsvFiles(InFolder):
         self.assertIn("t.a is TEXT, and looks like decimals with a comma; --decimal , --scale t.a=2", err)
         self.assertIn("t.b is TEXT, and looks like dates such as '01.02.2024'", err)
         self.assertEqual(err.count("looks like"), 2)
+        self.assertNotIn("thousands", err)
+        for cells, are_thousands in (("1,234 12,500", True), ("999 1,234", True), ("1,234 12,50", False)):
+            err = tool(world, "--csv", self.put("t.csv", "a;b\n" + cells.replace(" ", ";x\n") + ";x\n"),
+                       "--delimiter", ";", *ASK)[2]
+            self.assertIn("--decimal , --scale t.a=3 carries it as whole numbers", err)
+            rest = "whole numbers, or, if these are thousands, take the separators out first\n"
+            self.assertEqual(rest in err, are_thousands, cells)
 
     def test_rounding(self):
         table = self.table("a\n0.125\n0.375\n-0.125\n2.5\n1\n", "--scale", "t.a=2", "--round")
         self.assertEqual(table["rows"], [[12], [38], [-12], [250], [100]])
+        table = self.table("a\n0.0000000000000000005\n-0.00000000000000000251\n9.2233720368547758074\n",
+                           "--scale", "t.a=18", "--round")
+        self.assertEqual(table["rows"], [[0], [-3], [9223372036854775807]])
+        table = self.table("a\n-0.04\n-0.5\n0.5\n1.5\n9.96\n", "--scale", "t.a=0", "--round")
+        self.assertEqual(table["rows"], [[0], [0], [0], [2], [10]])
+        for number in ("12345678901.1234567890123456789", "9" * 40 + ".0000000000000000001",
+                       "9.2233720368547758075"):
+            self.csv_refused("is outside 64 bits at --scale 18", f"a\n{number}\n", "--scale", "t.a=18",
+                             "--round")
         path = self.put("t.csv", "a\n90000000000000000.5\n90000000000000000\n")
         err = tool(world, "--csv", path, *ASK, "--scale", "t.a=1")[2]
         self.assertNotIn("may leave 64 bits", err)
@@ -252,6 +281,11 @@ class ScriptsAndFiles(InFolder):
         with mock.patch("ldvtools.scripts_of_statements.line_at", side_effect=AssertionError):
             self.assertEqual(self.script("--a\nSELECT a FROM t;\n" * 3), '# a\nsql q "SELECT a FROM t"\n' * 3)
 
+    def test_help(self):
+        """What holds for all CSV files is said."""
+        self.assertIn("--delimiter, --decimal, --encoding and --null hold for\nall CSV files: convert the "
+                      "odd one first.\n", tool(world, "--help")[1].decode())
+
     def test_files(self):
         script, logo = self.put("go.ldv", "print 1\n"), self.put("logo", b"\x89PNG")
         words = ["--script", script, "--file", f"pic={logo}", "--arg", "a", "--seed", "7"]
@@ -268,6 +302,14 @@ class ScriptsAndFiles(InFolder):
         full = self.put("full", b"a" * 16777216)
         files = [word for n in range(4) for word in ("--file", f"{n}={full}")]
         self.refused("the document has", "--script", script, *files)
+
+    def test_script_twice(self):
+        script, child = self.put("main.ldv", ""), self.put("child.ldv", "")
+        self.refused("--script is given twice; a child's script goes into the world by --file NAME=PATH",
+                     "--script", script, "--script", child, status=2)
+        status, out, err = tool(world, "--script", script, "--file", f"child={child}")
+        self.assertEqual((status, json.loads(out)["start"]), (0, ["main.ldv"]), err)
+        self.assertEqual(list(json.loads(out)["files"]), ["main.ldv", "child"])
 
     def test_misuse(self):
         script, path = self.put("s", ""), self.put("t.csv", "a\n1\n")
@@ -366,6 +408,58 @@ class Databases(InFolder):
         scales = ["--scale", "t.a=1", "--scale", "t.c=3", "--scale", "t.d=2"]
         status, out, err = tool(world, *words, *scales, "--round")
         self.assertEqual(json.loads(out)["tables"]["t"]["rows"], [[15, 1, 125, 0], [20, 2, 1500, 100]], err)
+
+    def test_defaults(self):
+        """A default isn't carried: a column that may have no NULL then refuses the INSERT."""
+        words = self.database("CREATE TABLE t (a INT DEFAULT 1, b INT NOT NULL DEFAULT 2, c INT DEFAULT 3);")
+        err = tool(world, *words, "--key", "t=c")[2]
+        for name, what in (("a: DEFAULT 1", "gives NULL"), ("b: DEFAULT 2", "is refused with code 5"),
+                           ("c: DEFAULT 3", "is refused with code 5")):
+            self.assertIn(f"world.py: note: t.{name} isn't carried: an INSERT that doesn't name the column "
+                          f"{what} here\n", err)
+
+    def test_views(self):
+        words = self.database(SHOP)
+        self.refused("all_lines is a view; CREATE TABLE t AS SELECT * FROM all_lines in a copy of the "
+                     "database makes it a table", *words, "--table", "all_lines")
+
+    def test_long_decimals(self):
+        """Digits that arithmetic left are rounded away, and what is advised fits into 64 bits."""
+        def advice(values):
+            return self.database("CREATE TABLE r (a REAL); INSERT INTO r VALUES " + values)
+        for values, words in (("(0.1 + 0.2)", "--scale r.a=1 --round carries all of them as whole numbers, "
+                               "rounded, --leave-out"),
+                              ("(0.1 + 0.2), (1.25)", "--scale r.a=2 --round carries"),
+                              ("(1.0 / 3)", "--scale r.a=1 --round carries"),
+                              ("(1e15), (1e-5)", "--scale r.a=3 --round carries"),
+                              ("(1e300), (0.5)", "--scale r.a=0 --round carries"),
+                              ("(12.5), (NULL)", "--scale r.a=1 carries all of them as whole numbers, --l")):
+            self.refused(words, *advice(values))
+        self.refused("the REAL value 1e+300 is outside 64 bits at --scale 0", *advice("(1e300), (0.5)"),
+                     "--scale", "r.a=0", "--round")
+        status, out, err = tool(world, *advice("(0.1 + 0.2), (7)"), "--scale", "r.a=1", "--round")
+        self.assertEqual(json.loads(out)["tables"]["r"]["rows"], [[3], [70]], err)
+        self.csv_refused("'92233720368547758.08' is outside 64 bits at --scale 2 (-9223372036854775808 to "
+                         "9223372036854775807 by 100)", "a\n92233720368547758.08\n", "--scale", "t.a=2")
+
+    def test_names_of_nothing(self):
+        """An option that names nothing is said first, with the names that there are."""
+        first, second = self.put("t.csv", "Id,A\n1,2\n"), self.put("u.csv", "b\nx\n")
+        words = ["--csv", first, "--csv", second, *ASK]
+        for option, name, what in (("--rename=t.ID=id", "t.ID", "t has Id, A"),
+                                   ("--scale=t.c=1", "t.c", "t has Id, A"),
+                                   ("--key=v=b", "v", "the tables are t, u"),
+                                   ("--leave-out=w", "w", "the tables are t, u")):
+            self.refused(f"{option.partition('=')[0]} {name}: nothing that was read has this name; {what} (",
+                         *words, option, status=2)
+        self.refused("--scale t.c: nothing that was read has this name; t has id, a (", *words, "--lower",
+                     "--scale", "t.c=1", status=2)
+        self.refused("column 1 'Id': names have no upper-case", *words, "--key", "u=b", "--kind", "u.b=TEXT")
+        self.refused("column 1 'Id': names have no upper-case", *words, "--csv", second + "x", "--key", "v=b")
+        words = self.database("CREATE TABLE r (a REAL); INSERT INTO r VALUES (0.5); CREATE TABLE s (b INT);")
+        self.refused("--scale r.b: nothing that was read has this name; r has a (", *words, "--scale",
+                     "r.b=1", status=2)
+        self.refused("--scale r.a=1 carries", *words, "--key", "s=b")
 
     def test_paths_and_names(self):
         """A path of two slashes, and a table and columns in other quotes whose names are words of a note."""
