@@ -5,7 +5,9 @@ from typing import Protocol, Sequence
 
 from .language import RESERVED
 
-OUTER = "an outer join is left out: ask the rows without a partner in a SELECT of their own"
+PARTNERS = "docs/SCRIPTS.md, Rows without a partner"
+OUTER = ("an outer join is left out; the rows without a partner are found by a script: for each row "
+         f"SELECT COUNT(*) of its partners ({PARTNERS})")
 JOIN_WORDS = {
     "left": OUTER,
     "right": OUTER,
@@ -122,7 +124,8 @@ def word_hint(token: HasText, before: HasText, after: HasText) -> str:
     word = token.text
     if word == "not" and after.text in ("in", "like", "between", "exists"):
         if after.text == "in":
-            return "a count of SELECT DISTINCT taken off, or the script, says which aren't in"
+            return ("a count of SELECT DISTINCT taken off says how many aren't in; a script says which "
+                    f"aren't in ({PARTNERS})")
         return "put NOT before the whole: NOT (" + HINTS[after.text] + ")"
     if word == "select":
         if before.text in ("(", "union"):

@@ -13,7 +13,7 @@ from ldvtools.scripts import FORMS, BadLine, read_script
 from ldvtools.sql_check import UNKNOWN, judge
 from ldvtools.worlds import read_world, world_of_package
 
-from .support import ASK, ROOT, InFolder, tool
+from .support import ASK, ROOT, InFolder, read, tool
 
 SCHEMAS = {"t": [("k", "INT NOT NULL"), ("g", "TEXT"), ("v", "INT")],
            "u": [("k", "INT"), ("w", "TEXT NOT NULL")]}
@@ -96,7 +96,7 @@ class Hints(InFolder):
         for text, code, said in (
                 ("SELECT AVG(v) FROM t", 1, "ask SUM(x) and COUNT(x)"),
                 ("SELECT * FROM t WHERE k IN (1, 2)", 1, "write x = 1 OR x = 2"),
-                ("SELECT * FROM t WHERE k NOT IN (1, 2)", 1, "SELECT DISTINCT taken off"),
+                ("SELECT * FROM t WHERE k NOT IN (1, 2)", 1, "a script says which aren't in (docs/SCRIPTS.md"),
                 ("SELECT * FROM t WHERE k BETWEEN 1 AND 2", 1, "write x >= 1 AND x <= 5"),
                 ("SELECT * FROM t WHERE g LIKE 'a%'", 1, "x >= 'ab' AND x < 'ac'"),
                 ("SELECT CASE WHEN k = 1 THEN 2 END FROM t", 1, "UNION ALL"),
@@ -145,6 +145,13 @@ class Hints(InFolder):
             self.assertIsNone(judged.finding)
             self.assertIn("this is an inner join", judged.warnings[0])
         self.assertEqual(judge("SELECT 1 FROM t AS left JOIN u ON 1 = 1", [], SCHEMAS).warnings, [])
+
+    def test_partners(self):
+        """What finds rows without a partner is a script, and the hint names a section that is there."""
+        said = "for each row SELECT COUNT(*) of its partners (docs/SCRIPTS.md, Rows without a partner)"
+        self.assertIn(said, judge("SELECT 1 FROM t LEFT JOIN u ON 1 = 1", [], SCHEMAS).warnings[0])
+        self.assertIn(said, judge("SELECT 1 FROM t LEFT OUTER JOIN u ON 1 = 1", [], SCHEMAS).finding.cause)
+        self.assertIn(b"\n### Rows without a partner\n", read(f"{ROOT}/docs/SCRIPTS.md"))
 
     def test_deep_texts(self):
         """A text of many parentheses or minuses has no reading, and needs no deep stack."""
