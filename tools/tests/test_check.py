@@ -96,7 +96,7 @@ class Hints(InFolder):
         for text, code, said in (
                 ("SELECT AVG(v) FROM t", 1, "ask SUM(x) and COUNT(x)"),
                 ("SELECT * FROM t WHERE k IN (1, 2)", 1, "write x = 1 OR x = 2"),
-                ("SELECT * FROM t WHERE k NOT IN (1, 2)", 1, "a script says which aren't in (docs/SCRIPTS.md"),
+                ("SELECT * FROM t WHERE k NOT IN (1, 2)", 1, "a script says which aren't in (docs"),
                 ("SELECT * FROM t WHERE k BETWEEN 1 AND 2", 1, "write x >= 1 AND x <= 5"),
                 ("SELECT * FROM t WHERE g LIKE 'a%'", 1, "x >= 'ab' AND x < 'ac'"),
                 ("SELECT CASE WHEN k = 1 THEN 2 END FROM t", 1, "UNION ALL"),
