@@ -142,7 +142,13 @@ def rows_of(table: PackedTable, reasons: bool) -> Iterator[List[Value]]:
         yield why + row.values
 
 
+def check_rows(package: Package, what: str) -> None:
+    if package.mode == "excluded":
+        raise Refused(f"it has recorded replies and no rows, so that it makes no {what}")
+
+
 def write_csv(package: Package, folder: str, reasons: bool) -> None:
+    check_rows(package, "table")
     os.makedirs(folder, exist_ok=True)
     for table in package.tables:
         with open(os.path.join(folder, table.name + ".csv"), "w", encoding="utf-8", newline="") as file:
@@ -165,6 +171,7 @@ def make_table(table: PackedTable, reasons: bool) -> str:
 
 
 def write_sqlite(package: Package, path: str, reasons: bool) -> None:
+    check_rows(package, "table")
     if os.path.exists(path):
         raise Refused(f"{path} is there already")
     database = sqlite3.connect(path)
@@ -250,8 +257,7 @@ def warnings_of(package: Package, files: Dict[str, bytes]) -> List[str]:
 
 def world_of(package: Package, asks: Sequence[str]) -> Tuple[bytes, List[str]]:
     """A world document of the package's files and rows, and what is otherwise in it."""
-    if package.mode == "excluded":
-        raise Refused("it has recorded replies and no rows, so that it makes no world")
+    check_rows(package, "world")
     notes, tables = [], []
     for table in package.tables:
         foreign = [(each.columns, each.parent) for each in table.foreign]

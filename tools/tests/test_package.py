@@ -59,6 +59,16 @@ table t (k INT NOT NULL, g TEXT, v INT, key k): 2 rows, next row 5
         self.assertEqual(tool(package, "--sqlite", path, self.path),
                          (1, b"", f"package.py: {path} is there already\n"))
 
+    def test_no_rows(self):
+        """Recorded replies make no tables, and nothing is written."""
+        data = packages.encode(packages.package(mode=2))
+        for word in ("--csv", "--sqlite"):
+            path = os.path.join(self.folder, "new")
+            self.assertEqual(tool(package, word, path, given=data),
+                             (1, b"", "package.py: it has recorded replies and no rows, so that it makes no "
+                                      "table\n"))
+            self.assertFalse(os.path.exists(path))
+
     def test_sizes(self):
         """Of the row 0: number, statement and rule have 9 bytes, the values 9, 5 + 8 and 1;
         of row 2: 9, 9, 5 and 9.
