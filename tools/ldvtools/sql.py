@@ -150,7 +150,13 @@ def token_at(text: str, at: int) -> Token:
         return Token("text", content, at, found.end())
     if found := SIGNS.match(text, at):
         return Token("sign", found.group(), at, found.end())
-    return Token("bad", repr(text[at]), at, at + 1)
+    end = at + bad_length(text, at)
+    return Token("bad", repr(text[at:end]), at, end)
+
+
+def bad_length(text: str, at: int) -> int:
+    """How many characters belong together where no token begins."""
+    return 2 if text.startswith(("/*", "||"), at) else 1
 
 
 def tokens_of(text: str) -> List[Token]:

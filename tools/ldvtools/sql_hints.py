@@ -21,6 +21,8 @@ AGGREGATE_WORDS = ("count", "sum", "min", "max")
 UNION = "one SELECT for each case, with UNION ALL between them"
 SCRIPT = "let the script do it, with the rows that fetch gives"
 SUBQUERY = "there are no subqueries: ask in two statements, and give the second the value of the first by ?"
+LIKE = ("texts are compared whole, and with the case of their letters, which LIKE of SQLite ignores: "
+        "x >= 'ab' AND x < 'ac' are those that begin with ab; a part inside: cut in a script")
 
 # By the word at which the reading ends, or the word before it.
 HINTS = {
@@ -28,10 +30,10 @@ HINTS = {
     "total": "SUM(x) is the sum",
     "in": OR,
     "between": "write x >= 1 AND x <= 5",
-    "like": "texts are compared whole: x >= 'ab' AND x < 'ac' are those that begin with ab",
-    "ilike": "texts are compared whole: x >= 'ab' AND x < 'ac' are those that begin with ab",
-    "glob": "texts are compared whole: x >= 'ab' AND x < 'ac' are those that begin with ab",
-    "regexp": "texts are compared whole: x >= 'ab' AND x < 'ac' are those that begin with ab",
+    "like": LIKE,
+    "ilike": LIKE,
+    "glob": LIKE,
+    "regexp": LIKE,
     "case": UNION,
     "when": UNION,
     "iif": UNION,
@@ -76,9 +78,11 @@ SIGN_HINTS = {
     "'\"'": "a text stands in '; names have no quotes",
     "'`'": "names have no quotes",
     "'['": "names have no quotes",
-    "'/'": "there is no division: ask both numbers",
+    "'/'": "there is no division: SUM and COUNT, and divide in the script (docs/SCRIPTS.md, Division)",
+    "'/*'": "comments are -- .., and stand before a statement of --sql or --ask; in a script # ..",
     "'%'": "there is no remainder",
-    "'|'": "texts are joined in the script: let x = v ++ w",
+    "'|'": "++ in a script joins texts: let x = v ++ w",
+    "'||'": "++ in a script joins texts: let x = v ++ w",
     "':'": "parameters are written ?",
     "'$'": "parameters are written ?",
     "'@'": "parameters are written ?",
