@@ -157,6 +157,25 @@ class Hints(InFolder):
         self.assertIn(said, judge("SELECT 1 FROM t LEFT OUTER JOIN u ON 1 = 1", [], SCHEMAS).finding.cause)
         self.assertIn(b"\n### Rows without a partner\n", read(f"{ROOT}/docs/SCRIPTS.md"))
 
+    def test_nulls(self):
+        """A comparison with NULL runs and is never true, which is said; SET takes NULL."""
+        given = '{"start":["m"],"files":{"m":"sql q \\"%s\\"\\n"},"tables":{"t":{"columns":[["g","TEXT"]]}}}'
+        for condition, said in (("g = NULL", "g = NULL is never true, and NOT of it neither; write g IS"),
+                                ("NOT (NULL = t.g)", "t.g = NULL is never true"),
+                                ("g = 'a' OR g <> (NULL)", "write g IS NOT NULL"),
+                                ("g IS NULL", ""), ("g = 'NULL'", "")):
+            text = f"SELECT * FROM t WHERE {condition}"
+            path = self.put("w.json", given % text)
+            for words in ([path], ["--statement", text, path]):
+                status, out, _ = tool(check, *words)
+                self.assertEqual(status, 1 if said else 0, condition)
+                self.assertIn(said.encode(), out)
+            status, out, err = tool(world, "--csv", self.put("t.csv", "g\nb\n"), "--ask", text)
+            self.assertEqual((status, "world.py: warning: main line 1: " in err), (0, bool(said)))
+            self.assertIn(said, err)
+        path = self.put("w.json", given % "UPDATE t SET g = NULL")
+        self.assertEqual(tool(check, path)[:2], (0, b""))
+
     def test_deep_texts(self):
         """A text of many parentheses or minuses has no reading, and needs no deep stack."""
         for text in ("(" * 30000, "NOT " * 10000, "- " * 30000):
