@@ -10,7 +10,7 @@ For a bad line it says which rule of docs/SCRIPTS.md it breaks. For a statement 
 doesn't fit. It looks at the start script and at those that a script starts by a path that is written in it;
 where one starts a script by a path that it computes, at all files whose name ends with .ldv or .script too. A
 statement whose text is computed is judged with --outcome only, and so is one that rests on what a parameter
-is.
+is. A comparison with NULL isn't refused and is never true: that is said too.
 
 Statuses: 0 nothing found; 1 something found, or the input is no world document; 2 wrong words.
 """
@@ -27,6 +27,7 @@ from .outcome import read_input
 from .outcomes import read_outcome
 from .rerun import Machine, Question, World, answers_of
 from .scripts import BadLine, Instruction, Operand, Script, read_script
+from .sql import never_true
 from .sql_check import UNKNOWN, Finding as Refusal, Judged, Parameter, Schemas, judge
 from .values import cell, escaped, plain_count, reply_title
 from .worlds import read_world
@@ -110,6 +111,9 @@ def statement_findings(path: str, script: Script, schemas: Optional[Schemas]) ->
             yield Finding(path, each.line, 1, warning, True, text, 0)
         if result.finding is not None:
             yield refused(path, each.line, result.finding, text)
+        else:
+            for at, cause in never_true(text):
+                yield Finding(path, each.line, -1, cause, False, text, at)
 
 
 def refused(path: str, line: int, refusal: Refusal, text: str) -> Finding:
@@ -240,6 +244,8 @@ def statement_lines(text: str, schemas: Optional[Schemas]) -> List[str]:
     found = [f"refused with code {result.finding.code}: {result.finding.cause}"] if result.finding else []
     if result.finding:
         found += Finding("", 0, 1, "", False, text, result.finding.at).excerpt()
+    for at, cause in never_true(text) if not result.finding else []:
+        found += [cause, *Finding("", 0, -1, "", False, text, at).excerpt()]
     return result.warnings + found
 
 

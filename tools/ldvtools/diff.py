@@ -218,9 +218,19 @@ def given_words(words: Optional[Sequence[str]]) -> argparse.Namespace:
     return parser.parse_args(words)
 
 
+def check_no_worlds(first: bytes, second: bytes) -> None:
+    """A world document is JSON, and begins as no outcome and no package does."""
+    are_worlds = [data.lstrip().startswith(b"{") for data in (first, second)]
+    if any(are_worlds):
+        which = "the first is a world" if are_worlds[0] else "the second is a world"
+        which = "these are worlds" if all(are_worlds) else which
+        raise Misused(f"{which}: compare the outcomes that ldv run makes, or the packages of ldv record")
+
+
 def compared(given: argparse.Namespace) -> Iterator[str]:
     first, second = (read_input(path) for path in (given.first, given.second))
     limit = sys.maxsize if given.all else SHOWN
+    check_no_worlds(first, second)
     are_packages = [data.startswith(b"LDV") for data in (first, second)]
     if are_packages[0] != are_packages[1]:
         raise Misused("one is a package and the other isn't: replay the package, and compare its outcome")

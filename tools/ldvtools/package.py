@@ -5,7 +5,8 @@
     tools/package.py --statement 2 world.package          the rows that a statement needed
     tools/package.py --files FOLDER world.package         its files, in a new folder
     tools/package.py --world world.package > new.json     a world of its files and rows, to be run again
-    tools/package.py --world --ask "SELECT .." ..         the same, whose script asks this and nothing else
+    tools/package.py --world --ask "SELECT .." ..         the same, whose script asks this and nothing else;
+                                                          it is looked at as tools/check.py does
     tools/package.py --csv FOLDER world.package           a file for each table: FOLDER/orders.csv
     tools/package.py --sqlite FILE world.package          a new SQLite database of the tables
     tools/package.py --reasons ..                         with --csv or --sqlite: three columns before the
@@ -30,6 +31,7 @@ import sqlite3
 import sys
 from typing import Dict, Iterator, List, Optional, Sequence, Tuple, Union
 
+from .check import findings_of
 from .documents import as_json, document, table_json, write_file
 from .errors import Refused, command, words_of
 from .language import RULE_TEXTS
@@ -140,7 +142,13 @@ def rows_of(table: PackedTable, reasons: bool) -> Iterator[List[Value]]:
         yield why + row.values
 
 
+def check_rows(package: Package, what: str) -> None:
+    if package.mode == "excluded":
+        raise Refused(f"it has recorded replies and no rows, so that it makes no {what}")
+
+
 def write_csv(package: Package, folder: str, reasons: bool) -> None:
+    check_rows(package, "table")
     os.makedirs(folder, exist_ok=True)
     for table in package.tables:
         with open(os.path.join(folder, table.name + ".csv"), "w", encoding="utf-8", newline="") as file:
@@ -163,6 +171,7 @@ def make_table(table: PackedTable, reasons: bool) -> str:
 
 
 def write_sqlite(package: Package, path: str, reasons: bool) -> None:
+    check_rows(package, "table")
     if os.path.exists(path):
         raise Refused(f"{path} is there already")
     database = sqlite3.connect(path)
@@ -237,10 +246,18 @@ def has_parents(table: PackedTable, package: Package) -> bool:
     return True
 
 
+def warnings_of(package: Package, files: Dict[str, bytes]) -> List[str]:
+    """What is wrong with statements over the packed tables. A join that would mean another one is refused."""
+    found = findings_of(files, "main", {table.name: table.columns for table in package.tables})
+    for finding in found:
+        if finding.is_trap:
+            raise Refused(finding.text)
+    return [f"warning: {finding.text}" for finding in found]
+
+
 def world_of(package: Package, asks: Sequence[str]) -> Tuple[bytes, List[str]]:
     """A world document of the package's files and rows, and what is otherwise in it."""
-    if package.mode == "excluded":
-        raise Refused("it has recorded replies and no rows, so that it makes no world")
+    check_rows(package, "world")
     notes, tables = [], []
     for table in package.tables:
         foreign = [(each.columns, each.parent) for each in table.foreign]
@@ -253,8 +270,9 @@ def world_of(package: Package, asks: Sequence[str]) -> Tuple[bytes, List[str]]:
         rows = [as_json(row.values) for row in table.rows]
         tables.append((table.name, table_json(table.columns, table.key, rows, table.next, foreign)))
     if asks:
-        script = script_of([(text, f"--ask {place}") for place, text in enumerate(asks, 1)])
-        return document(["main"], 0, {"main": script}, tables), notes
+        files = {"main": script_of([(text, f"--ask {place}") for place, text in enumerate(asks, 1)])}
+        notes.append("counts and sums are over these packed rows alone")
+        return document(["main"], 0, files, tables), notes + warnings_of(package, files)
     return document(package.start, package.seed, {path: content or b"" for path, content in package.files},
                     tables), notes
 
@@ -305,7 +323,8 @@ def show(data: bytes, given: argparse.Namespace) -> None:
     elif given.world:
         world, notes = world_of(package, given.ask)
         for note in notes:
-            print(f"package.py: note: {note}", file=sys.stderr)
+            begin = "" if note.startswith("warning: ") else "note: "
+            print(f"package.py: {begin}{note}", file=sys.stderr)
         write_file(world, given.output)
     else:
         write_out("".join(line + "\n" for line in summary(package)))

@@ -6,6 +6,8 @@ from typing import List, Optional, Sequence, Tuple
 
 from .errors import Refused
 from .language import MAX_TEXT
+from .sql import bad_length
+from .sql_hints import SIGN_HINTS
 
 TOKEN = re.compile(
     r"(?P<blank>[ \t\r\n]+)|(?P<text>'[^']*(?:''[^']*)*')|(?P<end>;)|(?P<comment>--)|(?P<parameter>\?)"
@@ -48,7 +50,9 @@ def check_token(match: Optional["re.Match[str]"], text: str, place: int, name: s
     if match is None and text[place] == "'":
         fault = "the text that begins with ' doesn't end"
     elif match is None:
-        fault = f"{text[place]!r} has no meaning in this dialect (docs/SQL.md)"
+        found = repr(text[place:place + bad_length(text, place)])
+        hint = SIGN_HINTS.get(found)
+        fault = f"{found} has no meaning in this dialect (docs/SQL.md)" + (f"; {hint}" if hint else "")
     elif match.lastgroup == "comment":
         fault = "-- within a statement is two minuses here; put a comment before it, and write minuses as - -"
     elif match.lastgroup == "parameter":

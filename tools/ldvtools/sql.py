@@ -105,11 +105,13 @@ PartReader = Callable[[], Expr]
 
 
 class Parsed(NamedTuple):
-    """A statement, the number of its parameters, and what a reader could take for something else."""
+    """A statement, the number of its parameters, what a reader could take for something else,
+    and the places of comparisons that are never true, with what to write instead."""
 
     statement: Statement
     parameters: int
     warnings: List[str]
+    nevers: List[Tuple[int, str]]
 
 
 # ---- tokens
@@ -150,7 +152,13 @@ def token_at(text: str, at: int) -> Token:
         return Token("text", content, at, found.end())
     if found := SIGNS.match(text, at):
         return Token("sign", found.group(), at, found.end())
-    return Token("bad", repr(text[at]), at, at + 1)
+    end = at + bad_length(text, at)
+    return Token("bad", repr(text[at:end]), at, end)
+
+
+def bad_length(text: str, at: int) -> int:
+    """How many characters belong together where no token begins."""
+    return 2 if text.startswith(("/*", "||"), at) else 1
 
 
 def tokens_of(text: str) -> List[Token]:
@@ -182,6 +190,7 @@ class Parser:
         self.nesting = 0
         self.parameters = 0
         self.warnings: List[str] = []
+        self.nevers: List[Tuple[int, str]] = []
 
     def next(self) -> Token:
         return self.tokens[self.place]
@@ -275,7 +284,9 @@ class Parser:
         left = self.sum()
         if self.is_sign(*COMPARES):
             word = self.take().text
-            return self.both("compare", "<>" if word == "!=" else word, left, self.sum())
+            right = self.sum()
+            self.note_null(word, left, right)
+            return self.both("compare", "<>" if word == "!=" else word, left, right)
         if not self.is_word("is"):
             return left
         self.take()
@@ -283,6 +294,17 @@ class Parser:
         self.word("null")
         return self.made(Expr("isnull", left.at, 1 + left.depth, (left,),
                               "is not null" if is_negative else "is null"))
+
+    def note_null(self, word: str, left: Expr, right: Expr) -> None:
+        """Notes a comparison with NULL, which many take for IS NULL."""
+        nulls = [part.form == "constant" and part.value is None for part in (left, right)]
+        if any(nulls):
+            other = right if nulls[0] else left
+            source = f"{other.source}." if other.source else ""
+            name = source + other.word if other.form == "column" else "x"
+            test = "IS NOT NULL" if word in ("<>", "!=") else "IS NULL"
+            self.nevers.append((left.at, f"{name} {word} NULL is never true, and NOT of it neither; "
+                                         f"write {name} {test}"))
 
     def sum(self) -> Expr:
         left = self.product()
@@ -502,4 +524,12 @@ def parse_statement(text: str) -> Parsed:
     """The one reading of a text; NoReading where it has none."""
     parser = Parser(text)
     statement = parser.statement()
-    return Parsed(statement, parser.parameters, parser.warnings)
+    return Parsed(statement, parser.parameters, parser.warnings, parser.nevers)
+
+
+def never_true(text: str) -> List[Tuple[int, str]]:
+    """The comparisons of a statement that are never true. A text without a reading has none."""
+    try:
+        return parse_statement(text).nevers
+    except NoReading:
+        return []

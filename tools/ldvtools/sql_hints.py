@@ -5,7 +5,9 @@ from typing import Protocol, Sequence
 
 from .language import RESERVED
 
-OUTER = "an outer join is left out: ask the rows without a partner in a SELECT of their own"
+PARTNERS = "docs/SCRIPTS.md, Rows without a partner"
+OUTER = ("an outer join is left out; the rows without a partner are found by a script: for each row "
+         f"SELECT COUNT(*) of its partners ({PARTNERS})")
 JOIN_WORDS = {
     "left": OUTER,
     "right": OUTER,
@@ -19,6 +21,8 @@ AGGREGATE_WORDS = ("count", "sum", "min", "max")
 UNION = "one SELECT for each case, with UNION ALL between them"
 SCRIPT = "let the script do it, with the rows that fetch gives"
 SUBQUERY = "there are no subqueries: ask in two statements, and give the second the value of the first by ?"
+LIKE = ("texts are compared whole, and with the case of their letters, which LIKE of SQLite ignores: "
+        "x >= 'ab' AND x < 'ac' are those that begin with ab; a part inside: cut in a script")
 
 # By the word at which the reading ends, or the word before it.
 HINTS = {
@@ -26,10 +30,10 @@ HINTS = {
     "total": "SUM(x) is the sum",
     "in": OR,
     "between": "write x >= 1 AND x <= 5",
-    "like": "texts are compared whole: x >= 'ab' AND x < 'ac' are those that begin with ab",
-    "ilike": "texts are compared whole: x >= 'ab' AND x < 'ac' are those that begin with ab",
-    "glob": "texts are compared whole: x >= 'ab' AND x < 'ac' are those that begin with ab",
-    "regexp": "texts are compared whole: x >= 'ab' AND x < 'ac' are those that begin with ab",
+    "like": LIKE,
+    "ilike": LIKE,
+    "glob": LIKE,
+    "regexp": LIKE,
     "case": UNION,
     "when": UNION,
     "iif": UNION,
@@ -74,9 +78,11 @@ SIGN_HINTS = {
     "'\"'": "a text stands in '; names have no quotes",
     "'`'": "names have no quotes",
     "'['": "names have no quotes",
-    "'/'": "there is no division: ask both numbers",
+    "'/'": "there is no division: SUM and COUNT, and divide in the script (docs/SCRIPTS.md, Division)",
+    "'/*'": "comments are -- .., and stand before a statement of --sql or --ask; in a script # ..",
     "'%'": "there is no remainder",
-    "'|'": "texts are joined in the script: let x = v ++ w",
+    "'|'": "++ in a script joins texts: let x = v ++ w",
+    "'||'": "++ in a script joins texts: let x = v ++ w",
     "':'": "parameters are written ?",
     "'$'": "parameters are written ?",
     "'@'": "parameters are written ?",
@@ -122,7 +128,8 @@ def word_hint(token: HasText, before: HasText, after: HasText) -> str:
     word = token.text
     if word == "not" and after.text in ("in", "like", "between", "exists"):
         if after.text == "in":
-            return "a count of SELECT DISTINCT taken off, or the script, says which aren't in"
+            return ("a count of SELECT DISTINCT taken off says how many aren't in; a script says which "
+                    f"aren't in ({PARTNERS})")
         return "put NOT before the whole: NOT (" + HINTS[after.text] + ")"
     if word == "select":
         if before.text in ("(", "union"):

@@ -13,7 +13,7 @@ from ldvtools.scripts import FORMS, BadLine, read_script
 from ldvtools.sql_check import UNKNOWN, judge
 from ldvtools.worlds import read_world, world_of_package
 
-from .support import ASK, ROOT, InFolder, tool
+from .support import ASK, ROOT, InFolder, read, tool
 
 SCHEMAS = {"t": [("k", "INT NOT NULL"), ("g", "TEXT"), ("v", "INT")],
            "u": [("k", "INT"), ("w", "TEXT NOT NULL")]}
@@ -96,9 +96,11 @@ class Hints(InFolder):
         for text, code, said in (
                 ("SELECT AVG(v) FROM t", 1, "ask SUM(x) and COUNT(x)"),
                 ("SELECT * FROM t WHERE k IN (1, 2)", 1, "write x = 1 OR x = 2"),
-                ("SELECT * FROM t WHERE k NOT IN (1, 2)", 1, "SELECT DISTINCT taken off"),
+                ("SELECT * FROM t WHERE k NOT IN (1, 2)", 1, "a script says which aren't in (docs"),
                 ("SELECT * FROM t WHERE k BETWEEN 1 AND 2", 1, "write x >= 1 AND x <= 5"),
                 ("SELECT * FROM t WHERE g LIKE 'a%'", 1, "x >= 'ab' AND x < 'ac'"),
+                ("SELECT * FROM t WHERE g LIKE '%a%'", 1, "a part inside: cut in a script"),
+                ("SELECT * FROM t WHERE g LIKE 'A%'", 1, "case of their letters, which LIKE of SQLite"),
                 ("SELECT CASE WHEN k = 1 THEN 2 END FROM t", 1, "UNION ALL"),
                 ("SELECT COALESCE(v, 0) FROM t", 1, "x IS NOT NULL"),
                 ("SELECT * FROM t WHERE k = (SELECT MAX(k) FROM u)", 1, "no subqueries"),
@@ -109,7 +111,9 @@ class Hints(InFolder):
                 ("SELECT k AS count FROM t", 1, "count is a reserved word"),
                 ("SELECT k n FROM t", 1, "AS n"),
                 ("SELECT 1", 1, "each SELECT has FROM"),
-                ("SELECT k / 2 FROM t", 1, "no division"),
+                ("SELECT k / 2 FROM t", 1, "division: SUM and COUNT, and divide in the script"),
+                ("SELECT g || 'a' FROM t", 1, "'||' can't be read, where FROM is due; ++ in a script"),
+                ("SELECT k /* all */ FROM t", 1, "'/*' can't be read, where FROM is due; comments are -- .."),
                 ("SELECT * FROM t WHERE g = \"a\"", 1, "a text stands in '"),
                 ("SELECT * FROM t -- all", 1, "no comments"),
                 ("SELECT * FROM t WHERE v = 1.5", 1, "no decimals"),
@@ -145,6 +149,32 @@ class Hints(InFolder):
             self.assertIsNone(judged.finding)
             self.assertIn("this is an inner join", judged.warnings[0])
         self.assertEqual(judge("SELECT 1 FROM t AS left JOIN u ON 1 = 1", [], SCHEMAS).warnings, [])
+
+    def test_partners(self):
+        """What finds rows without a partner is a script, and the hint names a section that is there."""
+        said = "for each row SELECT COUNT(*) of its partners (docs/SCRIPTS.md, Rows without a partner)"
+        self.assertIn(said, judge("SELECT 1 FROM t LEFT JOIN u ON 1 = 1", [], SCHEMAS).warnings[0])
+        self.assertIn(said, judge("SELECT 1 FROM t LEFT OUTER JOIN u ON 1 = 1", [], SCHEMAS).finding.cause)
+        self.assertIn(b"\n### Rows without a partner\n", read(f"{ROOT}/docs/SCRIPTS.md"))
+
+    def test_nulls(self):
+        """A comparison with NULL runs and is never true, which is said; SET takes NULL."""
+        given = '{"start":["m"],"files":{"m":"sql q \\"%s\\"\\n"},"tables":{"t":{"columns":[["g","TEXT"]]}}}'
+        for condition, said in (("g = NULL", "g = NULL is never true, and NOT of it neither; write g IS"),
+                                ("NOT (NULL = t.g)", "t.g = NULL is never true"),
+                                ("g = 'a' OR g <> (NULL)", "write g IS NOT NULL"),
+                                ("g IS NULL", ""), ("g = 'NULL'", "")):
+            text = f"SELECT * FROM t WHERE {condition}"
+            path = self.put("w.json", given % text)
+            for words in ([path], ["--statement", text, path]):
+                status, out, _ = tool(check, *words)
+                self.assertEqual(status, 1 if said else 0, condition)
+                self.assertIn(said.encode(), out)
+            status, out, err = tool(world, "--csv", self.put("t.csv", "g\nb\n"), "--ask", text)
+            self.assertEqual((status, "world.py: warning: main line 1: " in err), (0, bool(said)))
+            self.assertIn(said, err)
+        path = self.put("w.json", given % "UPDATE t SET g = NULL")
+        self.assertEqual(tool(check, path)[:2], (0, b""))
 
     def test_deep_texts(self):
         """A text of many parentheses or minuses has no reading, and needs no deep stack."""

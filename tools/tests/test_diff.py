@@ -81,4 +81,11 @@ class Differences(InFolder):
     def test_misuse(self):
         self.assertEqual(self.compared(BEFORE, packages.encode(packages.package()))[0], 2)
         self.assertEqual(self.compared(BEFORE, b"x")[0], 2)
+        world = read(f"{EXAMPLES}/orders.json")
+        for before, after, said in ((world, b" " + world, "these are worlds"),
+                                    (world, BEFORE, "the first is a world"),
+                                    (packages.encode(packages.package()), world, "the second is a world")):
+            self.assertEqual(self.compared(before, after),
+                             (2, b"", f"diff.py: {said}: compare the outcomes that ldv run makes, or the "
+                                      "packages of ldv record\n"))
         self.assertEqual(tool(diff, os.path.join(self.folder, "none"), "none")[0], 2)

@@ -59,6 +59,16 @@ table t (k INT NOT NULL, g TEXT, v INT, key k): 2 rows, next row 5
         self.assertEqual(tool(package, "--sqlite", path, self.path),
                          (1, b"", f"package.py: {path} is there already\n"))
 
+    def test_no_rows(self):
+        """Recorded replies make no tables, and nothing is written."""
+        data = packages.encode(packages.package(mode=2))
+        for word in ("--csv", "--sqlite"):
+            path = os.path.join(self.folder, "new")
+            self.assertEqual(tool(package, word, path, given=data),
+                             (1, b"", "package.py: it has recorded replies and no rows, so that it makes no "
+                                      "table\n"))
+            self.assertFalse(os.path.exists(path))
+
     def test_sizes(self):
         """Of the row 0: number, statement and rule have 9 bytes, the values 9, 5 + 8 and 1;
         of row 2: 9, 9, 5 and 9.
@@ -259,8 +269,27 @@ it made 1 version of rows of t
         self.assertEqual(made["tables"],
                          {"t": {"columns": [["k", "INT NOT NULL"], ["g", "TEXT"], ["v", "INT"]], "key": ["k"],
                                                 "rows": [[1, 'a "x", y', None], [3, "", -5]], "next": 5}})
-        made = json.loads(tool(package, "--world", "--ask", "SELECT k FROM t", self.path)[1])
-        self.assertEqual(made["files"], {"main": 'sql q "SELECT k FROM t"\n'})
+        status, out, err = tool(package, "--world", "--ask", "SELECT k FROM t", self.path)
+        self.assertEqual(json.loads(out)["files"], {"main": 'sql q "SELECT k FROM t"\n'})
+        self.assertEqual((status, err), (0, "package.py: note: t: its rows get the numbers 0 to 1\n"
+                                            "package.py: note: counts and sums are over these packed rows "
+                                            "alone\n"))
         data = packages.encode(packages.package(mode=2))
         self.assertIn("so that it makes no world", tool(package, "--world", given=data)[2])
         self.assertEqual(tool(package, "--ask", "x")[0], 2)
+
+    def test_asked(self):
+        """What is asked of the packed rows is looked at as in a world of one's own."""
+        for text, said in (("SELECT AVG(k) FROM t",
+                            "will be refused with code 1: '(' can't be read, where FROM is due; ask "
+                            "SUM(x) and COUNT(x)"),
+                           ("SELECT k FROM u", "will be refused with code 2: there is no table u"),
+                           ("SELECT h FROM t", "will be refused with code 3: there is no column h"),
+                           ("SELECT k FROM t WHERE g = 1", "will be refused with code 4")):
+            status, out, err = tool(package, "--world", "--ask", text, self.path)
+            self.assertEqual((status, json.loads(out)["start"]), (0, ["main"]))
+            self.assertIn("package.py: warning: main line 1: the statement " + said, err)
+        status, out, err = tool(package, "--world", "--ask", "SELECT 1 FROM t LEFT JOIN t AS u ON 1 = 1",
+                                self.path)
+        self.assertEqual((status, out), (1, b""))
+        self.assertIn("this is an inner join", err)

@@ -269,6 +269,9 @@ class ScriptsAndFiles(InFolder):
                 ("SELECT * FROM t WHERE a = ?", "line 1: ? takes a parameter"),
                 ("SELECT 'a FROM t", "line 1: the text that begins with ' doesn't end"),
                 ("SELECT\n\"a\" FROM t", "line 2: '\"' has no meaning"),
+                ("SELECT a / 2 FROM t", "'/' has no meaning in this dialect (docs/SQL.md); there is no"),
+                ("SELECT a || a FROM t", "'||' has no meaning in this dialect (docs/SQL.md); ++ in a script"),
+                ("/* all */ SELECT a FROM t", "'/*' has no meaning in this dialect (docs/SQL.md); comments"),
                 ("-- none\n;", "there is no statement"),
                 ("\nSELECT '" + "a" * 65536 + "'", "line 2: a statement of 65545 bytes"),
                 (b"\xff", "byte 0 isn't UTF-8")):
