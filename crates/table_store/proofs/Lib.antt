@@ -19,6 +19,7 @@ pub mod NextLaws
 pub mod NowLaws
 pub mod RekeyLaws
 pub mod RowLaws
+pub mod RowWalks
 pub mod StandingRows
 pub mod StoreChangeLaws
 pub mod StoreLaws

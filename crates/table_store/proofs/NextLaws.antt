@@ -21,6 +21,16 @@ last_is (first ∷ rest) =
     let last : length (first ∷ rest) - 1 ≡ length rest = omega arith in
     ap (λ (k : ℕ). option_map_or (λ (s : NextSince). s.next) (slice_get (first ∷ rest) k) 0) last ∙ last_from first rest
 
+time_from : (first : NextSince) (rest : List NextSince) → option_map_or (λ (s : NextSince). s.time) (slice_get (first ∷ rest) (length rest)) 0 ≡ last_since (nexts_of (first ∷ rest))
+time_from first [] = refl
+time_from first (next ∷ rest) = time_from next rest
+
+pub last_time_is : (held : List NextSince) → option_map_or (λ (s : NextSince). s.time) (slice_get held (length held - 1)) 0 ≡ last_since (nexts_of held)
+last_time_is [] = refl
+last_time_is (first ∷ rest) =
+    let last : length (first ∷ rest) - 1 ≡ length rest = omega arith in
+    ap (λ (k : ℕ). option_map_or (λ (s : NextSince). s.time) (slice_get (first ∷ rest) k) 0) last ∙ time_from first rest
+
 -- ---- in the order of time
 
 later_by : (first : NextSince) (rest : List NextSince) → AreInTimeFrom first.time (nexts_of rest) → (k : ℕ) (d : NextSince) → k < length rest → (get_or (first ∷ rest) k d).time ≤ (get_or rest k d).time

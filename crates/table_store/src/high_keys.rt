@@ -10,8 +10,8 @@ use sql_model::RowKey;
 use std::alloc::{AllocError, Global};
 use std::collections::BTreeMap;
 
-/// The numbers of new rows by their keys, each less 2^32. They are kept until some row is refused, as then the
-/// table is full.
+/// The numbers of new rows by their keys, each less 2^32. They are kept until some row is refused, as then
+/// the table is full.
 #[derive(Drop)]
 pub(crate) struct HighKeys {
     pub(crate) held: BTreeMap<RowKey, u64>,

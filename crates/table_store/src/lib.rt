@@ -10,13 +10,13 @@
 //! - `rows_at`, `next_at` and `version` return what those functions say. What tables were before a change
 //!   they stay, and from the last change on they are what they are now;
 //! - `by_key` returns the number of the row that has a key, and `None` exactly where no row has it;
-//! - `slots`, `slot_row` and `row_values` give a table slot by slot, for layers that look through it. There is
-//!   a slot for each row that the table ever held, by number. `scan` and `scan_nulls` tell by bits which slots
-//!   have a row that passes a test of one column, `chosen` those that pass several (`specs/CellTests.antt`),
-//!   and `standing` lends the bits of all rows that stand;
+//! - `slots`, `slot_row` and `row_values` give a table slot by slot, for layers that look through it. There
+//!   is a slot for each row that the table ever held, by number. `scan` and `scan_nulls` tell by bits which
+//!   slots have a row that passes a test of one column, `chosen` those that pass several
+//!   (`specs/CellTests.antt`), and `standing` lends the bits of all rows that stand;
 //! - of one table, `slot_of` finds the slot of a row, `cell` lends one value, and `tell_order`,
-//!   `tell_times` and `tell_few` lend a caller what is known of the order of its rows, of their changes and of
-//!   their number.
+//!   `tell_times` and `tell_few` lend a caller what is known of the order of its rows, of their changes and
+//!   of their number.
 //!
 //! How a table is kept: the last values of its rows stand in columns, one for each column of the schema. A
 //! column of INT is a list of words with a bit for each NULL, and one of TEXT a list of values (`column`).
@@ -59,6 +59,7 @@ mod rows;
 mod stop;
 mod store;
 mod table;
+mod table_rows;
 
 pub use cell::Cell;
 pub use cell_test::{CellTest, ColumnTest};

@@ -1,7 +1,7 @@
 //! The numbers of a table's next row through time.
 
 ghost use Rattle.std.specs.Prelude.{◌≡◌, List, [], ◌∷◌, IfOk};
-ghost use Rattle.table_store.specs.Histories.{last_next, next_as_of};
+ghost use Rattle.table_store.specs.Histories.{last_next, last_since, next_as_of};
 ghost use Rattle.table_store.specs.Nexts.{nexts_of, AreInTime};
 
 use std::alloc::{AllocError, Global};
@@ -39,5 +39,16 @@ fn last_next(nexts: &[NextSince]) -> u32
     match nexts.last() {
         None => 0,
         Some(since) => since.next,
+    }
+}
+
+/// The time of the last change; 0 where there is none.
+#[tactic(auto, using(crate::proofs::NextLaws::last_time_is))]
+pub(crate) fn last_since(nexts: &[NextSince]) -> u32
+    ensures { result ≡ last_since (nexts_of nexts.now) }
+{
+    match nexts.last() {
+        None => 0,
+        Some(since) => since.time,
     }
 }

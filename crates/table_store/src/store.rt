@@ -215,8 +215,8 @@ impl Store {
     }
 
     /// Sets the bits of the slots of a table whose row stands and has NULL in the column, or, where `is_null`
-    /// is false, another value, and clears all others. Past the last column there is NULL. The table is there,
-    /// and the mask has a word for each 64 slots, rounded up.
+    /// is false, another value, and clears all others. Past the last column there is NULL. The table is
+    /// there, and the mask has a word for each 64 slots, rounded up.
     pub fn scan_nulls(&self, table: &str, column: u64, is_null: bool, mask: &mut [u64])
         requires there { IsSome (table_at table.now (tables_now self.now)) }
         requires mask { IfSome (history_at table.now self.now)

@@ -15,7 +15,7 @@ ghost use Rattle.table_store.specs.KeyIndex.{has_key};
 ghost use Rattle.table_store.specs.Types.{Null};
 ghost use Rattle.table_store.specs.Histories.{added, inserted, replaced, removed, noted, changed_by};
 ghost use Rattle.table_store.specs.Histories.{last_next, last_since, table_now, no_history, row_now};
-ghost use Rattle.table_store.specs.Histories.{rows_now, row_as_of, rows_as_of, next_as_of, version_now};
+ghost use Rattle.table_store.specs.Histories.{rows_now, rows_as_of, next_as_of, version_now};
 ghost use Rattle.table_store.specs.Histories.{history_of_row, slot_of_row};
 ghost use Rattle.std.specs.List.{list_all};
 ghost use Rattle.table_store.specs.Grid.{are_of_kinds, AreNumberedFrom, next_after};
@@ -32,12 +32,13 @@ use crate::change::{RowChange, removals, rewrites};
 use crate::claim::claim;
 use crate::index::{Index, held_number, index_of, number_by_slots};
 use crate::insert::{any_lacks_value, any_row_lacks_value, is_full, numbered_rows};
-use crate::nexts::{NextSince, first_next, next_as_of};
+use crate::nexts::{NextSince, first_next, last_since, next_as_of};
 use crate::rekey::claims_of;
 use crate::rows::Rows;
 use crate::stop::StoreStop;
-use ldv_value::{Cmp, List, Numbers, RowList, Utf8, Values};
-use sql_model::{Columns, RowKey, Schema, Table, TableRow, TableRows};
+use crate::table_rows::{rows_as_of, standing_rows};
+use ldv_value::{Cmp, Numbers, RowList, Utf8, Values};
+use sql_model::{Columns, RowKey, Schema, Table, TableRows};
 use std::alloc::{AllocError, Global};
 use std::marker::Model;
 
@@ -267,18 +268,17 @@ impl TableStore {
         next_as_of(self.nexts.as_slice(), time)
     }
 
-    /// The rows after a time; from the last change on they are those of now.
+    /// The rows after a time; from the last change on they are those of now, found by their bits.
     pub fn rows_at(&self, time: u32) -> Result<TableRows, AllocError>
         ensures rows { IfOk result (λ rows. rows ≡ rows_as_of time self.now.slots) }
         ensures last { last_since self.now.nexts ≤ time
             → IfOk result (λ rows. rows ≡ rows_now self.now.slots) }
     {
-        let mut made = List::new(self.name.allocator());
-        for slot in 0..self.rows.len() {
-            let row = row_as_of(&self.rows, self.name.allocator(), slot, time)?;
-            made.push_some(row)?;
+        let alloc = self.name.allocator();
+        if last_since(self.nexts.as_slice()) <= time {
+            return standing_rows(alloc, &self.rows);
         }
-        Ok(made)
+        rows_as_of(alloc, &self.rows, time)
     }
 
     /// Adds rows at a time, numbered from the number of the next row on, and returns that number. The time
@@ -437,25 +437,6 @@ fn version_in(rows: &Rows, slot: usize) -> Option<u32>
         Some(rows.version(slot))
     } else {
         None
-    }
-}
-
-// The row in a slot after a time, where it stood.
-fn row_as_of(
-    rows: &Rows,
-    alloc: Global,
-    slot: usize,
-    time: u32,
-) -> Result<Option<TableRow>, AllocError>
-    requires { slot < length rows.now.slots }
-    ensures { IfOk result (λ row. row ≡ row_as_of time (slice_index_or rows.now.slots slot no_history)) }
-{
-    match rows.values_as_of(alloc, slot, time)? {
-        None => Ok(None),
-        Some(values) => Ok(Some(TableRow {
-            number: rows.number(slot),
-            values,
-        })),
     }
 }
 

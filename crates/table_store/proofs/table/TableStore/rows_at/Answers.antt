@@ -1,20 +1,19 @@
-use Rattle.std.proofs.Common.{◌≡◌, ◌∙◌, ◌++◌, ◌≤◌, [], ap, sym, subst, List, drop, arith, append-nil}
-use Rattle.std.specs.List.{filter_map}
-use Rattle.std.proofs.lemmas.List.{drop_all}
-use Rattle.table_store.specs.Histories.{RowHistory, TableHistory, row_as_of, rows_now, last_since}
+use Rattle.std.proofs.Common.{◌≡◌, ◌∙◌, ◌≤◌, ap, sym, subst, List, ℕ}
+use Rattle.std.proofs.lemmas.Result.{IfOk-weaker}
+use Rattle.table_store.specs.Histories.{TableHistory, rows_now, rows_as_of, last_since}
 use Rattle.table_store.specs.Nexts.{nexts_of}
+use Rattle.table_store.specs.Types.{TableRow}
+use Rattle.table_store.specs.declared.nexts.NextSince.{NextSince}
 use Rattle.table_store.proofs.NowLaws.{rows_last}
 use Rattle.table_store.proofs.table.TableStore.rows_at.Goals as goal
 
-pub returns-clause-last : goal.returns-clause-last
-returns-clause-last c = λ past.
+pub returns-then-last_since-time-clause-rows : goal.returns-then-last_since-time-clause-rows
+returns-then-last_since-time-clause-rows c =
     let a = c.self.inside in
     let time = c.args.time in
     let slots = a.rows.slots in
-    let slot = c.loop-slot.slot in
-    let made = c.loop-slot.made in
-    let none : drop slot slots ≡ [] = drop_all slot slots (omega arith) in
-    let last : last_since (nexts_of a.nexts.items) ≤ time = subst (λ (t : TableHistory). last_since t.nexts ≤ time) (sym c.self.view_is) past in
-    sym (append-nil made) ∙ ap (λ (l : List RowHistory). made ++ filter_map (row_as_of time) l) (sym none) ∙ c.loop-slot.invariant
-    ∙ rows_last (last_since (nexts_of a.nexts.items)) time slots c.self.invariant.timed last
-    ∙ ap (λ (t : TableHistory). rows_now t.slots) c.self.view_is
+    let last : c.last_since.result ≡ last_since (nexts_of a.nexts.items) = c.last_since.ensures ∙ ap (λ (l : List NextSince). last_since (nexts_of l)) c.as_slice.ensures.value in
+    let past : last_since (nexts_of a.nexts.items) ≤ time = subst (λ (n : ℕ). n ≤ time) last c.if-last_since-time.true in
+    let same : rows_now slots ≡ rows_as_of time c.args.self.now.slots =
+    sym (rows_last (last_since (nexts_of a.nexts.items)) time slots c.self.invariant.timed past) ∙ ap (λ (t : TableHistory). rows_as_of time t.slots) c.self.view_is in
+    IfOk-weaker c.standing_rows.result (λ (rows : List TableRow). rows ≡ rows_now slots) (λ (rows : List TableRow). rows ≡ rows_as_of time c.args.self.now.slots) (λ rows is. is ∙ same) c.standing_rows.ensures
