@@ -5,7 +5,6 @@ use Rattle.ldv_value.specs.FileState.{FileState, is_there, FileRefusal, open_ref
 use Rattle.ldv_value.specs.declared.file.OpenMode.{OpenMode}
 use Rattle.ldv_value.specs.declared.line.LineRead.{LineRead}
 use Rattle.ldv_value.specs.declared.line.LineRead.TheVariants as lines
-use Rattle.script_parse.specs.declared.script.Instr.TheVariants as instr
 use Rattle.proc_core.specs.Types.{Value, Int, Text, Instr, Operand}
 use Rattle.run_model.specs.Core.{OpenFile, Process}
 use Rattle.run_model.specs.StepBase.{operand_values, ended, wrong_kind, too_long, bad_path, not_utf8, with_variable, FileEffect}

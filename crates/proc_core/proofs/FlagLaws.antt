@@ -1,5 +1,5 @@
 -- The flags of the processes, whether each is runnable, as one process changes and as one is made.
-use Rattle.std.proofs.Common.{◌≡◌, ◌≢◌, ℕ, zero, suc, ◌+◌, ◌-◌, ◌<◌, ◌≤◌, List, [], ◌∷◌, ◌++◌, length, map, get_or, set, refl, sym, ap, ◌∙◌, arith, inl, inr, Bool, true, false, cond, length-append}
+use Rattle.std.proofs.Common.{◌≡◌, ◌≢◌, ℕ, zero, suc, ◌+◌, ◌-◌, ◌<◌, List, [], ◌∷◌, ◌++◌, length, map, get_or, set, refl, sym, ap, ◌∙◌, arith, inl, inr, Bool, true, false, cond, length-append}
 use Rattle.std.specs.Prelude.{Option, Some, None, is_none, not, ◌&&◌, slice_get}
 use Rattle.std.proofs.lemmas.Bool.{cases_eq, cases_lt, and_left}
 use Rattle.std.proofs.lemmas.List.{length-set, length-map, ext_get_or, get_or-set_same, get_or-set_other, get_or_append_left, get_or-append_right}

@@ -1,11 +1,12 @@
 -- A child is made, as code makes it.
-use Rattle.std.proofs.Common.{◌≡◌, ℕ, List, length, subst}
+use Rattle.std.proofs.Common.{◌≡◌, ℕ, List, length, sym, subst}
 use Rattle.std.specs.Prelude.{Some, slice_get}
 use Rattle.proc_core.specs.Types.{Value, Instr}
 use Rattle.run_model.specs.Core.{new_process}
 use Rattle.proc_core.specs.declared.code.Code.{Code}
 use Rattle.proc_core.specs.declared.machine.Machine.{Machine}
 use Rattle.proc_core.specs.declared.process.SlotProcess.{SlotProcess}
+use Rattle.proc_core.specs.Counts.{CountsBelow}
 use Rattle.proc_core.specs.Slots.{Holds}
 use Rattle.proc_core.specs.SlotSpawn.{HasChild}
 use Rattle.proc_core.proofs.AskSame.{get_last}
@@ -28,3 +29,8 @@ launched_new m more after number slot index code arguments is at makes r there =
     let all = subst (λ (x : Machine × ℕ). (r : SlotProcess) (k : Code) → slice_get x.0.processes.items number ≡ Some r → slice_get x.0.codes x.1 ≡ Some k
     → HasChild x.0 number slot x.1 k r arguments after) (λ i. (is i, at i)) makes in
     all r code there (get_last m.codes code)
+
+-- with one resolved script more no more is counted
+pub counted_coded : (m more : Machine) (code : Code) (n : ℕ) → more ≡ with_code m code → CountsBelow n m → CountsBelow n more
+counted_coded m more code n is counted =
+    subst (CountsBelow n) (sym is) (record { all = counted.all; each = counted.each; flags = counted.flags })

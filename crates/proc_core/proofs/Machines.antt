@@ -1,13 +1,12 @@
 -- Steps of a machine, over slots and as they are defined.
-use Rattle.std.proofs.Common.{◌≡◌, ℕ, zero, suc, ◌+◌, List, [], ◌∷◌, ◌++◌, length, map, refl, sym, ap, ◌∙◌, subst, Bool, true, false, inl, inr, ◌<◌, ◌≤◌, arith, append_assoc}
-use Rattle.std.specs.Prelude.{Option, Some, None, pos, slice_get, slice_set, option_map, option_and_then, not, is_none, if◌then◌else◌}
+use Rattle.std.proofs.Common.{◌≡◌, ℕ, zero, suc, List, [], ◌∷◌, ◌++◌, length, map, refl, sym, ap, ◌∙◌, subst, Bool, ◌<◌, ◌≤◌, arith, append_assoc}
+use Rattle.std.specs.Prelude.{Option, Some, None, pos, slice_get, slice_set, option_and_then}
 use Rattle.ldv_value.proofs.Lists.{append-nil}
 use Rattle.script_parse.specs.declared.script.Instr.TheVariants as instr
 use Rattle.proc_core.specs.Types.{Value, Int, Instr, Act, Event}
 use Rattle.run_model.specs.Events.{event_at}
-use Rattle.run_model.specs.Core.{Process, Core, with_process, lookup}
-use Rattle.run_model.specs.Schedule.{still_runs, waits_for, waits_at, is_waiting, is_runnable, runnable_from, runnable, scheduled, choose, pick_of, moved_x}
-use Rattle.run_model.specs.Step.{execute, execute_next, quiet_of, quiet, asked_by, ask_by, ask_in, ask_at, ends_at, end_acts, status_acts}
+use Rattle.run_model.specs.Core.{Process, Core, lookup}
+use Rattle.run_model.specs.Step.{execute, execute_next, quiet_of, quiet, ends_at, end_acts, status_acts}
 use Rattle.run_model.specs.StepBase.{ended, went_on, with_variable, Effect, FileEffect, on_files, wrong_kind}
 use Rattle.run_model.specs.StepFiles.{path_at, allows_read, open_for, open_path, read_next, write_line, copy_rest, close, remove_path, test_path}
 use Rattle.run_model.specs.StepReplies.{fetch, count, status}
@@ -15,21 +14,19 @@ use Rattle.run_model.specs.StepProcesses.{status_in, wait_until, wait_for}
 use Rattle.ldv_value.specs.FileState.{FileState}
 use Rattle.proc_core.specs.declared.code.Code.{Code}
 use Rattle.proc_core.specs.declared.code.Scope.{Scope}
-use Rattle.proc_core.specs.declared.code.FileInstr.{FileInstr}
-use Rattle.proc_core.specs.declared.code.OwnInstr.{OwnInstr}
 use Rattle.proc_core.specs.declared.code.SlotInstr.{SlotInstr}
-use Rattle.proc_core.specs.declared.code.SlotInstr.TheVariants.{Own, OnFiles, Spawn, Wait, Sql}
+use Rattle.proc_core.specs.declared.code.SlotInstr.TheVariants.{Wait}
 use Rattle.proc_core.specs.declared.machine.Machine.{Machine}
 use Rattle.proc_core.specs.declared.process.SlotProcess.{SlotProcess}
-use Rattle.proc_core.specs.Resolved.{slot_of, HasName, Resolves, ResolvesAll, slot_instr, HasAll, IsCode, IsScope}
+use Rattle.proc_core.specs.Resolved.{slot_of, HasName, Resolves, ResolvesAll, slot_instr, HasAll, IsScope}
 use Rattle.proc_core.specs.Slots.{Holds, child_at, slot_ended, slot_with_variable}
-use Rattle.proc_core.specs.SlotFiles.{SlotEffect, slot_on_files}
+use Rattle.proc_core.specs.SlotFiles.{SlotEffect}
 use Rattle.proc_core.specs.SlotStep.{slotted_at, next_slotted, slot_status_in, slot_wait_until, slot_wait_for, slot_effect, IsKept}
 use Rattle.proc_core.specs.Stands.{IsProcess, AreProcesses, IsCore, Told}
 use Rattle.proc_core.proofs.Holding.{holds_ended, holds_went_on, holds_variable, child_same}
 use Rattle.proc_core.proofs.ReplySame.{close_same, fetch_same, count_same, status_same as reply_status_same}
 use Rattle.proc_core.proofs.FileSame.{SameEffect, open_path_effect, read_line_effect, write_line_effect, copy_effect, remove_effect, exists_effect}
-use Rattle.proc_core.proofs.OwnSame.{OwnSame, let_same, calc_same, glue_same, number_same, cut_same, jump_same, jump_if_same, print_same, exit_same}
+use Rattle.proc_core.proofs.OwnSame.{let_same, calc_same, glue_same, number_same, cut_same, jump_same, jump_if_same, print_same, exit_same}
 
 -- ---- processes by their number
 

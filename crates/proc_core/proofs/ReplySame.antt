@@ -5,7 +5,6 @@ use Rattle.std.proofs.lemmas.Option.{slice_get-map}
 use Rattle.std.proofs.lemmas.List.{map-set, length-map}
 use Rattle.ldv_value.proofs.Cases.{cases-bool}
 use Rattle.sql_model.specs.declared.reply.Reply.{Reply}
-use Rattle.script_parse.specs.declared.script.Instr.TheVariants as instr
 use Rattle.proc_core.specs.Types.{Value, Instr}
 use Rattle.run_model.specs.Core.{lookup, bind, unbind, OpenFile, Cursor, Process}
 use Rattle.run_model.specs.StepBase.{with_variable, wrong_kind}

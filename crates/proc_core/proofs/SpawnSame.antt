@@ -1,7 +1,6 @@
 -- `spawn` over slots and as it is defined.
 use Rattle.std.proofs.Common.{◌≡◌, ℕ, suc, ◌+◌, List, [], ◌∷◌, ◌++◌, length, map, refl, sym, ap, ◌∙◌, subst}
 use Rattle.std.specs.Prelude.{Option, Some, slice_set}
-use Rattle.script_parse.specs.declared.script.Instr.TheVariants as instr
 use Rattle.proc_core.specs.Types.{Value, Instr}
 use Rattle.run_model.specs.Core.{bind, Process, Core}
 use Rattle.run_model.specs.StepProcesses.{child_of, parent_of, spawn_script}

@@ -1,12 +1,12 @@
 -- The state in which a run begins.
-use Rattle.std.proofs.Common.{◌≡◌, ℕ, zero, suc, ◌+◌, List, [], ◌∷◌, length, map, refl, sym, ap, ◌∙◌, subst, Bool, true}
-use Rattle.std.specs.Prelude.{Option, Some, None, slice_get, is_some, option_and_then, IsSome}
+use Rattle.std.proofs.Common.{◌≡◌, ℕ, zero, suc, List, [], ◌∷◌, length, map, refl, sym, ap, ◌∙◌, subst, Bool, true}
+use Rattle.std.specs.Prelude.{Option, Some, slice_get, is_some, option_and_then, IsSome}
 use Rattle.std.specs.List.{AllByRecursion}
 use Rattle.ldv_value.specs.FileState.{FileState, content_at, untouched}
 use Rattle.script_parse.specs.Script.{script_of}
 use Rattle.proc_core.proofs.FlagLaws.{new_runs}
 use Rattle.proc_core.specs.Types.{File, Instr, Text}
-use Rattle.run_model.specs.Core.{Process, Core, new_process, first_process, start_core}
+use Rattle.run_model.specs.Core.{Process, new_process, start_core}
 use Rattle.run_model.specs.RunLaw.{started}
 use Rattle.proc_core.specs.declared.code.Code.{Code}
 use Rattle.proc_core.specs.declared.machine.Machine.{Machine}

@@ -1,7 +1,4 @@
-use Rattle.std.proofs.Common.{ap, length}
-use Rattle.proc_core.specs.declared.machine.Machine.{Machine}
-use Rattle.proc_core.proofs.Counts.{fewer_same}
-use Rattle.proc_core.proofs.Launching.{launched_new}
+use Rattle.proc_core.proofs.Launching.{counted_coded, launched_new}
 use Rattle.proc_core.proofs.launch.launch_new.Goals as goal
 
 pub returns-clause-made : goal.returns-clause-made
@@ -11,6 +8,4 @@ returns-clause-made g c =
 
 pub launch-requires-clause-counted : goal.launch-requires-clause-counted
 launch-requires-clause-counted g c =
-    let is = c.in_ok-more.ensures in
-    fewer_same c.args.machine c.in_ok-more.more (ap (λ (m : Machine). m.processes.items) is) (ap (λ (m : Machine). m.asked) is)
-    (ap (λ (m : Machine). length m.ready.flags) is) c.args.who.step c.requires.counted
+    counted_coded c.args.machine c.in_ok-more.more c.args.code c.args.who.step c.in_ok-more.ensures c.requires.counted

@@ -1,4 +1,4 @@
-use Rattle.std.proofs.Common.{◌+◌, ◌≤◌, ap, ◌∙◌, subst, [], arith, true, false}
+use Rattle.std.proofs.Common.{◌+◌, ◌≤◌, ap, ◌∙◌, subst, [], arith}
 use Rattle.std.specs.Prelude.{None}
 use Rattle.run_model.specs.Run.{move}
 use Rattle.run_model.specs.State.{State}
