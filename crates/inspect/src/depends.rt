@@ -22,8 +22,8 @@ use std::alloc::{AllocError, Global};
 use trace_graph::{Graph, Node};
 
 /// A line for each node from which information may have got to a path by the end of the recorded run: paths
-/// sorted by bytes, then processes by creation number, rows by table, row and version, and statements and then
-/// replies by number. `NoSuch` exactly where the path is no node of the graph of the package's events.
+/// sorted by bytes, then processes by creation number, rows by table, row and version, and statements and
+/// then replies by number. `NoSuch` exactly where the path is no node of the graph of the package's events.
 pub fn depends_text(alloc: Global, package: &Package, path: &str) -> Result<Bytes, InspectStop>
     requires { IsTrace «package».now.events }
     ensures { Gives Stops result

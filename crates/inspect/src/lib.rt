@@ -8,11 +8,11 @@
 //!   `specs/ProcessNames.antt`);
 //! - `why_text` says of one row which statement needed it, and when (`specs/WhyReports.antt`);
 //! - `depends_text` lists what the content of a path came from (`specs/DependsReports.antt`), by the graph of
-//!   the events, and `depends_law` says of every such list that it has the nodes from which a path of the graph
-//!   leads there in time, and no others (`specs/DependsSources.antt`).
+//!   the events, and `depends_law` says of every such list that it has the nodes from which a path of the
+//!   graph leads there in time, and no others (`specs/DependsSources.antt`).
 //!
-//! Memory is linear in the package and the report, since the name of a process is made only where a report has
-//! it. So is time, but for the sorting in `depends_text`. No clause says so.
+//! Memory is linear in the package and the report, since the name of a process is made only where a report
+//! has it. So is time, but for the sorting in `depends_text`. No clause says so.
 #![tactic(auto)]
 
 mod append;

@@ -15,8 +15,8 @@ use run_model::{Act, Event, append_name};
 use std::alloc::{AllocError, Global};
 use std::marker::Model;
 
-/// A process in memory: the place of its parent, its number among the parent's children, and how many children
-/// it made so far. The first one is its own parent.
+/// A process in memory: the place of its parent, its number among the parent's children, and how many
+/// children it made so far. The first one is its own parent.
 #[derive(Clone, Copy)]
 pub(crate) struct Made {
     pub(crate) parent: usize,
@@ -24,8 +24,8 @@ pub(crate) struct Made {
     pub(crate) children: u32,
 }
 
-/// The processes of a trace, by creation number. Contracts see the name of each and how many children it made.
-/// A name is made only where it is written, since those of processes far down would take much memory.
+/// The processes of a trace, by creation number. Contracts see the name of each and how many children it
+/// made. A name is made only where it is written, since those of processes far down would take much memory.
 #[derive(Drop)]
 pub(crate) struct Processes {
     made: Vec<Made>,

@@ -1,4 +1,5 @@
--- What is due for `audit`: whether the input is the included package of its own world's run, in its own version.
+-- What is due for `audit`: whether the input is the included package of its own world's run, in its own
+-- version.
 use Rattle.std.specs.Prelude.{ℕ, List, ◌++◌, codes, if◌then◌else◌, Option, Some, None}
 use Rattle.std.specs.Fmt.{decimal}
 use Rattle.run_model.specs.declared.outcome.Outcome.{Outcome}

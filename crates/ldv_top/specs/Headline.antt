@@ -25,9 +25,9 @@ pub record IsPackageOf (mode : Mode) (budget : ℕ) (w : World) (input : List �
 
 -- The bytes are what record writes of a document: the package of the document's world. They are read back as
 -- that package, whole: its files, tables and rows are exactly those that the run needed, each row with the
--- first statement that needed it and its rule; an excluded one has no table, and exactly what each process asked,
--- with the replies. Its replay within at least the steps of that run, which are within its budget, gives what
--- run gives, and its audit within as many finds one with the needed rows sound.
+-- first statement that needed it and its rule; an excluded one has no table, and exactly what each process
+-- asked, with the replies. Its replay within at least the steps of that run, which are within its budget,
+-- gives what run gives, and its audit within as many finds one with the needed rows sound.
 pub record Recorded (mode : Mode) (budget : ℕ) (document bytes : List ℕ) : Type 0 where
   pub world : World
   pub is_world : world_reading document ≡ Ok world

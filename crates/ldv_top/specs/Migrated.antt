@@ -17,8 +17,8 @@ use Rattle.ldv_top.specs.DueParts.{done}
 abbrev pub FindsSound : ℕ → List ℕ → Type 0
 FindsSound budget input = due_audit budget input ≡ done (codes "sound\n")
 
--- The bytes are of the second version, and are read as the same package. So each report, replay and table of the
--- two is the same, and both are found sound or neither. What is migrated once more stays as it is.
+-- The bytes are of the second version, and are read as the same package. So each report, replay and table of
+-- the two is the same, and both are found sound or neither. What is migrated once more stays as it is.
 pub record Migrated (input bytes : List ℕ) : Type 0 where
   pub «package» : Package
   pub is_package : reading input ≡ Ok «package»

@@ -16,8 +16,8 @@ use replay_db::{AuditStop, Verdict, audit, package_law};
 use run_model::{Mode, Package};
 use std::alloc::{AllocError, Global};
 
-/// The response of `audit` to an input. The trace isn't looked at but by its bytes, and no list of its events is
-/// made.
+/// The response of `audit` to an input. The trace isn't looked at but by its bytes, and no list of its events
+/// is made.
 pub(crate) fn audit_response(
     alloc: Global,
     budget: u32,

@@ -49,8 +49,8 @@ pub enum Command {
     Inspect { report: Report },
     /// `gen`: nothing is read, and the output sums up the record and the replay of a world of so many orders.
     Generate { orders: u32 },
-    /// `migrate`: the input is a package of either version, the output the same package in the version that is
-    /// written.
+    /// `migrate`: the input is a package of either version, the output the same package in the version that
+    /// is written.
     Migrate,
 }
 

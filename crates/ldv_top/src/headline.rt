@@ -16,8 +16,8 @@ use replay_db::{audit_law, package_law};
 use run_laws::{between_law, log_law};
 
 /// The package of a valid world's run, with the needed rows or with the recorded replies, is replayed, within
-/// any budget of at least the steps of that run, as the world is run; and what is recorded of a world document
-/// is such a package. It says so of every world, and does nothing.
+/// any budget of at least the steps of that run, as the world is run; and what is recorded of a world
+/// document is such a package. It says so of every world, and does nothing.
 pub fn headline_law()
     ensures replayed { (mode : Mode) (n budget : ℕ) (w : World) (input : List ℕ)
         → IsPackageOf mode n w input → steps_by n [] w ≤ budget

@@ -4,7 +4,8 @@
 //! `replay_db` and, for a package that holds the recorded replies in place of the needed rows, of
 //! `replay_log`. `audit` says whether a package is that of its own world's run, `table` shows a table after a
 //! step of such a run, `inspect` reports on a package, by the calls of `inspect`, `gen` sums up the record
-//! and the replay of a world that it makes, and `migrate` writes a package of either version in the second one.
+//! and the replay of a world that it makes, and `migrate` writes a package of either version in the second
+//! one.
 //!
 //! It promises, in the clauses of `ldv`:
 //! - the exit and the bytes are those that are due for the words and the input (`specs/Due.antt`); only a
@@ -19,8 +20,8 @@
 //!   isn't the recorded one, by the process and the number of the statement;
 //! - what `migrate` wrote is the same package, so that its replays, tables and reports are the same, and the
 //!   audit of both finds them sound or of neither (`specs/Migrated.antt`);
-//! - what `inspect depends` lists are the nodes of the trace's graph from which a path leads to the path that was
-//!   asked for, in time, and no others (`specs/Reported.antt`);
+//! - what `inspect depends` lists are the nodes of the trace's graph from which a path leads to the path that
+//!   was asked for, in time, and no others (`specs/Reported.antt`);
 //! - bytes that are no package and a package that would be too long are refused, and then nothing is written.
 //!
 //! `ldv_main` says the same of the exit of which it tells the line and gives the status.

@@ -12,9 +12,9 @@ ghost use Rattle.ldv_top.specs.declared.exit.Exit.{Exit};
 use package_layout::round_trip_law;
 use replay_db::audit_law;
 
-/// The package of an input, of either version and either kind, in the version that is written: it is read as the
-/// same package, so that replays, tables and reports are the same, and the audit of both finds them sound or of
-/// neither. It says so of every input, and does nothing.
+/// The package of an input, of either version and either kind, in the version that is written: it is read as
+/// the same package, so that replays, tables and reports are the same, and the audit of both finds them sound
+/// or of neither. It says so of every input, and does nothing.
 pub fn migration_law()
     ensures { (input : Items ℕ) («package» : Package) → length input ≤ input_limit
         → IsTyped «package» → Valid «package» → IsSpelled input «package»

@@ -41,8 +41,8 @@ pub(crate) fn bare_of(package: RunPackage) -> Package
     bare
 }
 
-/// The package that the input is, with its trace kept as runs: no list of its events is made, which may be far
-/// larger than the input. The input isn't kept.
+/// The package that the input is, with its trace kept as runs: no list of its events is made, which may be
+/// far larger than the input. The input isn't kept.
 pub(crate) fn read_runs_of(alloc: Global, input: Bytes) -> Result<RunPackage, PackageStop>
     ensures found { IfOk result (λ r. IsTyped (whole r) × Valid (whole r) × IsSpelled input (whole r)) }
     ensures cut { IfOk result (λ r. IsCut r.runs) }

@@ -25,8 +25,8 @@ pub enum Response {
     NotWorld(WorldFault),
     /// The run hasn't ended after the steps of this budget.
     NotEnded(u32),
-    /// The replay of a package of recorded replies: this process asks, as its statement of this number from 0,
-    /// what isn't the recorded one, or when none is left.
+    /// The replay of a package of recorded replies: this process asks, as its statement of this number from
+    /// 0, what isn't the recorded one, or when none is left.
     Diverged(ProcName, u32),
     /// The input is no package.
     Damaged(DamageKind),

@@ -165,8 +165,8 @@ fn run_command<S: Source, K: Sink>(
 /// The program without its streams: what the words ask for, from a source to a sink.
 ///
 /// The words are judged first, and where they are no command nothing is read. All bytes are made before
-/// the first is written. `NoMemory` says that memory ran out, and no clause says when it comes. What holds for
-/// each exit is `Ends` of `specs/Ends.antt`.
+/// the first is written. `NoMemory` says that memory ran out, and no clause says when it comes. What holds
+/// for each exit is `Ends` of `specs/Ends.antt`.
 pub fn ldv<S: Source, K: Sink>(
     alloc: Global,
     words: &[String],

@@ -9,7 +9,8 @@ use crate::blocks::Row;
 use crate::set::LineageSet;
 use std::alloc::{AllocError, Global};
 
-/// Rows with their versions: a few in a list, of which the first of a row tells its version, or many as a set.
+/// Rows with their versions: a few in a list, of which the first of a row tells its version, or many as a
+/// set.
 #[derive(Drop)]
 pub(crate) enum Held {
     Few(Vec<(Row, u32)>),

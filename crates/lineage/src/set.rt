@@ -81,8 +81,8 @@ impl LineageSet {
         Ok(())
     }
 
-    /// Adds other rows. A row that is in both keeps the version that it has here. On `AllocError` the set is as
-    /// it was.
+    /// Adds other rows. A row that is in both keeps the version that it has here. On `AllocError` the set is
+    /// as it was.
     pub fn add_rows(&mut self, other: &LineageRows) -> Result<(), AllocError>
         ensures ok { OnOk result (IsUnion self.old other.now self.new) }
         ensures err { OnErr result (self.new ≡ self.old) }

@@ -262,8 +262,8 @@ fn unite_at(blocks: &mut Blocks, others: &Blocks, place: (u32, u32))
     }
 }
 
-/// Adds the rows of other blocks, for all of which there is room. A row that is in both keeps the version that
-/// it has here.
+/// Adds the rows of other blocks, for all of which there is room. A row that is in both keeps the version
+/// that it has here.
 pub(crate) fn unite(blocks: &mut Blocks, others: &Blocks)
     requires kept { AreKept blocks.old }
     requires also_kept { AreKept others.now }

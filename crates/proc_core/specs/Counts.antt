@@ -15,8 +15,8 @@ AreBelow n counted = (length counted.0 < n) × (counted.1 < n)
 abbrev pub HaveFewer : ℕ → List SlotProcess → Type 0
 HaveFewer n rs = (k : ℕ) (r : SlotProcess) → slice_get rs k ≡ Some r → AreBelow n (counted_of r)
 
--- Fewer statements than a number were asked, and each process has fewer replies and made fewer children. The set of
--- those that may run has no more flags than there are processes.
+-- Fewer statements than a number were asked, and each process has fewer replies and made fewer children. The
+-- set of those that may run has no more flags than there are processes.
 pub record CountsBelow (n : ℕ) (m : Machine) : Type 0 where
   pub all : m.asked < n
   pub each : HaveFewer n m.processes.items

@@ -1,6 +1,6 @@
 -- What happens to the flags of the processes as one of them changes, and as one is made.
 use Rattle.std.specs.Prelude.{◌≡◌, ◌≢◌, ℕ, List, [], ◌∷◌, ◌++◌, length, slice_get, slice_set}
-use Rattle.std.specs.Prelude.{Option, Some, None, is_none, true, false}
+use Rattle.std.specs.Prelude.{Some, None, is_none, true, false}
 use Rattle.run_model.specs.Types.{Value, Instr}
 use Rattle.run_model.specs.Core.{Process, Core, new_process}
 use Rattle.run_model.specs.Schedule.{is_runnable, runnable}

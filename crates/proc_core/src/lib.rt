@@ -5,10 +5,10 @@
 //! beside it whose names begin with `Slot`. `specs/Stands.antt` says when a run is in a state of `run_model`;
 //! lemmas in `proofs/` say that a step over slots is then the step that `run_model` defines.
 //!
-//! Who may run is kept in a `ReadySet`: of each process whether it is runnable (`specs/Flags.antt`). The sorted
-//! list of its numbers is then the one that the scheduler chooses from; what happens to the flags as a process
-//! goes on, waits, ends, wakes another or is made, stands in `flags_law` (`specs/FlagsLaw.antt`), for proofs as
-//! lemmas in `proofs/FlagLaws.antt`.
+//! Who may run is kept in a `ReadySet`: of each process whether it is runnable (`specs/Flags.antt`). The
+//! sorted list of its numbers is then the one that the scheduler chooses from; what happens to the flags as a
+//! process goes on, waits, ends, wakes another or is made, stands in `flags_law` (`specs/FlagsLaw.antt`), for
+//! proofs as lemmas in `proofs/FlagLaws.antt`.
 #![tactic(auto)]
 
 mod ask;

@@ -1,5 +1,5 @@
--- What the intervals of a graph keep of the links that it was made of, and that paths and passes over the edges
--- give the same nodes.
+-- What the intervals of a graph keep of the links that it was made of, and that paths and passes over the
+-- edges give the same nodes.
 use Rattle.std.specs.Prelude.{◌≡◌, ℕ, ◌<◌, ◌≤◌, List, [], ◌∷◌, length, Contains, IsTrue}
 use Rattle.trace_graph.specs.Links.{Link}
 use Rattle.trace_graph.specs.Graph.{Parts, place_in, graph_by, are_between}
@@ -27,8 +27,8 @@ TrailsLaw = (links : List Link) (source target : Node) (time : ℕ) (l : Link) (
     → Leads (graph_by links).edges (place_in (graph_by links).nodes target) time
     (place_in (graph_by links).nodes source)
 
--- in every graph, the nodes that passes over the edges find are those from which a path leads to the node by the
--- time
+-- in every graph, the nodes that passes over the edges find are those from which a path leads to the node by
+-- the time
 abbrev pub DependsLaw : Type 0
 DependsLaw = (graph : Parts) (node time : ℕ) → IsTrue (are_between (length graph.nodes) graph.edges)
     → node < length graph.nodes → AreSources graph node time (depends_of graph node time)

@@ -12,9 +12,9 @@
 //!   other (`specs/ReachLaws.antt`).
 //!
 //! The search goes backwards from the node, with one number for each node: the latest time at which it may
-//! be left. It takes the latest first, from a heap, so that it looks at no edge twice. With the lists of edges
-//! that are made before it, and the choice of nodes after it, each edge is looked at three times at most, and
-//! time is that of sorting the edges. No clause says so.
+//! be left. It takes the latest first, from a heap, so that it looks at no edge twice. With the lists of
+//! edges that are made before it, and the choice of nodes after it, each edge is looked at three times at
+//! most, and time is that of sorting the edges. No clause says so.
 #![tactic(auto)]
 
 mod found;

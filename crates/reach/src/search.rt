@@ -33,8 +33,8 @@ fn is_current(latest: &[Option<u32>], time: u32, place: usize) -> bool
     }
 }
 
-/// The search: the latest time of each place so far, and the places whose edges are to be looked at, each with
-/// its latest time. The latest comes first.
+/// The search: the latest time of each place so far, and the places whose edges are to be looked at, each
+/// with its latest time. The latest comes first.
 #[derive(Drop)]
 pub(crate) struct Search {
     pub(crate) latest: Vec<Option<u32>>,

@@ -29,12 +29,12 @@ fn sources(
     Ok(found)
 }
 
-/// The nodes that a node of a graph depends on by a time: those from which a path of at least one edge leads to
-/// it, for which a time can be chosen within each edge's interval so that the times never fall and the last is
-/// at most `time`. The node itself is among them only where such a path leads from it to itself. Each node is
-/// there once: paths sorted by bytes, then processes by number, rows by table, row and version, and statements
-/// and then replies by number. `node` is a place of the graph, from 0, and `time` is a step. `AllocError` means
-/// out of memory only.
+/// The nodes that a node of a graph depends on by a time: those from which a path of at least one edge leads
+/// to it, for which a time can be chosen within each edge's interval so that the times never fall and the
+/// last is at most `time`. The node itself is among them only where such a path leads from it to itself. Each
+/// node is there once: paths sorted by bytes, then processes by number, rows by table, row and version, and
+/// statements and then replies by number. `node` is a place of the graph, from 0, and `time` is a step.
+/// `AllocError` means out of memory only.
 pub fn depends(alloc: Global, graph: &Graph, node: usize, time: u32) -> Result<Nodes, AllocError>
     requires { node < length graph.now.nodes }
     ensures nodes { IfOk result (λ nodes. nodes ≡ depends_of graph.now node time) }

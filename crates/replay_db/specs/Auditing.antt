@@ -1,4 +1,5 @@
--- The audit of a package: its bytes, compared with the included package of its own world, in their own version.
+-- The audit of a package: its bytes, compared with the included package of its own world, in their own
+-- version.
 use Rattle.std.specs.Prelude.{◌≡◌, ◌≤◌, ◌<◌, ◌↔◌, ℕ, List, [], length, true, false, if◌then◌else◌, nat_eq, bytes_eq}
 use Rattle.std.specs.Prelude.{Some, Result, Ok, Err}
 use Rattle.std.specs.List.{common_prefix_len}

@@ -9,8 +9,8 @@ use package_layout::round_trip_law;
 use run_model::world_events_law;
 use value_laws::steps_law;
 
-/// Of worlds that meet the rules, that one lies between the slice of a run and its world is said by what is in
-/// it as by what was cut. The function has no body: its contract is the theorem.
+/// Of worlds that meet the rules, that one lies between the slice of a run and its world is said by what is
+/// in it as by what was cut. The function has no body: its contract is the theorem.
 pub fn members_law()
     ensures { MembershipLaw }
 {}
@@ -38,8 +38,8 @@ pub fn package_law()
 }
 
 /// The audit of a package finds it sound exactly where its bytes are those of the package of its own world's
-/// run, in their own version; so it finds every recorded package sound. A valid package is found sound in both
-/// versions or in none. The function does nothing: its contract is the theorem.
+/// run, in their own version; so it finds every recorded package sound. A valid package is found sound in
+/// both versions or in none. The function does nothing: its contract is the theorem.
 pub fn audit_law()
     ensures sound { SoundLaw }
     ensures recorded { RecordedSoundLaw }

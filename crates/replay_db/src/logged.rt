@@ -65,8 +65,8 @@ fn recorded(run: Run<Recorder<Engine>, ListTracer>) -> Result<Logged, AllocError
     })
 }
 
-/// Runs a world within a budget of steps, and tells what is recorded of the run, with the replies. No question
-/// of SQL diverges.
+/// Runs a world within a budget of steps, and tells what is recorded of the run, with the replies. No
+/// question of SQL diverges.
 pub(crate) fn log_world(alloc: Global, world: World, budget: u32) -> Result<Logged, EndStop>
     requires can_run { CanRun world }
     requires bounded { budget ≤ max_steps }

@@ -21,8 +21,8 @@ use std::alloc::Global;
 pub enum Verdict {
     /// Its bytes are those of the included package of its own world's run, in their own version.
     Sound,
-    /// They aren't: the two differ first at this place, in bytes from 0. Where one is the start of the other, that
-    /// is the length of the shorter.
+    /// They aren't: the two differ first at this place, in bytes from 0. Where one is the start of the other,
+    /// that is the length of the shorter.
     Unsound { at: u64 },
 }
 
@@ -61,8 +61,8 @@ fn verdict_on(bytes: &[u8], due: &[u8]) -> Verdict
 }
 
 /// Compares the bytes of an included package with those of the package of its own world's run, within a
-/// budget of at most 10,000,000 steps. The bytes have a version, and that package is spelled in it. Nothing of
-/// the recorded trace is looked at.
+/// budget of at most 10,000,000 steps. The bytes have a version, and that package is spelled in it. Nothing
+/// of the recorded trace is looked at.
 ///
 /// `NotEnded` comes exactly where that run hasn't ended after so many steps, and `TooLong` exactly where it
 /// has and its package has more than 67,108,864 bytes in that version.

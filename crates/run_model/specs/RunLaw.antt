@@ -1,5 +1,5 @@
--- A run is never stuck: while a process hasn't ended, the scheduler chooses one that may run. And a run has few
--- events: at most two a step, and one at the start.
+-- A run is never stuck: while a process hasn't ended, the scheduler chooses one that may run. And a run has
+-- few events: at most two a step, and one at the start.
 use Rattle.std.specs.Prelude.{◌≡◌, ◌≤◌, ℕ, ◌+◌, ◌*◌, List, length, true, false, Option, Some, slice_get}
 use Rattle.run_model.specs.Types.{File, Instr, World}
 use Rattle.run_model.specs.Core.{Process, Core, all_ended, start_core}

@@ -181,7 +181,8 @@ fn append_parts(to: &mut Bytes, parts: &[u32]) -> Result<(), AllocError>
     Ok(())
 }
 
-/// Puts the name of a process at the end, by its spawn path: `0`, `0.1`. On `AllocError` nothing is put there.
+/// Puts the name of a process at the end, by its spawn path: `0`, `0.1`. On `AllocError` nothing is put
+/// there.
 pub fn append_name(to: &mut Bytes, parts: &[u32]) -> Result<(), AllocError>
     ensures ok { OnOk result (to.new ≡ to.old ++ name_text parts.now) }
     ensures err { OnErr result (to.new ≡ to.old) }

@@ -1,5 +1,5 @@
-//! Tests of what neither a proof nor a case of bytes shows: tables through time, sizes, streams that fail, and
-//! calls that no command makes.
+//! Tests of what neither a proof nor a case of bytes shows: tables through time, sizes, streams that fail,
+//! and calls that no command makes.
 //!
 //! It has the tests of all that runs: changes, worlds, packages and the program. `library_tests` has those of
 //! the libraries below. Neither has any code but tests, so that no library is proved twice for its

@@ -23,8 +23,8 @@ pub struct Sliced {
     pub tables: PackedTables,
 }
 
-/// What events need of the world that they began in. The graph is that of the events, and tells which rows are
-/// initial. `AllocError` means out of memory only.
+/// What events need of the world that they began in. The graph is that of the events, and tells which rows
+/// are initial. `AllocError` means out of memory only.
 pub fn slice(
     alloc: Global,
     events: &Events,

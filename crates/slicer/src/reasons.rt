@@ -228,8 +228,8 @@ fn note_act(
     }
 }
 
-/// The first reason for each initial row. The rows that statements needed are taken out of those that a later one
-/// needs, so that only the first reads of a row are looked up.
+/// The first reason for each initial row. The rows that statements needed are taken out of those that a later
+/// one needs, so that only the first reads of a row are looked up.
 pub(crate) fn reasons_in(
     alloc: Global,
     events: &[Event],

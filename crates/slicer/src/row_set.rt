@@ -11,8 +11,9 @@ use ldv_value::{List, Utf8};
 use std::alloc::{AllocError, Global};
 use std::collections::BTreeMap;
 
-/// Numbers in blocks of 4,096: bit i of word j of block b is the number 4,096 * b + 64 * j + i. A block has the
-/// words up to that of its greatest number, and maybe more, so a number far from all others takes 512 bytes.
+/// Numbers in blocks of 4,096: bit i of word j of block b is the number 4,096 * b + 64 * j + i. A block has
+/// the words up to that of its greatest number, and maybe more, so a number far from all others takes 512
+/// bytes.
 pub(crate) type Numbers = BTreeMap<u32, List<u64>>;
 
 /// Rows by table and number. A table's name is copied once.

@@ -54,7 +54,8 @@ IsCore checked place store keep made =
     → core_at checked place ≡ Some core
     → AreRows store keep (core_rows (tables_now store) core) (rejected (tables_now store) core) made
 
--- rows of some cores, from which those of all cores come by uniting them with those of the cores that are left
+-- rows of some cores, from which those of all cores come by uniting them with those of the cores that are
+-- left
 pub record AreUnited (store : StoreHistory) (keep : Bool) (all left : List Core) (made : CoreRows)
     : Type 0 where
   pub rows : List AnswerRow

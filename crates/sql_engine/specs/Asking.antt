@@ -16,8 +16,8 @@ database store = record { tables = tables_now store; versions = versions_now sto
 abbrev pub lists_in : Done → Lists
 lists_in done = record { tables = done.tables; reads = done.reads; made = done.made }
 
--- the reply to the statement that a text is, or to a text that is none, the lists where they are kept, and the
--- database after it
+-- the reply to the statement that a text is, or to a text that is none, the lists where they are kept, and
+-- the database after it
 pub record IsDone (statement : Option Statement) (keep : Bool) (old new : StoreHistory) (done : Done)
     : Type 0 where
   pub reply : done.reply ≡ reply_of statement (tables_now old)

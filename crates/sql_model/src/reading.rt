@@ -1,5 +1,6 @@
-//! The states of the definitions that read a text from left to right: of the scanner among the bytes, how an operand
-//! begins, what joins operands, and an expression with its depth (`specs/Tokens.antt`, `specs/Expressions.antt`).
+//! The states of the definitions that read a text from left to right: of the scanner among the bytes, how an
+//! operand begins, what joins operands, and an expression with its depth (`specs/Tokens.antt`,
+//! `specs/Expressions.antt`).
 
 use crate::expr::{Expr, Exprs, Fold, Operator};
 use crate::statement::FromItems;

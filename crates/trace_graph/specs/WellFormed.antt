@@ -29,8 +29,8 @@ same_places a b = a.source == b.source && a.target == b.target
 abbrev pub times_rule : Edge → Bool
 times_rule e = nat_le e.first e.last && nat_le e.last max_steps
 
--- nodes differ and meet their rules, edges are between places of nodes, no two of them between the same places,
--- and their times rise
+-- nodes differ and meet their rules, edges are between places of nodes, no two of them between the same
+-- places, and their times rise
 abbrev pub well_formed : Parts → Bool
 well_formed graph =
     not (repeats same_node graph.nodes) && (list_all node_rule graph.nodes

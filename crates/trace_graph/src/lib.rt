@@ -14,8 +14,8 @@
 //! - `graph_law`: which nodes and edges a graph has, said of the links that it was made of
 //!   (`specs/GraphLaws.antt`), and which row versions, said of the events (`specs/VersionLaws.antt`);
 //! - `Graph::of_parts` is the graph of a list of nodes and a list of edges that are well formed together
-//!   (`specs/WellFormed.antt`), `is_well_formed` tests it, and `well_formed_law` says so of the graph of a valid
-//!   trace.
+//!   (`specs/WellFormed.antt`), `is_well_formed` tests it, and `well_formed_law` says so of the graph of a
+//!   valid trace.
 //!
 //! Nodes and edges are numbered by hash tables over the texts of the events, so that time and memory are
 //! linear in the trace. No clause says so. `place` keeps no table, and looks at each node.

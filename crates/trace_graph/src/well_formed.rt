@@ -102,9 +102,9 @@ fn are_between(count: usize, edges: &[Edge]) -> bool
     edges.iter().all(|edge| is_between(count, edge))
 }
 
-/// Whether nodes and edges make a well-formed graph: nodes differ, paths and names of tables meet their rules,
-/// edges are between places of nodes, no two of them between the same places, and the times of each rise and
-/// are steps that a run may have. `AllocError` means out of memory only.
+/// Whether nodes and edges make a well-formed graph: nodes differ, paths and names of tables meet their
+/// rules, edges are between places of nodes, no two of them between the same places, and the times of each
+/// rise and are steps that a run may have. `AllocError` means out of memory only.
 pub fn is_well_formed(alloc: Global, nodes: &[Node], edges: &[Edge]) -> Result<bool, AllocError>
     ensures { IfOk result (λ formed. formed ≡ well_formed (record { nodes = nodes.now; edges = edges.now })) }
 {

@@ -1,5 +1,5 @@
--- What every value that a run makes meets: a number of 64 bits, or a text of UTF-8 that isn't too long; and so
--- what statements, tables, replies and entries meet.
+-- What every value that a run makes meets: a number of 64 bits, or a text of UTF-8 that isn't too long; and
+-- so what statements, tables, replies and entries meet.
 use Rattle.std.specs.Prelude.{◌<◌, ◌≤◌, ◌^◌, List, [], ◌∷◌, ◌++◌, length, Option, Some, None, IsTrue}
 use Rattle.std.specs.List.{AllByRecursion}
 use Rattle.std.specs.Str.{IsUtf8}
