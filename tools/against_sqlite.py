@@ -16,9 +16,10 @@ What is left out, as the two don't mean the same there (docs/SQL.md):
   compared without their order, and LIMIT stands only where all columns are sorting keys;
 - numbers near the ends of 64 bits: SQLite goes on with floating point, and its SUM fails. Statements are made
   of numbers for which that is rare, and where it happens the statement is counted as left out;
-- an UPDATE of key columns: SQLite judges keys row by row, and not after the statement;
+- an UPDATE of key columns: SQLite judges keys row by row, and not after the statement. So code 9 is met by
+  DELETE alone;
 - which of two refusals an INSERT of several rows meets: SQLite judges row by row;
-- the key that a refusal of code 6 names, which SQLite doesn't tell;
+- what a refusal of code 6, 8 or 9 names, which SQLite doesn't tell;
 - statements whose kinds don't fit, which SQLite converts, and everything else that is refused by a code
   of 1 to 4, or by 7;
 - a condition of JOIN that names a source after it;
@@ -44,16 +45,26 @@ from ldvtools.scripts_of_statements import escaped                           # n
 
 TEXTS = ["", "a", "b", "A", "ab", "a'b", "é", "z z", "10", "9", "null", "\\n\"", "two\nlines\t?"]
 COMPARISONS = ["=", "<>", "!=", "<", "<=", ">", ">="]
-NOT_NULL, KEY_TAKEN = 5, 6
+NOT_NULL, KEY_TAKEN, NO_PARENT, HAS_CHILD = 5, 6, 8, 9
 # Older ones have HAVING only after GROUP BY.
 HAVING_ALONE = sqlite3.sqlite_version_info >= (3, 39, 0)
 
 Column = collections.namedtuple("Column", "name text not_null")
-Table = collections.namedtuple("Table", "name columns key rows")
+# A foreign key is places of columns with the name of the parent.
+Table = collections.namedtuple("Table", "name columns key rows foreign", defaults=[()])
 Source = collections.namedtuple("Source", "name table")
 # A statement with its parameters. `order` says by which columns of its answer it is sorted, with their
 # directions, and `rows` how many it inserts.
 Asked = collections.namedtuple("Asked", "text params order rows", defaults=([], 1))
+
+
+def has_parents(row, table, keys):
+    """Whether the references of a row are among the keys of tables."""
+    for places, parent in table.foreign:
+        reference = tuple(row[place] for place in places)
+        if None not in reference and reference not in keys[parent]:
+            return False
+    return True
 
 
 class Maker:
@@ -98,6 +109,50 @@ class Maker:
                 keys.add(own)
                 rows.append(row)
         return rows
+
+    def with_foreign(self, tables):
+        """The tables, some with foreign keys, without the rows that have no parent by them."""
+        found = []
+        for table in tables:
+            foreign = []
+            for parent in tables:
+                places = self.fitting(table, parent)
+                if places and self.perhaps(0.6):
+                    foreign.append((places, parent.name))
+            rows = table.rows
+            if foreign and not any(place in table.key for places, _ in foreign for place in places):
+                rows = [self.referring(row, foreign, tables) for row in rows]
+            found.append(table._replace(foreign=foreign, rows=rows))
+        before = None
+        while before != found:
+            before = found
+            keys = {table.name: {tuple(row[place] for place in table.key) for row in table.rows}
+                    for table in found}
+            found = [table._replace(rows=[row for row in table.rows if has_parents(row, table, keys)])
+                     for table in found]
+        return found
+
+    def fitting(self, table, parent):
+        """Columns that may refer to the key of the parent, or None."""
+        places = []
+        for key in parent.key:
+            fit = [place for place, column in enumerate(table.columns)
+                   if column.text == parent.columns[key].text and place not in places]
+            if not fit:
+                return None
+            places.append(self.chance.choice(fit))
+        return places
+
+    def referring(self, row, foreign, tables):
+        """The row, which refers to rows that are there."""
+        row = list(row)
+        for places, name in foreign:
+            parent = next(each for each in tables if each.name == name)
+            if parent.rows and self.perhaps(0.8):
+                other = self.chance.choice(parent.rows)
+                for place, key in zip(places, parent.key):
+                    row[place] = other[key]
+        return row
 
     # ---- expressions
 
@@ -365,6 +420,8 @@ def world_of(tables, asked):
                         for column in table.columns],
             "key": [table.columns[place].name for place in table.key],
             "rows": table.rows,
+            **({"foreign": [[[table.columns[place].name for place in places], parent]
+                            for places, parent in table.foreign]} if table.foreign else {}),
         } for table in tables},
     }
 
@@ -387,9 +444,13 @@ def opened(tables):
                    for column in table.columns]
         if table.key:
             columns.append(f"PRIMARY KEY ({', '.join(table.columns[place].name for place in table.key)})")
+        for places, parent in table.foreign:
+            names = ", ".join(table.columns[place].name for place in places)
+            columns.append(f"FOREIGN KEY ({names}) REFERENCES {parent}")
         base.execute(f"CREATE TABLE {table.name} ({', '.join(columns)})")
         marks = ", ".join("?" * len(table.columns))
         base.executemany(f"INSERT INTO {table.name} VALUES ({marks})", table.rows)
+    base.execute("PRAGMA foreign_keys = ON")
     return base
 
 
@@ -402,12 +463,18 @@ def reply_of(base, asked):
             return ("changed", done.rowcount)
         rows = [list(row) for row in done.fetchall()]
     except sqlite3.IntegrityError as refused:
-        return ("refused", NOT_NULL if str(refused).startswith("NOT NULL") else KEY_TAKEN)
+        return ("refused", refusal_code(str(refused), asked.text))
     except sqlite3.Error as failed:
         if "integer overflow" in str(failed):
             return None
         raise
     return None if any(isinstance(value, float) for row in rows for value in row) else ("rows", rows)
+
+
+def refusal_code(message, text):
+    if message.startswith("FOREIGN KEY"):
+        return HAS_CHILD if text.startswith("DELETE") else NO_PARENT
+    return NOT_NULL if message.startswith("NOT NULL") else KEY_TAKEN
 
 
 # ---- both
@@ -427,7 +494,8 @@ def are_same(asked, ours, theirs):
     if ours[0] != theirs[0]:
         return False
     if ours[0] == "refused":
-        return ours[1] == theirs[1] or asked.rows > 1 and ours[1] in (NOT_NULL, KEY_TAKEN)
+        by_row = (NOT_NULL, KEY_TAKEN)
+        return ours[1] == theirs[1] or asked.rows > 1 and ours[1] in by_row and theirs[1] in by_row
     if ours[0] == "changed":
         return ours[1] == theirs[1]
     if [[row[place] for place, _down in asked.order] for row in ours[1]] != \
@@ -440,6 +508,7 @@ def made(seed, statements):
     """The tables and statements of a seed; at the end each table is asked whole."""
     maker = Maker(random.Random(seed))
     tables = [maker.table(name) for name in ("t", "u", "v")[:maker.chance.randint(1, 3)]]
+    tables = maker.with_foreign(tables) if maker.perhaps(0.5) else tables
     asked = [maker.statement(tables) for _ in range(statements)]
     return tables, asked + [Asked(f"SELECT * FROM {table.name}", []) for table in tables]
 

@@ -75,29 +75,45 @@ run_rule('What stands behind the magic is the spelling of its version.', [
 ])
 
 # ---- tables
-run_rule('Behind the key of a table stands the number of its foreign keys, which is 0.', [
+run_rule('Behind the key of a table stand its foreign keys, each with a parent whose key fits.', [
     ('a foreign key said where there is none', {'tables.0.foreign': Raw(b'\1')}),
     ('255 foreign keys said', {'tables.0.foreign': Raw(b'\xff')}),
     ('no number of foreign keys', {'tables.0.foreign': Raw(b'')}),
     ('the number of foreign keys twice', {'tables.0.foreign': Raw(b'\0\0')}),
     ('a foreign key of no column', {'tables.0.foreign': Raw(b'\1\0\0\0\0\1t')}),
+    ('a foreign key to a table that is not packed', {'tables.0.foreign': [foreign([0], 'u')]}),
+    ('a foreign key of a place beside the columns', {'tables.0.foreign': [foreign([3], 't')]}),
+    ('a foreign key of another kind than its key', {'tables.0.foreign': [foreign([1], 't')]}),
+    ('a foreign key of two columns to a key of one', {'tables.0.foreign': [foreign([0, 2], 't')]}),
+    ('17 foreign keys', {'tables.0.foreign': [foreign([2], 't')] * 17}),
+    ('a foreign key to a table without a key', {'tables.0.foreign': [foreign([0], 't')], 'tables.0.key': []}),
 ], [
     ('no foreign key', {'seed': 17}), ('no key and no foreign key', {'tables.0.key': []}),
+    ('a foreign key to its own key', {'tables.0.foreign': [foreign([0], 't')]}),
+    ('a foreign key whose parents are not packed', {'tables.0.foreign': [foreign([2], 't')]}),
+    ('16 foreign keys', {'tables.0.foreign': [foreign([2], 't')] * 16}),
 ], base='rows in runs')
-run_rule('In version 2 the rule of a row is 1 to 3, and a code 1 to 7.', [
+run_rule('In version 2 the rule of a row is 1 to 5, and a code 1 to 9.', [
     ('version 2: a row by rule 0', {'tables.0.rows.0.rule': 0}),
+    ('version 2: a row by rule 6', {'tables.0.rows.0.rule': 6}),
+    ('version 2: a read by rule 6', {'trace.1.reads.0.rows.1.rule': 6}),
+    ('version 2: a reply of code 0', 'logs in runs', {'logs.0.entries.2.reply': dict(refused=0)}),
+    ('version 2: a reply of code 10', 'logs in runs',
+     {'logs.0.entries.2.reply': dict(refused=10, table='t', key=[])}),
+    ('version 2: a reply of code 8 without a table and key', 'logs in runs',
+     {'logs.0.entries.2.reply': dict(refused=8)}),
+    ('version 2: a reply of code 7 with a table and key', 'logs in runs',
+     {'logs.0.entries.2.reply': dict(refused=7, table='t', key=[])}),
+], [
+    ('version 2: rows by rules 1 and 3', {'tables.0.rows.1.rule': 'K'}),
     ('version 2: a row by rule 4', {'tables.0.rows.0.rule': 4}),
     ('version 2: a row by rule 5', {'tables.0.rows.0.rule': 5}),
-    ('version 2: a row by rule 6', {'tables.0.rows.0.rule': 6}),
     ('version 2: a read by rule 4', {'trace.1.reads.0.rows.1.rule': 4}),
     ('version 2: a read by rule 5', {'trace.1.reads.0.rows.1.rule': 5}),
-    ('version 2: a reply of code 0', 'logs in runs', {'logs.0.entries.2.reply': dict(refused=0)}),
     ('version 2: a reply of code 8', 'logs in runs',
      {'logs.0.entries.2.reply': dict(refused=8, table='t', key=[])}),
     ('version 2: a reply of code 9', 'logs in runs',
-     {'logs.0.entries.2.reply': dict(refused=9, table='t', key=[])}),
-], [
-    ('version 2: rows by rules 1 and 3', {'tables.0.rows.1.rule': 'K'}),
+     {'logs.0.entries.2.reply': dict(refused=9, table='t', key=[1, 'a'])}),
     ('version 2: a reply of code 7', 'logs in runs', {'logs.0.entries.2.reply': dict(refused=7)}),
 ], base='rows in runs')
 

@@ -167,6 +167,9 @@ def make_table(table: PackedTable, reasons: bool) -> str:
     parts = [f"{quoted(name)} {kind}" for name, kind in zip(columns_of(table, reasons), kinds)]
     if table.key:
         parts.append(f"PRIMARY KEY ({', '.join(map(quoted, table.key))})")
+    for foreign in table.foreign:
+        columns = ", ".join(map(quoted, foreign.columns))
+        parts.append(f"FOREIGN KEY ({columns}) REFERENCES {quoted(foreign.parent)}")
     return f"CREATE TABLE {quoted(table.name)} ({', '.join(parts)})"
 
 
@@ -176,6 +179,8 @@ def write_sqlite(package: Package, path: str, reasons: bool) -> None:
         raise Refused(f"{path} is there already")
     database = sqlite3.connect(path)
     try:
+        # A package may have a row without the rows to which it refers.
+        database.execute("PRAGMA foreign_keys = OFF")
         with database:
             for table in package.tables:
                 database.execute(make_table(table, reasons))

@@ -39,6 +39,7 @@ from .progress import Progress
 from .scripts_of_statements import script_of
 from .sql_check import Schemas
 from .world_csv import named_file, read_csv, read_file
+from .world_foreign import settle_foreign
 from .world_settings import Settings
 from .world_sqlite import note_types, read_database
 from .world_tables import Table, rows_json, settle
@@ -70,6 +71,7 @@ def world_tables(words: argparse.Namespace, notes: List[str], hints: List[str],
             if not table.from_text:
                 note_types(table, notes)
             progress.tell(f"{table.name}: {table.count:,} rows are settled")
+    settle_foreign(tables, settings, notes)
     settings.check_used(names_of(tables))
     if words.shuffle is not None:
         shuffle(tables, words.shuffle)
@@ -92,6 +94,8 @@ def check_names(tables: Sequence[Table], left: Iterator[List[Table]], settings: 
         return
     for table in there:
         settings.take("--key", table.name)
+        settings.take("--foreign", table.name)
+        settings.foreign_of(table.name)
         for column in table.columns:
             for option in ("--kind", "--scale", "--empty"):
                 settings.take(option, table.full_name(column))
@@ -176,7 +180,7 @@ def utf8_length(text: str, what: str) -> int:
 
 def table_of(table: Table) -> Tuple[str, str]:
     columns = [(column.name, column.full_kind()) for column in table.columns]
-    return table.name, table_json(columns, table.key, rows_json(table.columns))
+    return table.name, table_json(columns, table.key, rows_json(table.columns), foreign=table.foreign)
 
 
 def summary(table: Table) -> str:
@@ -184,7 +188,8 @@ def summary(table: Table) -> str:
     columns = ", ".join(
         f"{column.name} {column.full_kind()}" + (f" (times {10 ** column.scale})" if column.scale else "")
         for column in table.columns)
-    return f"{table.name}: {table.count} rows; {columns}; key {', '.join(table.key) or 'none'}"
+    foreign = "".join(f"; ({', '.join(each.columns)}) refers to {each.parent}" for each in table.foreign)
+    return f"{table.name}: {table.count} rows; {columns}; key {', '.join(table.key) or 'none'}{foreign}"
 
 
 # ---- the command line
@@ -205,6 +210,9 @@ def read_words(given: Optional[Sequence[str]]) -> argparse.Namespace:
     many("--arg", "WORD", "one more argument of the start script")
     parser.add_argument("--seed", type=int, default=0, help="the seed of the scheduler")
     many("--key", "TABLE=COLUMN,..", "the key: NOT NULL, and no two rows have the same; or TABLE=none")
+    many("--foreign", "TABLE.COLUMN,..=PARENT",
+         "a foreign key: each row refers to the key of a row of PARENT; or TABLE=none, which takes none from "
+         "the database")
     many("--kind", "TABLE.COLUMN=KIND", "INT, TEXT, 'INT NOT NULL' or 'TEXT NOT NULL'")
     many("--scale", "TABLE.COLUMN=N", "a column of decimals: with N = 1, 3.4 is carried as 34")
     many("--empty", "TABLE.COLUMN=text", "in this column of a CSV file an empty cell is the empty text")

@@ -39,7 +39,7 @@ class Settings:
 
     def __init__(self, words: argparse.Namespace) -> None:
         self.values: Dict[Tuple[str, str], str] = {}
-        for option in ("--key", "--kind", "--scale", "--empty", "--rename"):
+        for option in ("--key", "--kind", "--scale", "--empty", "--rename", "--foreign"):
             for word in getattr(words, option[2:]):
                 name, _, value = word.rpartition("=")
                 if not (name and value):
@@ -69,6 +69,8 @@ class Settings:
             raise Misused(f"--scale {name}: by --kind the column is {value}")
         if option == "--scale" and not re.fullmatch("[0-9]|1[0-8]", value):
             raise Misused(f"--scale {name}={value}: give a number of decimals from 0 to 18")
+        if option == "--foreign" and (value == "none") == ("." in name):
+            raise Misused(f"--foreign {name}={value}: give TABLE.COLUMN,..=PARENT, or TABLE=none")
         if option == "--empty" and value not in ("text", "null"):
             raise Misused(f"--empty {name}={value}: give text or null")
 
@@ -76,6 +78,12 @@ class Settings:
         """What an option says of a name, or None."""
         self.unused.discard((option, name))
         return self.values.get((option, name))
+
+    def foreign_of(self, table: str) -> List[Tuple[List[str], str]]:
+        """The foreign keys that are given to a table: columns and parent."""
+        names = [name for option, name in self.values
+                 if option == "--foreign" and name.startswith(table + ".")]
+        return [(name[len(table) + 1:].split(","), self.take("--foreign", name) or "") for name in names]
 
     def is_left_out(self, name: str) -> bool:
         return self.take("--leave-out", name) is not None

@@ -13,7 +13,7 @@ from typing import Any, Dict, List, Optional, Sequence, Set, Tuple, Union
 from .errors import Refused
 from .world_csv import read_file
 from .world_settings import Settings, tidy_name, tidy_names
-from .world_tables import BadText, Column, Table, keep_columns
+from .world_tables import BadText, Column, Reference, Table, keep_columns
 
 # A column of PRAGMA table_xinfo: place, name, declared type, NOT NULL, default, place in the key from 1,
 # hidden.
@@ -68,6 +68,8 @@ def tables_of(path: str, only: Sequence[str], settings: Settings, notes: List[st
                 continue
             if kind == "table" and not name.startswith("sqlite_") and name not in hidden:
                 found += read_table(base, name, sql, settings, notes)
+                for table in found[-1:]:
+                    table.path = path
             elif kind == "view":
                 notes.append(f"the view {name} isn't carried; CREATE TABLE .. AS SELECT .. makes it a table")
             elif kind == "trigger":
@@ -122,6 +124,7 @@ def read_table(base: sqlite3.Connection, name: str, sql: str, settings: Settings
     for place, column in enumerate(columns):
         column.cells = [row[place] for row in rows]
     table = Table(new, keep_columns(new, columns, settings), len(rows), key=key)
+    table.old, table.references = name, references_of(base, name)
     note_columns(new, [row for row in shape if row[1] in {column.old for column in table.columns}], notes)
     note_constraints(base, name, new, sql, notes)
     return [table]
@@ -149,6 +152,23 @@ def row_order(base: sqlite3.Connection, name: str, shape: Sequence[Shape]) -> st
     return ", ".join(quoted(column) for _, column in keys) or "1"
 
 
+def references_of(base: sqlite3.Connection, name: str) -> List[Reference]:
+    """The foreign keys of a table, as they were declared. One that names no column means the primary key."""
+    found: Dict[int, Reference] = {}
+    rows = base.execute(f"PRAGMA foreign_key_list({quoted(name)})").fetchall()
+    # SQLite counts them from the last one.
+    for row in sorted(rows, key=lambda row: (-row[0], row[1])):
+        number, place, parent, own, other, on_update, on_delete, _ = row
+        if other is None:
+            shape = base.execute(f"PRAGMA table_info({quoted(parent)})").fetchall()
+            keys = sorted((each[5], each[1]) for each in shape if each[5])
+            other = keys[place][1] if place < len(keys) else ""
+        actions = [f"ON {when} {action}" for when, action in (("UPDATE", on_update), ("DELETE", on_delete))
+                   if action not in ("NO ACTION", "RESTRICT")]
+        found.setdefault(number, Reference([], parent, " ".join(actions))).pairs.append((own, other))
+    return list(found.values())
+
+
 def note_columns(table_name: str, shape: Sequence[Shape], notes: List[str]) -> None:
     for _, name, _, _, _, _, hidden in shape:
         if hidden in (2, 3):
@@ -156,12 +176,6 @@ def note_columns(table_name: str, shape: Sequence[Shape], notes: List[str]) -> N
 
 
 def note_constraints(base: sqlite3.Connection, name: str, new: str, sql: str, notes: List[str]) -> None:
-    keys: Dict[int, Tuple[str, List[str]]] = {}
-    for row in base.execute(f"PRAGMA foreign_key_list({quoted(name)})"):
-        keys.setdefault(row[0], (row[2], []))[1].append(row[3])
-    for _, (parent, names) in sorted(keys.items()):
-        notes.append(f"{new}: the foreign key ({', '.join(names)}) to {parent} isn't carried: nothing "
-                     "checks it here")
     for row in base.execute(f"PRAGMA index_list({quoted(name)})").fetchall():
         if row[2] and row[3] != "pk":
             parts = base.execute(f"PRAGMA index_info({quoted(row[1])})")

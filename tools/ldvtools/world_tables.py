@@ -8,7 +8,7 @@ from __future__ import annotations
 import json.encoder
 import re
 from decimal import ROUND_HALF_EVEN, Context, Decimal
-from typing import Any, Callable, Dict, Iterator, List, Optional, Sequence, Tuple
+from typing import Any, Callable, Dict, Iterator, List, NamedTuple, Optional, Sequence, Tuple
 
 from .errors import Refused, Unfit
 from .language import MAX_COLUMNS, MAX_INT, MAX_NAME, MAX_ROWS, MAX_TEXT, MIN_INT, NAME, RESERVED
@@ -51,14 +51,34 @@ class Column:
         return (self.kind or "TEXT") + (" NOT NULL" if self.not_null else "")
 
 
+class Reference(NamedTuple):
+    """A foreign key as it was read, by names of the database: pairs of a column and the one to which it
+    refers, the parent, and what happens with a child where its parent goes."""
+
+    pairs: List[Tuple[str, str]]
+    parent: str
+    actions: str
+
+
+class Foreign(NamedTuple):
+    """A foreign key of a world: columns in the order of the parent's key."""
+
+    columns: List[str]
+    parent: str
+
+
 class Table:
-    """A table that is being read. `row_name` says how a message names one of its rows."""
+    """A table that is being read. `row_name` says how a message names one of its rows. One of a database has
+    its file, and its name and foreign keys there."""
 
     def __init__(self, name: str, columns: List[Column], count: int, key: Sequence[str] = (),
                  row_name: Optional[Callable[[int], str]] = None, from_text: bool = False) -> None:
         self.name, self.columns, self.count, self.key = name, columns, count, list(key)
         self.row_name = row_name or (lambda row: f"row {row} of {name}")
         self.from_text = from_text
+        self.path, self.old = "", name
+        self.references: List[Reference] = []
+        self.foreign: List[Foreign] = []
 
     def at(self, row: int, column: Column) -> str:
         return f"{self.row_name(row)}, column {column.name}"

@@ -1,6 +1,7 @@
 """world.py: CSV files, databases, scripts and files."""
 import json
 import os
+import re
 import sqlite3
 from unittest import mock
 
@@ -355,15 +356,16 @@ class Databases(InFolder):
             "lines": {
                 "columns": [["n", "INT NOT NULL"], ["shop", "TEXT NOT NULL"], ["customer", "INT"],
                             ["twice", "INT"]],
-                "key": ["shop", "n"], "rows": [[1, "a", None, None], [2, "a", 9, 18], [1, "b", 2, 4]]}})
+                "key": ["shop", "n"], "rows": [[1, "a", None, None], [2, "a", 9, 18], [1, "b", 2, 4]],
+                "foreign": [[["customer"], "customers"]]}})
         for note in ("customers: UNIQUE (name)", "customers: AUTOINCREMENT", "customers: COLLATE NOCASE",
                      "customers.born: declared DATE, carried as TEXT",
                      "customers.vip: declared BOOLEAN, carried as INT", "lines: CHECK",
-                     "lines.customer: DEFAULT 1", "lines: the foreign key (customer) to Customers",
+                     "lines.customer: DEFAULT 1",
                      "lines.twice is GENERATED", "lines.shop: declared no type", "the view all_lines",
                      "the trigger added of lines"):
             self.assertIn(f"world.py: note: {note}", err)
-        self.assertEqual(err.count("note:"), 12, err)
+        self.assertEqual(err.count("note:"), 11, err)
 
     def test_options(self):
         words = self.database(SHOP)
@@ -377,6 +379,53 @@ class Databases(InFolder):
         self.refused("names have no upper-case letters", *words)
         self.refused("there is no table t; there are Customers", *words, "--table", "t")
         self.refused("--leave-out u: nothing", *words, "--lower", "--leave-out", "u", status=2)
+
+    def test_foreign(self):
+        """Foreign keys are carried where the parent's key fits, in its order, and each row has its parent."""
+        parents = ("CREATE TABLE P (b TEXT, a INT, u INT UNIQUE, PRIMARY KEY (b, a));"
+                   "INSERT INTO P VALUES ('x', 1, 7), ('y', 2, NULL);")
+
+        def child(declared, rows):
+            return self.database(f"{parents} CREATE TABLE c (n INT PRIMARY KEY, a INT, b TEXT, {declared});"
+                                 + (f"INSERT INTO c VALUES {rows};" if rows else "")) + ["--lower"]
+
+        for declared in ("FOREIGN KEY (a, b) REFERENCES p (A, B)", "FOREIGN KEY (b, a) REFERENCES P"):
+            words = child(declared, "(0, 1, 'x'), (1, NULL, 'z'), (2, 2, 'y')")
+            status, out, err = tool(world, *words)
+            self.assertEqual(status, 0, err)
+            self.assertEqual(json.loads(out)["tables"]["c"]["foreign"], [[["b", "a"], "p"]])
+            self.assertIn("world.py: c: 3 rows; n INT NOT NULL, a INT, b TEXT; key n; (b, a) refers to p\n",
+                          err)
+        words = child("FOREIGN KEY (a, b) REFERENCES p (a, b)", "(0, 1, 'x'), (1, 1, 'y')")
+        self.refused("row 1 of c: (b, a) is ('y', 1), and no row of p has this key; --foreign c=none", *words)
+        status, out, err = tool(world, *words, "--foreign", "c=none")
+        self.assertEqual((status, json.loads(out)["tables"]["c"].get("foreign")), (0, None), err)
+        for declared, why in (
+                ("FOREIGN KEY (a) REFERENCES p (u)", "it refers to (u), and the key of p is (b, a)"),
+                ("FOREIGN KEY (n) REFERENCES p", "it refers to (b), and the key of p is (b, a)"),
+                ("FOREIGN KEY (n) REFERENCES q", "q is no table of this world"),
+                ("FOREIGN KEY (a, a) REFERENCES p (a, b)", "it has a column twice"),
+                ("FOREIGN KEY (a, n) REFERENCES p (a, b)", "c.n is INT, and p.b is TEXT")):
+            err = tool(world, *child(declared, ""))[2]
+            self.assertRegex(err, rf"note: c: the foreign key \(.*\) to [pq] isn't carried: {re.escape(why)}")
+        err = tool(world, *child("FOREIGN KEY (a, b) REFERENCES p (a, b) ON DELETE CASCADE", ""))[2]
+        self.assertIn("to p: ON DELETE CASCADE isn't carried", err)
+
+    def test_given_foreign(self):
+        words = ["--csv", self.put("p.csv", "id\n1\n2\n"), "--key", "p=id", *ASK,
+                 "--csv", self.put("c.csv", "n,of\n1,2\n2,\n3,1\n")]
+        status, out, err = tool(world, *words, "--foreign", "c.of=p", "--foreign", "p.id=p")
+        self.assertEqual([json.loads(out)["tables"][name]["foreign"] for name in "cp"],
+                         [[[["of"], "p"]], [[["id"], "p"]]], err)
+        self.refused("c.csv line 4 (row 2 of c): (n) is (3), and no row of p has this key", *words,
+                     "--foreign", "c.n=p")
+        self.refused("--foreign c.of=q: there is no table q; there are p, c", *words, "--foreign", "c.of=q")
+        self.refused("--foreign c.on=p: c has no column on; there are n, of", *words, "--foreign", "c.on=p")
+        self.refused("--foreign c.n,of=p: the key of p is (id)", *words, "--foreign", "c.n,of=p")
+        self.refused("--foreign u.n: nothing", *words, "--foreign", "u.n=p", status=2)
+        self.refused("--foreign c=p: give", *words, "--foreign", "c=p", status=2)
+        self.refused("c.of is INT, and p.id is TEXT", *words, "--kind", "p.id=TEXT", "--foreign", "c.of=p")
+        self.refused("--scale gives them the same", *words, "--scale", "p.id=1", "--foreign", "c.of=p")
 
     def test_values(self):
         words = self.database("CREATE TABLE t (a REAL);"

@@ -5,5 +5,6 @@ pub mod Equality
 pub mod Fixing
 pub mod Listing
 pub mod Masking
+pub mod Needing
 pub mod Placing
 pub mod Types

@@ -10,6 +10,9 @@ pub use Rattle.sql_model.specs.declared.expr.Expr.{Expr}
 pub use Rattle.sql_model.specs.declared.expr.Fold.{Fold}
 pub use Rattle.sql_model.specs.declared.expr.Operator.{Operator}
 pub use Rattle.sql_model.specs.declared.expr.Operator.TheVariants.{And, Compare}
+pub use Rattle.sql_model.specs.declared.need.Member.{Member}
+pub use Rattle.sql_model.specs.declared.need.Need.{Need}
+pub use Rattle.sql_model.specs.declared.need.Rule.{Rule}
 pub use Rattle.sql_model.specs.declared.reply.SqlRefusal.{SqlRefusal}
 pub use Rattle.sql_model.specs.declared.reply.SqlRefusal.TheVariants.{NoTable, NoColumn, TypeClash}
 pub use Rattle.sql_model.specs.declared.statement.Core.{Core}

@@ -12,6 +12,7 @@
 //!   (`specs/Masking.antt`). `constant_of` has the value of an expression that names no column
 //!   (`specs/Constants.antt`); `is_column` and `is_equal_test` tell comparisons of columns
 //!   (`specs/Equality.antt`);
+//! - `needed_by` and `united` are lists of needed rows, sorted by table and number (`specs/Needing.antt`);
 //! - `Refs` is a list of references, which contracts see as the list of what they refer to, and `RefsBy` has
 //!   such lists under keys (`specs/Listing.antt`);
 //! - `ByOrder` is a reference to a value or to the values of a row, as a key of a set or a map;
@@ -29,6 +30,7 @@ mod cores;
 mod equality;
 mod fixing;
 mod masking;
+mod needs;
 mod placed;
 mod refs;
 mod refs_by;
@@ -41,6 +43,7 @@ pub use cores::{core_of, places_or, query_of};
 pub use equality::{is_column, is_equal_test};
 pub use fixing::fixed_key;
 pub use masking::{Mask, MaskTest, masks_of};
+pub use needs::{needed_by, sorted_once, united};
 pub use placed::{Placed, placed_at, placed_items, take_place, take_places};
 pub use refs::Refs;
 pub use refs_by::RefsBy;

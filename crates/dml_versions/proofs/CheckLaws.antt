@@ -6,6 +6,7 @@ use Rattle.std.specs.Option.{option_map}
 use Rattle.ldv_value.proofs.Booleans.{and-parts, or-parts}
 use Rattle.ldv_value.proofs.Lists.{found-all}
 use Rattle.sql_laws.proofs.ChangedTables.{check-parts}
+use Rattle.sql_model.proofs.Databases.{valid_of_database}
 use Rattle.sql_model.proofs.Equations.{table_schema, schema_found}
 use Rattle.sql_model.specs.Kinds.{names_in}
 use Rattle.sql_model.specs.Places.{places_of, checked_statement, checked_unless}
@@ -74,7 +75,7 @@ target-there db (TheDelete delete) kind check = found_by delete.table db (there_
 
 module _ (db : List Table) (formed : AreWellFormed db) (name : List ℕ) (t : Table) (found : table_at name db ≡ Some t) where
   pub found-valid : is_valid_table t ≡ true
-  found-valid = found-all (is_table name) is_valid_table db t (and-parts (list_all is_valid_table db) (is_strictly_sorted table_precedes db) formed.database).0 found
+  found-valid = found-all (is_table name) is_valid_table db t (valid_of_database db formed.database) found
 
   pub found-distinct : are_distinct t.schema.columns ≡ true
   found-distinct = found-all (is_table name) (λ t. are_distinct t.schema.columns) db t formed.distinct found

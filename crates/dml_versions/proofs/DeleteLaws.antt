@@ -5,6 +5,7 @@ use Rattle.std.specs.List.{list_all}
 use Rattle.ldv_value.proofs.Booleans.{and-parts}
 use Rattle.ldv_value.proofs.Lists.{map-map}
 use Rattle.ldv_value.specs.Sorted.{is_strictly_sorted}
+use Rattle.sql_model.proofs.Databases.{sorted_of_database}
 use Rattle.sql_model.proofs.ValidTables.{table-parts}
 use Rattle.sql_model.specs.Changes.{is_matched, matched_in, matched, after_delete, key_clash, key_refusal, KeyClash, with_rows, or_else}
 use Rattle.sql_model.specs.Needs.{updated_unless, updated_in, versions_after}
@@ -109,7 +110,7 @@ module _ (store : StoreHistory) (delete : Delete) (table : TableHistory) (there 
 
       tables_are : with_changed delete.table (with_removed (map number_found found)) db ≡ after_unless None (Some s) db
       tables_are = same-changed (with_removed (map number_found found)) (after_delete scope delete) delete.table t removed_is db target_is
-          (and-parts (list_all is_valid_table db) (is_strictly_sorted table_precedes db) formed.database).1
+          (sorted_of_database db formed.database)
 
       module _ (time : ℕ) where
         dropped_is : dropped time (map number_found found) table.slots ≡ map (changed_by (map (λ row. dropping time row.number) gone)) table.slots

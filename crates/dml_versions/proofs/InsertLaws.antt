@@ -9,6 +9,7 @@ use Rattle.ldv_value.proofs.Lists.{length-map}
 use Rattle.ldv_value.specs.Limits.{max_next}
 use Rattle.ldv_value.specs.Sorted.{is_strictly_sorted}
 use Rattle.sql_laws.proofs.NewRows.{AllFirst, all_first, new_kinds}
+use Rattle.sql_model.proofs.Databases.{sorted_of_database}
 use Rattle.sql_model.specs.Changes.{new_values, numbered, inserted, with_rows, lacks_value, key_clash, changed, is_full}
 use Rattle.sql_model.specs.Needs.{new_member, members_made, made_unless, updated_unless, updated_in, versions_after}
 use Rattle.sql_model.specs.Refusals.{check_refusal, row_fits, target_columns}
@@ -119,7 +120,7 @@ module _ (store : StoreHistory) (insert : Insert) (table : TableHistory) (there 
       tables_are =
           ap (λ (l : List (List Value)). with_changed insert.table (with_inserted l) db) rows_is
           ∙ same-changed (with_inserted new) (changed s (catalog_of db)) insert.table t inserted_is db target_is
-          (and-parts (list_all is_valid_table db) (is_strictly_sorted table_precedes db) formed.database).1
+          (sorted_of_database db formed.database)
 
       none_updated : updated_unless None (Some s) db ≡ []
       none_updated = ap (updated_in s (catalog_of db)) target_is

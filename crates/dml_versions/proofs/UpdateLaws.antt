@@ -10,6 +10,7 @@ use Rattle.ldv_value.proofs.Options.{option_or-none}
 use Rattle.ldv_value.proofs.SameBytes.{bytes_eq-itself}
 use Rattle.ldv_value.specs.Sorted.{is_strictly_sorted}
 use Rattle.sql_laws.proofs.NewRows.{all_first, updated_kinds, updated_length}
+use Rattle.sql_model.proofs.Databases.{sorted_of_database}
 use Rattle.sql_model.proofs.ValidTables.{table-parts, kinds-fits}
 use Rattle.sql_model.specs.Changes.{matched_in, matched, changed, after_update, updated_row, updated_values, with_rows, has_null, new_rows, lacks_value, key_clash}
 use Rattle.sql_model.specs.Needs.{updated_unless, updated_in, updated_origin, versions_after, is_row_of}
@@ -173,7 +174,7 @@ module _ (store : StoreHistory) (update : Update) (table : TableHistory) (there 
       tables_are =
           ap (λ (l : List TableRow). with_changed update.table (with_replaced l) db) rows_is
           ∙ same-changed (with_replaced new) (changed s (catalog_of db)) update.table t replaced_is db target_is
-          (and-parts (list_all is_valid_table db) (is_strictly_sorted table_precedes db) formed.database).1
+          (sorted_of_database db formed.database)
 
       updated_are : updated_unless None (Some s) db ≡ map (updated_origin t) old
       updated_are = ap (updated_in s (catalog_of db)) target_is ∙ ap (map (updated_origin t)) old_is

@@ -10,9 +10,10 @@ use Rattle.table_store.specs.declared.stop.StoreStop.{StoreStop}
 use Rattle.table_store.specs.declared.stop.StoreStop.TheVariants as stop
 use Rattle.dml_versions.specs.Finding.{scope_in, test_in, row_of, found_from}
 use Rattle.dml_versions.specs.Holding.{IsHeld}
-use Rattle.dml_versions.specs.Needing.{need_found, made_found, made_new, with_key_rows}
-use Rattle.dml_versions.specs.Types.{Checked, Expr, Need, Reply, Changed, Refused, SqlRefusal, NotNull, KeyTaken}
-use Rattle.dml_versions.specs.Types.{Full}
+use Rattle.dml_versions.specs.Needing.{need_found, made_found, made_new, with_key_rows, with_parent_rows}
+use Rattle.dml_versions.specs.Needing.{with_child_row}
+use Rattle.dml_versions.specs.Types.{Checked, Expr, Member, Need, Reply, Changed, Refused, SqlRefusal}
+use Rattle.dml_versions.specs.Types.{NotNull, KeyTaken, Full, NoParent, HasChild}
 use Rattle.dml_versions.specs.Types.{Statement, TheQuery, TheInsert, TheUpdate, TheDelete, Insert, Update}
 use Rattle.dml_versions.specs.Types.{Table, TableRow}
 use Rattle.dml_versions.specs.Types.{Value, RowHistory, StoreHistory, TableHistory}
@@ -85,32 +86,37 @@ pub record AreFound (name : List ℕ) (pick : Option Expr) (store : StoreHistory
   pub held : IsHeld store.time table
   pub found_is : found ≡ found_from (test_in table pick) table.slots 0
 
--- where nothing refuses a change of matched rows
-abbrev pub matched_change : List ℕ → List Found → Change
-matched_change name found = record {
+-- where nothing refuses a change of matched rows, of whose new values these are the parents
+abbrev pub matched_change : List ℕ → List Found → List Member → Change
+matched_change name found parents = record {
   reply = Changed (length found);
   made = map (made_found name) found;
-  needs = map (need_found name) found;
+  needs = with_parent_rows parents (map (need_found name) found);
 }
 
--- where nothing refuses new rows
-abbrev pub inserted_change : List ℕ → ℕ → List (List Value) → Change
-inserted_change name next rows = record {
+-- where nothing refuses new rows, of which these are the parents
+abbrev pub inserted_change : List ℕ → ℕ → List (List Value) → List Member → Change
+inserted_change name next rows parents = record {
   reply = Changed (length rows);
   made = map (made_new name) (numbered next rows);
-  needs = [];
+  needs = with_parent_rows parents [];
 }
 
 abbrev pub refused_by : SqlRefusal → List Need → Change
 refused_by refusal needs = record { reply = Refused refusal; made = []; needs = needs }
 
--- where the store refuses a change that needs rows; nothing is said where memory is out
-abbrev pub refused_change : List ℕ → List RowHistory → List Need → StoreStop → Option Change
-refused_change name slots needs stop.NotNull = Some (refused_by NotNull needs)
-refused_change name slots needs (stop.KeyTaken earlier later key) =
+-- where the store refuses a change that needs matched rows and parents; nothing is said where memory is out
+abbrev pub refused_change :
+    StoreHistory → List ℕ → List RowHistory → List Need → List Member → StoreStop → Option Change
+refused_change store name slots needs parents stop.NotNull = Some (refused_by NotNull needs)
+refused_change store name slots needs parents (stop.KeyTaken earlier later key) =
     Some (refused_by (KeyTaken name key) (with_key_rows name slots earlier later needs))
-refused_change name slots needs stop.Full = Some (refused_by Full [])
-refused_change name slots needs stop.NoMemory = None
+refused_change store name slots needs parents stop.Full = Some (refused_by Full [])
+refused_change store name slots needs parents (stop.NoParent table key) =
+    Some (refused_by (NoParent table key) (with_parent_rows parents needs))
+refused_change store name slots needs parents (stop.HasChild table row key) =
+    Some (refused_by (HasChild table key) (with_child_row store table row (with_parent_rows parents needs)))
+refused_change store name slots needs parents stop.NoMemory = None
 
 -- the rows that an UPDATE matches, and what it makes of them
 pub record ArePrepared (update : Update) (store : StoreHistory) (found : List Found) (rows : List TableRow)

@@ -1,8 +1,10 @@
 -- The rows that a change needs and the versions that it makes, from the rows that were found.
-use Rattle.std.specs.Prelude.{ℕ, ◌+◌, ◌==◌, nat_lt, List, [], ◌∷◌, Option, Some, None, if◌then◌else◌}
+use Rattle.std.specs.Prelude.{ℕ, ◌+◌, ◌==◌, map, nat_lt, List, [], ◌∷◌, Option, Some, None, if◌then◌else◌}
 use Rattle.std.specs.Option.{option_map}
 use Rattle.dml_versions.specs.Finding.{version_of}
-use Rattle.dml_versions.specs.Types.{Member, Need, L, K, RowHistory, TableRow}
+use Rattle.core_parts.specs.Needing.{need_by, sorted_once, united}
+use Rattle.table_store.specs.Referring.{version_at}
+use Rattle.dml_versions.specs.Types.{Member, Need, L, K, P, C, RowHistory, StoreHistory, TableRow}
 use Rattle.dml_versions.specs.declared.found.Found.{Found}
 
 -- ---- matched rows
@@ -46,3 +48,17 @@ abbrev pub with_key_rows : List ℕ → List RowHistory → Option ℕ → Optio
 with_key_rows name slots earlier later needs =
     put_some (option_map (key_need name slots) earlier)
     (put_some (option_map (key_need name slots) later) needs)
+
+-- ---- the parents of new rows, and a child row
+
+-- needs, and the parent rows, in any order, that are needed beside them
+abbrev pub with_parent_rows : List Member → List Need → List Need
+with_parent_rows parents needs = united needs (sorted_once (map (need_by P) parents))
+
+-- a row of any table, at its version in a store
+abbrev pub child_need : StoreHistory → List ℕ → ℕ → Need
+child_need store table row = need_by C (member_at table row (version_at store table row))
+
+-- needs, and the child row that is needed beside them
+abbrev pub with_child_row : StoreHistory → List ℕ → ℕ → List Need → List Need
+with_child_row store table row needs = united needs (child_need store table row ∷ [])

@@ -7,11 +7,12 @@ pub use Rattle.sql_model.specs.declared.expr.Expr.{Expr}
 pub use Rattle.sql_model.specs.declared.need.Member.{Member}
 pub use Rattle.sql_model.specs.declared.need.Need.{Need}
 pub use Rattle.sql_model.specs.declared.need.Rule.{Rule}
-pub use Rattle.sql_model.specs.declared.need.Rule.TheVariants.{L, H, K}
+pub use Rattle.sql_model.specs.declared.need.Rule.TheVariants.{L, H, K, P, C}
 pub use Rattle.sql_model.specs.declared.reply.Reply.{Reply}
 pub use Rattle.sql_model.specs.declared.reply.Reply.TheVariants.{Rows, Changed, Refused}
 pub use Rattle.sql_model.specs.declared.reply.SqlRefusal.{SqlRefusal}
 pub use Rattle.sql_model.specs.declared.reply.SqlRefusal.TheVariants.{NotNull, KeyTaken, Full}
+pub use Rattle.sql_model.specs.declared.reply.SqlRefusal.TheVariants.{NoParent, HasChild}
 pub use Rattle.sql_model.specs.declared.statement.Delete.{Delete}
 pub use Rattle.sql_model.specs.declared.statement.Insert.{Insert}
 pub use Rattle.sql_model.specs.declared.statement.Set.{Set}

@@ -2,21 +2,25 @@
 
 ghost use Rattle.std.specs.Prelude.{◌≡◌, ◌+◌, ◌<◌, ◌^◌, Some, IfOk, length, map, nat_lt, false};
 ghost use Rattle.std.specs.List.{AllByRecursion};
+ghost use Rattle.std.specs.Option.{option_and_then};
 ghost use Rattle.ldv_value.specs.Limits.{max_next};
 ghost use Rattle.dml_versions.specs.Changing.{matched_change, inserted_change, refused_change};
 ghost use Rattle.dml_versions.specs.Changing.{refused_by, reply_alone, told};
-ghost use Rattle.dml_versions.specs.Needing.{made_new};
+ghost use Rattle.dml_versions.specs.Needing.{made_new, need_found, with_parent_rows};
+ghost use Rattle.dml_versions.specs.Types.{Member};
+ghost use Rattle.table_store.specs.Histories.{history_at};
 ghost use Rattle.sql_model.specs.Changes.{numbered};
 
 use crate::found::FoundRows;
-use crate::needs::{made_new, made_of, needs_of, with_key_rows};
+use crate::needs::{made_new, made_of, with_child_row, with_key_rows};
+use crate::tables::table_of;
 use ldv_value::{List, MAX_NEXT, RowList, Utf8};
 use sql_model::{Members, Needs, Reply, SqlRefusal};
 use std::alloc::{AllocError, Global};
-use table_store::{StoreStop, TableStore};
+use table_store::{Store, StoreStop};
 
 /// The reply to a statement, the versions that it made, and the rows that it needed at their versions, both
-/// lists sorted by row number. Where they aren't kept, the lists may be anything.
+/// lists sorted by table and row number. Where they aren't kept, the lists may be anything.
 #[derive(Drop)]
 pub struct Change {
     pub reply: Reply,
@@ -36,29 +40,40 @@ fn reply_alone(alloc: Global, reply: Reply) -> Change
 }
 
 // A change of matched rows with its lists.
-fn matched_lists(alloc: Global, name: &Utf8, found: &FoundRows) -> Result<Change, AllocError>
+fn matched_lists(
+    alloc: Global,
+    name: &Utf8,
+    found: &FoundRows,
+    needs: Needs,
+) -> Result<Change, AllocError>
     requires { AllByRecursion (λ row. row.version + 1 < 2 ^ 32) found.now }
-    ensures { IfOk result (λ change. change ≡ matched_change name.now found.now) }
+    ensures { IfOk result (λ change. (parents : List Member)
+        → needs ≡ with_parent_rows parents (map (need_found name.now) found.now)
+        → change ≡ matched_change name.now found.now parents) }
 {
     Ok(Change {
         reply: Reply::Changed(found.len() as u64),
         made: made_of(alloc, name, found)?,
-        needs: needs_of(alloc, name, found)?,
+        needs,
     })
 }
 
 /// What a change of matched rows returns where nothing refuses it, with its lists where they are kept.
+/// `needs` are the matched rows and the parents of their new values.
 pub(crate) fn matched_change(
     alloc: Global,
     name: &Utf8,
     found: &FoundRows,
+    needs: Needs,
     keep: bool,
 ) -> Result<Change, AllocError>
     requires { AllByRecursion (λ row. row.version + 1 < 2 ^ 32) found.now }
-    ensures { IfOk result (λ change. change ≡ told keep (matched_change name.now found.now)) }
+    ensures { IfOk result (λ change. (parents : List Member)
+        → needs ≡ with_parent_rows parents (map (need_found name.now) found.now)
+        → change ≡ told keep (matched_change name.now found.now parents)) }
 {
     if keep {
-        matched_lists(alloc, name, found)
+        matched_lists(alloc, name, found, needs)
     } else {
         Ok(reply_alone(alloc, Reply::Changed(found.len() as u64)))
     }
@@ -70,31 +85,35 @@ fn inserted_lists(
     name: &Utf8,
     next: u32,
     rows: &RowList,
+    needs: Needs,
 ) -> Result<Change, AllocError>
     ensures { IfOk result (λ change. nat_lt max_next (next + length rows.now) ≡ false
-        → change ≡ inserted_change name.now next rows.now) }
+        → (parents : List Member) → needs ≡ with_parent_rows parents []
+        → change ≡ inserted_change name.now next rows.now parents) }
 {
     Ok(Change {
         reply: Reply::Changed(rows.len() as u64),
         made: made_within(alloc, name, next, rows)?,
-        needs: List::new(alloc),
+        needs,
     })
 }
 
 /// What an INSERT returns where nothing refuses it, with its lists where they are kept: its rows are numbered
-/// from `next` on.
+/// from `next` on, and `needs` are their parents.
 pub(crate) fn inserted_change(
     alloc: Global,
     name: &Utf8,
     next: u32,
     rows: &RowList,
+    needs: Needs,
     keep: bool,
 ) -> Result<Change, AllocError>
     ensures { IfOk result (λ change. nat_lt max_next (next + length rows.now) ≡ false
-        → change ≡ told keep (inserted_change name.now next rows.now)) }
+        → (parents : List Member) → needs ≡ with_parent_rows parents []
+        → change ≡ told keep (inserted_change name.now next rows.now parents)) }
 {
     if keep {
-        inserted_lists(alloc, name, next, rows)
+        inserted_lists(alloc, name, next, rows, needs)
     } else {
         Ok(reply_alone(alloc, Reply::Changed(rows.len() as u64)))
     }
@@ -111,16 +130,20 @@ fn made_within(alloc: Global, name: &Utf8, next: u32, rows: &RowList) -> Result<
     made_new(alloc, name, next, rows)
 }
 
-/// What a change returns that the store refuses. `needs` are the rows that it matches.
+/// What a change of a table returns that the store refuses. `needs` are the rows that it matches, and `all`
+/// are these and the parents of new rows.
 pub(crate) fn refused_change(
-    alloc: Global,
+    store: &Store,
     name: &Utf8,
-    table: &TableStore,
     needs: Needs,
+    all: Needs,
     stop: StoreStop,
 ) -> Result<Change, AllocError>
-    ensures { IfOk result (λ change. refused_change name.now table.now.slots needs stop ≡ Some change) }
+    ensures { IfOk result (λ change. (parents : List Member) → all ≡ with_parent_rows parents needs
+        → option_and_then (λ table. refused_change store.now name.now table.slots needs parents stop)
+        (history_at name.now store.now) ≡ Some change) }
 {
+    let alloc = needs.allocator();
     match stop {
         StoreStop::NotNull => Ok(refused_by(alloc, SqlRefusal::NotNull, needs)),
         StoreStop::KeyTaken {
@@ -129,6 +152,7 @@ pub(crate) fn refused_change(
             key,
         } => {
             let table_name = name.copy()?;
+            let table = table_of(store, name);
             let needs = with_key_rows(name, table, earlier, later, needs)?;
             let refusal = SqlRefusal::KeyTaken {
                 table: table_name,
@@ -137,6 +161,15 @@ pub(crate) fn refused_change(
             Ok(refused_by(alloc, refusal, needs))
         }
         StoreStop::Full => Ok(refused_by(alloc, SqlRefusal::Full, List::new(alloc))),
+        StoreStop::NoParent { table, key } => {
+            let refusal = SqlRefusal::NoParent { table, key };
+            Ok(refused_by(alloc, refusal, all))
+        }
+        StoreStop::HasChild { table, row, key } => {
+            let needs = with_child_row(store, &table, row, all)?;
+            let refusal = SqlRefusal::HasChild { table, key };
+            Ok(refused_by(alloc, refusal, needs))
+        }
         StoreStop::NoMemory => Err(AllocError),
     }
 }

@@ -6,10 +6,10 @@ ghost use Rattle.dml_versions.specs.Changing.{AreFound};
 ghost use Rattle.dml_versions.specs.Types.{TheDelete};
 ghost use Rattle.table_store.specs.Histories.{tables_now};
 
-use crate::change::{Change, matched_change};
+use crate::change::{Change, matched_change, refused_change};
 use crate::finding::found_rows;
 use crate::found::FoundRows;
-use crate::needs::numbers_of;
+use crate::needs::{needs_of, numbers_of};
 use crate::places::pick_places;
 use crate::statements::delete_of;
 use crate::tables::table_of;
@@ -21,7 +21,8 @@ use table_store::Store;
 
 /// Drops the rows for which WHERE is True, or all where it is missing, at a time. The statement is a DELETE
 /// that was checked against the store's tables, and the time is later than that of the store's last change.
-/// The lists are made where `keep` is true. On `AllocError` the store is as it was.
+/// The lists are made where `keep` is true. On `AllocError`, and where the statement is refused, the store is
+/// as it was.
 pub fn delete(
     checked: &Checked,
     store: &mut Store,
@@ -40,10 +41,21 @@ pub fn delete(
     store.tell_formed();
     let found = deleted_rows(checked, delete, store)?;
     let numbers = numbers_of(alloc, &found)?;
-    let change = matched_change(alloc, &delete.table, &found, keep)?;
+    let needs = needs_of(alloc, &delete.table, &found, keep)?;
+    let change = matched_change(alloc, &delete.table, &found, needs, keep)?;
     let name = delete.table.as_str();
-    store.delete_all(name, &numbers, time)?;
-    Ok(change)
+    match store.delete_all(name, &numbers, time) {
+        Ok(()) => Ok(change),
+        Err(stop) => {
+            let Change {
+                reply: _reply,
+                made: _made,
+                needs,
+            } = change;
+            let refused = refused_change(store, &delete.table, List::new(alloc), needs, stop)?;
+            Ok(refused)
+        }
+    }
 }
 
 // The rows that a DELETE drops.

@@ -7,12 +7,13 @@ ghost use Rattle.dml_versions.specs.Types.{TheInsert};
 ghost use Rattle.table_store.specs.Histories.{tables_now};
 
 use crate::change::{Change, inserted_change, refused_change};
+use crate::needs::{numbered_rows, parents_of, with_parent_rows};
 use crate::rows::new_rows;
 use crate::statements::insert_of;
 use crate::tables::table_of;
-use ldv_value::{List, RowList};
-use sql_model::{Checked, Insert};
-use std::alloc::AllocError;
+use ldv_value::{List, MAX_NEXT, RowList};
+use sql_model::{Checked, Insert, Needs};
+use std::alloc::{AllocError, Global};
 use table_store::Store;
 
 /// Adds the rows of VALUES at a time, numbered from the number of the table's next row on. The statement is
@@ -38,15 +39,37 @@ pub fn insert(
     let rows = inserted_rows(checked, insert, store)?;
     let name = insert.table.as_str();
     let next = store.next_at(name, time);
-    let change = inserted_change(alloc, &insert.table, next, &rows, keep)?;
+    let needs = inserted_needs(alloc, insert, store, next, &rows, keep)?;
+    let change = inserted_change(alloc, &insert.table, next, &rows, needs, keep)?;
     match store.insert_all(name, rows, time) {
         Ok(_first) => Ok(change),
         Err(stop) => {
-            let table = table_of(store, &insert.table);
-            let refused = refused_change(alloc, &insert.table, table, List::new(alloc), stop)?;
+            let Change {
+                reply: _reply,
+                made: _made,
+                needs,
+            } = change;
+            let refused = refused_change(store, &insert.table, List::new(alloc), needs, stop)?;
             Ok(refused)
         }
     }
+}
+
+// The parents of the new rows, where lists are kept and the numbers of the rows are within the limit.
+fn inserted_needs(
+    alloc: Global,
+    insert: &Insert,
+    store: &Store,
+    next: u32,
+    rows: &RowList,
+    keep: bool,
+) -> Result<Needs, AllocError> {
+    if !keep || rows.len() > (MAX_NEXT - next) as usize {
+        return Ok(List::new(alloc));
+    }
+    let numbered = numbered_rows(alloc, rows, next)?;
+    let parents = parents_of(store, &insert.table, &numbered, keep)?;
+    with_parent_rows(&List::new(alloc), parents)
 }
 
 // The values of the new rows.

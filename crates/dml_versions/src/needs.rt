@@ -1,22 +1,43 @@
 //! The rows that a change needs, and the versions that it makes.
 
-ghost use Rattle.std.specs.Prelude.{◌≡◌, ◌==◌, ◌+◌, ◌<◌, ◌≤◌, ◌^◌, false, map, length, slice_get, IfOk};
+ghost use Rattle.std.specs.Prelude.{◌≡◌, ◌==◌, ◌+◌, ◌<◌, ◌≤◌, ◌^◌, false, true, map, length, slice_get};
+ghost use Rattle.std.specs.Prelude.{IfOk, IfSome, IsSome, IsTrue};
 ghost use Rattle.std.specs.Prelude.{nat_le};
 ghost use Rattle.std.specs.List.{AllByRecursion, position_or_len};
 ghost use Rattle.std.specs.Option.{option_map, option_map_or};
 ghost use Rattle.sql_model.specs.Changes.{numbered};
 ghost use Rattle.dml_versions.specs.Finding.{version_of};
 ghost use Rattle.dml_versions.specs.Needing.{need_found, made_found, made_new, number_found, key_need};
-ghost use Rattle.dml_versions.specs.Needing.{put_need, put_some, with_key_rows};
+ghost use Rattle.dml_versions.specs.Needing.{put_need, put_some, with_key_rows, with_parent_rows};
+ghost use Rattle.dml_versions.specs.Needing.{with_child_row};
+ghost use Rattle.sql_model.specs.Scope.{table_at};
+ghost use Rattle.table_store.specs.Histories.{tables_now};
+ghost use Rattle.table_store.specs.Referring.{are_apart, CanBePut, parents_now};
 
 use crate::found::FoundRows;
+use core_parts::{needed_by, sorted_once, united};
 use ldv_value::{List, Numbers, RowList, Utf8};
-use sql_model::{Member, Members, Need, Needs, Rule};
+use sql_model::{Member, Members, Need, Needs, Rule, TableRow, TableRows};
 use std::alloc::{AllocError, Global};
-use table_store::TableStore;
+use table_store::{Store, TableStore};
 
-/// The needs of matched rows.
-pub(crate) fn needs_of(alloc: Global, name: &Utf8, found: &FoundRows) -> Result<Needs, AllocError>
+/// The needs of matched rows, where lists are kept.
+pub(crate) fn needs_of(
+    alloc: Global,
+    name: &Utf8,
+    found: &FoundRows,
+    keep: bool,
+) -> Result<Needs, AllocError>
+    ensures { IfOk result (λ needs. IsTrue keep → needs ≡ map (need_found name.now) found.now) }
+{
+    if keep {
+        all_needs_of(alloc, name, found)
+    } else {
+        Ok(List::new(alloc))
+    }
+}
+
+fn all_needs_of(alloc: Global, name: &Utf8, found: &FoundRows) -> Result<Needs, AllocError>
     ensures { IfOk result (λ needs. needs ≡ map (need_found name.now) found.now) }
 {
     let mut needs = List::with_capacity(alloc, found.len())?;
@@ -172,4 +193,75 @@ fn has_row_at(needs: &[Need], place: usize, row: u32) -> bool
         None => false,
         Some(need) => row == need.member.row,
     }
+}
+
+/// The parents of rows of a table, once these are put, where lists are kept.
+pub(crate) fn parents_of(
+    store: &Store,
+    name: &Utf8,
+    rows: &TableRows,
+    keep: bool,
+) -> Result<Members, AllocError>
+    requires there { IsSome (table_at name.now (tables_now store.now)) }
+    requires put { IfSome (table_at name.now (tables_now store.now)) (CanBePut rows.now) }
+    ensures { IfOk result (λ members. IsTrue keep → IfSome (table_at name.now (tables_now store.now))
+        (λ own. are_apart rows.now own ≡ true → members ≡ parents_now store.now rows.now own)) }
+{
+    if keep {
+        store.parents_of(name.as_str(), rows)
+    } else {
+        Ok(List::new(rows.allocator()))
+    }
+}
+
+/// Needs with the parent rows that are needed beside them.
+pub(crate) fn with_parent_rows(needs: &Needs, parents: Members) -> Result<Needs, AllocError>
+    ensures { IfOk result (λ all. all ≡ with_parent_rows parents needs.now) }
+{
+    let alloc = needs.allocator();
+    let others = sorted_once(alloc, needed_by(Rule::P, parents)?)?;
+    united(alloc, needs.items(), others.items())
+}
+
+/// Needs with the child row that is needed beside them.
+pub(crate) fn with_child_row(
+    store: &Store,
+    table: &Utf8,
+    row: u32,
+    needs: Needs,
+) -> Result<Needs, AllocError>
+    requires { IsSome (table_at table.now (tables_now store.now)) }
+    ensures { IfOk result (λ all. all ≡ with_child_row store.now table.now row needs) }
+{
+    let alloc = needs.allocator();
+    let child = Need {
+        member: Member {
+            table: table.copy()?,
+            row,
+            version: store.version(table.as_str(), row).unwrap_or(0),
+        },
+        rule: Rule::C,
+    };
+    united(alloc, needs.items(), &[child])
+}
+
+/// Copies of new rows with their numbers, from `next` on.
+pub(crate) fn numbered_rows(
+    alloc: Global,
+    rows: &RowList,
+    next: u32,
+) -> Result<TableRows, AllocError>
+    requires { next + length rows.now < 2 ^ 32 }
+    ensures { IfOk result (λ made. made ≡ numbered next rows.now) }
+{
+    let mut made = List::with_capacity(alloc, rows.len())?;
+    let mut number = next;
+    for values in rows.items() {
+        made.push(TableRow {
+            number,
+            values: values.copy()?,
+        })?;
+        number += 1;
+    }
+    Ok(made)
 }

@@ -9,6 +9,7 @@ ghost use Rattle.table_store.specs.Histories.{tables_now};
 use crate::change::{Change, matched_change, refused_change};
 use crate::finding::found_rows;
 use crate::found::FoundRows;
+use crate::needs::{needs_of, parents_of, with_parent_rows};
 use crate::places::update_places;
 use crate::statements::update_of;
 use crate::tables::table_of;
@@ -41,7 +42,10 @@ pub fn update(
     store.tell_formed();
     let prepared = prepare(checked, update, store)?;
     let Prepared { found, rows } = prepared;
-    let change = matched_change(alloc, &update.table, &found, keep)?;
+    let needs = needs_of(alloc, &update.table, &found, keep)?;
+    let parents = parents_of(store, &update.table, &rows, keep)?;
+    let all = with_parent_rows(&needs, parents)?;
+    let change = matched_change(alloc, &update.table, &found, all, keep)?;
     let name = update.table.as_str();
     match store.replace_all(name, rows, time) {
         Ok(()) => Ok(change),
@@ -49,10 +53,9 @@ pub fn update(
             let Change {
                 reply: _reply,
                 made: _made,
-                needs,
+                needs: all,
             } = change;
-            let table = table_of(store, &update.table);
-            let refused = refused_change(alloc, &update.table, table, needs, stop)?;
+            let refused = refused_change(store, &update.table, needs, all, stop)?;
             Ok(refused)
         }
     }

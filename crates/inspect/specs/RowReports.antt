@@ -3,13 +3,15 @@
 use Rattle.std.specs.Prelude.{ℕ, List, ◌++◌, codes}
 use Rattle.std.specs.List.{flat_map}
 use Rattle.std.specs.Fmt.{decimal}
-use Rattle.inspect.specs.Types.{PackedRow, PackedTable, Rule, L, H, K}
+use Rattle.inspect.specs.Types.{PackedRow, PackedTable, Rule, L, H, K, P, C}
 use Rattle.run_model.specs.OutcomeText.{line}
 
 abbrev pub rule_text : Rule → List ℕ
 rule_text L = codes "L"
 rule_text H = codes "H"
 rule_text K = codes "K"
+rule_text P = codes "P"
+rule_text C = codes "C"
 
 -- `TABLE ROW STATEMENT RULE`
 abbrev pub row_line : List ℕ → PackedRow → List ℕ

@@ -1,7 +1,7 @@
 -- The types that the definitions of reports are about: those of this crate, and of the crates below it.
 pub use Rattle.sql_model.specs.declared.need.Member.{Member}
 pub use Rattle.sql_model.specs.declared.need.Rule.{Rule}
-pub use Rattle.sql_model.specs.declared.need.Rule.TheVariants.{L, H, K}
+pub use Rattle.sql_model.specs.declared.need.Rule.TheVariants.{L, H, K, P, C}
 pub use Rattle.run_model.specs.declared.event.Act.{Act}
 pub use Rattle.run_model.specs.declared.event.Event.{Event}
 pub use Rattle.run_model.specs.declared.package.PackedFile.{PackedFile}

@@ -24,5 +24,7 @@ pub(crate) fn append_rule(to: &mut Bytes, rule: Rule) -> Result<(), AllocError>
         Rule::L => to.extend(b"L"),
         Rule::H => to.extend(b"H"),
         Rule::K => to.extend(b"K"),
+        Rule::P => to.extend(b"P"),
+        Rule::C => to.extend(b"C"),
     }
 }

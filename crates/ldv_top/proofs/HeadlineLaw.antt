@@ -1,6 +1,6 @@
 -- A package that was recorded is replayed as its world is run.
 use Rattle.std.proofs.Common.{◌≡◌, ℕ, ◌≤◌, List, [], length, refl, sym, ap, ◌∙◌, subst, true}
-use Rattle.std.specs.Prelude.{Some, Ok, codes}
+use Rattle.std.specs.Prelude.{Some, Ok, codes, IsTrue}
 use Rattle.ldv_value.specs.Limits.{input_limit, max_steps}
 use Rattle.run_model.specs.declared.outcome.Outcome.{Outcome}
 use Rattle.run_model.specs.declared.package.Mode.{Mode}
@@ -11,6 +11,7 @@ use Rattle.run_model.specs.LogRun.{log_outcome}
 use Rattle.run_model.specs.Package.{package_of, own_world}
 use Rattle.run_model.specs.WorldRun.{ends_within, outcome_within, steps_by}
 use Rattle.sql_model.specs.Tables.{tables_test}
+use Rattle.package_layout.specs.Plain.{fits_version}
 use Rattle.package_layout.specs.Valid.{Valid, reading}
 use Rattle.package_layout.specs.Counted.{IsCounted}
 use Rattle.package_layout.specs.Version.{version_of}
@@ -48,7 +49,7 @@ typed_for : (mode : Mode) (w : World) → TypedWorld w → TypedFor mode w
 typed_for Included w typed = tt
 typed_for Excluded w typed = typed
 
-module _ (again : (version : Version) (p : Package) → IsTyped p → Valid p → IsCounted version p → reading (spelling_as version p) ≡ Ok p)
+module _ (again : (version : Version) (p : Package) → IsTyped p → Valid p → IsTrue (fits_version version p) → IsCounted version p → reading (spelling_as version p) ≡ Ok p)
     (counted : (version : Version) (p : Package) → length (spelling_as version p) ≤ input_limit → IsCounted version p)
     (valid : ValidPackageLaw) (typed : TypedPackageLaw) (valid_tables : WorldTablesLaw) (replay : ReplayLaw) (logs : PickedLogLaw) (sound : SoundLaw) (own_sound : RecordedSoundLaw) where
   read_back : (mode : Mode) (n : ℕ) (w : World) → ValidWorld w → n ≤ max_steps → ends_within n w ≡ true
@@ -57,7 +58,7 @@ module _ (again : (version : Version) (p : Package) → IsTyped p → Valid p �
   read_back mode n w valid_world bounded ended short =
       again Two (package_of mode n w) (typed mode n w valid_world bounded ended)
       (valid mode n w valid_world.ruled (valid_tables w valid_world) (typed_for mode w valid_world.typed) bounded ended)
-      (counted Two (package_of mode n w) short)
+      refl (counted Two (package_of mode n w) short)
 
   -- over the needed rows
   own_due : (n budget : ℕ) (w : World) → ends_within n w ≡ true → tables_test w.tables ≡ true → steps_by n [] w ≤ budget

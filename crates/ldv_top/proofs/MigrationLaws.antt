@@ -1,11 +1,12 @@
 -- What is migrated is the same package.
 use Rattle.std.proofs.Common.{◌≡◌, ℕ, ◌≤◌, List, length, refl, sym, ap, ◌∙◌, subst}
-use Rattle.std.specs.Prelude.{Some, Ok}
+use Rattle.std.specs.Prelude.{Some, Ok, IsTrue}
 use Rattle.ldv_value.specs.Limits.{input_limit, max_steps}
 use Rattle.run_model.specs.declared.package.Mode.{Mode}
 use Rattle.run_model.specs.declared.package.Mode.TheVariants.{Included, Excluded}
 use Rattle.run_model.specs.declared.package.Package.{Package}
 use Rattle.package_layout.specs.Counted.{IsCounted}
+use Rattle.package_layout.specs.Plain.{fits_version}
 use Rattle.package_layout.specs.Valid.{Valid, IsSpelled, reading}
 use Rattle.package_layout.specs.Version.{version_of}
 use Rattle.package_layout.specs.declared.version.Version.{Version}
@@ -31,6 +32,7 @@ record Reads (version : Version) (p : Package) (bytes : List ℕ) : Type 0 where
   read : reading bytes ≡ Ok p
   spelled : bytes ≡ spelling_as version p
   versioned : version_of bytes ≡ Some version
+  fits : IsTrue (fits_version version p)
 
 module _ (p : Package) where
   package_due : (due : Package → Due) (version : Version) (bytes : List ℕ) → Reads version p bytes → due_of_package due bytes ≡ due p
@@ -45,7 +47,7 @@ module _ (p : Package) where
   sound_too sound own typed valid included budget bounded v w a b one other finds =
       let found = sound_is budget v a p one.short one.read included one.versioned sound finds in
       let within : length (spelling_as v p) ≤ input_limit = subst (λ (l : List ℕ). length l ≤ input_limit) one.spelled one.short in
-      let is : IsOwn budget p = own budget v p typed valid bounded found.0 within (sym found.1 ∙ one.spelled) in
+      let is : IsOwn budget p = own budget v p typed valid one.fits bounded found.0 within (sym found.1 ∙ one.spelled) in
       sound_from budget w b p other.short other.read included other.versioned sound is.ends
       (other.spelled ∙ sym (ap (spelling_as w) is.same))
 
@@ -64,23 +66,24 @@ module _ (p : Package) where
 
 -- ---- what is migrated
 
-module _ (again : (version : Version) (p : Package) → IsTyped p → Valid p → IsCounted version p → reading (spelling_as version p) ≡ Ok p)
+module _ (again : (version : Version) (p : Package) → IsTyped p → Valid p → IsTrue (fits_version version p) → IsCounted version p → reading (spelling_as version p) ≡ Ok p)
     (counted : (version : Version) (p : Package) → length (spelling_as version p) ≤ input_limit → IsCounted version p)
     (sound : SoundLaw) (own : OwnSoundLaw) where
   pub migrated_law : (input : List ℕ) (p : Package) → length input ≤ input_limit → IsTyped p → Valid p → IsSpelled input p
       → reading input ≡ Ok p → (due_migrate input).exit ≡ Done → Migrated input (due_migrate input).bytes
   migrated_law input p short typed valid is_spelled read finished =
       let version : Version = is_spelled.0 in
-      let first : Reads version p input = record { short = short; read = read; spelled = sym is_spelled.2.same; versioned = is_spelled.1 } in
+      let first : Reads version p input = record { short = short; read = read; spelled = sym is_spelled.2.same; versioned = is_spelled.1; fits = is_spelled.2.fits } in
       let due : due_migrate input ≡ due_spelling (spelling p) = package_due p migrated_package version input first in
       let spelled : Spelled (due_spelling (spelling p)) (spelling p) = spelling_done (spelling p) (sym (ap (λ (d : Due). d.exit) due) ∙ finished) in
       let bytes : List ℕ = (due_migrate input).bytes in
       let same : bytes ≡ spelling p = ap (λ (d : Due). d.bytes) due ∙ spelled.1 in
       let second : Reads Two p bytes = subst (Reads Two p) (sym same) (record {
         short = spelled.0;
-        read = again Two p typed valid (counted Two p spelled.0);
+        read = again Two p typed valid refl (counted Two p spelled.0);
         spelled = refl;
         versioned = version_spelled Two p;
+        fits = refl;
       }) in
       record {
         «package» = p;

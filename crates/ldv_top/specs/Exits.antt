@@ -6,7 +6,8 @@ use Rattle.package_layout.specs.declared.damage.DamageKind.{DamageKind}
 use Rattle.package_layout.specs.declared.damage.DamageKind.TheVariants.{Magic, Digest, Form}
 use Rattle.world_json.specs.declared.fault.WorldFault.{WorldFault}
 use Rattle.world_json.specs.declared.fault.WorldFault.TheVariants.{NotJson, Shape, Name, Limit, RowType}
-use Rattle.world_json.specs.declared.fault.WorldFault.TheVariants.{NotNull, Key, NoStart, BadScript}
+use Rattle.world_json.specs.declared.fault.WorldFault.TheVariants.{NotNull, Key, Reference, NoStart}
+use Rattle.world_json.specs.declared.fault.WorldFault.TheVariants.{BadScript}
 use Rattle.ldv_top.specs.declared.exit.Exit.{Exit}
 use Rattle.ldv_top.specs.declared.exit.Exit.TheVariants.{Done, Usage, ReadFault, WriteFault, TooLong}
 use Rattle.ldv_top.specs.declared.exit.Exit.TheVariants.{NotWorld, NotEnded, Damaged, Diverged, NoSuch}
@@ -36,6 +37,7 @@ fixed_fault Limit = Some (codes "ldv: not a world: limit\n")
 fixed_fault RowType = Some (codes "ldv: not a world: row type\n")
 fixed_fault NotNull = Some (codes "ldv: not a world: not null\n")
 fixed_fault Key = Some (codes "ldv: not a world: key\n")
+fixed_fault Reference = Some (codes "ldv: not a world: reference\n")
 fixed_fault NoStart = Some (codes "ldv: not a world: no start\n")
 fixed_fault (BadScript n) = None
 

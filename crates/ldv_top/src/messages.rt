@@ -112,6 +112,7 @@ fn fault_line(fault: &WorldFault) -> Option<&'static [u8]>
         WorldFault::RowType => Some(b"ldv: not a world: row type\n"),
         WorldFault::NotNull => Some(b"ldv: not a world: not null\n"),
         WorldFault::Key => Some(b"ldv: not a world: key\n"),
+        WorldFault::Reference => Some(b"ldv: not a world: reference\n"),
         WorldFault::NoStart => Some(b"ldv: not a world: no start\n"),
         WorldFault::BadScript(_) => None,
     }

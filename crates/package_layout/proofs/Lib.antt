@@ -7,6 +7,7 @@ pub mod Lists
 pub mod Logs
 pub mod Numbers
 pub mod Package
+pub mod PlainRuns
 pub mod RunFields
 pub mod RunReading
 pub mod RunTraces

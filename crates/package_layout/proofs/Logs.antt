@@ -7,14 +7,14 @@ use Rattle.ldv_value.specs.declared.value.Value.{Value}
 use Rattle.ldv_value.proofs.Booleans.{and-parts, and-from}
 use Rattle.sql_model.specs.Codes.{code_of as refusal_tag}
 use Rattle.sql_model.specs.declared.reply.SqlRefusal.{SqlRefusal}
-use Rattle.sql_model.specs.declared.reply.SqlRefusal.TheVariants.{Syntax, NoTable, NoColumn, TypeClash, NotNull, KeyTaken, Full}
+use Rattle.sql_model.specs.declared.reply.SqlRefusal.TheVariants.{Syntax, NoTable, NoColumn, TypeClash, NotNull, KeyTaken, Full, NoParent, HasChild}
 use Rattle.sql_model.specs.declared.reply.Reply.{Reply}
 use Rattle.sql_model.specs.declared.reply.Reply.TheVariants.{Rows, Changed, Refused}
 use Rattle.run_model.specs.declared.name.ProcName.{ProcName}
 use Rattle.run_model.specs.declared.package.Entry.{Entry}
 use Rattle.run_model.specs.declared.package.Log.{Log}
 use Rattle.package_layout.specs.Fields.{Found, both_at, number_at, text_spelling, list_spelling, list_at, text_at}
-use Rattle.package_layout.specs.Spelling.{value_spelling, values_spelling, refusal_spelling, reply_spelling, entry_spelling, parts_spelling, log_spelling}
+use Rattle.package_layout.specs.Spelling.{value_spelling, values_spelling, row_key_spelling, refusal_spelling, reply_spelling, entry_spelling, parts_spelling, log_spelling}
 use Rattle.package_layout.specs.Typed.{IsU32, TypedValue, TypedValues, TypedRefusal, TypedReply, TypedEntry, TypedLog}
 use Rattle.package_layout.specs.Room.{few, some_thousands, refusal_room, reply_room, entry_room, log_room}
 use Rattle.package_layout.specs.Counts.{IsCountable, CountedList, CountedValue, CountedRefusal, CountedReply, CountedEntry, CountedLog}
@@ -45,6 +45,12 @@ taken_room p = few p.1
 abbrev taken : TakenParts → SqlRefusal
 taken p = KeyTaken p.0 p.1
 
+abbrev missing : TakenParts → SqlRefusal
+missing p = NoParent p.0 p.1
+
+abbrev lost : TakenParts → SqlRefusal
+lost p = HasChild p.0 p.1
+
 abbrev taken_at : List ℕ → Found TakenParts
 taken_at = both_at text_at (list_at w8 value_at)
 
@@ -61,8 +67,10 @@ refusal_rest NoTable = []
 refusal_rest NoColumn = []
 refusal_rest TypeClash = []
 refusal_rest NotNull = []
-refusal_rest (KeyTaken table key) = text_spelling table ++ list_spelling w8 value_spelling key
+refusal_rest (KeyTaken table key) = row_key_spelling table key
 refusal_rest Full = []
+refusal_rest (NoParent table key) = row_key_spelling table key
+refusal_rest (HasChild table key) = row_key_spelling table key
 
 refusal_again : (r : SqlRefusal) (rest : List ℕ) → TypedRefusal r → refusal_room r ≡ true → CountedRefusal r → refusal_of_code (refusal_tag r) (refusal_rest r ++ rest) ≡ Some (r, rest)
 refusal_again Syntax rest t f n = refl
@@ -72,6 +80,8 @@ refusal_again TypeClash rest t f n = refl
 refusal_again NotNull rest t f n = refl
 refusal_again (KeyTaken table key) rest t f n = case_again taken_spelling TypedTaken taken_room taken_at taken (table, key) rest taken_law t f n
 refusal_again Full rest t f n = refl
+refusal_again (NoParent table key) rest t f n = case_again taken_spelling TypedTaken taken_room taken_at missing (table, key) rest taken_law t f n
+refusal_again (HasChild table key) rest t f n = case_again taken_spelling TypedTaken taken_room taken_at lost (table, key) rest taken_law t f n
 
 refusal_bare : (t : ℕ) (bytes : List ℕ) (y x : SqlRefusal) (rest : List ℕ) → refusal_tag y ≡ t → refusal_rest y ≡ [] → TypedRefusal y → refusal_room y ≡ true → CountedRefusal y → just {A = SqlRefusal × List ℕ} (y, bytes) ≡ just {A = SqlRefusal × List ℕ} (x, rest) → TookTagged refusal_tag refusal_rest TypedRefusal refusal_room CountedRefusal t bytes x rest
 refusal_bare t bytes y x rest i b h f n e = bare_took refusal_tag refusal_rest TypedRefusal refusal_room CountedRefusal t bytes y x rest i b h f n e
@@ -85,7 +95,9 @@ refusal_took (suc (suc (suc (suc zero)))) bytes r rest h e = refusal_bare 4 byte
 refusal_took (suc (suc (suc (suc (suc zero))))) bytes r rest h e = refusal_bare 5 bytes NotNull r rest refl refl tt refl tt e
 refusal_took (suc (suc (suc (suc (suc (suc zero)))))) bytes r rest h e = case_took taken_spelling TypedTaken taken_room taken_at taken refusal_tag refusal_rest TypedRefusal refusal_room CountedRefusal 6 bytes r rest taken_law h e (λ a. refl) (λ a. refl) (λ a t. t) (λ a f. f) (λ a n. n)
 refusal_took (suc (suc (suc (suc (suc (suc (suc zero))))))) bytes r rest h e = refusal_bare 7 bytes Full r rest refl refl tt refl tt e
-refusal_took (suc (suc (suc (suc (suc (suc (suc (suc t)))))))) bytes r rest h e = absurd cc
+refusal_took (suc (suc (suc (suc (suc (suc (suc (suc zero)))))))) bytes r rest h e = case_took taken_spelling TypedTaken taken_room taken_at missing refusal_tag refusal_rest TypedRefusal refusal_room CountedRefusal 8 bytes r rest taken_law h e (λ a. refl) (λ a. refl) (λ a t. t) (λ a f. f) (λ a n. n)
+refusal_took (suc (suc (suc (suc (suc (suc (suc (suc (suc zero))))))))) bytes r rest h e = case_took taken_spelling TypedTaken taken_room taken_at lost refusal_tag refusal_rest TypedRefusal refusal_room CountedRefusal 9 bytes r rest taken_law h e (λ a. refl) (λ a. refl) (λ a t. t) (λ a f. f) (λ a n. n)
+refusal_took (suc (suc (suc (suc (suc (suc (suc (suc (suc (suc t)))))))))) bytes r rest h e = absurd cc
 
 refusal_short : (r : SqlRefusal) → length (refusal_rest r) < 2 ^ 32 → CountedRefusal r
 refusal_short Syntax len = tt
@@ -95,6 +107,8 @@ refusal_short TypeClash len = tt
 refusal_short NotNull len = tt
 refusal_short (KeyTaken table key) len = taken_law.short (table, key) len
 refusal_short Full len = tt
+refusal_short (NoParent table key) len = taken_law.short (table, key) len
+refusal_short (HasChild table key) len = taken_law.short (table, key) len
 
 refusal_small : (r : SqlRefusal) → refusal_tag r < 256
 refusal_small Syntax = omega arith
@@ -104,6 +118,8 @@ refusal_small TypeClash = omega arith
 refusal_small NotNull = omega arith
 refusal_small (KeyTaken table key) = omega arith
 refusal_small Full = omega arith
+refusal_small (NoParent table key) = omega arith
+refusal_small (HasChild table key) = omega arith
 
 refusal_same : (r : SqlRefusal) → refusal_spelling r ≡ to_be_bytes w8 (refusal_tag r) ++ refusal_rest r
 refusal_same Syntax = refl
@@ -113,6 +129,8 @@ refusal_same TypeClash = refl
 refusal_same NotNull = refl
 refusal_same (KeyTaken table key) = refl
 refusal_same Full = refl
+refusal_same (NoParent table key) = refl
+refusal_same (HasChild table key) = refl
 
 refusal_law : IsField refusal_spelling TypedRefusal refusal_room CountedRefusal refusal_at
 refusal_law = tagged_law refusal_spelling refusal_tag refusal_rest TypedRefusal refusal_room CountedRefusal refusal_of_code (record { small = refusal_small; again = refusal_again; took = refusal_took; short = refusal_short }) refusal_same

@@ -1,10 +1,12 @@
 -- Packages and their bytes.
 use Rattle.std.proofs.Common.{◌≡◌, ℕ, ◌+◌, ◌-◌, ◌<◌, ◌≤◌, Bool, true, false, cond, List, ◌++◌, length, take, drop, Option, Some, None, Result, Ok, Err, refl, sym, ap, subst, ◌∙◌, arith, IsSome}
-use Rattle.std.specs.Prelude.{bytes_eq, nat_le, IfOk, IfSome, ◌↔◌}
+use Rattle.std.specs.Prelude.{bytes_eq, nat_le, IfOk, IfSome, IsTrue, ◌↔◌, ◌&&◌}
+use Rattle.std.specs.List.{list_all}
 use Rattle.std.proofs.lemmas.Bool.{leb-true, le-leb}
 use Rattle.std.proofs.lemmas.Slice.Eq.{bytes_eq-Decides}
 use Rattle.std.proofs.lemmas.List.{take_at, drop_at, take-append-drop, take-take, length-append}
 use Rattle.ldv_value.proofs.Booleans.{and-parts, and-from}
+use Rattle.ldv_value.proofs.Lists.{list_all-weaker}
 use Rattle.ldv_value.proofs.Options.{bind-some, same-some}
 use Rattle.sha2.specs.Sha256.{sha256}
 use Rattle.sha2.proofs.Facts256.{length-sha256}
@@ -15,6 +17,7 @@ use Rattle.package_layout.specs.declared.layout.PackageStop.{PackageStop}
 use Rattle.package_layout.specs.declared.layout.PackageStop.TheVariants.{Damaged, NoMemory}
 use Rattle.package_layout.specs.declared.run_package.RunPackage.{RunPackage}
 use Rattle.package_layout.specs.Counted.{IsCounted}
+use Rattle.package_layout.specs.Plain.{has_no_foreign, is_plain_row, is_plain_table, is_plain_log, is_plain_event, has_tables, fits_version}
 use Rattle.package_layout.specs.ReadResult.{ReadsAs, RunsReadAs, damage_by, damage_before}
 use Rattle.package_layout.specs.RunPackages.{whole}
 use Rattle.package_layout.specs.Runs.{IsCut, are_runs}
@@ -85,6 +88,14 @@ digest_seen true (Some p) e = absurd cc
 digest_seen true None e = absurd cc
 digest_seen false o e = refl
 
+-- what a version has of tables, where it has all that is in the package
+pub fit_tables : (v : Version) (p : Package) → fits_version v p ≡ true → has_tables v p ≡ true
+fit_tables One p h =
+    let a = and-parts (list_all is_plain_table p.tables && list_all is_plain_log p.logs) (list_all is_plain_event p.events) h in
+    let b = and-parts (list_all is_plain_table p.tables) (list_all is_plain_log p.logs) a.0 in
+    list_all-weaker is_plain_table has_no_foreign (λ t met. (and-parts (has_no_foreign t) (list_all is_plain_row t.rows) met).0) p.tables b.0
+fit_tables Two p h = refl
+
 -- ---- a package that was read
 
 pub record IsRead (v : Version) (bytes : List ℕ) (p : Package) : Type 0 where
@@ -124,25 +135,30 @@ module _ (version : Version) where
 
   -- ---- what is spelled is read
 
-  section_again : (p : Package) → IsTyped p → Valid p → IsCounted version p → package_in version (sections version p) ≡ Some p
-  section_again p t v n =
+  section_again : (p : Package) → IsTyped p → Valid p → fits_version version p ≡ true → IsCounted version p → package_in version (sections version p) ≡ Some p
+  section_again p t v f n =
       let both = and-parts (has_room p) (rules p) v in
-      let one : all_of version (sections version p) ≡ Some p = all_again version p t both.0 n in
-      rw one (kept (rules p) p both.1)
+      let one : all_of version (sections version p) ≡ Some p = all_again version p t both.0 (fit_tables version p f) n in
+      rw one (kept (rules p && fits_version version p) p (and-from (rules p) (fits_version version p) both.1 f))
 
-  read_again : (p : Package) → IsTyped p → Valid p → IsCounted version p → reading_as version (spelling_as version p) ≡ Ok p
-  read_again p t v n =
+  read_again : (p : Package) → IsTyped p → Valid p → fits_version version p ≡ true → IsCounted version p → reading_as version (spelling_as version p) ≡ Ok p
+  read_again p t v f n =
       let d : has_digest (spelling_as version p) ≡ true = digest_test (spelling_as version p) (spelled_digest p) in
-      let i : package_in version (middle (spelling_as version p)) ≡ Some p = ap (package_in version) (spelled_middle p) ∙ section_again p t v n in
+      let i : package_in version (middle (spelling_as version p)) ≡ Some p = ap (package_in version) (spelled_middle p) ∙ section_again p t v f n in
       from_tests (has_digest (spelling_as version p)) (package_in version (middle (spelling_as version p))) p d i
 
-  pub reads_back : (p : Package) → IsTyped p → Valid p → IsCounted version p → reading (spelling_as version p) ≡ Ok p
-  reads_back p t v n =
+  pub reads_back : (p : Package) → IsTyped p → Valid p → IsTrue (fits_version version p) → IsCounted version p → reading (spelling_as version p) ≡ Ok p
+  reads_back p t v f n =
       let bytes : List ℕ = spelling_as version p in
-      ap (λ (o : Option Version). reading_by o bytes) (version_is version bytes (spelled_magic p)) ∙ read_again p t v n
+      ap (λ (o : Option Version). reading_by o bytes) (version_is version bytes (spelled_magic p)) ∙ read_again p t v f n
 
-  pub one_spelling : (p q : Package) → IsTyped p → IsTyped q → Valid p → Valid q → IsCounted version p → IsCounted version q → spelling_as version p ≡ spelling_as version q → p ≡ q
-  one_spelling p q t u v w n m e = ok_is p q (sym (read_again p t v n) ∙ ap (reading_as version) e ∙ read_again q u w m)
+  -- the tables are what the version has, whatever rules and replies are
+  pub one_spelling : (p q : Package) → IsTyped p → IsTyped q → Valid p → Valid q → IsTrue (has_tables version p) → IsTrue (has_tables version q) → IsCounted version p → IsCounted version q → spelling_as version p ≡ spelling_as version q → p ≡ q
+  one_spelling p q t u v w f g n m e =
+      let same : sections version p ≡ sections version q = sym (spelled_middle p) ∙ ap middle e ∙ spelled_middle q in
+      let first : all_of version (sections version p) ≡ Some p = all_again version p t (and-parts (has_room p) (rules p) v).0 f n in
+      let second : all_of version (sections version q) ≡ Some q = all_again version q u (and-parts (has_room q) (rules q) w).0 g m in
+      same-some p q (sym first ∙ ap (all_of version) same ∙ second)
 
   -- each item has a byte at least, so that all counts of a short spelling fit
   pub counted_within : (p : Package) → length (spelling_as version p) ≤ 67108864 → IsCounted version p
@@ -160,19 +176,20 @@ module _ (version : Version) where
   read_is : (bytes : List ℕ) (p : Package) → IsBytes bytes → HasMagic version bytes → reading_as version bytes ≡ Ok p → IsRead version bytes p
   read_is bytes p h m e =
       let tests = ok_tests (has_digest bytes) (package_in version (middle bytes)) p e in
-      let first = bind-some (all_of version (middle bytes)) (λ q. kept_if (rules q) q) p tests.1 in
+      let first = bind-some (all_of version (middle bytes)) (λ q. kept_if (rules q && fits_version version q) q) p tests.1 in
       let q = first.0 in
       let clean : IsBytes (middle bytes) = IsBytes-drop 8 (before_digest bytes) (IsBytes-take (length bytes - 32) bytes h) in
       let k = all_took version (middle bytes) q clean first.1 in
-      let l = kept_is (rules q) q p first.2 in
+      let l = kept_is (rules q && fits_version version q) q p first.2 in
+      let met = and-parts (rules q) (fits_version version q) l.0 in
       let whole : bytes ≡ spelling_as version q = parts_of bytes m (digest_fact bytes tests.0) ∙ ap (λ (s : List ℕ). (magic version ++ s) ++ sha256 (magic version ++ s)) k.0 in
-      subst (IsRead version bytes) l.1 (record { is_typed = k.1; is_valid = and-from (has_room q) (rules q) k.2 l.0; spells = record { room = k.2; counted = k.3; same = sym whole } })
+      subst (IsRead version bytes) l.1 (record { is_typed = k.1; is_valid = and-from (has_room q) (rules q) k.2 met.0; spells = record { room = k.2; fits = met.1; counted = k.3; same = sym whole } })
 
   no_form : (bytes : List ℕ) → reading_as version bytes ≡ Err Form → HasDigest bytes × IsNoSpelling version bytes
   no_form bytes e = (
     digest_fact bytes (form_tests (has_digest bytes) (package_in version (middle bytes)) e),
     λ p t v is.
-        let no : read_as p ≡ Err Form = sym (read_again p t v is.counted) ∙ ap (reading_as version) is.same ∙ e in
+        let no : read_as p ≡ Err Form = sym (read_again p t v is.fits is.counted) ∙ ap (reading_as version) is.same ∙ e in
         cc,
   )
 

@@ -14,6 +14,7 @@ use Rattle.package_layout.specs.Events.{event_at}
 use Rattle.package_layout.specs.declared.decode_error.DecodeError.{DecodeError}
 use Rattle.package_layout.specs.declared.decode_error.DecodeError.TheVariants.{Malformed}
 use Rattle.package_layout.specs.Fields.{Found, ◌>>=◌, Makes, list_at}
+use Rattle.package_layout.specs.Plain.{fits_version}
 use Rattle.package_layout.specs.RunPackages.{whole, cut_at, run_sections_at, run_sections_of, run_rules, runs_in}
 use Rattle.package_layout.specs.Runs.{Run, runs_of, events_in, is_run, are_longest, are_runs, run_at, total, max_events, events_of_runs, few_events}
 use Rattle.package_layout.specs.Typed.{TypedEvent}
@@ -73,14 +74,18 @@ of_parts p rs = record { bare = p; runs = rs }
 abbrev ended : Package × List ℕ → Option Package
 ended x = cond (length x.1 == 0) (Some x.0) None
 
-abbrev tested : Package → Option Package
-tested p = kept_if (rules p) p
+-- the package is valid, and the version has what is in it
+abbrev passes : Version → Package → Bool
+passes v p = rules p && fits_version v p
+
+abbrev tested : Version → Package → Option Package
+tested v p = kept_if (passes v p) p
 
 abbrev runs_ended : RunPackage × List ℕ → Option RunPackage
 runs_ended x = cond (length x.1 == 0) (Some x.0) None
 
-abbrev runs_tested : RunPackage → Option RunPackage
-runs_tested r = cond (run_rules r) (Some r) None
+abbrev runs_tested : Version → RunPackage → Option RunPackage
+runs_tested v r = cond (run_rules v r) (Some r) None
 
 abbrev paired : {X : Type 0} → Package → X × List ℕ → Found (Package × X)
 paired p y = Some ((p, y.0), y.1)
@@ -95,19 +100,19 @@ abbrev runs_put : (Package × List Run) × List ℕ → Found RunPackage
 runs_put q = behind (of_parts q.0.0 q.0.1) q.1
 
 -- what is made of a bare package and the events behind it, or the runs
-abbrev packed : Package → Found (List Event) → Option Package
-packed p found = (((found >>= paired p) >>= put) >>= ended) >>= tested
+abbrev packed : Version → Package → Found (List Event) → Option Package
+packed v p found = (((found >>= paired p) >>= put) >>= ended) >>= tested v
 
-abbrev runs_packed : Package → Found (List Run) → Option RunPackage
-runs_packed p found = (((found >>= paired p) >>= runs_put) >>= runs_ended) >>= runs_tested
+abbrev runs_packed : Version → Package → Found (List Run) → Option RunPackage
+runs_packed v p found = (((found >>= paired p) >>= runs_put) >>= runs_ended) >>= runs_tested v
 
 bind_if : {A B : Type 0} (b : Bool) (x : A) (f : A → Option B) → (cond b (Some x) None >>= f) ≡ cond b (f x) None
 bind_if true x f = refl
 bind_if false x f = refl
 
-packed_if : (p : Package) (b : Bool) (es : List Event) (rest : List ℕ) → packed p (cond b (behind es rest) None) ≡ cond b (ended (with_events p es, rest) >>= tested) None
-packed_if p true es rest = refl
-packed_if p false es rest = refl
+packed_if : (v : Version) (p : Package) (b : Bool) (es : List Event) (rest : List ℕ) → packed v p (cond b (behind es rest) None) ≡ cond b (ended (with_events p es, rest) >>= tested v) None
+packed_if v p true es rest = refl
+packed_if v p false es rest = refl
 
 by_tests : (a e g : Bool) (r : RunPackage) → cond a (cond e (kept_if g (whole r)) None) None ≡ option_map whole (cond e (cond (a && g) (Some r) None) None)
 by_tests true true true r = refl
@@ -116,21 +121,21 @@ by_tests true false g r = refl
 by_tests false true g r = refl
 by_tests false false g r = refl
 
-packed_runs : (p : Package) (found : Found (List Run)) → packed p (found >>= kept_events) ≡ option_map whole (runs_packed p found)
-packed_runs p None = refl
-packed_runs p (Some x) =
+packed_runs : (v : Version) (p : Package) (found : Found (List Run)) → packed v p (found >>= kept_events) ≡ option_map whole (runs_packed v p found)
+packed_runs v p None = refl
+packed_runs v p (Some x) =
     let r : RunPackage = of_parts p x.0 in
     let a = are_runs x.0 in
     let e = length x.1 == 0 in
-    packed_if p a (events_in x.0) x.1
-    ∙ ap (λ (o : Option Package). cond a o None) (bind_if e (whole r) tested)
-    ∙ by_tests a e (rules (whole r)) r
-    ∙ ap (option_map whole) (sym (bind_if e r runs_tested))
+    packed_if v p a (events_in x.0) x.1
+    ∙ ap (λ (o : Option Package). cond a o None) (bind_if e (whole r) (tested v))
+    ∙ by_tests a e (passes v (whole r)) r
+    ∙ ap (option_map whole) (sym (bind_if e r (runs_tested v)))
 
 by_bare : (v : Version) (found : Found Package) → ((p : Package) (rest : List ℕ) → found ≡ Some (p, rest) → IsBytes rest)
-    → ((((found >>= next (trace_at v)) >>= put) >>= ended) >>= tested) ≡ option_map whole ((((found >>= next (cut_at v)) >>= runs_put) >>= runs_ended) >>= runs_tested)
+    → ((((found >>= next (trace_at v)) >>= put) >>= ended) >>= tested v) ≡ option_map whole ((((found >>= next (cut_at v)) >>= runs_put) >>= runs_ended) >>= runs_tested v)
 by_bare v None h = refl
-by_bare v (Some x) h = ap (packed x.0) (trace_cut v x.1 (h x.0 x.1 refl)) ∙ packed_runs x.0 (cut_at v x.1)
+by_bare v (Some x) h = ap (packed v x.0) (trace_cut v x.1 (h x.0 x.1 refl)) ∙ packed_runs v x.0 (cut_at v x.1)
 
 pub same_package : (v : Version) (bytes : List ℕ) → IsBytes bytes → package_in v bytes ≡ option_map whole (runs_in v bytes)
 same_package v bytes h = by_bare v (bare_at v bytes) (λ p rest e. (bare_took v bytes p rest h e).1)
@@ -165,11 +170,11 @@ no_events v bytes q h e =
 
 pub runs_read : (v : Version) (bytes : List ℕ) (r : RunPackage) → IsBytes bytes → runs_in v bytes ≡ Some r → (are_runs r.runs ≡ true) × (r.bare.events ≡ [])
 runs_read v bytes r h e =
-    let one = bind-some (run_sections_of v bytes) runs_tested r e in
+    let one = bind-some (run_sections_of v bytes) (runs_tested v) r e in
     let q = one.0 in
-    let two = runs_tests (run_rules q) q r one.2 in
+    let two = runs_tests (run_rules v q) q r one.2 in
     subst (λ (r : RunPackage). (are_runs r.runs ≡ true) × (r.bare.events ≡ [])) two.1
-    ((and-parts (are_runs q.runs) (rules (whole q)) two.0).0, no_events v bytes q h one.1)
+    ((and-parts (are_runs q.runs) (passes v (whole q)) two.0).0, no_events v bytes q h one.1)
 
 clean : (bytes : List ℕ) → IsBytes bytes → IsBytes (middle bytes)
 clean bytes h = IsBytes-drop 8 (before_digest bytes) (IsBytes-take (length bytes - 32) bytes h)

@@ -1,27 +1,28 @@
 -- Tables: what is spelled is read, and what is read was spelled so.
-use Rattle.std.proofs.Common.{◌≡◌, ℕ, zero, suc, ◌^◌, ◌<◌, Bool, true, false, cond, List, [], ◌∷◌, ◌++◌, length, Some, None, refl, sym, ap, ◌∙◌, arith, ◌&&◌}
+use Rattle.std.proofs.Common.{◌≡◌, ℕ, zero, suc, ◌^◌, ◌<◌, Bool, true, false, List, [], ◌∷◌, ◌++◌, length, Some, refl, subst, arith, ◌&&◌}
 use Rattle.ldv_value.proofs.Options.{same-some}
 use Rattle.package_layout.specs.Version.{Version, One, Two}
 use Rattle.std.specs.Prelude.{nat_lt, ◌==◌}
 use Rattle.std.specs.List.{list_all, AllByRecursion}
 use Rattle.std.specs.Str.{IsUtf8}
 use Rattle.std.specs.Int.{w8, w32, to_be_bytes}
-use Rattle.std.proofs.lemmas.Bool.{ltb-true, eqb-true}
+use Rattle.std.proofs.lemmas.Bool.{ltb-true}
 use Rattle.ldv_value.specs.declared.value.Value.{Value}
 use Rattle.ldv_value.proofs.Booleans.{and-parts, and-from}
 use Rattle.sql_model.specs.declared.need.Rule.{Rule}
-use Rattle.sql_model.specs.declared.need.Rule.TheVariants.{L, H, K}
+use Rattle.sql_model.specs.declared.need.Rule.TheVariants.{L, H, K, P, C}
 use Rattle.sql_model.specs.declared.table.Column.{Column}
+use Rattle.sql_model.specs.declared.table.Foreign.{Foreign}
 use Rattle.sql_model.specs.declared.table.Schema.{Schema}
 use Rattle.run_model.specs.declared.package.PackedRow.{PackedRow}
 use Rattle.run_model.specs.declared.package.PackedTable.{PackedTable}
 use Rattle.package_layout.specs.Fields.{Found, then_at, both_at, number_at, text_spelling, list_spelling, list_at, text_at}
-use Rattle.package_layout.specs.Spelling.{value_spelling, kind_number, rule_number, column_spelling, number_spelling, reason_spelling, cells_spelling, row_spelling, key_spelling, schema_spelling, table_spelling}
-use Rattle.package_layout.specs.Typed.{IsU32, TypedValue, TypedValues, TypedColumn, TypedRow, TypedTable}
-use Rattle.package_layout.specs.Room.{few, key_room, row_room, table_room}
-use Rattle.package_layout.specs.Counts.{CountedList, CountedValue, CountedColumn, CountedRow, CountedTable}
-use Rattle.package_layout.specs.Reading.{value_at, kind_of, kind_at, column_at, rule_of, rule_at, reason_at, cells_at, row_at, rows_at, places_at, without_foreign, key_at, schema_at, table_at}
-use Rattle.package_layout.proofs.Laws.{number_is, IsField, always, list_all-always, Uncounted, all_uncounted, restate, recount, made_law, then_law, struct_law}
+use Rattle.package_layout.specs.Spelling.{value_spelling, kind_number, rule_number, column_spelling, number_spelling, reason_spelling, cells_spelling, row_spelling, places_spelling, foreign_spelling, foreigns_spelling, schema_spelling, table_spelling}
+use Rattle.package_layout.specs.Typed.{IsU32, TypedValue, TypedValues, TypedColumn, TypedForeign, TypedSchema, TypedRow, TypedTable}
+use Rattle.package_layout.specs.Room.{few, key_room, foreign_room, foreigns_room, schema_room, row_room, table_room}
+use Rattle.package_layout.specs.Counts.{CountedList, CountedValue, CountedColumn, CountedForeign, CountedForeigns, CountedSchema, CountedRow, CountedTable}
+use Rattle.package_layout.specs.Reading.{value_at, kind_of, kind_at, column_at, rule_of, rule_at, reason_at, cells_at, row_at, rows_at, places_at, foreign_at, foreigns_at, schema_at, table_at}
+use Rattle.package_layout.proofs.Laws.{number_is, Took, IsField, always, list_all-always, Uncounted, all_uncounted, restate, recount, made_law, then_law, struct_law}
 use Rattle.package_layout.proofs.Numbers.{wide8, wide32, number_law, text_law, items_law, byte_list_law, long_law, ltb_from}
 use Rattle.package_layout.proofs.Values.{value_law}
 
@@ -74,13 +75,17 @@ rule_again : (r : Rule) → (rule_number r < 256) × (true ≡ true) × (rule_of
 rule_again L = (omega arith, refl, refl)
 rule_again H = (omega arith, refl, refl)
 rule_again K = (omega arith, refl, refl)
+rule_again P = (omega arith, refl, refl)
+rule_again C = (omega arith, refl, refl)
 
 rule_back : (n : ℕ) (r : Rule) → rule_of n ≡ Some r → n ≡ rule_number r
 rule_back zero r e = absurd cc
 rule_back (suc zero) r e = number_is rule_number 1 L r refl e
 rule_back (suc (suc zero)) r e = number_is rule_number 2 H r refl e
 rule_back (suc (suc (suc zero))) r e = number_is rule_number 3 K r refl e
-rule_back (suc (suc (suc (suc n)))) r e = absurd cc
+rule_back (suc (suc (suc (suc zero)))) r e = number_is rule_number 4 P r refl e
+rule_back (suc (suc (suc (suc (suc zero))))) r e = number_is rule_number 5 C r refl e
+rule_back (suc (suc (suc (suc (suc (suc n)))))) r e = absurd cc
 
 pub rule_law : IsField (λ r. to_be_bytes w8 (rule_number r)) Anything always Uncounted rule_at
 rule_law = made_law (to_be_bytes w8) (λ n. n < 256) always (number_at w8) Anything always rule_of rule_number (number_law w8 256 wide8)
@@ -155,38 +160,105 @@ places_law = recount Uncounted (restate (list_spelling w8 (to_be_bytes w8)) (All
     (λ key t h. (tt, and-from (few key) (list_all (λ place. nat_lt place 256) key) (and-parts (few key) (list_all always key) h).0 (bytes_test key t))))
     (λ key n. all_uncounted key) (λ key n. tt)
 
--- no foreign key
-without_is : (p : List ℕ × ℕ) (key : List ℕ) (b : Bool) → (p.1 == 0) ≡ b → cond b (Some p.0) None ≡ Some key → p ≡ (key, 0)
-without_is p key true is e = λ j. (same-some p.0 key e j, eqb-true p.1 0 is j)
-without_is p key false is e = absurd cc
+-- ---- foreign keys
 
-key_law : (v : Version) → IsField (key_spelling v) Anything key_room Uncounted (key_at v)
-key_law One = places_law
-key_law Two = recount Uncounted (made_law (λ (p : List ℕ × ℕ). list_spelling w8 (to_be_bytes w8) p.0 ++ to_be_bytes w8 p.1) (λ (p : List ℕ × ℕ). Unit {0} × (p.1 < 256)) (λ (p : List ℕ × ℕ). key_room p.0 && true) (both_at places_at (number_at w8)) Anything key_room without_foreign (λ key. (key, 0))
-    (then_law (list_spelling w8 (to_be_bytes w8)) Anything key_room places_at (to_be_bytes w8) (λ n. n < 256) (λ a. always) (λ a. number_at w8) places_law (λ a. number_law w8 256 wide8))
-    (λ key t h. ((tt, omega arith), and-from (key_room key) true h refl, refl))
-    (λ p key t h e. let is = without_is p key (p.1 == 0) refl e in (is, tt, ap key_room (ap (λ (q : List ℕ × ℕ). q.0) (sym is)) ∙ (and-parts (key_room p.0) true h).0)))
-    (λ key n. (tt, tt)) (λ key n. tt)
+abbrev ForeignParts : Type 0
+ForeignParts = List ℕ × List ℕ
+
+foreign_law : IsField foreign_spelling TypedForeign foreign_room CountedForeign foreign_at
+foreign_law = recount CountedForeign (restate foreign_spelling (λ f. Unit {0} × IsUtf8 f.parent) TypedForeign (λ f. key_room f.columns && true) foreign_room foreign_at
+    (struct_law (λ (p : ForeignParts). places_spelling p.0 ++ text_spelling p.1) (λ (p : ForeignParts). Unit {0} × IsUtf8 p.1) (λ (p : ForeignParts). key_room p.0 && true) (both_at places_at text_at)
+    (λ (p : ForeignParts). record { columns = p.0; parent = p.1 }) (λ (f : Foreign). (f.columns, f.parent))
+    (then_law places_spelling Anything key_room places_at text_spelling IsUtf8 (λ a. always) (λ a. text_at) places_law (λ a. text_law)) (λ f. refl) (λ p. refl))
+    (λ f t h. ((tt, t), and-from (key_room f.columns) true h refl))
+    (λ f t h. (t.1, (and-parts (key_room f.columns) true h).0)))
+    (λ f n. (tt, n)) (λ f n. n.1)
+
+-- what a version has of them: version 1 has none
+abbrev pub has_of : Version → List Foreign → Bool
+has_of One fs = length fs == 0
+has_of Two fs = true
+
+abbrev foreigns_fit : Version → List Foreign → Bool
+foreigns_fit v fs = foreigns_room fs && has_of v fs
+
+none_again : (fs : List Foreign) (rest : List ℕ) → (length fs == 0) ≡ true → foreigns_at One rest ≡ Some (fs, rest)
+none_again [] rest none = refl
+none_again (f ∷ fs) rest none = absurd cc
+
+none_took : (bytes : List ℕ) (fs : List Foreign) (rest : List ℕ) → foreigns_at One bytes ≡ Some (fs, rest)
+    → Took (foreigns_spelling One) (AllByRecursion TypedForeign) (foreigns_fit One) (CountedForeigns One) bytes fs rest
+none_took bytes fs rest e =
+    subst (λ (y : List Foreign × List ℕ). Took (foreigns_spelling One) (AllByRecursion TypedForeign) (foreigns_fit One) (CountedForeigns One) bytes y.0 y.1)
+    (same-some ([], bytes) (fs, rest) e)
+    (record { parts = refl; is_typed = tt; is_fit = refl; is_counted = tt })
+
+foreigns_law : (v : Version) → IsField (foreigns_spelling v) (AllByRecursion TypedForeign) (foreigns_fit v) (CountedForeigns v) (foreigns_at v)
+foreigns_law One = record {
+  again = λ fs rest t h n. none_again fs rest (and-parts (foreigns_room fs) (length fs == 0) h).1;
+  took = λ bytes fs rest b e. none_took bytes fs rest e;
+  short = λ fs len. tt;
+}
+foreigns_law Two = restate (foreigns_spelling Two) (AllByRecursion TypedForeign) (AllByRecursion TypedForeign) foreigns_room (foreigns_fit Two) (foreigns_at Two)
+    (byte_list_law foreign_spelling TypedForeign foreign_room foreign_at foreign_law)
+    (λ fs t h. (t, (and-parts (foreigns_room fs) true h).0))
+    (λ fs t h. (t, and-from (foreigns_room fs) true h refl))
+
+-- ---- schemas
+
+abbrev Keys : Type 0
+Keys = List ℕ × List Foreign
 
 abbrev SchemaParts : Type 0
-SchemaParts = List Column × List ℕ
+SchemaParts = List Column × Keys
 
-abbrev schema_room : Schema → Bool
-schema_room s = few s.columns && key_room s.key
+abbrev keys_parts : Version → Keys → List ℕ
+keys_parts v p = places_spelling p.0 ++ foreigns_spelling v p.1
 
-schema_law : (v : Version) → IsField (schema_spelling v) (λ s. AllByRecursion TypedColumn s.columns) schema_room (λ s. AllByRecursion CountedColumn s.columns) (schema_at v)
-schema_law v = recount (λ s. AllByRecursion CountedColumn s.columns) (restate (schema_spelling v) (λ s. AllByRecursion TypedColumn s.columns × Unit {0}) (λ s. AllByRecursion TypedColumn s.columns) (λ s. (few s.columns && list_all always s.columns) && key_room s.key) schema_room (schema_at v)
-    (struct_law (λ (p : SchemaParts). list_spelling w8 column_spelling p.0 ++ key_spelling v p.1) (λ (p : SchemaParts). AllByRecursion TypedColumn p.0 × Unit {0}) (λ (p : SchemaParts). (few p.0 && list_all always p.0) && key_room p.1) (both_at (list_at w8 column_at) (key_at v))
-    (λ (p : SchemaParts). record { columns = p.0; key = p.1 }) (λ (s : Schema). (s.columns, s.key))
-    (then_law (list_spelling w8 column_spelling) (AllByRecursion TypedColumn) (λ cs. few cs && list_all always cs) (list_at w8 column_at) (key_spelling v) Anything (λ a. key_room) (λ a. key_at v) (byte_list_law column_spelling TypedColumn always column_at column_law) (λ a. key_law v))
+abbrev TypedKeys : Keys → Type 0
+TypedKeys p = Unit {0} × AllByRecursion TypedForeign p.1
+
+abbrev keys_fit : Version → Keys → Bool
+keys_fit v p = key_room p.0 && foreigns_fit v p.1
+
+keys_law : (v : Version) → IsField (keys_parts v) TypedKeys (keys_fit v) (λ (p : Keys). Unit {0} × CountedForeigns v p.1) (both_at places_at (foreigns_at v))
+keys_law v = then_law places_spelling Anything key_room places_at (foreigns_spelling v) (AllByRecursion TypedForeign) (λ a. foreigns_fit v) (λ a. foreigns_at v) places_law (λ a. foreigns_law v)
+
+abbrev columns_fit : List Column → Bool
+columns_fit cs = few cs && list_all always cs
+
+abbrev pub schema_fits : Version → Schema → Bool
+schema_fits v s = schema_room s && has_of v s.foreign
+
+-- what is asked of the parts is what is asked of the schema
+schema_to : (v : Version) (s : Schema) → schema_fits v s ≡ true → (columns_fit s.columns && keys_fit v (s.key, s.foreign)) ≡ true
+schema_to v s h =
+    let a = and-parts (schema_room s) (has_of v s.foreign) h in
+    let b = and-parts (few s.columns) (key_room s.key && foreigns_room s.foreign) a.0 in
+    let c = and-parts (key_room s.key) (foreigns_room s.foreign) b.1 in
+    and-from (columns_fit s.columns) (keys_fit v (s.key, s.foreign))
+    (and-from (few s.columns) (list_all always s.columns) b.0 (list_all-always s.columns))
+    (and-from (key_room s.key) (foreigns_fit v s.foreign) c.0 (and-from (foreigns_room s.foreign) (has_of v s.foreign) c.1 a.1))
+
+schema_from : (v : Version) (s : Schema) → (columns_fit s.columns && keys_fit v (s.key, s.foreign)) ≡ true → schema_fits v s ≡ true
+schema_from v s h =
+    let a = and-parts (columns_fit s.columns) (keys_fit v (s.key, s.foreign)) h in
+    let b = and-parts (key_room s.key) (foreigns_fit v s.foreign) a.1 in
+    let c = and-parts (foreigns_room s.foreign) (has_of v s.foreign) b.1 in
+    and-from (schema_room s) (has_of v s.foreign)
+    (and-from (few s.columns) (key_room s.key && foreigns_room s.foreign) (and-parts (few s.columns) (list_all always s.columns) a.0).0
+    (and-from (key_room s.key) (foreigns_room s.foreign) b.0 c.0))
+    c.1
+
+schema_law : (v : Version) → IsField (schema_spelling v) TypedSchema (schema_fits v) (CountedSchema v) (schema_at v)
+schema_law v = recount (CountedSchema v) (restate (schema_spelling v) (λ s. AllByRecursion TypedColumn s.columns × TypedKeys (s.key, s.foreign)) TypedSchema (λ s. columns_fit s.columns && keys_fit v (s.key, s.foreign)) (schema_fits v) (schema_at v)
+    (struct_law (λ (p : SchemaParts). list_spelling w8 column_spelling p.0 ++ keys_parts v p.1) (λ (p : SchemaParts). AllByRecursion TypedColumn p.0 × TypedKeys p.1) (λ (p : SchemaParts). columns_fit p.0 && keys_fit v p.1) (both_at (list_at w8 column_at) (both_at places_at (foreigns_at v)))
+    (λ (p : SchemaParts). record { columns = p.0; key = p.1.0; foreign = p.1.1 }) (λ (s : Schema). (s.columns, (s.key, s.foreign)))
+    (then_law (list_spelling w8 column_spelling) (AllByRecursion TypedColumn) columns_fit (list_at w8 column_at) (keys_parts v) TypedKeys (λ a. keys_fit v) (λ a. both_at places_at (foreigns_at v)) (byte_list_law column_spelling TypedColumn always column_at column_law) (λ a. keys_law v))
     (λ s. refl) (λ p. refl))
-    (λ s t h.
-    let both = and-parts (few s.columns) (key_room s.key) h in
-    ((t, tt), and-from (few s.columns && list_all always s.columns) (key_room s.key) (and-from (few s.columns) (list_all always s.columns) both.0 (list_all-always s.columns)) both.1))
-    (λ s t h.
-    let both = and-parts (few s.columns && list_all always s.columns) (key_room s.key) h in
-    (t.0, and-from (few s.columns) (key_room s.key) (and-parts (few s.columns) (list_all always s.columns) both.0).0 both.1)))
-    (λ s n. (n, tt)) (λ s n. n.0)
+    (λ s t h. ((t.0, (tt, t.1)), schema_to v s h))
+    (λ s t h. ((t.0, t.1.1), schema_from v s h)))
+    (λ s n. (n.0, (tt, n.1))) (λ s n. (n.0, n.1.1))
 
 abbrev TableEnd : Type 0
 TableEnd = ℕ × List PackedRow
@@ -201,13 +273,13 @@ abbrev tail_spelling : Version → TableTail → List ℕ
 tail_spelling v p = schema_spelling v p.0 ++ (to_be_bytes w32 p.1.0 ++ list_spelling w32 row_spelling p.1.1)
 
 abbrev TypedTail : TableTail → Type 0
-TypedTail p = AllByRecursion TypedColumn p.0.columns × (IsU32 p.1.0 × AllByRecursion TypedRow p.1.1)
+TypedTail p = TypedSchema p.0 × (IsU32 p.1.0 × AllByRecursion TypedRow p.1.1)
 
-abbrev CountedTail : TableTail → Type 0
-CountedTail p = AllByRecursion CountedColumn p.0.columns × (Unit {0} × CountedList CountedRow p.1.1)
+abbrev CountedTail : Version → TableTail → Type 0
+CountedTail v p = CountedSchema v p.0 × (Unit {0} × CountedList CountedRow p.1.1)
 
-abbrev tail_room : TableTail → Bool
-tail_room p = schema_room p.0 && list_all (row_room (length p.0.columns)) p.1.1
+abbrev tail_fits : Version → TableTail → Bool
+tail_fits v p = schema_fits v p.0 && list_all (row_room (length p.0.columns)) p.1.1
 
 abbrev tail_at : Version → List ℕ → Found TableTail
 tail_at v = then_at (schema_at v) (λ s. both_at (number_at w32) (rows_at (length s.columns)))
@@ -215,23 +287,35 @@ tail_at v = then_at (schema_at v) (λ s. both_at (number_at w32) (rows_at (lengt
 table_end_law : (s : Schema) → IsField (λ (p : TableEnd). to_be_bytes w32 p.0 ++ list_spelling w32 row_spelling p.1) (λ (p : TableEnd). IsU32 p.0 × AllByRecursion TypedRow p.1) (λ (p : TableEnd). list_all (row_room (length s.columns)) p.1) (λ (p : TableEnd). Unit {0} × CountedList CountedRow p.1) (both_at (number_at w32) (rows_at (length s.columns)))
 table_end_law s = then_law (to_be_bytes w32) IsU32 always (number_at w32) (list_spelling w32 row_spelling) (AllByRecursion TypedRow) (λ a. list_all (row_room (length s.columns))) (λ a. rows_at (length s.columns)) u32_law (λ a. rows_law (length s.columns))
 
-table_tail_law : (v : Version) → IsField (tail_spelling v) TypedTail tail_room CountedTail (tail_at v)
-table_tail_law v = then_law (schema_spelling v) (λ s. AllByRecursion TypedColumn s.columns) schema_room (schema_at v) (λ (p : TableEnd). to_be_bytes w32 p.0 ++ list_spelling w32 row_spelling p.1) (λ (p : TableEnd). IsU32 p.0 × AllByRecursion TypedRow p.1)
+table_tail_law : (v : Version) → IsField (tail_spelling v) TypedTail (tail_fits v) (CountedTail v) (tail_at v)
+table_tail_law v = then_law (schema_spelling v) TypedSchema (schema_fits v) (schema_at v) (λ (p : TableEnd). to_be_bytes w32 p.0 ++ list_spelling w32 row_spelling p.1) (λ (p : TableEnd). IsU32 p.0 × AllByRecursion TypedRow p.1)
     (λ s (p : TableEnd). list_all (row_room (length s.columns)) p.1) (λ s. both_at (number_at w32) (rows_at (length s.columns))) (schema_law v) table_end_law
 
-pub table_law : (v : Version) → IsField (table_spelling v) TypedTable table_room CountedTable (table_at v)
-table_law v = recount CountedTable (restate (table_spelling v) TypedTable TypedTable (λ t. tail_room (t.schema, (t.next, t.rows))) table_room (table_at v)
-    (struct_law (λ (p : TableParts). text_spelling p.0 ++ tail_spelling v p.1) (λ (p : TableParts). IsUtf8 p.0 × TypedTail p.1) (λ (p : TableParts). tail_room p.1) (both_at text_at (tail_at v))
+-- the format has room for the table, and the version has its foreign keys
+abbrev pub table_fits : Version → PackedTable → Bool
+table_fits v t = table_room t && has_of v t.schema.foreign
+
+table_to : (v : Version) (t : PackedTable) → table_fits v t ≡ true → tail_fits v (t.schema, (t.next, t.rows)) ≡ true
+table_to v t h =
+    let rows : Bool = list_all (row_room (length t.schema.columns)) t.rows in
+    let a = and-parts (table_room t) (has_of v t.schema.foreign) h in
+    let b = and-parts (schema_room t.schema) rows a.0 in
+    and-from (schema_fits v t.schema) rows (and-from (schema_room t.schema) (has_of v t.schema.foreign) b.0 a.1) b.1
+
+table_from : (v : Version) (t : PackedTable) → tail_fits v (t.schema, (t.next, t.rows)) ≡ true → table_fits v t ≡ true
+table_from v t h =
+    let rows : Bool = list_all (row_room (length t.schema.columns)) t.rows in
+    let a = and-parts (schema_fits v t.schema) rows h in
+    let b = and-parts (schema_room t.schema) (has_of v t.schema.foreign) a.0 in
+    and-from (table_room t) (has_of v t.schema.foreign) (and-from (schema_room t.schema) rows b.0 a.1) b.1
+
+pub table_law : (v : Version) → IsField (table_spelling v) TypedTable (table_fits v) (CountedTable v) (table_at v)
+table_law v = recount (CountedTable v) (restate (table_spelling v) TypedTable TypedTable (λ t. tail_fits v (t.schema, (t.next, t.rows))) (table_fits v) (table_at v)
+    (struct_law (λ (p : TableParts). text_spelling p.0 ++ tail_spelling v p.1) (λ (p : TableParts). IsUtf8 p.0 × TypedTail p.1) (λ (p : TableParts). tail_fits v p.1) (both_at text_at (tail_at v))
     (λ (p : TableParts). record { name = p.0; schema = p.1.0; next = p.1.1.0; rows = p.1.1.1 }) (λ (t : PackedTable). (t.name, (t.schema, (t.next, t.rows))))
-    (then_law text_spelling IsUtf8 always text_at (tail_spelling v) TypedTail (λ a. tail_room) (λ a. tail_at v) text_law (λ a. table_tail_law v)) (λ t. refl) (λ p. refl))
-    (λ t h k.
-    let a = and-parts (few t.schema.columns) (key_room t.schema.key && list_all (row_room (length t.schema.columns)) t.rows) k in
-    let b = and-parts (key_room t.schema.key) (list_all (row_room (length t.schema.columns)) t.rows) a.1 in
-    (h, and-from (schema_room t.schema) (list_all (row_room (length t.schema.columns)) t.rows) (and-from (few t.schema.columns) (key_room t.schema.key) a.0 b.0) b.1))
-    (λ t h k.
-    let a = and-parts (schema_room t.schema) (list_all (row_room (length t.schema.columns)) t.rows) k in
-    let b = and-parts (few t.schema.columns) (key_room t.schema.key) a.0 in
-    (h, and-from (few t.schema.columns) (key_room t.schema.key && list_all (row_room (length t.schema.columns)) t.rows) b.0 (and-from (key_room t.schema.key) (list_all (row_room (length t.schema.columns)) t.rows) b.1 a.1))))
+    (then_law text_spelling IsUtf8 always text_at (tail_spelling v) TypedTail (λ a. tail_fits v) (λ a. tail_at v) text_law (λ a. table_tail_law v)) (λ t. refl) (λ p. refl))
+    (λ t h k. (h, table_to v t k))
+    (λ t h k. (h, table_from v t k)))
     (λ t n. (n.0, (n.1.0, (tt, n.1.1)))) (λ t n. (n.0, (n.1.0, n.1.1.1)))
 
 pub table_filled : (v : Version) (t : PackedTable) → 0 < length (table_spelling v t)

@@ -1,5 +1,5 @@
 -- The sections of a package: what is spelled is read, and what is read was spelled so.
-use Rattle.std.proofs.Common.{◌≡◌, ℕ, zero, suc, ◌^◌, ◌<◌, Bool, true, false, cond, List, [], ◌++◌, length, Option, Some, None, refl, sym, ap, subst, ◌∙◌, arith, ◌&&◌}
+use Rattle.std.proofs.Common.{◌≡◌, ℕ, zero, suc, ◌^◌, ◌<◌, Bool, true, false, cond, List, [], ◌∷◌, ◌++◌, length, Option, Some, None, refl, sym, ap, subst, ◌∙◌, arith, ◌&&◌}
 use Rattle.std.specs.Prelude.{◌==◌}
 use Rattle.std.specs.List.{list_all, AllByRecursion}
 use Rattle.std.specs.Str.{IsUtf8}
@@ -17,6 +17,7 @@ use Rattle.run_model.specs.declared.package.Package.{Package}
 use Rattle.package_layout.specs.Fields.{Found, both_at, number_at, list_at, list_spelling}
 use Rattle.package_layout.specs.Spelling.{file_spelling, table_spelling, log_spelling}
 use Rattle.package_layout.specs.Bare.{BareTyped}
+use Rattle.package_layout.specs.Plain.{has_tables}
 use Rattle.package_layout.specs.Typed.{IsU32, TypedFile, TypedTable, TypedLog}
 use Rattle.package_layout.specs.Room.{some_thousands, table_room, log_room}
 use Rattle.package_layout.specs.Counts.{IsCountable, CountedList, CountedFile, CountedTable, CountedLog}
@@ -31,7 +32,7 @@ use Rattle.package_layout.specs.Version.{Version, One, Two}
 use Rattle.package_layout.specs.Whole.{mode_number, mode_spelling, mode_of, mode_at, trace_spelling, trace_at, bare, bare_at, sections, with_events, IsTyped, tables_room, has_room, sections_at, all_of}
 use Rattle.package_layout.proofs.Laws.{number_is, IsBytes, IsBytes-rest, IsField, just, always, list_all-always, Uncounted, restate, recount, made_law, then_law}
 use Rattle.package_layout.proofs.Numbers.{wide8, wide64, number_law, short_list_law, long_law}
-use Rattle.package_layout.proofs.Tables.{Anything, u32_law, table_law}
+use Rattle.package_layout.proofs.Tables.{Anything, u32_law, has_of, table_fits, table_law}
 use Rattle.package_layout.proofs.Values.{file_law, file_filled}
 use Rattle.package_layout.proofs.Logs.{log_law, log_filled}
 use Rattle.package_layout.proofs.Events.{names_law, event_law, event_filled}
@@ -54,11 +55,11 @@ files_law : IsField (list_spelling w32 file_spelling) (AllByRecursion TypedFile)
 files_law = restate (list_spelling w32 file_spelling) (AllByRecursion TypedFile) (AllByRecursion TypedFile) (list_all always) always (list_at w32 file_at) (long_law file_spelling TypedFile always file_at file_law file_filled)
     (λ fs t h. (t, list_all-always fs)) (λ fs t h. (t, refl))
 
-abbrev tables_fit : List PackedTable → Bool
-tables_fit ts = some_thousands ts && list_all table_room ts
+abbrev tables_fit : Version → List PackedTable → Bool
+tables_fit v ts = some_thousands ts && list_all (table_fits v) ts
 
-tables_law : (v : Version) → IsField (list_spelling w16 (table_spelling v)) (AllByRecursion TypedTable) tables_fit (AllByRecursion CountedTable) (list_at w16 (table_at v))
-tables_law v = short_list_law (table_spelling v) TypedTable table_room (table_at v) (table_law v)
+tables_law : (v : Version) → IsField (list_spelling w16 (table_spelling v)) (AllByRecursion TypedTable) (tables_fit v) (AllByRecursion (CountedTable v)) (list_at w16 (table_at v))
+tables_law v = short_list_law (table_spelling v) TypedTable (table_fits v) (table_at v) (table_law v)
 
 logs_law : IsField (list_spelling w32 log_spelling) (AllByRecursion TypedLog) (list_all log_room) (CountedList CountedLog) (list_at w32 log_at)
 logs_law = long_law log_spelling TypedLog log_room log_at log_law log_filled
@@ -132,41 +133,41 @@ t2 p = AllByRecursion IsUtf8 p.0 × t3 p.1
 abbrev t1 : P1 → Type 0
 t1 p = Unit {0} × t2 p.1
 
-abbrev c6 : P6 → Type 0
-c6 p = AllByRecursion CountedTable p.0 × CountedList CountedLog p.1
+abbrev c6 : Version → P6 → Type 0
+c6 v p = AllByRecursion (CountedTable v) p.0 × CountedList CountedLog p.1
 
-abbrev c5 : P5 → Type 0
-c5 p = CountedList CountedFile p.0 × c6 p.1
+abbrev c5 : Version → P5 → Type 0
+c5 v p = CountedList CountedFile p.0 × c6 v p.1
 
-abbrev c4 : P4 → Type 0
-c4 p = Unit {0} × c5 p.1
+abbrev c4 : Version → P4 → Type 0
+c4 v p = Unit {0} × c5 v p.1
 
-abbrev c3 : P3 → Type 0
-c3 p = Unit {0} × c4 p.1
+abbrev c3 : Version → P3 → Type 0
+c3 v p = Unit {0} × c4 v p.1
 
-abbrev c2 : P2 → Type 0
-c2 p = AllByRecursion IsCountable p.0 × c3 p.1
+abbrev c2 : Version → P2 → Type 0
+c2 v p = AllByRecursion IsCountable p.0 × c3 v p.1
 
-abbrev c1 : P1 → Type 0
-c1 p = Unit {0} × c2 p.1
+abbrev c1 : Version → P1 → Type 0
+c1 v p = Unit {0} × c2 v p.1
 
-abbrev f6 : P6 → Bool
-f6 p = tables_fit p.0 && list_all log_room p.1
+abbrev f6 : Version → P6 → Bool
+f6 v p = tables_fit v p.0 && list_all log_room p.1
 
-abbrev f5 : P5 → Bool
-f5 p = f6 p.1
+abbrev f5 : Version → P5 → Bool
+f5 v p = f6 v p.1
 
-abbrev f4 : P4 → Bool
-f4 p = f5 p.1
+abbrev f4 : Version → P4 → Bool
+f4 v p = f5 v p.1
 
-abbrev f3 : P3 → Bool
-f3 p = f4 p.1
+abbrev f3 : Version → P3 → Bool
+f3 v p = f4 v p.1
 
-abbrev f2 : P2 → Bool
-f2 p = some_thousands p.0 && f3 p.1
+abbrev f2 : Version → P2 → Bool
+f2 v p = some_thousands p.0 && f3 v p.1
 
-abbrev f1 : P1 → Bool
-f1 p = f2 p.1
+abbrev f1 : Version → P1 → Bool
+f1 v p = f2 v p.1
 
 abbrev r6 : Version → List ℕ → Found P6
 r6 v = both_at (list_at w16 (table_at v)) (list_at w32 log_at)
@@ -186,23 +187,23 @@ r2 v = both_at names_at (r3 v)
 abbrev r1 : Version → List ℕ → Found P1
 r1 v = both_at mode_at (r2 v)
 
-l6 : (v : Version) → IsField (s6 v) t6 f6 c6 (r6 v)
-l6 v = then_law (list_spelling w16 (table_spelling v)) (AllByRecursion TypedTable) tables_fit (list_at w16 (table_at v)) (list_spelling w32 log_spelling) (AllByRecursion TypedLog) (λ a. list_all log_room) (λ a. list_at w32 log_at) (tables_law v) (λ a. logs_law)
+l6 : (v : Version) → IsField (s6 v) t6 (f6 v) (c6 v) (r6 v)
+l6 v = then_law (list_spelling w16 (table_spelling v)) (AllByRecursion TypedTable) (tables_fit v) (list_at w16 (table_at v)) (list_spelling w32 log_spelling) (AllByRecursion TypedLog) (λ a. list_all log_room) (λ a. list_at w32 log_at) (tables_law v) (λ a. logs_law)
 
-l5 : (v : Version) → IsField (s5 v) t5 f5 c5 (r5 v)
-l5 v = then_law (list_spelling w32 file_spelling) (AllByRecursion TypedFile) always (list_at w32 file_at) (s6 v) t6 (λ a. f6) (λ a. r6 v) files_law (λ a. l6 v)
+l5 : (v : Version) → IsField (s5 v) t5 (f5 v) (c5 v) (r5 v)
+l5 v = then_law (list_spelling w32 file_spelling) (AllByRecursion TypedFile) always (list_at w32 file_at) (s6 v) t6 (λ a. f6 v) (λ a. r6 v) files_law (λ a. l6 v)
 
-l4 : (v : Version) → IsField (s4 v) t4 f4 c4 (r4 v)
-l4 v = then_law (to_be_bytes w32) IsU32 always (number_at w32) (s5 v) t5 (λ a. f5) (λ a. r5 v) u32_law (λ a. l5 v)
+l4 : (v : Version) → IsField (s4 v) t4 (f4 v) (c4 v) (r4 v)
+l4 v = then_law (to_be_bytes w32) IsU32 always (number_at w32) (s5 v) t5 (λ a. f5 v) (λ a. r5 v) u32_law (λ a. l5 v)
 
-l3 : (v : Version) → IsField (s3 v) t3 f3 c3 (r3 v)
-l3 v = then_law (to_be_bytes w64) (λ n. n < 2 ^ 64) always (number_at w64) (s4 v) t4 (λ a. f4) (λ a. r4 v) (number_law w64 (2 ^ 64) wide64) (λ a. l4 v)
+l3 : (v : Version) → IsField (s3 v) t3 (f3 v) (c3 v) (r3 v)
+l3 v = then_law (to_be_bytes w64) (λ n. n < 2 ^ 64) always (number_at w64) (s4 v) t4 (λ a. f4 v) (λ a. r4 v) (number_law w64 (2 ^ 64) wide64) (λ a. l4 v)
 
-l2 : (v : Version) → IsField (s2 v) t2 f2 c2 (r2 v)
-l2 v = then_law names_spelling (AllByRecursion IsUtf8) some_thousands names_at (s3 v) t3 (λ a. f3) (λ a. r3 v) names_law (λ a. l3 v)
+l2 : (v : Version) → IsField (s2 v) t2 (f2 v) (c2 v) (r2 v)
+l2 v = then_law names_spelling (AllByRecursion IsUtf8) some_thousands names_at (s3 v) t3 (λ a. f3 v) (λ a. r3 v) names_law (λ a. l3 v)
 
-l1 : (v : Version) → IsField (s1 v) t1 f1 c1 (r1 v)
-l1 v = then_law mode_spelling Anything always mode_at (s2 v) t2 (λ a. f2) (λ a. r2 v) mode_law (λ a. l2 v)
+l1 : (v : Version) → IsField (s1 v) t1 (f1 v) (c1 v) (r1 v)
+l1 v = then_law mode_spelling Anything always mode_at (s2 v) t2 (λ a. f2 v) (λ a. r2 v) mode_law (λ a. l2 v)
 
 abbrev make : P1 → Package
 make p = record { mode = p.0; start = p.1.0; seed = p.1.1.0; steps = p.1.1.1.0; files = p.1.1.1.1.0; tables = p.1.1.1.1.1.0; logs = p.1.1.1.1.1.1; events = [] }
@@ -214,21 +215,21 @@ back p = (p.mode, (p.start, (p.seed, (p.steps, (p.files, (p.tables, p.logs))))))
 abbrev IsBare : Package → Type 0
 IsBare p = BareTyped p × (p.events ≡ [])
 
-abbrev bare_room : Package → Bool
-bare_room p = f1 (back p)
+abbrev bare_room : Version → Package → Bool
+bare_room v p = f1 v (back p)
 
-abbrev BareCounted : Package → Type 0
-BareCounted p = c1 (back p)
+abbrev BareCounted : Version → Package → Type 0
+BareCounted v p = c1 v (back p)
 
 made_again : (p : Package) → p.events ≡ [] → make (back p) ≡ p
 made_again p none = λ j. with_events p (sym none j)
 
-bare_law : (v : Version) → IsField (bare v) IsBare bare_room BareCounted (bare_at v)
-bare_law v = made_law (s1 v) t1 f1 (r1 v) IsBare bare_room (λ p. Some (make p)) back (l1 v)
+bare_law : (v : Version) → IsField (bare v) IsBare (bare_room v) (BareCounted v) (bare_at v)
+bare_law v = made_law (s1 v) t1 (f1 v) (r1 v) IsBare (bare_room v) (λ p. Some (make p)) back (l1 v)
     (λ p t h. ((tt, t.0), h, ap just (made_again p t.1)))
     (λ a p t h e.
     let is : make a ≡ p = same-some (make a) p e in
-    subst (λ (q : Package). (a ≡ back q) × IsBare q × (bare_room q ≡ true)) is (refl, (t.1, refl), h))
+    subst (λ (q : Package). (a ≡ back q) × IsBare q × (bare_room v q ≡ true)) is (refl, (t.1, refl), h))
 
 -- ---- the trace behind it
 
@@ -238,21 +239,27 @@ Sections = Package × List Event
 abbrev apart : Package → Sections
 apart p = (with_events p [], p.events)
 
-room_apart : (p : Package) → has_room p ≡ true → (bare_room p && trace_room p.events) ≡ true
-room_apart p h =
-    let one = and-parts (some_thousands p.start) (tables_room p && (list_all log_room p.logs && trace_room p.events)) h in
-    let two = and-parts (tables_room p) (list_all log_room p.logs && trace_room p.events) one.1 in
+-- the format has room for the package, and the version has its tables
+abbrev pub has_place : Version → Package → Bool
+has_place v p =
+    some_thousands p.start
+    && (tables_fit v p.tables && (list_all log_room p.logs && trace_room p.events))
+
+room_apart : (v : Version) (p : Package) → has_place v p ≡ true → (bare_room v p && trace_room p.events) ≡ true
+room_apart v p h =
+    let one = and-parts (some_thousands p.start) (tables_fit v p.tables && (list_all log_room p.logs && trace_room p.events)) h in
+    let two = and-parts (tables_fit v p.tables) (list_all log_room p.logs && trace_room p.events) one.1 in
     let three = and-parts (list_all log_room p.logs) (trace_room p.events) two.1 in
-    and-from (bare_room p) (trace_room p.events)
-    (and-from (some_thousands p.start) (tables_room p && list_all log_room p.logs) one.0 (and-from (tables_room p) (list_all log_room p.logs) two.0 three.0))
+    and-from (bare_room v p) (trace_room p.events)
+    (and-from (some_thousands p.start) (tables_fit v p.tables && list_all log_room p.logs) one.0 (and-from (tables_fit v p.tables) (list_all log_room p.logs) two.0 three.0))
     three.1
 
-room_joined : (p : Package) → bare_room p ≡ true → trace_room p.events ≡ true → has_room p ≡ true
-room_joined p h k =
-    let one = and-parts (some_thousands p.start) (tables_room p && list_all log_room p.logs) h in
-    let two = and-parts (tables_room p) (list_all log_room p.logs) one.1 in
-    and-from (some_thousands p.start) (tables_room p && (list_all log_room p.logs && trace_room p.events)) one.0
-    (and-from (tables_room p) (list_all log_room p.logs && trace_room p.events) two.0 (and-from (list_all log_room p.logs) (trace_room p.events) two.1 k))
+room_joined : (v : Version) (p : Package) → bare_room v p ≡ true → trace_room p.events ≡ true → has_place v p ≡ true
+room_joined v p h k =
+    let one = and-parts (some_thousands p.start) (tables_fit v p.tables && list_all log_room p.logs) h in
+    let two = and-parts (tables_fit v p.tables) (list_all log_room p.logs) one.1 in
+    and-from (some_thousands p.start) (tables_fit v p.tables && (list_all log_room p.logs && trace_room p.events)) one.0
+    (and-from (tables_fit v p.tables) (list_all log_room p.logs && trace_room p.events) two.0 (and-from (list_all log_room p.logs) (trace_room p.events) two.1 k))
 
 typed_joined : (p : Package) → BareTyped p → AllByRecursion TypedEvent p.events → IsTyped p
 typed_joined p t e = (t.0, (t.1.0, (t.1.1.0, (t.1.1.1.0, (t.1.1.1.1.0, (t.1.1.1.1.1, e))))))
@@ -263,20 +270,69 @@ typed_apart p t = ((t.0, (t.1.0, (t.1.1.0, (t.1.1.1.0, (t.1.1.1.1.0, t.1.1.1.1.1
 parts_again : (q : Sections) (p : Package) → q.0.events ≡ [] → with_events q.0 q.1 ≡ p → q ≡ apart p
 parts_again q p none is = subst (λ (r : Package). q ≡ apart r) is (λ j. (with_events q.0 (none j), q.1))
 
-pub sections_law : (v : Version) → IsField (sections v) IsTyped has_room (IsCounted v) (sections_at v)
-sections_law v = recount (IsCounted v) (made_law (λ (q : Sections). bare v q.0 ++ trace_spelling v q.1) (λ (q : Sections). IsBare q.0 × AllByRecursion TypedEvent q.1) (λ (q : Sections). bare_room q.0 && trace_room q.1) (both_at (bare_at v) (trace_at v))
-    IsTyped has_room (λ q. Some (with_events q.0 q.1)) apart
-    (then_law (bare v) IsBare bare_room (bare_at v) (trace_spelling v) (AllByRecursion TypedEvent) (λ a. trace_room) (λ a. trace_at v) (bare_law v) (λ a. events_law v))
-    (λ p t h. let both = typed_apart p t in (((both.0, refl), both.1), room_apart p h, refl))
+pub sections_law : (v : Version) → IsField (sections v) IsTyped (has_place v) (IsCounted v) (sections_at v)
+sections_law v = recount (IsCounted v) (made_law (λ (q : Sections). bare v q.0 ++ trace_spelling v q.1) (λ (q : Sections). IsBare q.0 × AllByRecursion TypedEvent q.1) (λ (q : Sections). bare_room v q.0 && trace_room q.1) (both_at (bare_at v) (trace_at v))
+    IsTyped (has_place v) (λ q. Some (with_events q.0 q.1)) apart
+    (then_law (bare v) IsBare (bare_room v) (bare_at v) (trace_spelling v) (AllByRecursion TypedEvent) (λ a. trace_room) (λ a. trace_at v) (bare_law v) (λ a. events_law v))
+    (λ p t h. let both = typed_apart p t in (((both.0, refl), both.1), room_apart v p h, refl))
     (λ q p t h e.
     let is : with_events q.0 q.1 ≡ p = same-some (with_events q.0 q.1) p e in
-    let room = and-parts (bare_room q.0) (trace_room q.1) h in (
+    let room = and-parts (bare_room v q.0) (trace_room q.1) h in (
       parts_again q p t.0.1 is,
       subst IsTyped is (typed_joined (with_events q.0 q.1) t.0.0 t.1),
-      subst (λ (r : Package). has_room r ≡ true) is (room_joined (with_events q.0 q.1) room.0 room.1),
+      subst (λ (r : Package). has_place v r ≡ true) is (room_joined v (with_events q.0 q.1) room.0 room.1),
     )))
     (λ p n. ((tt, (n.0, (tt, (tt, (n.1.0, (n.1.1.0, n.1.1.1.0)))))), n.1.1.1.1))
     (λ p n. (n.0.1.0, (n.0.1.1.1.1.0, (n.0.1.1.1.1.1.0, (n.0.1.1.1.1.1.1, n.1)))))
+
+-- ---- room, and tables that the version has
+
+-- all have the one, and all the other
+both_all : {X : Type 0} (p q : X → Bool) (xs : List X) → list_all p xs ≡ true → list_all q xs ≡ true → list_all (λ x. p x && q x) xs ≡ true
+both_all p q [] h k = refl
+both_all p q (x ∷ xs) h k =
+    let a = and-parts (p x) (list_all p xs) h in
+    let b = and-parts (q x) (list_all q xs) k in
+    and-from (p x && q x) (list_all (λ x. p x && q x) xs) (and-from (p x) (q x) a.0 b.0) (both_all p q xs a.1 b.1)
+
+all_both : {X : Type 0} (p q : X → Bool) (xs : List X) → list_all (λ x. p x && q x) xs ≡ true → (list_all p xs ≡ true) × (list_all q xs ≡ true)
+all_both p q [] h = (refl, refl)
+all_both p q (x ∷ xs) h =
+    let a = and-parts (p x && q x) (list_all (λ x. p x && q x) xs) h in
+    let b = and-parts (p x) (q x) a.0 in
+    let more = all_both p q xs a.1 in
+    (and-from (p x) (list_all p xs) b.0 more.0, and-from (q x) (list_all q xs) b.1 more.1)
+
+foreign_of : (v : Version) (p : Package) → has_tables v p ≡ true → list_all (λ (t : PackedTable). has_of v t.schema.foreign) p.tables ≡ true
+foreign_of One p h = h
+foreign_of Two p h = list_all-always p.tables
+
+of_foreign : (v : Version) (p : Package) → list_all (λ (t : PackedTable). has_of v t.schema.foreign) p.tables ≡ true → has_tables v p ≡ true
+of_foreign One p h = h
+of_foreign Two p h = refl
+
+pub place_from : (v : Version) (p : Package) → has_room p ≡ true → has_tables v p ≡ true → has_place v p ≡ true
+place_from v p h k =
+    let rest : Bool = list_all log_room p.logs && trace_room p.events in
+    let one = and-parts (some_thousands p.start) (tables_room p && rest) h in
+    let two = and-parts (tables_room p) rest one.1 in
+    let three = and-parts (some_thousands p.tables) (list_all table_room p.tables) two.0 in
+    let each : list_all (table_fits v) p.tables ≡ true =
+    both_all table_room (λ (t : PackedTable). has_of v t.schema.foreign) p.tables three.1 (foreign_of v p k) in
+    and-from (some_thousands p.start) (tables_fit v p.tables && rest) one.0
+    (and-from (tables_fit v p.tables) rest (and-from (some_thousands p.tables) (list_all (table_fits v) p.tables) three.0 each) two.1)
+
+pub place_parts : (v : Version) (p : Package) → has_place v p ≡ true → (has_room p ≡ true) × (has_tables v p ≡ true)
+place_parts v p h =
+    let rest : Bool = list_all log_room p.logs && trace_room p.events in
+    let one = and-parts (some_thousands p.start) (tables_fit v p.tables && rest) h in
+    let two = and-parts (tables_fit v p.tables) rest one.1 in
+    let three = and-parts (some_thousands p.tables) (list_all (table_fits v) p.tables) two.0 in
+    let each = all_both table_room (λ (t : PackedTable). has_of v t.schema.foreign) p.tables three.1 in (
+      and-from (some_thousands p.start) (tables_room p && rest) one.0
+          (and-from (tables_room p) rest (and-from (some_thousands p.tables) (list_all table_room p.tables) three.0 each.0) two.1),
+      of_foreign v p each.1,
+    )
 
 -- what is left behind the bare package, and that it has no events
 pub bare_took : (v : Version) (bytes : List ℕ) (p : Package) (rest : List ℕ) → IsBytes bytes → bare_at v bytes ≡ Some (p, rest) → (p.events ≡ []) × IsBytes rest
@@ -289,9 +345,9 @@ events_took bytes es rest h e = ((long_law event_spelling TypedEvent event_room 
 
 -- ---- all of the bytes
 
-pub all_again : (v : Version) (p : Package) → IsTyped p → has_room p ≡ true → IsCounted v p → all_of v (sections v p) ≡ Some p
-all_again v p t h n =
-    let one : sections_at v (sections v p ++ []) ≡ Some (p, []) = (sections_law v).again p [] t h n in
+pub all_again : (v : Version) (p : Package) → IsTyped p → has_room p ≡ true → has_tables v p ≡ true → IsCounted v p → all_of v (sections v p) ≡ Some p
+all_again v p t h k n =
+    let one : sections_at v (sections v p ++ []) ≡ Some (p, []) = (sections_law v).again p [] t (place_from v p h k) n in
     let two : sections_at v (sections v p) ≡ Some (p, []) = ap (sections_at v) (sym (append-nil (sections v p))) ∙ one in
     rw two refl
 
@@ -309,4 +365,5 @@ all_took v bytes p h e =
     let k = (sections_law v).took bytes x.0 x.1 h first.1 in
     let end = ended_is x p (length x.1 == 0) refl first.2 in
     let parts : bytes ≡ sections v x.0 = k.parts ∙ ap (λ (l : List ℕ). sections v x.0 ++ l) end.1 ∙ append-nil (sections v x.0) in
-    subst (λ (q : Package). (bytes ≡ sections v q) × IsTyped q × (has_room q ≡ true) × IsCounted v q) end.0 (parts, k.is_typed, k.is_fit, k.is_counted)
+    subst (λ (q : Package). (bytes ≡ sections v q) × IsTyped q × (has_room q ≡ true) × IsCounted v q) end.0
+    (parts, k.is_typed, (place_parts v x.0 k.is_fit).0, k.is_counted)

@@ -15,7 +15,7 @@ CountedTrace Two events = CountedList CountedRun (runs_of events)
 
 abbrev pub CountedParts : Version → Package → Type 0
 CountedParts version p =
-    CountedList CountedFile p.files × (AllByRecursion CountedTable p.tables
+    CountedList CountedFile p.files × (AllByRecursion (CountedTable version) p.tables
     × (CountedList CountedLog p.logs × CountedTrace version p.events))
 
 abbrev pub IsCounted : Version → Package → Type 0

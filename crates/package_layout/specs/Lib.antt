@@ -7,6 +7,7 @@ pub mod Fields
 pub mod Groups
 pub mod Order
 pub mod Parts
+pub mod Plain
 pub mod ReadResult
 pub mod Reading
 pub mod Room

@@ -1,17 +1,18 @@
 -- How the parts of a package are read from the front of bytes.
-use Rattle.std.specs.Prelude.{ℕ, zero, suc, List, length, Bool, true, false, Option, Some, None, ◌==◌}
-use Rattle.std.specs.Prelude.{if◌then◌else◌}
+use Rattle.std.specs.Prelude.{ℕ, zero, suc, List, [], length, Bool, true, false, Option, Some, None}
 use Rattle.package_layout.specs.Version.{Version, One, Two}
 use Rattle.std.specs.Int.{w8, w16, w32, w64}
 use Rattle.ldv_value.specs.declared.value.Value.{Value}
 use Rattle.ldv_value.specs.declared.value.Value.TheVariants.{Null, Int, Text}
 use Rattle.sql_model.specs.declared.need.Rule.{Rule}
-use Rattle.sql_model.specs.declared.need.Rule.TheVariants.{L, H, K}
+use Rattle.sql_model.specs.declared.need.Rule.TheVariants.{L, H, K, P, C}
 use Rattle.sql_model.specs.declared.table.Column.{Column}
+use Rattle.sql_model.specs.declared.table.Foreign.{Foreign}
 use Rattle.sql_model.specs.declared.table.Schema.{Schema}
 use Rattle.sql_model.specs.declared.reply.SqlRefusal.{SqlRefusal}
 use Rattle.sql_model.specs.declared.reply.SqlRefusal.TheVariants.{Syntax, NoTable, NoColumn, TypeClash}
-use Rattle.sql_model.specs.declared.reply.SqlRefusal.TheVariants.{NotNull, KeyTaken, Full}
+use Rattle.sql_model.specs.declared.reply.SqlRefusal.TheVariants.{NotNull, KeyTaken, Full, NoParent}
+use Rattle.sql_model.specs.declared.reply.SqlRefusal.TheVariants.{HasChild}
 use Rattle.sql_model.specs.declared.reply.Reply.{Reply}
 use Rattle.sql_model.specs.declared.reply.Reply.TheVariants.{Rows, Changed, Refused}
 use Rattle.run_model.specs.declared.name.ProcName.{ProcName}
@@ -73,7 +74,9 @@ rule_of zero = None
 rule_of (suc zero) = Some L
 rule_of (suc (suc zero)) = Some H
 rule_of (suc (suc (suc zero))) = Some K
-rule_of (suc (suc (suc (suc n)))) = None
+rule_of (suc (suc (suc (suc zero)))) = Some P
+rule_of (suc (suc (suc (suc (suc zero))))) = Some C
+rule_of (suc (suc (suc (suc (suc (suc n)))))) = None
 
 abbrev pub rule_at : List ℕ → Found Rule
 rule_at = made_at rule_of (number_at w8)
@@ -96,17 +99,18 @@ rows_at columns = list_at w32 (row_at columns)
 abbrev pub places_at : List ℕ → Found (List ℕ)
 places_at = list_at w8 (number_at w8)
 
-abbrev pub without_foreign : List ℕ × ℕ → Option (List ℕ)
-without_foreign p = if p.1 == 0 then Some p.0 else None
+abbrev pub foreign_at : List ℕ → Found Foreign
+foreign_at = made_at (λ f. Some (record { columns = f.0; parent = f.1 })) (both_at places_at text_at)
 
-abbrev pub key_at : Version → List ℕ → Found (List ℕ)
-key_at One = places_at
-key_at Two = made_at without_foreign (both_at places_at (number_at w8))
+-- version 1 has none
+abbrev pub foreigns_at : Version → List ℕ → Found (List Foreign)
+foreigns_at One = λ bytes. Some ([], bytes)
+foreigns_at Two = list_at w8 foreign_at
 
 abbrev pub schema_at : Version → List ℕ → Found Schema
 schema_at version =
-    made_at (λ s. Some (record { columns = s.0; key = s.1 }))
-    (both_at (list_at w8 column_at) (key_at version))
+    made_at (λ s. Some (record { columns = s.0; key = s.1.0; foreign = s.1.1 }))
+    (both_at (list_at w8 column_at) (both_at places_at (foreigns_at version)))
 
 abbrev pub table_at : Version → List ℕ → Found PackedTable
 table_at version =
@@ -116,6 +120,10 @@ table_at version =
 
 -- ---- logs
 
+-- a table and the values of a key of it
+abbrev pub row_key_at : List ℕ → Found (List ℕ × List Value)
+row_key_at = both_at text_at (list_at w8 value_at)
+
 abbrev pub refusal_of_code : ℕ → List ℕ → Found SqlRefusal
 refusal_of_code zero = λ bytes. None
 refusal_of_code (suc zero) = λ bytes. Some (Syntax, bytes)
@@ -124,9 +132,13 @@ refusal_of_code (suc (suc (suc zero))) = λ bytes. Some (NoColumn, bytes)
 refusal_of_code (suc (suc (suc (suc zero)))) = λ bytes. Some (TypeClash, bytes)
 refusal_of_code (suc (suc (suc (suc (suc zero))))) = λ bytes. Some (NotNull, bytes)
 refusal_of_code (suc (suc (suc (suc (suc (suc zero)))))) =
-    made_at (λ k. Some (KeyTaken k.0 k.1)) (both_at text_at (list_at w8 value_at))
+    made_at (λ k. Some (KeyTaken k.0 k.1)) row_key_at
 refusal_of_code (suc (suc (suc (suc (suc (suc (suc zero))))))) = λ bytes. Some (Full, bytes)
-refusal_of_code (suc (suc (suc (suc (suc (suc (suc (suc n)))))))) = λ bytes. None
+refusal_of_code (suc (suc (suc (suc (suc (suc (suc (suc zero)))))))) =
+    made_at (λ k. Some (NoParent k.0 k.1)) row_key_at
+refusal_of_code (suc (suc (suc (suc (suc (suc (suc (suc (suc zero))))))))) =
+    made_at (λ k. Some (HasChild k.0 k.1)) row_key_at
+refusal_of_code (suc (suc (suc (suc (suc (suc (suc (suc (suc (suc n)))))))))) = λ bytes. None
 
 abbrev pub refusal_at : List ℕ → Found SqlRefusal
 refusal_at = tagged_at refusal_of_code

@@ -4,7 +4,10 @@ use Rattle.std.specs.Prelude.{ℕ, ◌^◌, List, length, Bool, true, ◌&&◌, 
 use Rattle.std.specs.List.{list_all}
 use Rattle.sql_model.specs.declared.reply.SqlRefusal.{SqlRefusal}
 use Rattle.sql_model.specs.declared.reply.SqlRefusal.TheVariants.{Syntax, NoTable, NoColumn, TypeClash}
-use Rattle.sql_model.specs.declared.reply.SqlRefusal.TheVariants.{NotNull, KeyTaken, Full}
+use Rattle.sql_model.specs.declared.reply.SqlRefusal.TheVariants.{NotNull, KeyTaken, Full, NoParent}
+use Rattle.sql_model.specs.declared.reply.SqlRefusal.TheVariants.{HasChild}
+use Rattle.sql_model.specs.declared.table.Foreign.{Foreign}
+use Rattle.sql_model.specs.declared.table.Schema.{Schema}
 use Rattle.sql_model.specs.declared.reply.Reply.{Reply}
 use Rattle.sql_model.specs.declared.reply.Reply.TheVariants.{Rows, Changed, Refused}
 use Rattle.run_model.specs.declared.package.PackedRow.{PackedRow}
@@ -19,19 +22,26 @@ few xs = nat_lt (length xs) 256
 abbrev pub some_thousands : {X : Type 0} → List X → Bool
 some_thousands xs = nat_lt (length xs) (2 ^ 16)
 
--- the places of a key have one byte each
+-- the places of columns have one byte each
 abbrev pub key_room : List ℕ → Bool
 key_room key = few key && list_all (λ place. nat_lt place 256) key
+
+abbrev pub foreign_room : Foreign → Bool
+foreign_room f = key_room f.columns
+
+abbrev pub foreigns_room : List Foreign → Bool
+foreigns_room foreigns = few foreigns && list_all foreign_room foreigns
+
+abbrev pub schema_room : Schema → Bool
+schema_room s = few s.columns && (key_room s.key && foreigns_room s.foreign)
 
 abbrev pub row_room : ℕ → PackedRow → Bool
 row_room columns r = length r.values == columns
 
 abbrev pub table_room : PackedTable → Bool
-table_room t =
-    few t.schema.columns
-    && (key_room t.schema.key && list_all (row_room (length t.schema.columns)) t.rows)
+table_room t = schema_room t.schema && list_all (row_room (length t.schema.columns)) t.rows
 
--- a refused key has at most 255 values
+-- a key has at most 255 values
 abbrev pub refusal_room : SqlRefusal → Bool
 refusal_room Syntax = true
 refusal_room NoTable = true
@@ -40,6 +50,8 @@ refusal_room TypeClash = true
 refusal_room NotNull = true
 refusal_room (KeyTaken table key) = few key
 refusal_room Full = true
+refusal_room (NoParent table key) = few key
+refusal_room (HasChild table key) = few key
 
 -- a row of a reply has at most 65,535 values
 abbrev pub reply_room : Reply → Bool

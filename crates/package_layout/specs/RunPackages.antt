@@ -7,6 +7,7 @@ use Rattle.package_layout.specs.declared.run_package.RunPackage.{RunPackage}
 use Rattle.package_layout.specs.Events.{event_at}
 use Rattle.package_layout.specs.Fields.{Found, ◌>>=◌, both_at, made_at, list_at}
 use Rattle.package_layout.specs.Runs.{run_at, runs_of, events_in, are_runs}
+use Rattle.package_layout.specs.Plain.{fits_version}
 use Rattle.package_layout.specs.Valid.{rules}
 use Rattle.package_layout.specs.Version.{Version, One, Two}
 use Rattle.package_layout.specs.Whole.{with_events, bare_at}
@@ -30,11 +31,11 @@ run_sections_of version bytes = do
   r ← run_sections_at version bytes
   if length r.1 == 0 then Some r.0 else None
 
-abbrev pub run_rules : RunPackage → Bool
-run_rules r = are_runs r.runs && rules (whole r)
+abbrev pub run_rules : Version → RunPackage → Bool
+run_rules version r = are_runs r.runs && (rules (whole r) && fits_version version (whole r))
 
 -- the valid package whose sections these bytes are
 abbrev pub runs_in : Version → List ℕ → Option RunPackage
 runs_in version bytes = do
   r ← run_sections_of version bytes
-  if run_rules r then Some r else None
+  if run_rules version r then Some r else None

@@ -8,6 +8,7 @@ use Rattle.package_layout.specs.declared.damage.DamageKind.{DamageKind}
 use Rattle.package_layout.specs.declared.damage.DamageKind.TheVariants.{Magic, Digest, Form}
 use Rattle.package_layout.specs.Counted.{IsCounted}
 use Rattle.package_layout.specs.Fields.{◌>>=◌}
+use Rattle.package_layout.specs.Plain.{fits_version}
 use Rattle.package_layout.specs.Typed.{IsTyped}
 use Rattle.package_layout.specs.Version.{Version, version_of}
 use Rattle.package_layout.specs.Whole.{spelling_as, has_room, all_of}
@@ -37,10 +38,11 @@ pub record HasDigest (bytes : List ℕ) : Type 0 where
   pub long : 40 ≤ length bytes
   pub same : drop (length bytes - 32) bytes ≡ sha256 (before_digest bytes)
 
--- The bytes are the spelling of a package. It has one where the format has room for it and all of its counts
--- fit their fields.
+-- The bytes are the spelling of a package. It has one where the format has room for it, the version has what
+-- is in it, and all of its counts fit their fields.
 pub record IsSpelling (version : Version) (p : Package) (bytes : List ℕ) : Type 0 where
   pub room : IsTrue (has_room p)
+  pub fits : IsTrue (fits_version version p)
   pub counted : IsCounted version p
   pub same : spelling_as version p ≡ bytes
 
@@ -68,7 +70,7 @@ kept_if false p = None
 abbrev pub package_in : Version → List ℕ → Option Package
 package_in version bytes = do
   p ← all_of version bytes
-  kept_if (rules p) p
+  kept_if (rules p && fits_version version p) p
 
 abbrev pub has_digest : List ℕ → Bool
 has_digest bytes =

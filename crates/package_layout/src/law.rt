@@ -1,24 +1,26 @@
 //! The laws of the layout. The functions have no bodies: their contracts are the theorems.
 
-ghost use Rattle.std.specs.Prelude.{◌≡◌, ◌≤◌, List as Items, Ok, length};
+ghost use Rattle.std.specs.Prelude.{◌≡◌, ◌≤◌, List as Items, Ok, IsTrue, length};
 ghost use Rattle.ldv_value.specs.Limits.{input_limit};
 ghost use Rattle.run_model.specs.declared.event.Event.{Event};
 ghost use Rattle.run_model.specs.declared.package.Package.{Package};
 ghost use Rattle.package_layout.specs.Counted.{IsCounted};
+ghost use Rattle.package_layout.specs.Plain.{fits_version, has_tables};
 ghost use Rattle.package_layout.specs.Runs.{Run, IsCutOf, events_in, runs_of};
 ghost use Rattle.package_layout.specs.Valid.{Valid, reading};
 ghost use Rattle.package_layout.specs.Version.{Version, One, Two};
 ghost use Rattle.package_layout.specs.Whole.{IsTyped, spelling_as};
 
 /// The law of the layout, over all packages that memory can hold. Of each version: two valid packages with
-/// one spelling are equal, and the spelling of a valid one is read as that package, however long it is, where
-/// its counts of four bytes fit their fields. They do where it isn't too long. No bytes are a spelling of
-/// both versions.
+/// one spelling are equal where the version has their tables, and the spelling of a valid one is read as that
+/// package, however long it is, where the version has what is in it and its counts of four bytes fit their
+/// fields. They do where it isn't too long. No bytes are a spelling of both versions.
 pub fn round_trip_law()
     ensures unique { (version : Version) (p q : Package) → IsTyped p → IsTyped q → Valid p → Valid q →
+        IsTrue (has_tables version p) → IsTrue (has_tables version q) →
         IsCounted version p → IsCounted version q → spelling_as version p ≡ spelling_as version q → p ≡ q }
-    ensures again { (version : Version) (p : Package) → IsTyped p → Valid p → IsCounted version p →
-        reading (spelling_as version p) ≡ Ok p }
+    ensures again { (version : Version) (p : Package) → IsTyped p → Valid p → IsTrue (fits_version version p) →
+        IsCounted version p → reading (spelling_as version p) ≡ Ok p }
     ensures counted { (version : Version) (p : Package) → length (spelling_as version p) ≤ input_limit →
         IsCounted version p }
     ensures apart { (p q : Package) → ¬ (spelling_as One p ≡ spelling_as Two q) }

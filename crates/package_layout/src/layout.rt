@@ -150,7 +150,7 @@ fn runs_in(alloc: Global, version: Version, middle: &[u8]) -> Result<RunPackage,
     ensures { Makes result (runs_in version middle.now) }
 {
     let package = decode_all(alloc, version, middle)?;
-    if is_valid_package(alloc, &package)? {
+    if is_valid_package(alloc, version, &package)? {
         Ok(package)
     } else {
         Err(DecodeError::Malformed)

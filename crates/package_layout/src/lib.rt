@@ -1,10 +1,11 @@
 //! The bytes of a package: `spell` gives them, `read_package` reads them.
 //!
 //! It promises to the layers above:
-//! - there are two versions of the layout, and `version_of` says by the magic which one bytes begin as. A
-//!   package has one spelling in each, which `spell_as` gives unless it has more than 67,108,864 bytes
-//!   (`specs/Whole.antt`, `spelling_as`; its parts in `specs/Spelling.antt` and `specs/Events.antt`); `spell`
-//!   gives that of the second;
+//! - there are two versions of the layout, and `version_of` says by the magic which one bytes begin as. The
+//!   first has no foreign keys, and no rule and no refusal that comes of them (`specs/Plain.antt`). A package
+//!   has one spelling in each that has all of it, which `spell_as` gives unless it has more than 67,108,864
+//!   bytes (`specs/Whole.antt`, `spelling_as`; its parts in `specs/Spelling.antt` and `specs/Events.antt`);
+//!   `spell` gives that of the second;
 //! - the second writes the trace in runs, as long as the events let them be (`specs/Runs.antt`, `runs_of`).
 //!   Every list of events has exactly one such cut (`runs_law`), and another one isn't read;
 //! - `read_package` gives the valid package that bytes spell in their version, and where there is none says
@@ -46,6 +47,7 @@ mod layout;
 mod log;
 mod number;
 mod part;
+mod plain;
 mod rules;
 mod run;
 mod run_package;

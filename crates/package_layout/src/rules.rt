@@ -13,7 +13,9 @@ use ldv_value::{
     is_path, is_strictly_sorted,
 };
 use run_model::{Entry, Log, Logs, PackedFile, PackedFiles, PackedRows, PackedTable, PackedTables};
-use sql_model::{Reply, SqlRefusal, are_rows, are_short, has_key_twice, is_sql_name, meets_schema};
+use sql_model::{
+    Reply, SqlRefusal, are_rows, are_short, has_key_twice, have_parents, is_sql_name, meets_schema,
+};
 use std::alloc::{AllocError, Global};
 
 pub(crate) fn is_valid_start(words: &Words) -> bool
@@ -87,7 +89,7 @@ fn are_tables(alloc: Global, tables: &PackedTables) -> Result<bool, AllocError>
     if !each_table(alloc, tables)? {
         return Ok(false);
     }
-    Ok(is_strictly_sorted(tables.items()))
+    Ok(is_strictly_sorted(tables.items()) && have_parents(tables.items()))
 }
 
 fn each_table(alloc: Global, tables: &PackedTables) -> Result<bool, AllocError>
@@ -208,6 +210,8 @@ fn is_valid_refusal(refusal: &SqlRefusal) -> bool
 {
     match refusal {
         SqlRefusal::KeyTaken { table: _, key } => are_short(key),
+        SqlRefusal::NoParent { table: _, key } => are_short(key),
+        SqlRefusal::HasChild { table: _, key } => are_short(key),
         _ => true,
     }
 }

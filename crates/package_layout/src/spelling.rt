@@ -30,7 +30,8 @@ pub fn spell(alloc: Global, package: &Package) -> Result<Bytes, SpellStop>
 }
 
 /// The one spelling of a package in a version. `TooLong` exactly where it has more than 67,108,864 bytes, its
-/// digest counted.
+/// digest counted. What the version hasn't is left out, and rules and refusals by foreign keys keep their
+/// numbers: such bytes aren't read as a package of it (`specs/Plain.antt`).
 pub fn spell_as(alloc: Global, package: &Package, version: Version) -> Result<Bytes, SpellStop>
     ensures bytes { IfOk result (λ bytes. bytes ≡ spelling_as version «package».now) }
     ensures within { IfOk result (λ bytes. length bytes ≤ input_limit) }

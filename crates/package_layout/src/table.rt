@@ -5,10 +5,10 @@ ghost use Rattle.std.specs.Int.{w8, w16, to_be_bytes};
 ghost use Rattle.std.specs.List.{flat_map, AllByRecursion};
 ghost use Rattle.package_layout.specs.Fields.{Gives, Makes, number_at, items_at, list_at, list_spelling};
 ghost use Rattle.package_layout.specs.Reading.{kind_of, kind_at, rule_of, rule_at, reason_at, places_at};
-ghost use Rattle.package_layout.specs.Reading.{without_foreign, key_at, row_at, rows_at, schema_at, table_at};
-ghost use Rattle.package_layout.specs.Spelling.{kind_number, rule_number, reason_spelling, key_spelling};
-ghost use Rattle.package_layout.specs.Spelling.{schema_spelling, table_spelling};
-ghost use Rattle.package_layout.specs.Typed.{TypedColumn, TypedTable};
+ghost use Rattle.package_layout.specs.Reading.{foreigns_at, row_at, rows_at, schema_at, table_at};
+ghost use Rattle.package_layout.specs.Spelling.{kind_number, rule_number, reason_spelling, places_spelling};
+ghost use Rattle.package_layout.specs.Spelling.{foreigns_spelling, schema_spelling, table_spelling};
+ghost use Rattle.package_layout.specs.Typed.{TypedForeign, TypedSchema, TypedTable};
 ghost use Rattle.package_layout.specs.Version.{Two};
 
 use crate::codec::{Decode, Encode, decode_items, decode_list, encode_items, encode_list};
@@ -20,7 +20,7 @@ use crate::version::Version;
 use crate::width::Width;
 use ldv_value::{Bytes, List, Places};
 use run_model::{PackedRow, PackedRows, PackedTable, PackedTables};
-use sql_model::{Column, Columns, Rule, Schema};
+use sql_model::{Column, Columns, Foreign, Foreigns, Rule, Schema};
 use std::alloc::{AllocError, Global};
 
 impl Encode for Column {
@@ -91,6 +91,8 @@ pub(crate) fn number_of_rule(rule: Rule) -> u8
         Rule::L => 1,
         Rule::H => 2,
         Rule::K => 3,
+        Rule::P => 4,
+        Rule::C => 5,
     }
 }
 
@@ -108,6 +110,8 @@ fn rule_of(number: u8) -> Result<Rule, DecodeError>
         1 => Ok(Rule::L),
         2 => Ok(Rule::H),
         3 => Ok(Rule::K),
+        4 => Ok(Rule::P),
+        5 => Ok(Rule::C),
         _ => Err(DecodeError::Malformed),
     }
 }
@@ -185,7 +189,7 @@ fn decode_some_rows(
 
 // The places of a key are below 64, so each has one byte.
 fn encode_places(key: &Places, to: &mut Bytes) -> Result<(), AllocError>
-    ensures { OnOk result (to.new ≡ to.old ++ list_spelling w8 (to_be_bytes w8) key.now) }
+    ensures { OnOk result (to.new ≡ to.old ++ places_spelling key.now) }
 {
     encode_count(Width::One, key.len(), to)?;
     for place in key.items() {
@@ -194,41 +198,65 @@ fn encode_places(key: &Places, to: &mut Bytes) -> Result<(), AllocError>
     Ok(())
 }
 
-fn encode_key(version: Version, key: &Places, to: &mut Bytes) -> Result<(), AllocError>
-    ensures { OnOk result (to.new ≡ to.old ++ key_spelling version key.now) }
-{
-    encode_places(key, to)?;
-    match version {
-        Version::One => Ok(()),
-        Version::Two => encode_u8(0, to),
+impl Encode for Foreign {
+    ghost use Rattle.package_layout.specs.Spelling.{foreign_spelling};
+    ghost use Rattle.package_layout.specs.Typed.{TypedForeign};
+
+    ghost spelling = { foreign_spelling };
+
+    ghost typed = { TypedForeign };
+
+    fn encode(&self, to: &mut Bytes) -> Result<(), AllocError> {
+        encode_places(&self.columns, to)?;
+        encode_text(&self.parent, to)
     }
 }
 
-fn decode_key(alloc: Global, version: Version, cursor: &mut Cursor) -> Result<Places, DecodeError>
-    ensures { Gives result cursor.new (key_at version cursor.old) }
-{
-    match version {
-        Version::One => decode_place_list(alloc, cursor),
-        Version::Two => decode_plain_key(alloc, cursor),
+impl Decode for Foreign {
+    ghost use Rattle.package_layout.specs.Reading.{foreign_at};
+
+    ghost reading = { foreign_at };
+
+    fn decode(alloc: Global, cursor: &mut Cursor) -> Result<Foreign, DecodeError> {
+        let columns = decode_place_list(alloc, cursor)?;
+        let parent = decode_text(alloc, cursor)?;
+        Ok(Foreign { columns, parent })
     }
 }
 
-// A key, and that no foreign key follows it.
-fn decode_plain_key(alloc: Global, cursor: &mut Cursor) -> Result<Places, DecodeError>
-    ensures { Gives result cursor.new (key_at Two cursor.old) }
+// Version 1 has no foreign keys.
+fn encode_foreigns(version: Version, foreigns: &Foreigns, to: &mut Bytes) -> Result<(), AllocError>
+    ensures bytes { OnOk result (to.new ≡ to.old ++ foreigns_spelling version foreigns.now) }
+    ensures typed { OnOk result (AllByRecursion TypedForeign foreigns.now) }
 {
-    let key = decode_place_list(alloc, cursor)?;
-    let foreign = decode_u8(cursor)?;
-    without_foreign(key, foreign)
+    match version {
+        Version::One => {
+            tell_typed(foreigns);
+            Ok(())
+        }
+        Version::Two => encode_list(Width::One, foreigns, to),
+    }
 }
 
-fn without_foreign(key: Places, foreign: u8) -> Result<Places, DecodeError>
-    ensures { Makes result (without_foreign (key, foreign)) }
+// The names of parents are UTF-8, also where they aren't written. The call does nothing; it lends this.
+fn tell_typed(foreigns: &Foreigns)
+    ensures { AllByRecursion TypedForeign foreigns.now }
 {
-    if foreign == 0 {
-        Ok(key)
-    } else {
-        Err(DecodeError::Malformed)
+    for foreign in foreigns.items() {
+        let _name = foreign.parent.as_str();
+    }
+}
+
+fn decode_foreigns(
+    alloc: Global,
+    version: Version,
+    cursor: &mut Cursor,
+) -> Result<Foreigns, DecodeError>
+    ensures { Gives result cursor.new (foreigns_at version cursor.old) }
+{
+    match version {
+        Version::One => Ok(List::new(alloc)),
+        Version::Two => decode_list(alloc, Width::One, cursor),
     }
 }
 
@@ -252,10 +280,11 @@ fn decode_places(alloc: Global, count: u8, cursor: &mut Cursor) -> Result<Places
 
 fn encode_schema(version: Version, schema: &Schema, to: &mut Bytes) -> Result<(), AllocError>
     ensures bytes { OnOk result (to.new ≡ to.old ++ schema_spelling version schema.now) }
-    ensures typed { OnOk result (AllByRecursion TypedColumn schema.now.columns) }
+    ensures typed { OnOk result (TypedSchema schema.now) }
 {
     encode_list(Width::One, &schema.columns, to)?;
-    encode_key(version, &schema.key, to)
+    encode_places(&schema.key, to)?;
+    encode_foreigns(version, &schema.foreign, to)
 }
 
 fn decode_schema(
@@ -266,8 +295,13 @@ fn decode_schema(
     ensures { Gives result cursor.new (schema_at version cursor.old) }
 {
     let columns = decode_list(alloc, Width::One, cursor)?;
-    let key = decode_key(alloc, version, cursor)?;
-    Ok(Schema { columns, key })
+    let key = decode_place_list(alloc, cursor)?;
+    let foreign = decode_foreigns(alloc, version, cursor)?;
+    Ok(Schema {
+        columns,
+        key,
+        foreign,
+    })
 }
 
 fn encode_table(version: Version, table: &PackedTable, to: &mut Bytes) -> Result<(), AllocError>

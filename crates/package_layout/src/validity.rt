@@ -10,25 +10,34 @@ ghost use Rattle.package_layout.specs.Valid.{mode_rule, steps_rule, is_script, i
 ghost use Rattle.package_layout.specs.Valid.{trace_rule, reasons_rule, parts_rule, whole_rule, rules};
 ghost use Rattle.package_layout.specs.Whole.{with_events};
 
+use crate::plain::fits_version;
 use crate::rules::{is_valid_files, is_valid_logs, is_valid_start, is_valid_tables};
 use crate::run::Run;
 use crate::run_package::RunPackage;
 use crate::run_tests::are_runs;
 use crate::trace::{asked_count, is_trace};
+use crate::version::Version;
 use ldv_value::{Bytes, FILE_LIMIT, MAX_STEPS, Utf8, Words};
 use run_model::{Logs, Mode, Package, PackedFile, PackedFiles, PackedTable, PackedTables};
 use script_parse::{ScriptStop, parse_script};
 use std::alloc::{AllocError, Global};
 
-/// Whether the runs of a package are those of a trace, and all of it meets the rules for valid packages. No
-/// list of events is made. `AllocError` means out of memory and nothing else.
-pub(crate) fn is_valid_package(alloc: Global, package: &RunPackage) -> Result<bool, AllocError>
-    ensures { IfOk result (λ holds. holds ≡ run_rules «package».now) }
+/// Whether the runs of a package are those of a trace, all of it meets the rules for valid packages, and the
+/// version has all of it. No list of events is made. `AllocError` means out of memory and nothing else.
+pub(crate) fn is_valid_package(
+    alloc: Global,
+    version: Version,
+    package: &RunPackage,
+) -> Result<bool, AllocError>
+    ensures { IfOk result (λ holds. holds ≡ run_rules version «package».now) }
 {
     if !are_runs(package.runs.items()) {
         return Ok(false);
     }
-    meets_rules(alloc, package)
+    if !meets_rules(alloc, package)? {
+        return Ok(false);
+    }
+    Ok(fits_version(version, package))
 }
 
 #[tactic(auto, using(crate::proofs::Runs::are_all_runs))]

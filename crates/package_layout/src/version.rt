@@ -8,7 +8,7 @@ ghost use Rattle.package_layout.specs.Version.{HasMagic, has_magic, magic, versi
 pub enum Version {
     /// The trace is written event by event.
     One,
-    /// The trace is written in runs, and each table has a place for its foreign keys.
+    /// The trace is written in runs, and tables have their foreign keys.
     Two,
 }
 

@@ -47,6 +47,7 @@ use Rattle.sql_model.specs.Needs.{Versions}
 use Rattle.sql_model.specs.QueryAnswer.{Combination, combinations, joined_values, meets_all, row_environment}
 use Rattle.sql_model.specs.Refusals.{cores_of, doubles_source, is_missing, tables_of_core}
 use Rattle.sql_model.specs.Scope.{InScope, catalog_of, is_schema, rows_of, same_text, schema_in, scope_of, table_at, value_at}
+use Rattle.sql_model.proofs.Databases.{sorted_of_database, valid_of_database}
 use Rattle.sql_model.specs.Tables.{AreWellFormed, is_database, is_row, is_valid_table, table_precedes}
 use Rattle.query_eval.specs.Types.{Catalog, Checked, Core, FromItem, Query, Schema, Statement, Table, TableRow, Value}
 use Rattle.table_store.specs.Histories.{TableHistory, StoreHistory, history_at, is_history, rows_now, table_now, tables_now}
@@ -170,7 +171,7 @@ module _ (store : StoreHistory) (database : is_database (tables_now store) ≡ t
   valid-at : (name : List ℕ) → IfSome (history_at name store) IsValid
   valid-at name =
       all-found (is_history name) (λ table. is_valid_table (table_now table)) store.tables
-      (sym (list_all-map is_valid_table table_now store.tables) ∙ and-first (list_all is_valid_table (tables_now store)) (is_strictly_sorted table_precedes (tables_now store)) database)
+      (sym (list_all-map is_valid_table table_now store.tables) ∙ valid_of_database (tables_now store) database)
 
   table-wide : (item : FromItem) → AllByRecursion (λ row. length row.values ≡ width_at store item) (rows_of (table_at item.table (tables_now store)))
   table-wide item =
@@ -381,7 +382,7 @@ stored-picked checked place store keep conds sources found picks of formed at co
     (combinations core.from (tables_now store))
     (all-wide core.from (tables_now store) widths (tables-wide store database core.from)) in
     all-stand (table_names store) versions
-    (names-sorted (tables_now store) (and-second (list_all is_valid_table (tables_now store)) (is_strictly_sorted table_precedes (tables_now store)) database))
+    (names-sorted (tables_now store) (sorted_of_database (tables_now store) database))
     keep (tables_now store) core keeps sources conds picks
     (are-sources store database versions tell conds core.from 0 sources all own)
     leaves tested

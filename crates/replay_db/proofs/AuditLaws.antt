@@ -1,24 +1,29 @@
 -- What an audit finds sound.
 use Rattle.std.proofs.Common.{◌≡◌, ℕ, ◌≤◌, List, [], length, refl, sym, ap, ◌∙◌, subst, true, inl, inr}
 use Rattle.std.specs.List.{common_prefix_len}
-use Rattle.std.specs.Prelude.{bytes_eq, nat_eq, Some, None}
+use Rattle.std.specs.Prelude.{bytes_eq, nat_eq, map, Some, None, IsTrue}
+use Rattle.std.specs.List.{list_all}
 use Rattle.std.proofs.lemmas.Bool.{cases_Bool}
 use Rattle.ldv_value.proofs.SameBytes.{bytes_eq-true, bytes_eq-itself}
-use Rattle.run_model.specs.Package.{package_of, own_world}
-use Rattle.run_model.specs.WorldRun.{ends_within, steps_by}
+use Rattle.ldv_value.proofs.Lists.{list_all-map}
+use Rattle.run_model.specs.Package.{package_of, own_table, own_world}
+use Rattle.run_model.specs.WorldRun.{ends_within, steps_by, events_within}
 use Rattle.ldv_value.specs.Limits.{input_limit}
 use Rattle.package_layout.specs.Counted.{IsCounted}
+use Rattle.package_layout.specs.Plain.{has_no_foreign, has_tables}
 use Rattle.package_layout.specs.Valid.{Valid}
-use Rattle.package_layout.specs.declared.version.Version.{Version}
+use Rattle.package_layout.specs.Version.{Version, One, Two}
+use Rattle.package_layout.proofs.Package.{fit_tables}
 use Rattle.package_layout.specs.Whole.{spelling_as, IsTyped}
 use Rattle.replay_db.specs.Auditing.{SoundLaw, RecordedSoundLaw, OwnSoundLaw, verdict_on}
 use Rattle.run_laws.specs.Laws.{SameRun}
-use Rattle.replay_db.specs.Types.{Included, Package, World}
+use Rattle.replay_db.specs.Types.{Included, Package, Table, World}
 use Rattle.replay_db.specs.declared.soundness.Verdict.TheVariants.{Sound, Unsound}
 use Rattle.run_laws.proofs.BudgetLaw.{enough_package, enough_ends}
 use Rattle.replay_db.proofs.RecordedRuns.{package_is, package_none}
 use Rattle.replay_db.specs.Runs.{OwnWorldLaw, package_within}
-use Rattle.replay_db.specs.Worlds.{ValidPackageLaw, TypedPackageLaw, WorldTablesLaw, ValidWorld}
+use Rattle.replay_db.specs.Worlds.{all_of_table, ValidPackageLaw, TypedPackageLaw, WorldTablesLaw, ValidWorld}
+use Rattle.replay_db.proofs.PackageValidParts.{each_table}
 use Rattle.run_laws.proofs.WorldLaws.{replay_law}
 
 same_bytes : (bytes due : List ℕ) → verdict_on bytes due ≡ Sound → bytes ≡ due
@@ -58,11 +63,24 @@ recorded_sound_law n budget w script is valid ended enough =
 
 -- ---- a valid package that is due in one version
 
+-- the tables of its own world's package have their schemas from it
+own_tables : (version : Version) (budget : ℕ) (p : Package) → has_tables version p ≡ true
+    → has_tables version (package_of Included budget (own_world p)) ≡ true
+own_tables One budget p fits =
+    let w : World = own_world p in
+    let all : list_all has_no_foreign (map all_of_table w.tables) ≡ true =
+    list_all-map has_no_foreign all_of_table w.tables
+    ∙ list_all-map (λ (t : Table). has_no_foreign (all_of_table t)) own_table p.tables
+    ∙ fits in
+    each_table (events_within budget w) has_no_foreign (λ table met. met) w.tables all
+own_tables Two budget p fits = refl
+
 module _ (valid : ValidPackageLaw) (typed : TypedPackageLaw) (tables : WorldTablesLaw) (own : OwnWorldLaw)
     (counted : (version : Version) (p : Package) → length (spelling_as version p) ≤ input_limit → IsCounted version p)
-    (unique : (version : Version) (p q : Package) → IsTyped p → IsTyped q → Valid p → Valid q → IsCounted version p → IsCounted version q → spelling_as version p ≡ spelling_as version q → p ≡ q) where
+    (unique : (version : Version) (p q : Package) → IsTyped p → IsTyped q → Valid p → Valid q → IsTrue (has_tables version p) → IsTrue (has_tables version q) → IsCounted version p → IsCounted version q → spelling_as version p ≡ spelling_as version q → p ≡ q) where
   pub own_sound_law : OwnSoundLaw
-  own_sound_law budget version p is_typed is_valid bounded ended short due =
+  own_sound_law budget version p is_typed is_valid fits bounded ended short due =
+      let tables_fit : has_tables version p ≡ true = fit_tables version p fits in
       let w : World = own_world p in
       let valid_world : ValidWorld w = own p is_typed is_valid in
       let q : Package = package_of Included budget w in
@@ -71,5 +89,6 @@ module _ (valid : ValidPackageLaw) (typed : TypedPackageLaw) (tables : WorldTabl
         ends = ended;
         same = unique version q p (typed Included budget w valid_world bounded ended) is_typed
             (valid Included budget w valid_world.ruled (tables w valid_world) tt bounded ended) is_valid
+            (own_tables version budget p tables_fit) tables_fit
             (counted version q short_q) (counted version p short) due;
       }

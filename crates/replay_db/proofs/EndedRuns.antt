@@ -32,7 +32,8 @@ pub tables_database : (ts : List Table) → tables_test ts ≡ true → is_datab
 tables_database ts met = and-first (is_database ts) (list_all is_described ts) met
 
 table_distinct : (t : Table) → is_described t ≡ true → are_distinct t.schema.columns ≡ true
-table_distinct t met = and-second _ _ (and-second _ _ (and-first _ _ (and-first _ _ (and-second _ _ met))))
+table_distinct t met =
+    and-second _ _ (and-second _ _ (and-first _ _ (and-first _ _ (and-first _ _ (and-second _ _ met)))))
 
 pub tables_distinct : (ts : List Table) → tables_test ts ≡ true → have_distinct_columns ts ≡ true
 tables_distinct ts met =

@@ -11,6 +11,7 @@ use Rattle.sql_model.specs.Scope.{same_text}
 use Rattle.sql_model.specs.Tables.{is_valid_table, table_precedes, tables_test}
 use Rattle.sql_model.proofs.ValidTables.{table-parts}
 use Rattle.sql_model.proofs.SortedLists.{sorted-all, sorted-tail}
+use Rattle.sql_model.proofs.Databases.{tables_of_database}
 use Rattle.sql_laws.proofs.TableNames.{table-trans, more-differs}
 use Rattle.replay_db.specs.Types.{Instr, Started, Table, TableRow, Event, World}
 use Rattle.run_model.specs.Events.{event_at, events, start_events}
@@ -120,7 +121,8 @@ module _ (n : ℕ) (picks : List ℕ) (w : World) (script : List Instr) (is : st
 
   used : (table : List ℕ) (row : ℕ) → is_row_of w.tables table row ≡ true → list_all (is_used table row) w.tables ≡ true
   used table row first =
-      let both = and-parts (list_all is_valid_table w.tables) (is_strictly_sorted table_precedes w.tables) (database_of w.tables valid) in
+      let both = and-parts (list_all is_valid_table w.tables) (is_strictly_sorted table_precedes w.tables)
+      (tables_of_database w.tables (database_of w.tables valid)) in
       there_used table row w.tables both.0 both.1 first
 
   reads_rows : ReadsInitialRows all_events w.tables

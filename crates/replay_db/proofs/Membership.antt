@@ -8,7 +8,7 @@ use Rattle.ldv_value.proofs.Booleans.{or-left, or-right}
 use Rattle.ldv_value.proofs.SameBytes.{bytes_eq-true, bytes_eq-itself, nat_eq-true}
 use Rattle.sql_model.specs.Scope.{same_text, is_table}
 use Rattle.replay_db.specs.Types.{File, Table, TableRow, Event, World}
-use Rattle.run_model.specs.Between.{IsIn, is_row_needed, with_content, IsPresent, TableBetween, LiesBetween, FileCut, Gone, Same, Other, Cut, kept_file, cut_files, row_stays, cut_table, table_stays, cut_tables, cut_world, KeepsFile, has_row, is_initial, KeepsNeeded, CutOf}
+use Rattle.run_model.specs.Between.{IsIn, HasParents, is_row_needed, with_content, IsPresent, TableBetween, LiesBetween, FileCut, Gone, Same, Other, Cut, kept_file, cut_files, row_stays, cut_table, table_stays, cut_tables, cut_world, KeepsFile, has_row, is_initial, KeepsNeeded, CutOf}
 use Rattle.run_model.specs.Slice.{FileNeed, Whole, Present, file_need, is_table_needed}
 use Rattle.package_layout.specs.Order.{rises, is_below}
 use Rattle.replay_db.specs.Laws.{MembershipLaw}
@@ -271,12 +271,14 @@ module _ (events : List Event) (v w : World) (sv : SortedWorld v) (sw : SortedWo
       tables = table_stays_here;
       rows = row_stays_here;
     },
+    l.parents,
     λ j. record { start = l.start j; seed = l.seed j; files = sym files_same j; tables = sym tables_same j },
   )
 
 -- ---- from what was cut to what is in them
 
-module _ (events : List Event) (w : World) (cut : Cut) (keeps : KeepsNeeded cut w.tables events) where
+module _ (events : List Event) (w : World) (cut : Cut) (keeps : KeepsNeeded cut w.tables events)
+    (parents : HasParents (cut_world cut w)) where
   abbrev small : World
   small = cut_world cut w
 
@@ -343,6 +345,7 @@ module _ (events : List Event) (w : World) (cut : Cut) (keeps : KeepsNeeded cut 
 
   pub as_members : LiesBetween events small w
   as_members = record {
+    parents = parents;
     start = refl;
     seed = refl;
     whole = λ f is need. whole_stays f is (cut.file f.path) refl (subst (λ (o : Option FileNeed). KeepsFile o (cut.file f.path)) need (keeps.files f.path));
@@ -355,5 +358,5 @@ module _ (events : List Event) (w : World) (cut : Cut) (keeps : KeepsNeeded cut 
 pub membership_law : MembershipLaw
 membership_law events v w ruled_v ruled_w = (
   λ l. as_cut events v w (sorted_world v ruled_v) (sorted_world w ruled_w) l,
-  λ c. subst (λ (x : World). LiesBetween events x w) (sym c.2) (as_members events w c.0 c.1),
+  λ c. subst (λ (x : World). LiesBetween events x w) (sym c.3) (as_members events w c.0 c.1 (subst HasParents c.3 c.2)),
 )

@@ -20,7 +20,7 @@ use Rattle.sql_model.proofs.Equations.{need_is}
 use Rattle.sql_laws.proofs.StatementParts.{need_parts}
 use Rattle.package_layout.specs.Order.{is_below_next, rises, row_after_table, need_below}
 use Rattle.replay_db.specs.Types.{Statement, Table}
-use Rattle.replay_db.proofs.TraceLists.{equal_itself}
+use Rattle.replay_db.proofs.TraceLists.{equal_itself, less_next}
 
 -- ---- one row below another
 
@@ -78,6 +78,31 @@ same_under n m k same under =
     let tables : n.table ≡ m.table = bytes_eq-true n.table m.table (and-first (same_text n.table m.table) (n.row == m.row) same) in
     let rows : n.row ≡ m.row = nat_eq-true n.row m.row (and-second (same_text n.table m.table) (n.row == m.row) same) in
     (λ j. row_after_table (slice_cmp nat_cmp (tables j) k.table) (rows j) k.row) ∙ under
+
+-- ---- one row below another, below a third
+
+same_table : (a b : List ℕ) → slice_cmp nat_cmp a b ≡ Equal → a ≡ b
+same_table a b tied = bytes_eq-true a b (sym (is_eq-slice_cmp a b) ∙ ap is_eq tied)
+
+under_by : (a b c : NeededRow) (o p : Ordering) → slice_cmp nat_cmp a.table b.table ≡ o → slice_cmp nat_cmp b.table c.table ≡ p
+    → row_after_table o a.row b.row ≡ true → row_after_table p b.row c.row ≡ true → row_under a c ≡ true
+under_by a b c Less Less first second h k =
+    ap (λ (o : Ordering). row_after_table o a.row c.row) (nat_list_cmp_total.trans a.table b.table c.table first second)
+under_by a b c Less Equal first second h k =
+    ap (λ (o : Ordering). row_after_table o a.row c.row)
+    (ap (slice_cmp nat_cmp a.table) (sym (same_table b.table c.table second)) ∙ first)
+under_by a b c Less Greater first second h k = cc
+under_by a b c Equal Less first second h k =
+    ap (λ (o : Ordering). row_after_table o a.row c.row)
+    (ap (λ (t : List ℕ). slice_cmp nat_cmp t c.table) (same_table a.table b.table first) ∙ second)
+under_by a b c Equal Equal first second h k =
+    under_in_table a c (same_table a.table b.table first ∙ same_table b.table c.table second) ∙ less_next a.row b.row c.row h k
+under_by a b c Equal Greater first second h k = cc
+under_by a b c Greater p first second h k = cc
+
+pub row_under_trans : (a b c : NeededRow) → row_under a b ≡ true → row_under b c ≡ true → row_under a c ≡ true
+row_under_trans a b c h k =
+    under_by a b c (slice_cmp nat_cmp a.table b.table) (slice_cmp nat_cmp b.table c.table) refl refl h k
 
 -- ---- rising lists
 

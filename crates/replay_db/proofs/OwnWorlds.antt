@@ -9,16 +9,17 @@ use Rattle.ldv_value.specs.Limits.{max_files, max_tables}
 use Rattle.ldv_value.specs.Names.{path_test}
 use Rattle.ldv_value.specs.Sorted.{is_strictly_sorted}
 use Rattle.ldv_value.specs.declared.value.Value.{Value}
+use Rattle.sql_model.specs.ForeignKeys.{have_parents}
 use Rattle.sql_model.specs.SqlNames.{sql_name_test}
 use Rattle.sql_model.specs.Tables.{schema_test, is_row, is_short, numbers_test, are_keys_unique}
 use Rattle.run_model.specs.Package.{or_empty, own_file, own_row, own_table, own_world}
 use Rattle.run_model.specs.TypedPackage.{IsU32, TypedFile, TypedRow, TypedTable}
-use Rattle.run_model.specs.ValidPackage.{packed_file_precedes, packed_table_precedes, content_rule, file_rule, files_rule, table_rule, tables_rule, start_rule, logs_rule, is_script, is_script_file, script_rule, parts_rule, whole_rule}
+use Rattle.run_model.specs.ValidPackage.{packed_file_precedes, packed_table_precedes, content_rule, file_rule, files_rule, table_rule, packed_catalog, tables_rule, start_rule, logs_rule, is_script, is_script_file, script_rule, parts_rule, whole_rule}
 use Rattle.run_model.specs.ValidWorld.{all_of_file, all_of_row, all_of_table}
 use Rattle.run_model.specs.declared.package.PackedFile.{PackedFile}
 use Rattle.run_model.specs.declared.package.PackedRow.{PackedRow}
 use Rattle.run_model.specs.declared.package.PackedTable.{PackedTable}
-use Rattle.run_model.proofs.ValidWorlds.{valid_runs}
+use Rattle.run_model.proofs.ValidWorlds.{RuledList, ruled_list, valid_runs}
 use Rattle.package_layout.specs.Whole.{has_room}
 use Rattle.replay_db.specs.Runs.{OwnRunsLaw, OwnWorldLaw}
 
@@ -107,19 +108,28 @@ table_same t =
     && (numbers_still t.rows t.next j && values_still t.rows (is_row t.schema.columns) j && values_still t.rows (list_all is_short) j)
     && are_keys_unique t.schema.key (values_are t.rows j)
 
+-- with the names and the schemas that they have
+catalog_again : (tables : List PackedTable) → packed_catalog (map table_again tables) ≡ packed_catalog tables
+catalog_again tables = λ j. record {
+  names = map-map (λ (t : PackedTable). t.name) table_again tables j;
+  schemas = map-map (λ (t : PackedTable). t.schema) table_again tables j;
+}
+
 tables_met : (tables : List PackedTable) → tables_rule tables ≡ true → tables_rule (map all_of_table (map own_table tables)) ≡ true
 tables_met tables rule =
-    let each : Bool = list_all table_rule tables in
-    let sorted : Bool = is_strictly_sorted packed_table_precedes tables in
-    let few = and-parts (nat_le (length tables) max_tables) (each && sorted) rule in
-    let parts = and-parts each sorted few.1 in
-    let again : map all_of_table (map own_table tables) ≡ map table_again tables = map-map all_of_table own_table tables in
+    let list : RuledList tables = ruled_list tables rule in
+    let more : List PackedTable = map table_again tables in
+    let again : map all_of_table (map own_table tables) ≡ more = map-map all_of_table own_table tables in
+    let each : list_all table_rule more ≡ true =
+    list_all-map table_rule table_again tables
+    ∙ list_all-weaker table_rule (λ t. table_rule (table_again t)) (λ t met. table_same t ∙ met) tables list.each in
+    let sorted : is_strictly_sorted packed_table_precedes more ≡ true = sorted-under packed_table_precedes table_again tables ∙ list.sorted in
     ap tables_rule again
-    ∙ and-from (nat_le (length (map table_again tables)) max_tables) (list_all table_rule (map table_again tables) && is_strictly_sorted packed_table_precedes (map table_again tables))
-    (ap (λ (n : ℕ). nat_le n max_tables) (length-map tables table_again) ∙ few.0)
-    (and-from (list_all table_rule (map table_again tables)) (is_strictly_sorted packed_table_precedes (map table_again tables))
-    (list_all-map table_rule table_again tables ∙ list_all-weaker table_rule (λ t. table_rule (table_again t)) (λ t met. table_same t ∙ met) tables parts.0)
-    (sorted-under packed_table_precedes table_again tables ∙ parts.1))
+    ∙ and-from (nat_le (length more) max_tables) (list_all table_rule more && is_strictly_sorted packed_table_precedes more && have_parents (packed_catalog more))
+    (ap (λ (n : ℕ). nat_le n max_tables) (length-map tables table_again) ∙ list.few)
+    (and-from (list_all table_rule more && is_strictly_sorted packed_table_precedes more) (have_parents (packed_catalog more))
+    (and-from (list_all table_rule more) (is_strictly_sorted packed_table_precedes more) each sorted)
+    (ap have_parents (catalog_again tables) ∙ list.parents))
 
 -- ---- numbers and texts
 

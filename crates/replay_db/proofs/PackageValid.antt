@@ -29,6 +29,7 @@ use Rattle.replay_db.proofs.PackageValidParts.{files_valid, whole_found, tables_
 use Rattle.replay_db.proofs.PackageValidTyped.{files_typed, tables_typed}
 use Rattle.replay_db.proofs.TableRooms.{rooms_met}
 use Rattle.run_laws.proofs.RunSteps.{steps_at_most}
+use Rattle.run_laws.proofs.SliceLaws.{packed_parents}
 use Rattle.replay_db.proofs.TraceValid.{trace_is, steps_at_least_one, reasons_valid, room_is, typed_is}
 use Rattle.run_model.proofs.ValidWorlds.{Ruled, ruled_by, RuledList, ruled_list, world_tables}
 use Rattle.replay_db.proofs.WorldValues.{good_world}
@@ -107,7 +108,7 @@ module _ (n : ℕ) (w : World) (met : IsTrue (world_rules w)) (valid : tables_te
   needed : Packed Included (asked_count happened) (tables_needed happened w.tables) []
   needed =
       let tables : List PackedTable = tables_needed happened w.tables in
-      let rule : tables_rule tables ≡ true = tables_valid happened w.tables ruled.tables in
+      let rule : tables_rule tables ≡ true = tables_valid happened w.tables ruled.tables (packed_parents n w valid) in
       let list : RuledList tables = ruled_list tables rule in
       record {
         ruled = rule;

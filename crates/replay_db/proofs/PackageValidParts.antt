@@ -13,6 +13,9 @@ use Rattle.run_model.specs.Slice.{FileNeed, Whole, Present, file_need, packed_as
 use Rattle.sql_model.specs.Keys.{repeats, same_values, values_at}
 use Rattle.package_layout.specs.Order.{rises, is_below, file_below, table_below}
 use Rattle.package_layout.specs.Valid.{content_rule, file_rule, files_rule, rows_rule, table_rule, tables_rule}
+use Rattle.sql_model.specs.ForeignKeys.{have_parents}
+use Rattle.run_model.specs.ValidPackage.{packed_catalog}
+use Rattle.run_model.proofs.ValidWorlds.{RuledList, ruled_list}
 use Rattle.replay_db.specs.Worlds.{all_of_file, all_of_row, all_of_table}
 use Rattle.replay_db.proofs.PackageValidLists.{kept_if, tests_stay, within_still, rises_still, unique_still, some_kept}
 use Rattle.replay_db.proofs.TraceLists.{below_next, less_next}
@@ -170,19 +173,22 @@ module _ (events : List Event) (table : Table) where
       and_from (described && kept) (keyed kept_rows) (and_from described kept first.0 (rows_valid first.1)) (table_keyed parts.1)
 
 module _ (events : List Event) where
-  each_table : (p : PackedTable → Bool) → ((table : Table) → p (all_of_table table) ≡ true → p (packed_table events table) ≡ true) → (tables : List Table) → list_all p (map all_of_table tables) ≡ true → list_all p (tables_needed events tables) ≡ true
+  pub each_table : (p : PackedTable → Bool) → ((table : Table) → p (all_of_table table) ≡ true → p (packed_table events table) ≡ true) → (tables : List Table) → list_all p (map all_of_table tables) ≡ true → list_all p (tables_needed events tables) ≡ true
   each_table p keeps tables all =
       ap (list_all p) (tables_as events tables)
       ∙ tests_stay all_of_table (table_kept events) p p (λ table y is met. ap p (table_is events table y is) ∙ keeps table met) tables all
 
-  pub tables_valid : (tables : List Table) → tables_rule (map all_of_table tables) ≡ true → tables_rule (tables_needed events tables) ≡ true
-  tables_valid tables met =
-      let all : List PackedTable = map all_of_table tables in
-      let kept = tables_needed events tables in
-      let parts = and_parts (nat_le (length all) 256) (list_all table_rule all && rises table_below all) met in
-      let rest = and_parts (list_all table_rule all) (rises table_below all) parts.1 in
-      let few_tables : nat_le (length kept) 256 ≡ true = ap (λ (ts : List PackedTable). nat_le (length ts) 256) (tables_as events tables) ∙ within_still all_of_table (table_kept events) tables 256 parts.0 in
-      let each : list_all table_rule kept ≡ true = each_table table_rule (table_valid events) tables rest.0 in
+  pub tables_valid : (tables : List Table) → tables_rule (map all_of_table tables) ≡ true
+      → have_parents (packed_catalog (tables_needed events tables)) ≡ true → tables_rule (tables_needed events tables) ≡ true
+  tables_valid tables met parents =
+      let kept : List PackedTable = tables_needed events tables in
+      let list : RuledList (map all_of_table tables) = ruled_list (map all_of_table tables) met in
+      let few_tables : nat_le (length kept) 256 ≡ true =
+      ap (λ (ts : List PackedTable). nat_le (length ts) 256) (tables_as events tables)
+      ∙ within_still all_of_table (table_kept events) tables 256 list.few in
+      let each : list_all table_rule kept ≡ true = each_table table_rule (table_valid events) tables list.each in
       let rising : rises table_below kept ≡ true = ap (rises table_below) (tables_as events tables)
-      ∙ rises_still all_of_table (table_kept events) (λ y. y.name) (λ table y is. ap (λ (t : PackedTable). t.name) (table_is events table y is)) is_below below_next tables rest.1 in
-      and_from (nat_le (length kept) 256) (list_all table_rule kept && rises table_below kept) few_tables (and_from (list_all table_rule kept) (rises table_below kept) each rising)
+      ∙ rises_still all_of_table (table_kept events) (λ y. y.name) (λ table y is. ap (λ (t : PackedTable). t.name) (table_is events table y is)) is_below below_next tables list.sorted in
+      and_from (nat_le (length kept) 256) (list_all table_rule kept && rises table_below kept && have_parents (packed_catalog kept)) few_tables
+      (and_from (list_all table_rule kept && rises table_below kept) (have_parents (packed_catalog kept))
+      (and_from (list_all table_rule kept) (rises table_below kept) each rising) parents)

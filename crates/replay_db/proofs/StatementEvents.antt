@@ -1,6 +1,6 @@
 -- What the event of a statement meets, over a database whose tables have these names.
-use Rattle.std.proofs.Common.{◌≡◌, ℕ, suc, ◌+◌, ◌<◌, ◌≤◌, ◌^◌, List, [], ◌∷◌, length, refl, sym, ap, ◌∙◌, subst, true, false, arith, inl, inr}
-use Rattle.std.specs.Prelude.{Option, Some, None, map, filter, ◌&&◌, ◌==◌, nat_le, nat_lt, not, if◌then◌else◌, IsTrue}
+use Rattle.std.proofs.Common.{◌≡◌, ℕ, suc, ◌+◌, ◌<◌, ◌≤◌, ◌^◌, List, [], ◌∷◌, length, refl, sym, ap, ◌∙◌, subst, Bool, true, false, arith, inl, inr}
+use Rattle.std.specs.Prelude.{Option, Some, None, map, filter, ◌&&◌, ◌==◌, nat_le, nat_lt, if◌then◌else◌, IsTrue}
 use Rattle.std.specs.List.{list_all, list_any, AllByRecursion}
 use Rattle.std.specs.Str.{IsUtf8}
 use Rattle.std.proofs.lemmas.Bool.{cases_Bool, leb-true, ltb-true, lt-ltb, eq-eqb}
@@ -11,18 +11,21 @@ use Rattle.ldv_value.proofs.Lists.{found-passes, all-weaker, all-tested, tested-
 use Rattle.std.proofs.lemmas.List.{length-map}
 use Rattle.ldv_value.specs.declared.value.Value.{Value}
 use Rattle.sql_model.specs.SqlNames.{sql_name_test}
+use Rattle.sql_model.specs.declared.catalog.Catalog.{Catalog}
 use Rattle.sql_model.specs.declared.reply.SqlRefusal.{SqlRefusal}
 use Rattle.sql_model.specs.declared.reply.SqlRefusal.TheVariants.{NotNull, Full}
 use Rattle.sql_model.specs.declared.statement.Insert.{Insert}
 use Rattle.sql_model.specs.declared.statement.Statement.TheVariants.{Query as TheQuery, Insert as TheInsert, Update as TheUpdate, Delete as TheDelete}
 use Rattle.sql_model.specs.QueryAnswer.{Origin}
 use Rattle.sql_model.specs.Changes.{numbered, new_values, inserted, lacks_value, key_clash, changed, key_refusal, is_full, or_else, refusal_if, change_refusal}
-use Rattle.sql_model.specs.Needs.{Versions, NeededRow, need_of, is_named, table_name, asked_tables, new_member, made_by, updated_rows, is_row_of, versions_after, read_of}
+use Rattle.sql_model.specs.Needs.{Versions, NeededRow, need_of, asked_names, is_asked, table_name, asked_tables, new_member, made_by, updated_rows, is_row_of, versions_after, read_of}
 use Rattle.sql_model.specs.Refusals.{check_refusal}
 use Rattle.sql_model.specs.Scope.{same_text, is_table, table_at, rows_of, catalog_of}
-use Rattle.sql_model.specs.Statements.{target, refusal_of}
+use Rattle.sql_model.specs.Statements.{target, own_refusal, reference_refusal, refusal_of}
 use Rattle.sql_model.specs.Tables.{schema_test, is_valid_table, table_precedes, is_database, is_described, tables_test}
+use Rattle.sql_model.proofs.Databases.{tables_of_database}
 use Rattle.sql_model.proofs.ValidTables.{TableParts, table-parts}
+use Rattle.sql_model.proofs.SortedLists.{sorted-filter}
 use Rattle.sql_laws.proofs.DatabaseLaws.{tables_law}
 use Rattle.sql_laws.proofs.ChangedTables.{else-parts, if-none}
 use Rattle.replay_db.specs.Types.{Statement, Table, TableRow, Member, Need, Act, Asked}
@@ -35,11 +38,11 @@ use Rattle.package_layout.specs.Room.{some_thousands}
 use Rattle.run_model.specs.ValidTrace.{named_rule}
 use Rattle.package_layout.specs.Trace.{act_rule}
 use Rattle.package_layout.specs.Typed.{IsU32}
-use Rattle.replay_db.proofs.NeedsSorted.{row_under, needs_rise, reads_rise}
+use Rattle.replay_db.proofs.NeedsSorted.{row_under, row_under_trans, needs_rise, reads_rise}
 use Rattle.sql_laws.proofs.NeedsSound.{needs_good}
 use Rattle.replay_db.proofs.RowGroups.{is_name_of, groups_few}
 use Rattle.run_laws.proofs.RunSame.{database_of}
-use Rattle.run_laws.proofs.SortedNeeds.{rows_sorted}
+use Rattle.run_laws.proofs.SortedNeeds.{rows_sorted, is_lineage, lineage}
 use Rattle.run_laws.proofs.StatementNames.{names_after}
 use Rattle.run_laws.proofs.StatementVersions.{next_of, members_from, made_of, made_if, made_parts, made_none, target_rises}
 use Rattle.run_laws.proofs.Targets.{valid_table}
@@ -60,7 +63,7 @@ tables_names ts valid =
       named = all_map (λ name. IsTrue (sql_name_test name)) table_name ts
           (all-weaker (λ t. IsTrue (is_described t)) (λ t. IsTrue (sql_name_test t.name)) (λ t described. (and-parts (sql_name_test t.name) (schema_test t.schema) described).0)
           ts (all-tested is_described ts parts.1));
-      sorted = sorted-under is_below table_name ts ∙ (and-parts (list_all is_valid_table ts) (rises table_precedes ts) parts.0).1;
+      sorted = sorted-under is_below table_name ts ∙ (and-parts (list_all is_valid_table ts) (rises table_precedes ts) (tables_of_database ts parts.0)).1;
     }
 
 -- the tables have these names, and no row was updated more often than statements were asked
@@ -146,7 +149,9 @@ numbered_rise t start (values ∷ more ∷ rows) =
 
 not_full : (s : Statement) (db : List Table) (t : Table) → target s db ≡ Some t → refusal_of (Some s) db ≡ None → is_full s t ≡ false
 not_full s db t found none =
-    let change : change_refusal s (catalog_of db) (Some t) ≡ None = ap (change_refusal s (catalog_of db)) (sym found) ∙ (else-parts (check_refusal s (catalog_of db)) (change_refusal s (catalog_of db) (target s db)) none).1 in
+    let catalog : Catalog = catalog_of db in
+    let own : own_refusal s db ≡ None = (else-parts (own_refusal s db) (reference_refusal s catalog (target s db) db) none).0 in
+    let change : change_refusal s (catalog_of db) (Some t) ≡ None = ap (change_refusal s (catalog_of db)) (sym found) ∙ (else-parts (check_refusal s (catalog_of db)) (change_refusal s (catalog_of db) (target s db)) own).1 in
     let later = (else-parts (refusal_if (lacks_value s (catalog_of db) t) NotNull) (or_else (key_refusal t (key_clash (changed s (catalog_of db) t))) (refusal_if (is_full s t) Full)) change).1 in
     if-none (is_full s t) Full (else-parts (key_refusal t (key_clash (changed s (catalog_of db) t))) (refusal_if (is_full s t) Full) later).1
 
@@ -206,7 +211,9 @@ module _ (names : List (List ℕ)) (asked : ℕ) (db : SqlDatabase) (good : Good
       → AllByRecursion IsMade (made_of db.versions s (target s db.tables) (need_of (Some s) db.tables))
   accepted_made (TheQuery query) none = tt
   accepted_made (TheInsert insert) none = insert_of insert (target (TheInsert insert) db.tables) refl none
-  accepted_made (TheUpdate update) none = next_made (need_of (Some (TheUpdate update)) db.tables) (needs_there (Some (TheUpdate update)))
+  accepted_made (TheUpdate update) none =
+      let ns : List NeededRow = need_of (Some (TheUpdate update)) db.tables in
+      next_made (lineage ns) (all_filter (λ n. IsThere n.table n.row) is_lineage ns (needs_there (Some (TheUpdate update))))
   accepted_made (TheDelete delete) none = next_made (need_of (Some (TheDelete delete)) db.tables) (needs_there (Some (TheDelete delete)))
 
   by_refusal : (s : Statement) (refusal : Option SqlRefusal) → refusal_of (Some s) db.tables ≡ refusal
@@ -233,7 +240,9 @@ module _ (names : List (List ℕ)) (asked : ℕ) (db : SqlDatabase) (good : Good
   sorted_if (Some refusal) s = refl
   sorted_if None (TheQuery query) = refl
   sorted_if None (TheInsert insert) = insert_sorted insert (target (TheInsert insert) db.tables)
-  sorted_if None (TheUpdate update) = needs_sorted (need_of (Some (TheUpdate update)) db.tables) (needs_rise (Some (TheUpdate update)) db.tables)
+  sorted_if None (TheUpdate update) =
+      let ns : List NeededRow = need_of (Some (TheUpdate update)) db.tables in
+      needs_sorted (lineage ns) (sorted-filter row_under row_under_trans is_lineage ns (needs_rise (Some (TheUpdate update)) db.tables))
   sorted_if None (TheDelete delete) = needs_sorted (need_of (Some (TheDelete delete)) db.tables) (needs_rise (Some (TheDelete delete)) db.tables)
 
   made_sorted : (statement : Option Statement) → rises member_below (made_by db.versions statement db.tables) ≡ true
@@ -248,19 +257,22 @@ module _ (names : List (List ℕ)) (asked : ℕ) (db : SqlDatabase) (good : Good
   asked_all P all None = tt
   asked_all P all (Some s) =
       let tables : AllByRecursion (λ (t : Table). P t.name) db.tables = all_of_map P table_name db.tables (subst (AllByRecursion P) (sym good.same_names) all) in
-      all_map P table_name (filter (is_named s) db.tables) (all_filter (λ (t : Table). P t.name) (is_named s) db.tables tables)
+      let asks : Table → Bool = is_asked (asked_names s db.tables) in
+      all_map P table_name (filter asks db.tables) (all_filter (λ (t : Table). P t.name) asks db.tables tables)
 
   asked_sorted : rises is_below names ≡ true → (statement : Option Statement) → rises is_below (asked_tables statement db.tables) ≡ true
   asked_sorted sorted None = refl
   asked_sorted sorted (Some s) =
-      sorted-under is_below table_name (filter (is_named s) db.tables)
-      ∙ filter_rises table_name (is_named s) db.tables (sym (sorted-under is_below table_name db.tables) ∙ ap (rises is_below) good.same_names ∙ sorted)
+      let asks : Table → Bool = is_asked (asked_names s db.tables) in
+      sorted-under is_below table_name (filter asks db.tables)
+      ∙ filter_rises table_name asks db.tables (sym (sorted-under is_below table_name db.tables) ∙ ap (rises is_below) good.same_names ∙ sorted)
 
   asked_few : (statement : Option Statement) → length (asked_tables statement db.tables) ≤ length names
   asked_few None = omega arith
   asked_few (Some s) =
       let count : length (map table_name db.tables) ≡ length names = ap length good.same_names in
-      omega (arith, count, length-map db.tables table_name, length-map (filter (is_named s) db.tables) table_name, filter_most (is_named s) db.tables)
+      let asks : Table → Bool = is_asked (asked_names s db.tables) in
+      omega (arith, count, length-map db.tables table_name, length-map (filter asks db.tables) table_name, filter_most asks db.tables)
 
   -- ---- the event
 

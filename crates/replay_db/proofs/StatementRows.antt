@@ -8,7 +8,7 @@ use Rattle.std.proofs.lemmas.Bool.{cases_Bool, ltb-true, lt-ltb, false≢true}
 use Rattle.std.proofs.lemmas.Bool.Decides.{nat_tests}
 use Rattle.ldv_value.specs.Sorted.{is_strictly_sorted}
 use Rattle.ldv_value.specs.declared.value.Value.{Value}
-use Rattle.ldv_value.proofs.Booleans.{and-parts, and-assoc, and-true, and-false, or-parts, or-from, or-false, not-true}
+use Rattle.ldv_value.proofs.Booleans.{and-parts, and-assoc, and-true, and-false, or-parts, or-from, or-left, or-right, or-false, not-true}
 use Rattle.ldv_value.proofs.Lists.{list_any-map, list_any-append, list_any-false, found-passes, found-all}
 use Rattle.ldv_value.proofs.SameBytes.{bytes_eq-true, nat_eq-true}
 use Rattle.sql_model.specs.declared.catalog.Catalog.{Catalog}
@@ -23,13 +23,9 @@ use Rattle.sql_model.specs.Needs.{is_row_of as is_origin_of}
 use Rattle.sql_model.specs.Scope.{InScope, same_text, is_table, table_at, rows_of, catalog_of, own_scope}
 use Rattle.sql_model.specs.Statements.{target, refusal_of, after_unless, after}
 use Rattle.sql_model.specs.Tables.{is_valid_table, table_precedes, is_database}
-use Rattle.sql_model.proofs.Equations.{need_is}
-use Rattle.sql_laws.specs.QueryLaw.{Keep}
-use Rattle.sql_laws.specs.QueryLaw.{KeepsNeeded as KeepsRows}
-use Rattle.sql_laws.specs.StatementLaw.{KeepTables, KeepsAsked, cut_database, SameStatement}
-use Rattle.sql_laws.proofs.CutDatabases.{cut_law}
+use Rattle.sql_model.proofs.Databases.{tables_of_database}
 use Rattle.sql_laws.proofs.NeedsSound.{needs_good}
-use Rattle.sql_laws.proofs.StatementLaws.{statement_law}
+use Rattle.sql_laws.proofs.AskedTables.{asked_needs_law}
 use Rattle.sql_laws.proofs.StatementParts.{after_is}
 use Rattle.sql_laws.proofs.TableNames.{change_named, all-changed}
 use Rattle.run_model.specs.Slice.{reason_in}
@@ -38,6 +34,7 @@ use Rattle.trace_graph.specs.Links.{version_before, at_version}
 use Rattle.trace_graph.specs.VersionLaws.{is_read, is_changed}
 use Rattle.slicer.specs.InitialRows.{at_first}
 use Rattle.replay_db.specs.Types.{Statement, Table, TableRow, Member}
+use Rattle.run_laws.proofs.SortedNeeds.{is_lineage, lineage}
 use Rattle.run_laws.proofs.StatementVersions.{next_of, origin_of, made_if, updated_if, made_parts, updated_parts, made_none, updated_none, target_rises}
 
 -- ---- tests
@@ -78,7 +75,27 @@ twice : (b : Bool) → (b || (false || b)) ≡ (b || false)
 twice true = refl
 twice false = refl
 
+-- of two, the first with the second alone
+fewer : (small whole : Bool) → (small ≡ true → whole ≡ true) → (whole || (false || small)) ≡ (whole || false)
+fewer true whole more = rw (more refl) refl
+fewer false whole more = refl
+
 -- ---- lists
+
+-- one among those that are left is one of all
+any_left : {X : Type 0} (p keep : X → Bool) (xs : List X) → list_any p (filter keep xs) ≡ true → list_any p xs ≡ true
+any_left p keep [] some = some
+any_left p keep (x ∷ xs) some = elim (cases_Bool (keep x)) [
+  | inl stays ↦
+      let parts : (p x || list_any p (filter keep xs)) ≡ true = rw stays at some in
+      elim (cases_Bool (p x)) [
+        | inl here ↦ or-left (p x) (list_any p xs) here
+        | inr other ↦
+            or-right (p x) (list_any p xs)
+            (any_left p keep xs (sym (ap (λ (b : Bool). b || list_any p (filter keep xs)) other) ∙ parts))
+      ]
+  | inr goes ↦ or-right (p x) (list_any p xs) (any_left p keep xs (rw goes at some))
+]
 
 module _ {X : Type 0} (p : X → Bool) where
   none_of : (xs : List X) → AllByRecursion (λ x. p x ≡ false) xs → list_any p xs ≡ false
@@ -106,7 +123,7 @@ none_changed change name (t ∷ ts) none = elim (cases_Bool (is_table name t)) [
 
 module _ (test : Table → Bool) (db : List Table) (valid : is_database db ≡ true) (all : list_all test db ≡ true) where
   sorted : is_strictly_sorted table_precedes db ≡ true
-  sorted = (and-parts (list_all is_valid_table db) (is_strictly_sorted table_precedes db) valid).1
+  sorted = (and-parts (list_all is_valid_table db) (is_strictly_sorted table_precedes db) (tables_of_database db valid)).1
 
   -- the table of a name passes it when it is changed
   abbrev Passes : Option (List ℕ) → Statement → Type 0
@@ -249,6 +266,15 @@ module _ (table : List ℕ) (row : ℕ) where
       ∙ twice (list_any (is_first versions) ns)
       ∙ sym (λ j. list_any (is_first versions) ns || next_makes versions ns j)
 
+  -- so is it where that is only what is needed by rule L
+  lineage_seen : (versions : Versions) (ns : List NeededRow)
+      → (list_any (is_first versions) ns || (makes (map (next_of versions) (lineage ns)) || changes (map (next_of versions) (lineage ns))))
+      ≡ (list_any (is_first versions) ns || makes (map (next_of versions) (lineage ns)))
+  lineage_seen versions ns =
+      (λ j. list_any (is_first versions) ns || (next_makes versions (lineage ns) j || next_changes versions (lineage ns) j))
+      ∙ fewer (list_any (is_first versions) (lineage ns)) (list_any (is_first versions) ns) (any_left (is_first versions) is_lineage ns)
+      ∙ sym (λ j. list_any (is_first versions) ns || next_makes versions (lineage ns) j)
+
   seen_by : (versions : Versions) (refusal : Option SqlRefusal) (s : Statement) (o : Option Table) (ns : List NeededRow)
       → (list_any (is_first versions) ns || (makes (made_if refusal versions s o ns) || changes (made_if refusal versions s o ns)))
       ≡ (list_any (is_first versions) ns || makes (made_if refusal versions s o ns))
@@ -259,7 +285,7 @@ module _ (table : List ℕ) (row : ℕ) where
       let rows : List TableRow = inserted insert t in
       ap (λ (b : Bool). list_any (is_first versions) ns || (makes (map (new_member t) rows) || b)) (new_changes t rows)
       ∙ ap (λ (b : Bool). list_any (is_first versions) ns || b) (or-false (makes (map (new_member t) rows)))
-  seen_by versions None (TheUpdate update) o ns = next_seen versions ns
+  seen_by versions None (TheUpdate update) o ns = lineage_seen versions ns
   seen_by versions None (TheDelete delete) o ns = next_seen versions ns
 
   -- ---- a number that is used: it is below the next one of its table
@@ -296,7 +322,7 @@ module _ (table : List ℕ) (row : ℕ) where
   unmade_by versions None (TheInsert insert) (Some t) ns used =
       new_makes t (inserted insert t)
       ∙ fresh t.name t.next (map (new_values insert.columns t.schema.columns) insert.rows) (λ named. used_below t used named)
-  unmade_by versions None (TheUpdate update) o ns used = next_makes versions ns
+  unmade_by versions None (TheUpdate update) o ns used = next_makes versions (lineage ns)
   unmade_by versions None (TheDelete delete) o ns used = next_makes versions ns
 
   used_of : (name : Option (List ℕ)) (db : List Table) → list_all is_used db ≡ true → UsedIn (table_of name db)
@@ -414,47 +440,37 @@ module _ (table : List ℕ) (row : ℕ) where
 
   -- ---- a statement that needs the row names its table
 
-  abbrev others_stay : KeepTables
-  others_stay name = not (same_text name table)
+  all_lack : (ts : List Table) → list_any (is_table table) ts ≡ false → list_all lacks ts ≡ true
+  all_lack [] none = refl
+  all_lack (t ∷ ts) none =
+      let parts = or-parts (is_table table t) (list_any (is_table table) ts) none in
+      rw parts.0 (all_lack ts parts.1)
 
-  abbrev rows_stay : Keep
-  rows_stay name number = true
-
-  others_asked : (names : List (List ℕ)) → list_any (λ name. same_text name table) names ≡ false → KeepsAsked others_stay names
-  others_asked [] none = tt
-  others_asked (name ∷ names) none =
-      let parts = or-parts (same_text name table) (list_any (λ name. same_text name table) names) none in
-      (ap not parts.0, others_asked names parts.1)
-
-  rows_needed : (ns : List NeededRow) → KeepsRows rows_stay ns
-  rows_needed [] = tt
-  rows_needed (n ∷ ns) = (refl, rows_needed ns)
-
-  left_lacks : (db : List Table) → list_all lacks (cut_database others_stay rows_stay db) ≡ true
-  left_lacks [] = refl
-  left_lacks (t ∷ ts) = elim (cases_Bool (same_text t.name table)) [
-    | inl named ↦ rw named (left_lacks ts)
-    | inr other ↦ rw other (rw other (left_lacks ts))
+  -- a needed row is one of a table that is there
+  needed_there : (statement : Option Statement) (db : List Table) → is_needed (need_of statement db) ≡ true
+      → list_any (is_table table) db ≡ true
+  needed_there statement db needed = elim (cases_Bool (list_any (is_table table) db)) [
+    | inl there ↦ there
+    | inr none ↦ absurd (false≢true (sym (unneeded statement db (all_lack db none)) ∙ needed))
   ]
 
-  named_by : (s : Statement) (db : List Table) → is_database db ≡ true → is_needed (need_of (Some s) db) ≡ true
-      → list_any (λ name. same_text name table) (asked_tables (Some s) db) ≡ true
-  named_by s db valid needed = elim (cases_Bool (list_any (λ name. same_text name table) (asked_tables (Some s) db))) [
-    | inl named ↦ named
-    | inr none ↦
-        let small : List Table = cut_database others_stay rows_stay db in
-        let same : SameStatement (Some s) others_stay rows_stay db =
-        statement_law (Some s) db others_stay rows_stay valid (cut_law others_stay rows_stay db valid)
-        (rows_needed (need_of (Some s) db)) (others_asked (asked_tables (Some s) db) none) in
-        let idle : is_needed (need_of (Some s) small) ≡ false = unneeded (Some s) small (left_lacks db) in
-        absurd (false≢true (sym idle ∙ ap is_needed same.needs ∙ needed))
+  -- one of the row is one of its table
+  needed_of : (ns : List NeededRow) → is_needed ns ≡ true → list_any (λ n. same_text n.table table) ns ≡ true
+  needed_of [] needed = needed
+  needed_of (n ∷ ns) needed = elim (cases_Bool (same_text n.table table)) [
+    | inl named ↦ rw named refl
+    | inr other ↦ rw other (needed_of ns (rw other at needed))
   ]
+
+  names_turned : (names : List (List ℕ)) → list_any (same_text table) names ≡ list_any (λ name. same_text name table) names
+  names_turned names = λ j. list_any (λ name. swapped table name j) names
 
   pub needed_named : (statement : Option Statement) (db : List Table) → is_database db ≡ true
       → is_needed (need_of statement db) ≡ true
       → list_any (λ name. same_text name table) (asked_tables statement db) ≡ true
-  needed_named None db valid needed = absurd (false≢true (sym (ap is_needed (need_is None db)) ∙ needed))
-  needed_named (Some s) db valid needed = named_by s db valid needed
+  needed_named statement db valid needed =
+      sym (names_turned (asked_tables statement db))
+      ∙ asked_needs_law statement db table (needed_there statement db needed) (needed_of (need_of statement db) needed)
 
   -- ---- a statement over a database
 
@@ -510,7 +526,9 @@ module _ (table : List ℕ) (row : ℕ) where
     updated_by (Some refusal) s ns none = refl
     updated_by None (TheQuery query) ns none = refl
     updated_by None (TheInsert insert) ns none = refl
-    updated_by None (TheUpdate update) ns none = list_any-map (is_origin_of table row) origin_of ns ∙ none
+    updated_by None (TheUpdate update) ns none =
+        list_any-map (is_origin_of table row) origin_of (lineage ns)
+        ∙ none_left (λ (n : NeededRow). is_it n.table n.row) is_lineage ns none
     updated_by None (TheDelete delete) ns none = refl
 
     unupdated : (statement : Option Statement) → is_needed (needs statement) ≡ false

@@ -7,12 +7,14 @@ use Rattle.ldv_value.proofs.Booleans.{and-parts, and-from, and-first, and-second
 use Rattle.ldv_value.proofs.Lists.{list_all-weaker}
 use Rattle.ldv_value.specs.Limits.{max_columns}
 use Rattle.sql_model.specs.Keys.{repeats}
-use Rattle.sql_model.specs.Tables.{key_places_test, is_row}
+use Rattle.sql_model.specs.ForeignKeys.{max_foreign}
+use Rattle.sql_model.specs.Tables.{key_places_test, foreign_key_test, foreign_count_test, foreign_test, is_row}
 use Rattle.sql_model.specs.declared.table.Column.{Column}
+use Rattle.sql_model.specs.declared.table.Foreign.{Foreign}
 use Rattle.run_model.proofs.KeyPlaces.{key_within}
 use Rattle.run_model.proofs.ValidWorlds.{RuledList, ruled_list}
 use Rattle.run_model.specs.ValidPackage.{table_rule, tables_rule}
-use Rattle.package_layout.specs.Room.{key_room, row_room, table_room}
+use Rattle.package_layout.specs.Room.{key_room, foreign_room, foreigns_room, schema_room, row_room, table_room}
 use Rattle.replay_db.specs.Types.{PackedRow, PackedTable}
 
 key_room_met : (columns : List Column) (key : List ℕ) → length columns ≤ max_columns → key_places_test columns key ≡ true → key_room key ≡ true
@@ -22,15 +24,27 @@ key_room_met columns key few met =
     and-from (nat_lt (length key) 256) (list_all (λ p. nat_lt p 256) key) (lt-ltb (length key) 256 (omega arith))
     (list_all-weaker (λ p. nat_lt p (length columns)) (λ p. nat_lt p 256) (λ p below. let less : p < length columns = ltb-true p (length columns) below in lt-ltb p 256 (omega arith)) key parts.0)
 
+foreigns_room_met : (columns : List Column) (foreigns : List Foreign) → length columns ≤ max_columns
+    → foreign_test columns foreigns ≡ true → foreigns_room foreigns ≡ true
+foreigns_room_met columns foreigns few met =
+    let parts = and-parts (foreign_count_test foreigns) (list_all (foreign_key_test columns) foreigns) met in
+    let count : length foreigns ≤ max_foreign = leb-true (length foreigns) max_foreign parts.0 in
+    and-from (nat_lt (length foreigns) 256) (list_all foreign_room foreigns) (lt-ltb (length foreigns) 256 (omega (arith, count)))
+    (list_all-weaker (foreign_key_test columns) foreign_room (λ f fits. key_room_met columns f.columns few fits) foreigns parts.1)
+
 room_met : (t : PackedTable) → table_rule t ≡ true → table_room t ≡ true
 room_met t met =
     let columns : List Column = t.schema.columns in
     let parts = and-parts _ _ (and-first _ _ met) in
-    let schema = and-parts _ _ (and-first _ _ (and-second _ _ parts.0)) in
+    let tested = and-parts _ _ (and-second _ _ parts.0) in
+    let schema = and-parts _ _ (and-first _ _ tested.0) in
     let few : length columns ≤ max_columns = leb-true _ _ (and-second _ _ (and-first _ _ schema.0)) in
+    let room : schema_room t.schema ≡ true =
+    and-from _ _ (lt-ltb (length columns) 256 (omega arith))
+    (and-from _ _ (key_room_met columns t.schema.key few schema.1) (foreigns_room_met columns t.schema.foreign few tested.1)) in
     let wide : list_all (row_room (length columns)) t.rows ≡ true =
     list_all-weaker (λ (r : PackedRow). is_row columns r.values) (row_room (length columns)) (λ r fits. and-first _ _ fits) t.rows (and-second _ _ (and-first _ _ parts.1)) in
-    and-from _ _ (lt-ltb (length columns) 256 (omega arith)) (and-from _ _ (key_room_met columns t.schema.key few schema.1) wide)
+    and-from _ _ room wide
 
 pub rooms_met : (tables : List PackedTable) → tables_rule tables ≡ true → list_all table_room tables ≡ true
 rooms_met tables met =

@@ -5,12 +5,13 @@ use Rattle.std.specs.List.{list_all, AllByRecursion}
 use Rattle.std.proofs.lemmas.Bool.{leb-true}
 use Rattle.ldv_value.specs.Limits.{max_columns}
 use Rattle.ldv_value.proofs.Booleans.{and-parts, and-first, and-second}
-use Rattle.sql_model.specs.Tables.{is_short}
+use Rattle.sql_model.specs.Tables.{is_short, foreign_key_test}
 use Rattle.sql_model.specs.declared.table.Column.{Column}
-use Rattle.run_model.specs.TypedPackage.{TypedRow, TypedTable}
+use Rattle.sql_model.specs.declared.table.Foreign.{Foreign}
+use Rattle.run_model.specs.TypedPackage.{TypedForeign, TypedRow, TypedTable}
 use Rattle.run_model.specs.ValidPackage.{table_rule}
 use Rattle.value_laws.specs.Steps.{GoodWorld}
-use Rattle.value_laws.specs.Values.{GoodRow, GoodTable, GoodTables}
+use Rattle.value_laws.specs.Values.{GoodForeign, GoodRow, GoodTable, GoodTables}
 use Rattle.value_laws.proofs.StepGood.{row_good}
 use Rattle.replay_db.specs.Types.{Table, TableRow, PackedRow, World}
 use Rattle.replay_db.specs.Worlds.{all_of_row, all_of_table, all_of_world, ValidWorld}
@@ -25,17 +26,27 @@ rows_good (row ∷ rows) typed short =
     let both = and-parts _ _ short in
     (row_good row.values typed.0.1.1 both.0, rows_good rows typed.1 both.1)
 
+foreigns_good : (columns : List Column) (foreigns : List Foreign) → length columns ≤ max_columns
+    → AllByRecursion TypedForeign foreigns → list_all (foreign_key_test columns) foreigns ≡ true → AllByRecursion GoodForeign foreigns
+foreigns_good columns [] few typed met = tt
+foreigns_good columns (f ∷ fs) few typed met =
+    let both = and-parts (foreign_key_test columns f) (list_all (foreign_key_test columns) fs) met in
+    let within : length f.columns ≤ length columns = key_within columns f.columns both.0 in
+    ((typed.0, le_trans within few), foreigns_good columns fs few typed.1 both.1)
+
 table_good : (t : Table) → TypedTable (all_of_table t) → table_rule (all_of_table t) ≡ true → GoodTable t
 table_good t typed met =
     let columns : List Column = t.schema.columns in
     let parts = and-parts _ _ (and-first _ _ met) in
-    let schema = and-parts _ _ (and-first _ _ (and-second _ _ parts.0)) in
+    let tested = and-parts _ _ (and-second _ _ parts.0) in
+    let schema = and-parts _ _ (and-first _ _ tested.0) in
     let few : length columns ≤ max_columns = leb-true _ _ (and-second _ _ (and-first _ _ schema.0)) in
     let key : length t.schema.key ≤ length columns = key_within columns t.schema.key schema.1 in
     record {
       name = typed.0;
       columns = few;
       key = le_trans key few;
+      foreign = foreigns_good columns t.schema.foreign few typed.1.0.1 (and-second _ _ tested.1);
       rows = rows_good t.rows typed.1.1.1 (and-second _ _ parts.1);
     }
 

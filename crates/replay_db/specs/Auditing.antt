@@ -1,7 +1,7 @@
 -- The audit of a package: its bytes, compared with the included package of its own world, in their own
 -- version.
 use Rattle.std.specs.Prelude.{◌≡◌, ◌≤◌, ◌<◌, ◌↔◌, ℕ, List, [], length, true, false, if◌then◌else◌, nat_eq, bytes_eq}
-use Rattle.std.specs.Prelude.{Some, Result, Ok, Err}
+use Rattle.std.specs.Prelude.{Some, Result, Ok, Err, IsTrue}
 use Rattle.std.specs.List.{common_prefix_len}
 use Rattle.ldv_value.specs.Limits.{input_limit, max_steps}
 use Rattle.script_parse.specs.declared.script.Instr.{Instr}
@@ -9,6 +9,7 @@ use Rattle.sql_model.specs.Tables.{tables_test}
 use Rattle.run_model.specs.Package.{package_of, own_world}
 use Rattle.run_model.specs.Start.{start_script}
 use Rattle.run_model.specs.WorldRun.{ends_within, steps_by}
+use Rattle.package_layout.specs.Plain.{fits_version}
 use Rattle.package_layout.specs.Valid.{Valid}
 use Rattle.package_layout.specs.declared.version.Version.{Version}
 use Rattle.package_layout.specs.Whole.{spelling_as, IsTyped}
@@ -68,7 +69,9 @@ RecordedSoundLaw = (n budget : ℕ) (w : World) (script : List Instr) → start_
 -- And no other: a valid package whose spelling in one version is due is that of its own world's run. So its
 -- spelling in the other version is due too.
 abbrev pub OwnSoundLaw : Type 0
-OwnSoundLaw = (budget : ℕ) (version : Version) (p : Package) → IsTyped p → Valid p → budget ≤ max_steps
+OwnSoundLaw = (budget : ℕ) (version : Version) (p : Package) → IsTyped p → Valid p
+    → IsTrue (fits_version version p)
+    → budget ≤ max_steps
     → ends_within budget (own_world p) ≡ true
     → length (spelling_as version p) ≤ input_limit
     → own_spelling budget version p ≡ spelling_as version p

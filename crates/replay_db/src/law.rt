@@ -39,7 +39,7 @@ pub fn package_law()
 
 /// The audit of a package finds it sound exactly where its bytes are those of the package of its own world's
 /// run, in their own version; so it finds every recorded package sound. A valid package is found sound in
-/// both versions or in none. The function does nothing: its contract is the theorem.
+/// each version that has all of it, or in none. The function does nothing: its contract is the theorem.
 pub fn audit_law()
     ensures sound { SoundLaw }
     ensures recorded { RecordedSoundLaw }

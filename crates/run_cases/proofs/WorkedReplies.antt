@@ -3,7 +3,7 @@ use Rattle.std.specs.Prelude.{◌≡◌, refl, pos, negsuc, [], ◌∷◌, ◌++
 use Rattle.std.specs.Fmt.{digits}
 use Rattle.ldv_value.specs.declared.value.Value.TheVariants.{Null, Int, Text}
 use Rattle.sql_model.specs.declared.reply.Reply.TheVariants.{Rows, Changed, Refused}
-use Rattle.sql_model.specs.declared.reply.SqlRefusal.TheVariants.{Syntax, NoTable, NoColumn, TypeClash, NotNull, KeyTaken, Full}
+use Rattle.sql_model.specs.declared.reply.SqlRefusal.TheVariants.{Syntax, NoTable, NoColumn, TypeClash, NotNull, KeyTaken, Full, NoParent, HasChild}
 use Rattle.run_model.specs.OutcomeText.{value_text, row_text, reply_text}
 
 -- ---- values: `null`, or `int` and the number, or `text` and the number of bytes, and these on a line
@@ -98,3 +98,15 @@ refused_key : reply_text (Refused (KeyTaken (codes "items") (Text (codes "ab") �
     ≡ codes "refused 6 items 2\ntext 2\nab\nint 3\n"
 unfolding digits
 refused_key = refl
+
+-- a key without a row in the parent: the parent, and the values by which a row refers
+refused_parent : reply_text (Refused (NoParent (codes "customers") (Int (pos 7) ∷ [])))
+    ≡ codes "refused 8 customers 1\nint 7\n"
+unfolding digits
+refused_parent = refl
+
+-- a key that rows still refer to: their table, and those values
+refused_child : reply_text (Refused (HasChild (codes "orders") (Text (codes "ab") ∷ Int (pos 3) ∷ [])))
+    ≡ codes "refused 9 orders 2\ntext 2\nab\nint 3\n"
+unfolding digits
+refused_child = refl

@@ -12,9 +12,11 @@ pub mod KeptSplits
 pub mod LogEntries
 pub mod LogLaws
 pub mod LogRuns
+pub mod NeededParents
 pub mod PackageLaws
 pub mod ProcessNames
 pub mod ProcessPlaces
+pub mod QuietActs
 pub mod QuietSteps
 pub mod RunSame
 pub mod RunSteps

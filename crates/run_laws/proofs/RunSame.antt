@@ -8,13 +8,13 @@ use Rattle.std.proofs.lemmas.List.{map-append, append_assoc}
 use Rattle.ldv_value.specs.FileState.{FileState}
 use Rattle.ldv_value.proofs.Booleans.{and-parts}
 use Rattle.sql_model.specs.Needs.{need_of}
-use Rattle.sql_model.specs.Statements.{reply_of}
+use Rattle.sql_model.specs.Statements.{reply_of, after}
 use Rattle.sql_model.specs.Tables.{is_database, is_described, tables_test}
 use Rattle.sql_model.specs.Texts.{statement_of}
 use Rattle.sql_laws.specs.QueryLaw.{KeepsNeeded as KeepsRows}
 use Rattle.sql_laws.proofs.DatabaseLaws.{tables_law}
 use Rattle.run_laws.specs.Types.{Act, Statement, Table, Event, Reply}
-use Rattle.run_model.specs.Between.{Cut, cut_database}
+use Rattle.run_model.specs.Between.{Cut, cut_tables, cut_database}
 use Rattle.run_model.specs.Core.{Process, Core, is_over}
 use Rattle.run_model.specs.Database.{Gives}
 use Rattle.run_model.specs.Events.{event_at, events_of_step, events_after, events}
@@ -27,7 +27,7 @@ use Rattle.run_model.proofs.Equations.{run-zero, run-over, run-suc, steps-zero, 
 use Rattle.run_laws.proofs.CoreSame.{with_files, OpenSame, AllOpen, found_open, EffectSame, quiet_same, ends_later}
 use Rattle.run_laws.proofs.FilesAgree.{Agrees, later_agrees}
 use Rattle.run_laws.proofs.Keeps.{KeepsAct, KeepsEvents, keeps_events_split, rows_of_reads, others_stay, events_more}
-use Rattle.run_laws.proofs.StatementSame.{answers_same}
+use Rattle.run_laws.proofs.StatementSame.{answers_same, changes_same}
 use Rattle.run_laws.proofs.ProcessPlaces.{set_all}
 
 pub database_of : (tables : List Table) → tables_test tables ≡ true → is_database tables ≡ true
@@ -51,8 +51,13 @@ abbrev cut_after : Cut → SqlDatabase → Option Ask → Cut
 cut_after cut db None = cut
 cut_after cut db (Some a) = others_stay cut db.tables
 
--- a step is the same, and the files agree afterwards
+-- what is left of the tables is such as a world may have: no parent of them is cut
+abbrev pub LeftTables : Cut → SqlDatabase → Type 0
+LeftTables cut db = tables_test (cut_tables cut db.tables) ≡ true
+
+-- a step is the same, the files agree afterwards, and such tables are left
 pub record StepSame (later : List Event) (cut : Cut) (small whole : Stepped SqlDatabase) : Type 0 where
+  pub left : LeftTables cut whole.state.db
   pub files : FileState
   pub same : small ≡ small_step cut files whole
   pub agrees : Agrees later files whole.state.core.files
@@ -74,7 +79,7 @@ took_agrees later (Some p) number a reply files c is agrees opened = (
 )
 
 module _ (step number : ℕ) (later : List Event) (cut : Cut) (files : FileState) (s : State SqlDatabase)
-    (valid : tables_test s.db.tables ≡ true) (opened : AllOpen files s.core.files s.core.processes) where
+    (valid : tables_test s.db.tables ≡ true) (left : LeftTables cut s.db) (opened : AllOpen files s.core.files s.core.processes) where
   abbrev acted : List Act → List Event
   acted acts = map (event_at step number) acts ++ later
 
@@ -89,6 +94,7 @@ module _ (step number : ℕ) (later : List Event) (cut : Cut) (files : FileState
       let q : EffectSame (ends ++ later) (quiet number (with_files files s.core)) e =
       quiet_same step number (ends ++ later) files s.core opened (subst (λ (es : List Event). Agrees es files s.core.files) split agrees) in
       record {
+        left = left;
         files = q.files;
         same = λ j. record {
           process = number;
@@ -107,7 +113,9 @@ module _ (step number : ℕ) (later : List Event) (cut : Cut) (files : FileState
       let statement : Option Statement = statement_of a.question.text a.question.params in
       let rows : KeepsRows cut.row (need_of statement s.db.tables) = rows_of_reads cut s.db.versions (need_of statement s.db.tables) keeps.0.1 in
       let answers : answer_of statement (cut_database cut s.db) ≡ Gives (reply_of statement s.db.tables) (cut_database (others_stay cut s.db.tables) (db_after statement s.db)) (lists_of statement s.db) =
-      answers_same cut statement s.db (database_of s.db.tables valid) keeps.0.0 rows in
+      answers_same cut statement s.db (database_of s.db.tables valid) (database_of (cut_tables cut s.db.tables) left) keeps.0.0 rows in
+      let changes : after statement (cut_tables cut s.db.tables) ≡ cut_tables (others_stay cut s.db.tables) (after statement s.db.tables) =
+      changes_same cut statement s.db (database_of s.db.tables valid) (database_of (cut_tables cut s.db.tables) left) keeps.0.0 rows in
       let reply : Reply = reply_of statement s.db.tables in
       let new : Core = took number a reply s.core in
       let core : took number a reply (with_files files s.core) ≡ with_files files new = took_same (slice_get s.core.processes number) number a reply files s.core in
@@ -115,6 +123,7 @@ module _ (step number : ℕ) (later : List Event) (cut : Cut) (files : FileState
       let both = took_agrees (ends ++ later) (slice_get s.core.processes number) number a reply files s.core refl
       (later_agrees (event_at step number (asked_act s.core.asked (lists_of statement s.db))) (ends ++ later) files s.core.files refl agrees) opened in
       record {
+        left = ap tables_test (sym changes) ∙ tables_law statement (cut_tables cut s.db.tables) left;
         files = files;
         same =
             ap (told number a (small_state cut files s)) answers
@@ -140,23 +149,23 @@ next_cut cut pick s = cut_after cut s.db (ask_at (choose pick s.core) (chosen (c
 
 -- the same process is chosen
 chosen_same : (step number : ℕ) (later : List Event) (cut : Cut) (files : FileState) (s : State SqlDatabase)
-    → tables_test s.db.tables ≡ true → AllOpen files s.core.files s.core.processes
+    → tables_test s.db.tables ≡ true → LeftTables cut s.db → AllOpen files s.core.files s.core.processes
     → KeepsActs cut (move_of sql_base number s).acts
     → Agrees (map (event_at step number) (move_of sql_base number s).acts ++ later) files s.core.files
     → StepSame later (cut_after cut s.db (ask_at number (chosen number s).core)) (move_of sql_base number (small_state cut files s))
     (move_of sql_base number s)
-chosen_same step number later cut files s valid opened keeps agrees =
-    asking_same step number later cut files (chosen number s) valid opened (ask_at number (chosen number s).core) keeps agrees
+chosen_same step number later cut files s valid left opened keeps agrees =
+    asking_same step number later cut files (chosen number s) valid left opened (ask_at number (chosen number s).core) keeps agrees
 
 move_same : (step : ℕ) (later : List Event) (cut : Cut) (files : FileState) (pick : Option ℕ) (s : State SqlDatabase)
-    → tables_test s.db.tables ≡ true → AllOpen files s.core.files s.core.processes
+    → tables_test s.db.tables ≡ true → LeftTables cut s.db → AllOpen files s.core.files s.core.processes
     → KeepsActs cut (move sql_base pick s).acts
     → Agrees (map (event_at step (choose pick s.core)) (move sql_base pick s).acts ++ later) files s.core.files
     → StepSame later (next_cut cut pick s) (move sql_base pick (small_state cut files s)) (move sql_base pick s)
-move_same step later cut files None s valid opened keeps agrees =
-    chosen_same step (choose None s.core) later cut files s valid opened keeps agrees
-move_same step later cut files (Some k) s valid opened keeps agrees =
-    chosen_same step (choose (Some k) s.core) later cut files s valid opened keeps agrees
+move_same step later cut files None s valid left opened keeps agrees =
+    chosen_same step (choose None s.core) later cut files s valid left opened keeps agrees
+move_same step later cut files (Some k) s valid left opened keeps agrees =
+    chosen_same step (choose (Some k) s.core) later cut files s valid left opened keeps agrees
 
 asking_process : (number : ℕ) (s : State SqlDatabase) (o : Option Ask) → (asking sql_base number s o).process ≡ number
 asking_process number s None = refl
@@ -227,15 +236,15 @@ over_same n number picks cut files s over agrees =
     (steps-over sql_base n picks small over) (steps-over sql_base n picks s over) agrees
 
 pub run_law : (n number : ℕ) (picks : List ℕ) (cut : Cut) (files : FileState) (s : State SqlDatabase) → tables_test s.db.tables ≡ true
-    → AllOpen files s.core.files s.core.processes
+    → LeftTables cut s.db → AllOpen files s.core.files s.core.processes
     → KeepsEvents cut (events sql_base n number picks s) → Agrees (events sql_base n number picks s) files s.core.files
     → SameRuns n number picks cut files s
-run_law zero number picks cut files s valid opened keeps agrees =
+run_law zero number picks cut files s valid left opened keeps agrees =
     let small : State SqlDatabase = small_state cut files s in
     still_same 0 number picks cut files s (run-zero sql_base picks small) (run-zero sql_base picks s)
     (events-zero sql_base number picks small) (events-zero sql_base number picks s)
     (steps-zero sql_base picks small) (steps-zero sql_base picks s) agrees
-run_law (suc n) number picks cut files s valid opened keeps agrees = elim (cases_Bool (is_over s.core)) [
+run_law (suc n) number picks cut files s valid left opened keeps agrees = elim (cases_Bool (is_over s.core)) [
   | inl over ↦ over_same (suc n) number picks cut files s over agrees
   | inr going ↦
       let pick : Option ℕ = first_pick picks in
@@ -250,10 +259,10 @@ run_law (suc n) number picks cut files s valid opened keeps agrees = elim (cases
       let by_number : Agrees (map (event_at number (choose pick s.core)) one.acts ++ later) files s.core.files =
       subst (λ (k : ℕ). Agrees (map (event_at number k) one.acts ++ later) files s.core.files) (move_process pick s) needs in
       let next : Cut = next_cut cut pick s in
-      let here : StepSame later next (move sql_base pick small) one = move_same number later cut files pick s valid opened acts by_number in
+      let here : StepSame later next (move sql_base pick small) one = move_same number later cut files pick s valid left opened acts by_number in
       let kept : KeepsEvents next later = later_keeps cut s.db (ask_at (choose pick s.core) (chosen (choose pick s.core) s).core) later both.1 in
       let more : SameRuns n (number + 1) rest next here.files one.state =
-      run_law n (number + 1) rest next here.files one.state (move_stays pick s valid) here.opened kept here.agrees in
+      run_law n (number + 1) rest next here.files one.state (move_stays pick s valid) here.left here.opened kept here.agrees in
       record {
         end = more.end;
         final = more.final;

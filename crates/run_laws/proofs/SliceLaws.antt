@@ -1,15 +1,27 @@
--- The slice keeps what is needed, and is the package's own world.
-use Rattle.std.proofs.Common.{◌≡◌, ℕ, List, [], ◌∷◌, refl, ap, inl, inr}
-use Rattle.std.specs.Prelude.{Option, Some, None, option_map, map, filter}
+-- The slice keeps what is needed, with the parents of needed tables, and is the package's own world.
+use Rattle.std.proofs.Common.{◌≡◌, ℕ, List, [], ◌∷◌, ◌++◌, refl, sym, ap, ◌∙◌, true, inl, inr}
+use Rattle.std.specs.Prelude.{Option, Some, None, option_map, map, filter, slice_get}
 use Rattle.std.specs.List.{cons_option}
 use Rattle.std.proofs.lemmas.Bool.{cases_Bool}
 use Rattle.ldv_value.proofs.Cases.{cases-option}
-use Rattle.run_laws.specs.Types.{File, Table, TableRow, Event, PackedFile}
-use Rattle.run_model.specs.Between.{kept_file, cut_files, cut_table, cut_tables, KeepsFile, KeepsNeeded, cut_to, is_row_needed, slice_cut}
+use Rattle.ldv_value.proofs.Lists.{map-map}
+use Rattle.sql_model.specs.ForeignKeys.{have_parents}
+use Rattle.sql_model.specs.Scope.{catalog_of}
+use Rattle.sql_model.specs.Tables.{tables_test}
+use Rattle.sql_laws.specs.StatementLaw.{KeepsParents}
+use Rattle.sql_laws.proofs.CutDatabases.{cut_parents_law}
+use Rattle.run_laws.specs.Types.{File, Table, TableRow, Event, Instr, PackedFile, PackedTable, World}
+use Rattle.run_model.specs.Between.{HasParents, slice_of, kept_file, cut_files, cut_table, cut_tables, KeepsFile, KeepsNeeded, cut_to, is_row_needed, slice_cut}
 use Rattle.run_model.specs.Package.{own_file, own_row, own_table}
 use Rattle.run_model.specs.Slice.{FileNeed, Whole, Present, file_need, packed_as, files_needed, first_reason, rows_needed, is_table_needed, packed_table, tables_needed}
-use Rattle.run_model.specs.WorldRun.{events_within}
+use Rattle.run_model.specs.Events.{events, start_events}
+use Rattle.run_model.specs.SqlDatabase.{sql_base}
+use Rattle.run_model.specs.Start.{start_script, start_state}
+use Rattle.run_model.specs.ValidPackage.{packed_catalog}
+use Rattle.run_model.specs.WorldRun.{events_in, events_within}
 use Rattle.run_laws.specs.Laws.{SliceLaw, OwnLaw}
+use Rattle.run_laws.proofs.NeededParents.{BringsAll, run_brings}
+use Rattle.run_laws.proofs.RunSame.{database_of}
 
 -- ---- the slice keeps what is needed
 
@@ -25,8 +37,26 @@ slice_keeps events initial = record {
   rows = λ name number first needed. needed;
 }
 
+-- the parents of needed tables are needed
+
+start_brings : (child parent : List ℕ) (word : Option (List ℕ)) (es : List Event) → BringsAll child parent es
+    → BringsAll child parent (start_events word ++ es)
+start_brings child parent None es rest = rest
+start_brings child parent (Some path) es rest = rest
+
+needed_in : (n : ℕ) (w : World) → tables_test w.tables ≡ true → (o : Option (List Instr))
+    → KeepsParents (is_table_needed (events_in n [] w o)) w.tables
+needed_in n w valid None child parent refer never = never
+needed_in n w valid (Some script) child parent refer needed =
+    let later : List Event = events sql_base n 1 [] (start_state w script) in
+    start_brings child parent (slice_get w.start 0) later (run_brings child parent n 1 [] (start_state w script) valid refer) needed
+
 pub slice_law : SliceLaw
-slice_law n w = (slice_cut (events_within n w), slice_keeps (events_within n w) w.tables, refl)
+slice_law n w valid =
+    let all : List Event = events_within n w in
+    let parents : HasParents (slice_of n w) =
+    cut_parents_law (is_table_needed all) (is_row_needed all) w.tables (database_of w.tables valid) (needed_in n w valid (start_script w)) in
+    (slice_cut all, slice_keeps all w.tables, parents, refl)
 
 -- ---- the own world of what is packed
 
@@ -62,3 +92,18 @@ pub own_law : OwnLaw
 own_law n w =
     let all : List Event = events_within n w in
     λ j. record { start = w.start; seed = w.seed; files = own_files all w.files j; tables = own_tables all w.tables j }
+
+-- ---- packed tables have their parents among them
+
+own_catalog : (ts : List PackedTable) → catalog_of (map own_table ts) ≡ packed_catalog ts
+own_catalog ts = λ j. record {
+  names = map-map (λ (t : Table). t.name) own_table ts j;
+  schemas = map-map (λ (t : Table). t.schema) own_table ts j;
+}
+
+pub packed_parents : (n : ℕ) (w : World) → tables_test w.tables ≡ true
+    → have_parents (packed_catalog (tables_needed (events_within n w) w.tables)) ≡ true
+packed_parents n w valid =
+    let all : List Event = events_within n w in
+    let packed : List PackedTable = tables_needed all w.tables in
+    ap have_parents (sym (own_catalog packed) ∙ ap catalog_of (own_tables all w.tables)) ∙ (slice_law n w valid).2

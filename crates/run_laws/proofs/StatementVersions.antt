@@ -1,11 +1,13 @@
 -- A statement makes the same versions and updates the same rows of a database from which nothing was cut that it
--- needs: an UPDATE or a DELETE those of the rows that it needs, an INSERT those from the next number on.
-use Rattle.std.proofs.Common.{◌≡◌, ℕ, ◌+◌, List, [], refl, sym, ap, ◌∙◌, true}
+-- needs: a DELETE those of the rows that it needs, an UPDATE those of the rows that it needs by rule L, an INSERT
+-- those from the next number on.
+use Rattle.std.proofs.Common.{◌≡◌, ℕ, ◌+◌, List, [], ◌++◌, refl, sym, ap, ◌∙◌, true}
 use Rattle.std.specs.Prelude.{Option, Some, None, option_map, map, nat_lt}
 use Rattle.std.specs.List.{list_all}
 use Rattle.std.proofs.lemmas.Bool.{and_parts}
 use Rattle.ldv_value.proofs.Lists.{map-map}
 use Rattle.sql_model.specs.declared.catalog.Catalog.{Catalog}
+use Rattle.sql_model.specs.declared.need.Rule.TheVariants.{P}
 use Rattle.sql_model.specs.declared.reply.SqlRefusal.{SqlRefusal}
 use Rattle.sql_model.specs.declared.statement.Delete.{Delete}
 use Rattle.sql_model.specs.declared.statement.Insert.{Insert}
@@ -13,7 +15,8 @@ use Rattle.sql_model.specs.declared.statement.Update.{Update}
 use Rattle.sql_model.specs.declared.statement.Statement.TheVariants.{Query as TheQuery, Insert as TheInsert, Update as TheUpdate, Delete as TheDelete}
 use Rattle.sql_model.specs.QueryAnswer.{Origin}
 use Rattle.sql_model.specs.Changes.{inserted, matched, is_matched}
-use Rattle.sql_model.specs.Needs.{Versions, NeededRow, matched_row, matched_rows, sorted_needs, needs_by, need_of, asked_tables, new_member, members_made, made_unless, made_by, updated_in, updated_unless, updated_rows}
+use Rattle.sql_model.specs.Needs.{Versions, NeededRow, needed_by, matched_row, matched_rows, parent_rows, sorted_needs, needs_by, need_of, asked_tables, new_member, members_made, made_unless, made_by, updated_in, updated_unless, updated_rows}
+use Rattle.sql_model.specs.References.{parents_needed}
 use Rattle.sql_model.specs.Scope.{catalog_of, own_scope, table_at}
 use Rattle.sql_model.specs.Statements.{target, refusal_of}
 use Rattle.sql_model.specs.Tables.{is_valid_table, is_database}
@@ -21,12 +24,11 @@ use Rattle.sql_model.proofs.Equations.{made_is, updated_is}
 use Rattle.sql_model.proofs.ValidTables.{table-parts}
 use Rattle.sql_laws.specs.QueryLaw.{KeepsNeeded as KeepsRows}
 use Rattle.sql_laws.specs.StatementLaw.{KeepsAsked, SameStatement}
-use Rattle.sql_laws.proofs.CutDatabases.{cut_law}
 use Rattle.sql_laws.proofs.StatementLaws.{statement_law}
 use Rattle.sql_laws.proofs.StatementParts.{need_parts}
 use Rattle.run_laws.specs.Types.{Statement, Table, TableRow, Member}
 use Rattle.run_model.specs.Between.{Cut, cut_table, cut_tables}
-use Rattle.run_laws.proofs.SortedNeeds.{rows_sorted, filter_sorted, rising_matched}
+use Rattle.run_laws.proofs.SortedNeeds.{rows_sorted, filter_sorted, rising_matched, lineage, lineage_matched, parents_other}
 use Rattle.run_laws.proofs.Targets.{valid_table, target_cut}
 
 -- ---- versions by what is needed
@@ -46,13 +48,13 @@ members_from insert (Some t) = map (new_member t) (inserted insert t)
 abbrev pub made_of : Versions → Statement → Option Table → List NeededRow → List Member
 made_of versions (TheQuery query) t needs = []
 made_of versions (TheInsert insert) t needs = members_from insert t
-made_of versions (TheUpdate update) t needs = map (next_of versions) needs
+made_of versions (TheUpdate update) t needs = map (next_of versions) (lineage needs)
 made_of versions (TheDelete delete) t needs = map (next_of versions) needs
 
 abbrev pub updated_of : Statement → List NeededRow → List Origin
 updated_of (TheQuery query) needs = []
 updated_of (TheInsert insert) needs = []
-updated_of (TheUpdate update) needs = map origin_of needs
+updated_of (TheUpdate update) needs = map origin_of (lineage needs)
 updated_of (TheDelete delete) needs = []
 
 -- each list of the parts, by the refusal
@@ -82,6 +84,16 @@ matched_needed : (s : Statement) (catalog : Catalog) (o : Option Table) → Rise
     → sorted_needs (matched_rows s catalog o) ≡ matched_rows s catalog o
 matched_needed s catalog None rise = refl
 matched_needed s catalog (Some t) rise = rising_matched t (matched s catalog t) (matched_rise s catalog t rise)
+
+-- beside the parents of an UPDATE too
+update_needed : (db : List Table) (update : Update) (catalog : Catalog) (o : Option Table) → Rises o
+    → lineage (sorted_needs (matched_rows (TheUpdate update) catalog o ++ parent_rows (TheUpdate update) catalog o db))
+    ≡ matched_rows (TheUpdate update) catalog o
+update_needed db update catalog None rise = refl
+update_needed db update catalog (Some t) rise =
+    let parents : List Origin = parents_needed (TheUpdate update) catalog t db in
+    lineage_matched t (map (needed_by P) parents) (parents_other parents) (matched (TheUpdate update) catalog t)
+    (matched_rise (TheUpdate update) catalog t rise)
 
 -- each matched row in its next version
 update_made : (versions : Versions) (update : Update) (catalog : Catalog) (o : Option Table)
@@ -120,7 +132,7 @@ module _ (db : List Table) where
   accepted_made versions (TheInsert insert) rise = insert_made versions insert (catalog_of db) (target (TheInsert insert) db)
   accepted_made versions (TheUpdate update) rise =
       update_made versions update (catalog_of db) (target (TheUpdate update) db)
-      ∙ sym (ap (map (next_of versions)) (matched_needed (TheUpdate update) (catalog_of db) (target (TheUpdate update) db) rise))
+      ∙ sym (ap (map (next_of versions)) (update_needed db update (catalog_of db) (target (TheUpdate update) db) rise))
   accepted_made versions (TheDelete delete) rise =
       delete_made versions delete (catalog_of db) (target (TheDelete delete) db)
       ∙ sym (ap (map (next_of versions)) (matched_needed (TheDelete delete) (catalog_of db) (target (TheDelete delete) db) rise))
@@ -131,7 +143,7 @@ module _ (db : List Table) where
   accepted_updated (TheInsert insert) rise = insert_origins insert (catalog_of db) (target (TheInsert insert) db)
   accepted_updated (TheUpdate update) rise =
       update_origins update (catalog_of db) (target (TheUpdate update) db)
-      ∙ sym (ap (map origin_of) (matched_needed (TheUpdate update) (catalog_of db) (target (TheUpdate update) db) rise))
+      ∙ sym (ap (map origin_of) (update_needed db update (catalog_of db) (target (TheUpdate update) db) rise))
   accepted_updated (TheDelete delete) rise = delete_origins delete (catalog_of db) (target (TheDelete delete) db)
 
   made_by_refusal : (versions : Versions) (s : Statement) → Rises (target s db) → (refusal : Option SqlRefusal)
@@ -204,10 +216,8 @@ made_cut cut versions None (TheUpdate update) o needs = refl
 made_cut cut versions None (TheDelete delete) o needs = refl
 
 module _ (s : Statement) (cut : Cut) (db : List Table) (valid : is_database db ≡ true)
+    (left : is_database (cut_tables cut db) ≡ true)
     (rows : KeepsRows cut.row (need_of (Some s) db)) (tables : KeepsAsked cut.table (asked_tables (Some s) db)) where
-  left : is_database (cut_tables cut db) ≡ true
-  left = cut_law cut.table cut.row db valid
-
   same : SameStatement (Some s) cut.table cut.row db
   same = statement_law (Some s) db cut.table cut.row valid left rows tables
 
@@ -234,9 +244,10 @@ module _ (s : Statement) (cut : Cut) (db : List Table) (valid : is_database db �
   }
 
 pub same_versions : (statement : Option Statement) (cut : Cut) (db : List Table) → is_database db ≡ true
+    → is_database (cut_tables cut db) ≡ true
     → KeepsRows cut.row (need_of statement db) → KeepsAsked cut.table (asked_tables statement db) → SameVersions statement cut db
-same_versions None cut db valid rows tables = record {
+same_versions None cut db valid left rows tables = record {
   made = λ versions. made_none versions (cut_tables cut db) ∙ sym (made_none versions db);
   updated = updated_none (cut_tables cut db) ∙ sym (updated_none db);
 }
-same_versions (Some s) cut db valid rows tables = some_versions s cut db valid rows tables
+same_versions (Some s) cut db valid left rows tables = some_versions s cut db valid left rows tables

@@ -112,7 +112,7 @@ first_or other [] = other
 first_or other (t ∷ ts) = t
 
 abbrev pub no_table : Table
-no_table = record { name = []; schema = record { columns = []; key = [] }; rows = []; next = 0 }
+no_table = record { name = []; schema = record { columns = []; key = []; foreign = [] }; rows = []; next = 0 }
 
 -- one that is found where it is kept
 pub kept_there : {X : Type 0} (f : X → Table) (test : X → Bool) (name : List ℕ) (xs : List X) (x : X)

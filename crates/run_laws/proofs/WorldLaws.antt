@@ -3,9 +3,10 @@ use Rattle.std.proofs.Common.{◌≡◌, ℕ, List, [], ◌++◌, refl, sym, ap,
 use Rattle.std.specs.Prelude.{Option, Some, None, option_and_then, map, filter, slice_get, if◌then◌else◌}
 use Rattle.script_parse.specs.Script.{script_of}
 use Rattle.sql_model.specs.Tables.{tables_test}
+use Rattle.sql_laws.proofs.CutDatabases.{cut_tables_law}
 use Rattle.sql_laws.proofs.OtherRows.{database_same}
 use Rattle.run_laws.specs.Types.{File, Instr, Started, Event, Mode, Included, Excluded, Outcome, World}
-use Rattle.run_model.specs.Between.{Cut, FileCut, Gone, Same, Other, cut_world, cut_files, table_stays, KeepsFile, slice_of}
+use Rattle.run_model.specs.Between.{HasParents, Cut, FileCut, Gone, Same, Other, cut_world, cut_files, cut_tables, table_stays, KeepsFile, slice_of}
 use Rattle.run_model.specs.Core.{Core, all_ended}
 use Rattle.run_model.specs.Events.{event_at, events, start_events}
 use Rattle.run_model.specs.Outcome.{outcome_of_process, outcome_of, outcome_at, by_name}
@@ -74,7 +75,8 @@ start_later None es a b agrees = agrees
 start_later (Some path) es a b agrees = later_agrees (event_at 0 0 (Started path)) es a b refl agrees
 
 module _ (n : ℕ) (picks : List ℕ) (w : World) (script : List Instr) (is : start_script w ≡ Some script)
-    (valid : tables_test w.tables ≡ true) (cut : Cut) (keeps : KeepsAll cut (events_by n picks w)) where
+    (valid : tables_test w.tables ≡ true) (cut : Cut) (left : tables_test (cut_tables cut w.tables) ≡ true)
+    (keeps : KeepsAll cut (events_by n picks w)) where
   abbrev start : State SqlDatabase
   start = start_state w script
 
@@ -103,7 +105,7 @@ module _ (n : ℕ) (picks : List ℕ) (w : World) (script : List Instr) (is : st
       (files_agree cut (events_by n picks w) w.files keeps.files))
 
   runs : SameRuns n 1 picks cut small_files start
-  runs = run_law n 1 picks cut small_files start valid (tt, tt) keeps_run start_agrees
+  runs = run_law n 1 picks cut small_files start valid left (tt, tt) keeps_run start_agrees
 
   core_same : core_after n picks small script ≡ with_files runs.final (core_after n picks w script)
   core_same = ap (λ (s : State SqlDatabase). s.core) runs.state
@@ -165,14 +167,17 @@ others_same cut w = λ j. record {
 }
 
 pub interleaving_law : InterleavingLaw
-interleaving_law n picks w v script is valid (cut, keeps, same) =
-    let others : KeepsAll (others_stay cut w.tables) (events_by n picks w) = others_keep cut w.tables (events_by n picks w) keeps in
-    subst (λ (x : World). SameRun n picks x w script) (others_same cut w ∙ sym same)
-    (kept_law n picks w script is valid (others_stay cut w.tables) others)
+interleaving_law n picks w v script is valid (cut, keeps, parents, same) =
+    let more : Cut = others_stay cut w.tables in
+    let others : KeepsAll more (events_by n picks w) = others_keep cut w.tables (events_by n picks w) keeps in
+    let small_is : cut_world more w ≡ v = others_same cut w ∙ sym same in
+    let there : HasParents (cut_world more w) = subst HasParents (sym small_is) parents in
+    let left : tables_test (cut_tables more w.tables) ≡ true = cut_tables_law more.table more.row w.tables valid there in
+    subst (λ (x : World). SameRun n picks x w script) small_is (kept_law n picks w script is valid more left others)
 
 pub between_law : BetweenLaw
 between_law n w v script is valid between = interleaving_law n [] w v script is valid between
 
 pub replay_law : ReplayLaw
 replay_law n w script is valid =
-    subst (λ (x : World). SameRun n [] x w script) (sym (own_law n w)) (between_law n w (slice_of n w) script is valid (slice_law n w))
+    subst (λ (x : World). SameRun n [] x w script) (sym (own_law n w)) (between_law n w (slice_of n w) script is valid (slice_law n w valid))

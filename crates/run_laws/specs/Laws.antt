@@ -34,9 +34,9 @@ InterleavingLaw = (n : ℕ) (picks : List ℕ) (w v : World) (script : List Inst
     → CutOf (events_by n picks w) v w
     → SameRun n picks v w script
 
--- the slice is itself between, and is the package's own world
+-- the slice is itself between, and is the package's own world: what a run asks has its parents with it
 abbrev pub SliceLaw : Type 0
-SliceLaw = (n : ℕ) (w : World) → Between n (slice_of n w) w
+SliceLaw = (n : ℕ) (w : World) → tables_test w.tables ≡ true → Between n (slice_of n w) w
 
 abbrev pub OwnLaw : Type 0
 OwnLaw = (n : ℕ) (w : World) → own_world (package_of Included n w) ≡ slice_of n w

@@ -4,10 +4,10 @@
 //! contract of a function without a body:
 //! - `between_law` (`specs/Laws.antt`), of every world with valid tables, any script and all statements: a
 //!   world that lies between the slice of a run and the run's world has the same outcome, events and
-//!   packages; the same holds where both runs go by one list of picks, so for every interleaving of the
-//!   processes; the slice lies between, and is the own world of the run's package, so replay of the package
-//!   yields what the run yielded, and its own package is that very package; a run that has ended has the
-//!   same outcome and packages with more steps;
+//!   packages, whether the references of its rows hold or not; the same holds where both runs go by one list
+//!   of picks, so for every interleaving of the processes; the slice lies between, and is the own world of
+//!   the run's package, so replay of the package yields what the run yielded, and its own package is that
+//!   very package; a run that has ended has the same outcome and packages with more steps;
 //! - `log_law` (`specs/LogLaws.antt`), of every world with valid tables whose run ends: the package of the
 //!   recorded replies runs without the tables as the world ran with them. It diverges nowhere, and within
 //!   every budget it has the run's outcome, or none yet where the run has none. The same holds where both

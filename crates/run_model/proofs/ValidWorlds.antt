@@ -8,12 +8,14 @@ use Rattle.ldv_value.proofs.Lists.{list_all-map, map-map, sorted-under}
 use Rattle.ldv_value.specs.FileState.{files_test}
 use Rattle.ldv_value.specs.Limits.{max_next, max_tables}
 use Rattle.ldv_value.specs.Sorted.{is_strictly_sorted}
-use Rattle.sql_model.specs.Tables.{is_row, is_short, numbers_test, are_keys_unique, is_valid_table, table_precedes, is_database, is_described, tables_test}
+use Rattle.sql_model.specs.ForeignKeys.{have_parents}
+use Rattle.sql_model.specs.Scope.{catalog_of}
+use Rattle.sql_model.specs.Tables.{is_row, is_short, numbers_test, are_keys_unique, is_valid_table, table_precedes, are_tables, is_database, is_described, tables_test}
 use Rattle.sql_model.proofs.ValidTables.{table-from}
 use Rattle.run_model.specs.Package.{own_file}
 use Rattle.run_model.specs.Types.{Value, File, Table, TableRow, Package, PackedRow, PackedTable, World}
 use Rattle.run_model.specs.TypedPackage.{TypedTable}
-use Rattle.run_model.specs.ValidPackage.{packed_table_precedes, start_rule, files_rule, rows_rule, table_rule, tables_rule, script_rule}
+use Rattle.run_model.specs.ValidPackage.{packed_table_precedes, start_rule, files_rule, rows_rule, table_rule, packed_catalog, tables_rule, script_rule}
 use Rattle.run_model.specs.ValidWorld.{all_of_file, all_of_row, all_of_table, all_of_world, rules_of_parts, world_rules, ValidWorld, CanRun}
 use Rattle.run_model.proofs.OwnFiles.{own_files}
 use Rattle.run_model.proofs.StartScripts.{first_script, own_script}
@@ -72,14 +74,23 @@ pub record RuledList (tables : List PackedTable) : Type 0 where
   pub few : nat_le (length tables) max_tables ≡ true
   pub each : list_all table_rule tables ≡ true
   pub sorted : is_strictly_sorted packed_table_precedes tables ≡ true
+  pub parents : have_parents (packed_catalog tables) ≡ true
 
 pub ruled_list : (tables : List PackedTable) → tables_rule tables ≡ true → RuledList tables
 ruled_list tables met =
     let each : Bool = list_all table_rule tables in
     let sorted : Bool = is_strictly_sorted packed_table_precedes tables in
-    let a = and-parts (nat_le (length tables) max_tables) (each && sorted) met in
-    let b = and-parts each sorted a.1 in
-    record { few = a.0; each = b.0; sorted = b.1 }
+    let a = and-parts (nat_le (length tables) max_tables) (each && sorted && have_parents (packed_catalog tables)) met in
+    let b = and-parts (each && sorted) (have_parents (packed_catalog tables)) a.1 in
+    let c = and-parts each sorted b.0 in
+    record { few = a.0; each = c.0; sorted = c.1; parents = b.1 }
+
+-- the packed tables that have all of tables have their names and schemas
+pub all_of_catalog : (ts : List Table) → packed_catalog (map all_of_table ts) ≡ catalog_of ts
+all_of_catalog ts = λ j. record {
+  names = map-map (λ (t : PackedTable). t.name) all_of_table ts j;
+  schemas = map-map (λ (t : PackedTable). t.schema) all_of_table ts j;
+}
 
 -- ---- its tables are valid, and a database
 
@@ -112,9 +123,13 @@ pub ruled_tables : (w : World) → IsTrue (world_rules w) → list_all next_with
 ruled_tables w met nexts =
     let ruled : Ruled (all_of_world w) = ruled_by (all_of_world w) met in
     let list : RuledList (map all_of_table w.tables) = ruled_list (map all_of_table w.tables) ruled.tables in
+    let valid : list_all is_valid_table w.tables ≡ true = tables_valid w.tables nexts list.each in
+    let sorted : is_strictly_sorted table_precedes w.tables ≡ true =
+    sym (sorted-under packed_table_precedes all_of_table w.tables) ∙ list.sorted in
+    let parents : have_parents (catalog_of w.tables) ≡ true = ap have_parents (sym (all_of_catalog w.tables)) ∙ list.parents in
     and-from (is_database w.tables) (list_all is_described w.tables)
-    (and-from (list_all is_valid_table w.tables) (is_strictly_sorted table_precedes w.tables)
-    (tables_valid w.tables nexts list.each) (sym (sorted-under packed_table_precedes all_of_table w.tables) ∙ list.sorted))
+    (and-from (are_tables w.tables) (have_parents (catalog_of w.tables))
+    (and-from (list_all is_valid_table w.tables) (is_strictly_sorted table_precedes w.tables) valid sorted) parents)
     (tables_described w.tables list.each)
 
 pub world_tables : (w : World) → ValidWorld w → tables_test w.tables ≡ true

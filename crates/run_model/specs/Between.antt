@@ -3,7 +3,8 @@
 use Rattle.std.specs.Prelude.{◌≡◌, ◌⊎◌, ℕ, ◌==◌, List, [], ◌∷◌, map, filter, Bool, true, ◌&&◌}
 use Rattle.std.specs.Prelude.{Option, Some, None, is_some}
 use Rattle.std.specs.List.{list_any, filter_map}
-use Rattle.sql_model.specs.Scope.{is_table}
+use Rattle.sql_model.specs.ForeignKeys.{have_parents}
+use Rattle.sql_model.specs.Scope.{is_table, catalog_of}
 use Rattle.run_model.specs.Types.{File, Table, TableRow, Event, World}
 use Rattle.run_model.specs.Slice.{FileNeed, Whole, Present, file_need, first_reason, is_table_needed}
 use Rattle.run_model.specs.SqlDatabase.{SqlDatabase}
@@ -36,8 +37,13 @@ pub record TableBetween (events : List Event) (small whole : Table) : Type 0 whe
   pub needed : (row : TableRow) → IsIn row whole.rows → is_row_needed events whole.name row.number ≡ true
       → IsIn row small.rows
 
+-- each foreign key of a world has a parent there with a fitting key
+abbrev pub HasParents : World → Type 0
+HasParents v = have_parents (catalog_of v.tables) ≡ true
+
 -- a world lies between what events need of another and the other
 pub record LiesBetween (events : List Event) (v w : World) : Type 0 where
+  pub parents : HasParents v
   pub start : v.start ≡ w.start
   pub seed : v.seed ≡ w.seed
   -- each whole file is there with its bytes
@@ -138,9 +144,9 @@ pub record KeepsNeeded (cut : Cut) (initial : List Table) (events : List Event) 
   pub rows : (name : List ℕ) (number : ℕ) → is_initial initial name number ≡ true
       → is_row_needed events name number ≡ true → cut.row name number ≡ true
 
--- a world is another without what was cut, and nothing was cut that the events need
+-- a world is another without what was cut, nothing was cut that the events need, and parents are there
 abbrev pub CutOf : List Event → World → World → Type 0
-CutOf events v w = (cut : Cut) × KeepsNeeded cut w.tables events × (v ≡ cut_world cut w)
+CutOf events v w = (cut : Cut) × KeepsNeeded cut w.tables events × HasParents v × (v ≡ cut_world cut w)
 
 -- a world lies between the slice of a run of at most so many steps and the run's world
 abbrev pub Between : ℕ → World → World → Type 0

@@ -10,7 +10,7 @@ pub record Question : Type 0 where
   pub text : List ℕ
   pub params : List Value
 
--- what is recorded of a statement: the tables that it names, the rows that it needed with their versions, and
+-- what is recorded of a statement: the tables that it asks, the rows that it needed with their versions, and
 -- the versions that it made
 pub record Lists : Type 0 where
   pub tables : List (List ℕ)

@@ -9,7 +9,8 @@ use Rattle.sql_model.specs.declared.reply.Reply.{Reply}
 use Rattle.sql_model.specs.declared.reply.Reply.TheVariants.{Rows, Changed, Refused}
 use Rattle.sql_model.specs.declared.reply.SqlRefusal.{SqlRefusal}
 use Rattle.sql_model.specs.declared.reply.SqlRefusal.TheVariants.{Syntax, NoTable, NoColumn, TypeClash}
-use Rattle.sql_model.specs.declared.reply.SqlRefusal.TheVariants.{NotNull, KeyTaken, Full}
+use Rattle.sql_model.specs.declared.reply.SqlRefusal.TheVariants.{NotNull, KeyTaken, Full, NoParent}
+use Rattle.sql_model.specs.declared.reply.SqlRefusal.TheVariants.{HasChild}
 use Rattle.run_model.specs.declared.outcome.Outcome.{Outcome}
 use Rattle.run_model.specs.declared.outcome.ProcOutcome.{ProcOutcome}
 use Rattle.run_model.specs.declared.outcome.PathOutcome.{PathOutcome}
@@ -38,20 +39,23 @@ row_text values = line (codes "row " ++ decimal (length values)) ++ values_text 
 abbrev pub rows_text : List (List Value) → List ℕ
 rows_text rows = line (codes "rows " ++ decimal (length rows)) ++ flat_map row_text rows
 
--- `refused 6 TABLE W` and the W values of the taken key
-abbrev pub key_text : List ℕ → List Value → List ℕ
-key_text table key =
-    line (codes "refused 6 " ++ table ++ codes " " ++ decimal (length key)) ++ values_text key
+-- `refused CODE TABLE W` and the W values of a key
+abbrev pub key_text : ℕ → List ℕ → List Value → List ℕ
+key_text code table key =
+    line (codes "refused " ++ decimal code ++ codes " " ++ table ++ codes " " ++ decimal (length key))
+    ++ values_text key
 
--- `refused CODE`, and for a taken key more
+-- `refused CODE`, and more for a key that is taken, missing or lost
 abbrev pub refusal_text : SqlRefusal → List ℕ
 refusal_text Syntax = line (codes "refused " ++ decimal (code_of Syntax))
 refusal_text NoTable = line (codes "refused " ++ decimal (code_of NoTable))
 refusal_text NoColumn = line (codes "refused " ++ decimal (code_of NoColumn))
 refusal_text TypeClash = line (codes "refused " ++ decimal (code_of TypeClash))
 refusal_text NotNull = line (codes "refused " ++ decimal (code_of NotNull))
-refusal_text (KeyTaken table key) = key_text table key
+refusal_text (KeyTaken table key) = key_text (code_of (KeyTaken table key)) table key
 refusal_text Full = line (codes "refused " ++ decimal (code_of Full))
+refusal_text (NoParent table key) = key_text (code_of (NoParent table key)) table key
+refusal_text (HasChild table key) = key_text (code_of (HasChild table key)) table key
 
 -- `rows N` and N rows, or `changed N`, or the refusal
 abbrev pub reply_text : Reply → List ℕ

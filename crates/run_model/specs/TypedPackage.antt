@@ -9,6 +9,8 @@ use Rattle.sql_model.specs.declared.reply.Reply.TheVariants.{Rows, Changed, Refu
 use Rattle.sql_model.specs.declared.reply.SqlRefusal.{SqlRefusal}
 use Rattle.sql_model.specs.declared.reply.SqlRefusal.TheVariants as refusals
 use Rattle.sql_model.specs.declared.table.Column.{Column}
+use Rattle.sql_model.specs.declared.table.Foreign.{Foreign}
+use Rattle.sql_model.specs.declared.table.Schema.{Schema}
 use Rattle.run_model.specs.declared.event.Act.TheVariants as acts
 use Rattle.run_model.specs.Types.{Value, Null, Int, Text, Member, Need, Reply, Act, Event}
 use Rattle.run_model.specs.Types.{Entry, Log, Package, PackedFile, PackedRow, PackedTable}
@@ -32,13 +34,18 @@ TypedFile f = IsUtf8 f.path
 abbrev pub TypedColumn : Column → Type 0
 TypedColumn c = IsUtf8 c.name
 
+abbrev pub TypedForeign : Foreign → Type 0
+TypedForeign f = IsUtf8 f.parent
+
+abbrev pub TypedSchema : Schema → Type 0
+TypedSchema s = AllByRecursion TypedColumn s.columns × AllByRecursion TypedForeign s.foreign
+
 abbrev pub TypedRow : PackedRow → Type 0
 TypedRow r = IsU32 r.number × (IsU32 r.statement × TypedValues r.values)
 
 abbrev pub TypedTable : PackedTable → Type 0
 TypedTable t =
-    IsUtf8 t.name × (AllByRecursion TypedColumn t.schema.columns
-    × (IsU32 t.next × AllByRecursion TypedRow t.rows))
+    IsUtf8 t.name × (TypedSchema t.schema × (IsU32 t.next × AllByRecursion TypedRow t.rows))
 
 -- ---- logs
 
@@ -50,6 +57,8 @@ TypedRefusal refusals.TypeClash = Unit {0}
 TypedRefusal refusals.NotNull = Unit {0}
 TypedRefusal (refusals.KeyTaken table key) = IsUtf8 table × TypedValues key
 TypedRefusal refusals.Full = Unit {0}
+TypedRefusal (refusals.NoParent table key) = IsUtf8 table × TypedValues key
+TypedRefusal (refusals.HasChild table key) = IsUtf8 table × TypedValues key
 
 abbrev pub TypedReply : Reply → Type 0
 TypedReply (Rows rows) = AllByRecursion TypedValues rows

@@ -15,6 +15,8 @@ use Rattle.sql_model.specs.declared.reply.Reply.TheVariants.{Rows, Changed, Refu
 use Rattle.sql_model.specs.declared.reply.SqlRefusal.{SqlRefusal}
 use Rattle.sql_model.specs.declared.reply.SqlRefusal.TheVariants as refusals
 use Rattle.sql_model.specs.SqlNames.{sql_name_test}
+use Rattle.sql_model.specs.declared.catalog.Catalog.{Catalog}
+use Rattle.sql_model.specs.ForeignKeys.{have_parents}
 use Rattle.sql_model.specs.Tables.{schema_test, is_row, is_short, numbers_test, are_keys_unique}
 use Rattle.run_model.specs.Types.{Reply, Event, Mode, Included, Excluded}
 use Rattle.run_model.specs.Types.{Entry, Log, Package, PackedFile, PackedTable}
@@ -75,9 +77,17 @@ table_rule table =
     sql_name_test table.name && schema_test table.schema && rows_rule table
     && are_keys_unique table.schema.key (map (λ row. row.values) table.rows)
 
--- strictly increasing by name, however many they are
+-- the schemas of the tables, by their names
+abbrev pub packed_catalog : List PackedTable → Catalog
+packed_catalog tables =
+    record { names = map (λ table. table.name) tables; schemas = map (λ table. table.schema) tables }
+
+-- Strictly increasing by name, however many they are, and with the parents to which they refer. Their rows
+-- may refer to keys that no packed row has.
 abbrev pub are_tables : List PackedTable → Bool
-are_tables tables = list_all table_rule tables && is_strictly_sorted packed_table_precedes tables
+are_tables tables =
+    list_all table_rule tables && is_strictly_sorted packed_table_precedes tables
+    && have_parents (packed_catalog tables)
 
 -- the same, and they are few enough
 abbrev pub tables_rule : List PackedTable → Bool
@@ -93,6 +103,8 @@ refusal_rule refusals.TypeClash = true
 refusal_rule refusals.NotNull = true
 refusal_rule (refusals.KeyTaken table key) = list_all is_short key
 refusal_rule refusals.Full = true
+refusal_rule (refusals.NoParent table key) = list_all is_short key
+refusal_rule (refusals.HasChild table key) = list_all is_short key
 
 abbrev pub reply_rule : Reply → Bool
 reply_rule (Rows rows) = list_all (list_all is_short) rows

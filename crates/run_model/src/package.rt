@@ -3,7 +3,7 @@
 use crate::event::Events;
 use crate::name::ProcName;
 use ldv_value::{Bytes, List, Utf8, Values, Words};
-use sql_model::{HasValues, Reply, Rule, Schema};
+use sql_model::{HasValues, NamedSchema, Reply, Rule, Schema};
 
 /// Whether a package has the rows that its run needed, or the recorded replies.
 #[derive(Clone, Copy, Debug, PartialEq, Eq)]
@@ -43,6 +43,20 @@ pub struct PackedTable {
     pub schema: Schema,
     pub next: u32,
     pub rows: PackedRows,
+}
+
+impl NamedSchema for PackedTable {
+    ghost name_of = { λ table. table.name };
+
+    ghost schema_of = { λ table. table.schema };
+
+    fn table_name(&self) -> &Utf8 {
+        &self.name
+    }
+
+    fn table_schema(&self) -> &Schema {
+        &self.schema
+    }
 }
 
 /// A needed initial row, with the first statement that needed it and the rule by which it did.

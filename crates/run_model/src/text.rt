@@ -128,15 +128,20 @@ fn append_refusal(to: &mut Bytes, refusal: &SqlRefusal) -> Result<(), AllocError
     ensures { OnOk result (to.new ≡ to.old ++ refusal_text refusal.now) }
 {
     match refusal {
-        SqlRefusal::KeyTaken { table, key } => append_key(to, table, key),
+        SqlRefusal::KeyTaken { table, key } => append_key(to, refusal.code(), table, key),
+        SqlRefusal::NoParent { table, key } => append_key(to, refusal.code(), table, key),
+        SqlRefusal::HasChild { table, key } => append_key(to, refusal.code(), table, key),
         _ => append_counted(to, b"refused ", refusal.code() as u64),
     }
 }
 
-fn append_key(to: &mut Bytes, table: &Utf8, key: &Values) -> Result<(), AllocError>
-    ensures { OnOk result (to.new ≡ to.old ++ key_text table.now key.now) }
+// A refusal by a key of a table.
+fn append_key(to: &mut Bytes, code: u8, table: &Utf8, key: &Values) -> Result<(), AllocError>
+    ensures { OnOk result (to.new ≡ to.old ++ key_text code table.now key.now) }
 {
-    to.extend(b"refused 6 ")?;
+    to.extend(b"refused ")?;
+    append_number(code as u64, to)?;
+    to.extend(b" ")?;
     to.extend(table.as_str().as_bytes())?;
     append_counted(to, b" ", key.len() as u64)?;
     append_values(to, key.items())

@@ -1,7 +1,7 @@
 //! The schema of the table t.
 
 use ldv_value::{Places, Utf8};
-use sql_model::{Column, Columns, Schema};
+use sql_model::{Column, Columns, Foreigns, Schema};
 use std::alloc::{AllocError, Global};
 
 fn column(alloc: Global, name: &str, text: bool, not_null: bool) -> Result<Column, AllocError> {
@@ -22,10 +22,14 @@ fn columns(alloc: Global) -> Result<Columns, AllocError> {
     Ok(columns)
 }
 
-/// The schema of t: k INT NOT NULL, g TEXT and v INT, and the key k.
+/// The schema of t: k INT NOT NULL, g TEXT and v INT, the key k, and no foreign key.
 pub(crate) fn schema(alloc: Global) -> Result<Schema, AllocError> {
     let columns = columns(alloc)?;
     let mut key = Places::new(alloc);
     key.push(0)?;
-    Ok(Schema { columns, key })
+    Ok(Schema {
+        columns,
+        key,
+        foreign: Foreigns::new(alloc),
+    })
 }

@@ -1,14 +1,15 @@
 -- What an INSERT, an UPDATE or a DELETE answers, needs, leaves and makes, by what of it rests on its
 -- expressions.
-use Rattle.std.proofs.Common.{◌≡◌, ℕ, List, [], ◌∷◌, ◌++◌, map, filter, length, Bool, true, refl, ap, ◌∙◌}
+use Rattle.std.proofs.Common.{◌≡◌, ℕ, List, [], ◌∷◌, ◌++◌, map, filter, length, Bool, true, refl, ap, ◌∙◌, append-nil}
 use Rattle.std.specs.Prelude.{Option, Some, None, if◌then◌else◌}
 use Rattle.std.specs.List.{list_any}
-use Rattle.sql_cases.proofs.Types.{Catalog, Member, Reply, Changed, Refused, SqlRefusal, Syntax, NoTable, NoColumn, TypeClash, NotNull, KeyTaken, Full, Statement, TheQuery, TheInsert, TheUpdate, TheDelete, Table}
+use Rattle.sql_cases.proofs.Types.{Catalog, Member, Reply, Changed, Refused, SqlRefusal, Syntax, NoTable, NoColumn, TypeClash, NotNull, KeyTaken, Full, NoParent, HasChild, Statement, TheQuery, TheInsert, TheUpdate, TheDelete, Table}
 use Rattle.sql_model.specs.Changes.{or_else, refusal_if, has_null, key_refusal, key_clash, is_full, target_of, table_of, change_refusal, changed, changed_in, matched}
-use Rattle.sql_model.specs.Needs.{Versions, made_by, made_unless, members_made, new_member, next_member, NeededRow, need_of, needs_by, accepted_needs, matched_row, matched_rows, key_row, key_rows, stood, clash_rows, sorted_needs}
+use Rattle.sql_model.specs.Needs.{Versions, made_by, made_unless, members_made, new_member, next_member, NeededRow, need_of, needs_by, accepted_needs, matched_row, matched_rows, parent_rows, child_rows, key_row, key_rows, stood, clash_rows, sorted_needs}
 use Rattle.sql_model.specs.Refusals.{check_refusal}
 use Rattle.sql_model.specs.Scope.{catalog_of, is_table}
-use Rattle.sql_model.specs.Statements.{reply_of, reply_or, accepted_reply, matched_count, refusal_of, target, after, after_unless}
+use Rattle.sql_model.specs.Statements.{reference_refusal, reply_of, reply_or, accepted_reply, matched_count, refusal_of, target, after, after_unless}
+use Rattle.sql_cases.proofs.FreeTables.{else_none, no_reference, no_parent_rows, no_child_rows}
 use Rattle.sql_cases.proofs.TermChanges.{Parts, parts_of, made_of, updated, insert_parts, update_parts, delete_parts}
 use Rattle.sql_cases.proofs.TermReplies.{made_is, reply_by, need_by, after_by}
 use Rattle.sql_cases.proofs.TermStatements.{TermInsert, TermUpdate, TermDelete, statement_of}
@@ -39,13 +40,18 @@ counted (TheUpdate update) table found =
 counted (TheDelete delete) table found =
     λ i. Changed (matched_count (TheDelete delete) (schemas table) (found i))
 
-accepted : (s : Statement) (table : Table) → Finds s table
+accepted : (s : Statement) (table : Table) → Finds s table → table.schema.foreign ≡ []
     → accepted_needs s (table ∷ []) ≡ map (matched_row table) (matched s (schemas table) table)
-accepted (TheQuery query) table found = let e : None ≡ Some table = found in cc
-accepted (TheInsert insert) table found = refl
-accepted (TheUpdate update) table found =
-    λ i. matched_rows (TheUpdate update) (schemas table) (found i)
-accepted (TheDelete delete) table found =
+accepted (TheQuery query) table found free = let e : None ≡ Some table = found in cc
+accepted (TheInsert insert) table found free =
+    (λ i. parent_rows (TheInsert insert) (schemas table) (found i) (table ∷ []))
+    ∙ no_parent_rows table free (TheInsert insert) (schemas table)
+accepted (TheUpdate update) table found free =
+    let s : Statement = TheUpdate update in
+    (λ i. matched_rows s (schemas table) (found i) ++ parent_rows s (schemas table) (found i) (table ∷ []))
+    ∙ (λ i. matched_rows s (schemas table) (Some table) ++ no_parent_rows table free s (schemas table) i)
+    ∙ append-nil (matched_rows s (schemas table) (Some table))
+accepted (TheDelete delete) table found free =
     λ i. matched_rows (TheDelete delete) (schemas table) (found i)
 
 abbrev members_from : Versions → Statement → Table → Parts → List Member
@@ -71,11 +77,12 @@ module _ (s : Statement) (table : Table) where
   abbrev here : List Table
   here = table ∷ []
 
-  -- the statement names this table as the one to be changed
+  -- the statement names this table, which has no foreign keys, as the one to be changed
   record IsTarget : Type 0 where
     pub name : List ℕ
     pub target : target_of s ≡ Some name
     pub named : is_table name table ≡ true
+    pub free : table.schema.foreign ≡ []
 
   abbrev parts : Parts
   parts = parts_of s (schemas table) table
@@ -103,6 +110,8 @@ module _ (s : Statement) (table : Table) where
   needs_from (Some NotNull) p = matched_from p
   needs_from (Some (KeyTaken t key)) p = matched_from p ++ clashing_from p
   needs_from (Some Full) p = []
+  needs_from (Some (NoParent t key)) p = matched_from p
+  needs_from (Some (HasChild t key)) p = matched_from p
 
   abbrev after_from : Option SqlRefusal → Parts → List Table
   after_from None p = p.changed ∷ []
@@ -133,10 +142,33 @@ module _ (s : Statement) (table : Table) where
 
     refused : refusal_of (Some s) here ≡ refusal_from parts
     refused =
-        λ i. or_else (check_refusal s (schemas table)) (change_refusal s (schemas table) (found i))
+        (λ i. or_else (or_else (check_refusal s (schemas table)) (change_refusal s (schemas table) (found i)))
+        (reference_refusal s (schemas table) (found i) here))
+        ∙ ap (or_else (refusal_from parts)) (no_reference table is.free s (schemas table))
+        ∙ else_none (refusal_from parts)
+
+    abbrev the_matched : List NeededRow
+    the_matched = matched_rows s (schemas table) (Some table)
+
+    without_parents : (matched_rows s (schemas table) (target s here) ++ parent_rows s (schemas table) (target s here) here)
+        ≡ matched_from parts
+    without_parents =
+        (λ i. matched_rows s (schemas table) (found i) ++ parent_rows s (schemas table) (found i) here)
+        ∙ (λ i. the_matched ++ no_parent_rows table is.free s (schemas table) i)
+        ∙ append-nil the_matched
+
+    without_children : (matched_rows s (schemas table) (target s here)
+        ++ (parent_rows s (schemas table) (target s here) here ++ child_rows s (schemas table) (target s here) here))
+        ≡ matched_from parts
+    without_children =
+        (λ i. matched_rows s (schemas table) (found i)
+        ++ (parent_rows s (schemas table) (found i) here ++ child_rows s (schemas table) (found i) here))
+        ∙ (λ i. the_matched
+        ++ (no_parent_rows table is.free s (schemas table) i ++ no_child_rows table is.free s (schemas table) i))
+        ∙ append-nil the_matched
 
     needs : (r : Option SqlRefusal) → needs_by r s here ≡ needs_from r parts
-    needs None = accepted s table found
+    needs None = accepted s table found is.free
     needs (Some Syntax) = refl
     needs (Some NoTable) = refl
     needs (Some NoColumn) = refl
@@ -145,6 +177,8 @@ module _ (s : Statement) (table : Table) where
     needs (Some (KeyTaken t key)) =
         λ i. matched_rows s (schemas table) (found i) ++ key_rows s (schemas table) (found i)
     needs (Some Full) = refl
+    needs (Some (NoParent t key)) = without_parents
+    needs (Some (HasChild t key)) = without_children
 
     abbrev the_changed : Table
     the_changed = changed s (schemas table) table
@@ -190,11 +224,12 @@ abbrev insert_over : TermInsert → Table → Parts
 insert_over insert table = insert_parts over insert (schemas table) table
 
 pub insert_by_terms : (insert : TermInsert) (table : Table) → is_table insert.table table ≡ true
+    → table.schema.foreign ≡ []
     → parts (an_insert insert) table ≡ insert_over insert table
     → Told (an_insert insert) table (insert_over insert table)
-insert_by_terms insert table named same =
+insert_by_terms insert table named free same =
     change_by_parts (an_insert insert) table
-    (record { name = insert.table; target = refl; named = named }) (insert_over insert table) same
+    (record { name = insert.table; target = refl; named = named; free = free }) (insert_over insert table) same
 
 abbrev an_update : TermUpdate → Statement
 an_update update = statement_of (terms.TheUpdate update)
@@ -209,12 +244,13 @@ update_over update table =
     update_parts over (updated over update (schemas table) table) update (schemas table) table
 
 pub update_by_terms : (update : TermUpdate) (table : Table) → is_table update.table table ≡ true
+    → table.schema.foreign ≡ []
     → parts (an_update update) table ≡ found_over update table
     → found_over update table ≡ update_over update table
     → Told (an_update update) table (update_over update table)
-update_by_terms update table named rows values =
+update_by_terms update table named free rows values =
     change_by_parts (an_update update) table
-    (record { name = update.table; target = refl; named = named })
+    (record { name = update.table; target = refl; named = named; free = free })
     (update_over update table) (rows ∙ values)
 
 abbrev a_delete : TermDelete → Statement
@@ -224,8 +260,9 @@ abbrev delete_over : TermDelete → Table → Parts
 delete_over delete table = delete_parts over delete (schemas table) table
 
 pub delete_by_terms : (delete : TermDelete) (table : Table) → is_table delete.table table ≡ true
+    → table.schema.foreign ≡ []
     → parts (a_delete delete) table ≡ delete_over delete table
     → Told (a_delete delete) table (delete_over delete table)
-delete_by_terms delete table named same =
+delete_by_terms delete table named free same =
     change_by_parts (a_delete delete) table
-    (record { name = delete.table; target = refl; named = named }) (delete_over delete table) same
+    (record { name = delete.table; target = refl; named = named; free = free }) (delete_over delete table) same

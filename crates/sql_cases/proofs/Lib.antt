@@ -1,4 +1,5 @@
 pub mod ChangesByParts
+pub mod FreeTables
 pub mod TermChanges
 pub mod TermQueries
 pub mod TermReplies

@@ -1,6 +1,7 @@
 -- What a statement over terms answers, needs, leaves and makes.
 use Rattle.std.proofs.Common.{◌≡◌, List, [], ◌++◌, map, refl, ap, ◌∙◌}
 use Rattle.std.specs.Prelude.{Option, Some, None}
+use Rattle.sql_cases.proofs.FreeTables.{else_none}
 use Rattle.sql_cases.proofs.Types.{L, Rows, Refused, SqlRefusal, Statement, Table}
 use Rattle.sql_model.specs.declared.statement.Statement.TheVariants as statement
 use Rattle.sql_model.specs.QueryAnswer.{AnswerRow, answer, answer_values, lineage_of}
@@ -57,7 +58,7 @@ module _ (query : TermQuery) (is : Computes query) (db : List Table) where
   by_terms = or_else (queries.query_refusal over query db) None
 
   by_expr : refusal_of (Some s) db ≡ by_terms
-  by_expr = λ i. or_else (is.refusal db i) None
+  by_expr = (λ i. or_else (or_else (is.refusal db i) None) None) ∙ else_none by_terms
 
   abbrev rows : List AnswerRow
   rows = queries.answer over query db

@@ -22,7 +22,7 @@ abbrev t_of : List TableRow → ℕ → Table
 t_of rows next =
     record {
       name = codes "t";
-      schema = record { columns = columns_of_t; key = 0 ∷ [] };
+      schema = record { columns = columns_of_t; key = 0 ∷ []; foreign = [] };
       rows = rows;
       next = next;
     }
@@ -67,7 +67,7 @@ first_up =
 one_updated : Leaves (TheUpdate first_up) (table_t 5) (Changed 1) (needed L 0 ∷ []) t_after_first
     (λ versions. next versions 0 ∷ [])
 one_updated =
-    update_by_terms first_up (table_t 5) refl
+    update_by_terms first_up (table_t 5) refl refl
     (λ i. update_parts (folds_over i) (made_of first_up catalog (table_t 5)) first_up catalog (table_t 5))
     (λ i. update_parts over (updated (folds_over i) first_up catalog (table_t 5)) first_up catalog
     (table_t 5))
@@ -83,7 +83,7 @@ third = rows_in ((number 3 ∷ text (codes "z") ∷ number 1 ∷ []) ∷ [])
 key_of_a_row : Leaves (TheInsert third) (table_t 5) (Refused (KeyTaken (codes "t") (Int (pos 3) ∷ [])))
     (needed K 2 ∷ []) (table_t 5)
     nothing
-key_of_a_row = insert_by_terms third (table_t 5) refl
+key_of_a_row = insert_by_terms third (table_t 5) refl refl
     (λ i. insert_parts (folds_over i) third catalog (table_t 5))
 
 -- UPDATE t SET k = k + 1 WHERE k < 6
@@ -98,7 +98,7 @@ keys_shifted : Leaves (TheUpdate all_up) (table_t 5) (Changed 5)
     (needed L 0 ∷ needed L 1 ∷ needed L 2 ∷ needed L 3 ∷ needed L 4 ∷ []) (t_of (keyed 2 3 4 5 6) 5)
     (λ versions. map (next versions) (0 ∷ 1 ∷ 2 ∷ 3 ∷ 4 ∷ []))
 keys_shifted =
-    update_by_terms all_up (table_t 5) refl
+    update_by_terms all_up (table_t 5) refl refl
     (λ i. update_parts (folds_over i) (made_of all_up catalog (table_t 5)) all_up catalog (table_t 5))
     (λ i. update_parts over (updated (folds_over i) all_up catalog (table_t 5)) all_up catalog (table_t 5))
 
@@ -116,7 +116,7 @@ shifted_onto_a_key : Leaves (TheUpdate some_up) (table_t 5)
     (needed L 0 ∷ needed L 1 ∷ needed L 2 ∷ needed K 3 ∷ []) (table_t 5)
     nothing
 shifted_onto_a_key =
-    update_by_terms some_up (table_t 5) refl
+    update_by_terms some_up (table_t 5) refl refl
     (λ i. update_parts (folds_over i) (made_of some_up catalog (table_t 5)) some_up catalog (table_t 5))
     (λ i. update_parts over (updated (folds_over i) some_up catalog (table_t 5)) some_up catalog
     (table_t 5))
@@ -138,7 +138,7 @@ ninth_in = rows_in ((number 9 ∷ text (codes "n") ∷ number 1 ∷ []) ∷ [])
 
 one_inserted : Leaves (TheInsert ninth_in) (table_t 5) (Changed 1) [] t_with_ninth
     (λ versions. new 5 ∷ [])
-one_inserted = insert_by_terms ninth_in (table_t 5) refl
+one_inserted = insert_by_terms ninth_in (table_t 5) refl refl
     (λ i. insert_parts (folds_over i) ninth_in catalog (table_t 5))
 
 -- DELETE FROM t WHERE k = 9, after that
@@ -147,14 +147,14 @@ ninth_out = record { table = codes "t"; pick = Some (compared Eq k (number 9)) }
 
 one_deleted : Leaves (TheDelete ninth_out) t_with_ninth (Changed 1) (needed L 5 ∷ []) t_without_ninth
     (λ versions. next versions 5 ∷ [])
-one_deleted = delete_by_terms ninth_out t_with_ninth refl
+one_deleted = delete_by_terms ninth_out t_with_ninth refl refl
     (λ i. delete_parts (folds_over i) ninth_out catalog t_with_ninth)
 
 -- and the INSERT again: a number isn't given twice
 inserted_again : Leaves (TheInsert ninth_in) t_without_ninth (Changed 1) []
     (t_of (rows_of_t ++ ninth 6 ∷ []) 7)
     (λ versions. new 6 ∷ [])
-inserted_again = insert_by_terms ninth_in t_without_ninth refl
+inserted_again = insert_by_terms ninth_in t_without_ninth refl refl
     (λ i. insert_parts (folds_over i) ninth_in catalog t_without_ninth)
 
 -- INSERT INTO t VALUES (9, 'n', 1), (10, 'n', 1), where one number is left
@@ -165,7 +165,7 @@ two_in = rows_in
 
 two_too_many : Leaves (TheInsert two_in) (table_t 4294967294) (Refused Full) [] (table_t 4294967294)
     nothing
-two_too_many = insert_by_terms two_in (table_t 4294967294) refl
+two_too_many = insert_by_terms two_in (table_t 4294967294) refl refl
     (λ i. insert_parts (folds_over i) two_in catalog (table_t 4294967294))
 
 abbrev t_full : Table
@@ -174,7 +174,7 @@ t_full = t_of (rows_of_t ++ ninth 4294967294 ∷ []) 4294967295
 -- INSERT INTO t VALUES (9, 'n', 1) takes it
 last_number : Leaves (TheInsert ninth_in) (table_t 4294967294) (Changed 1) [] t_full
     (λ versions. new 4294967294 ∷ [])
-last_number = insert_by_terms ninth_in (table_t 4294967294) refl
+last_number = insert_by_terms ninth_in (table_t 4294967294) refl refl
     (λ i. insert_parts (folds_over i) ninth_in catalog (table_t 4294967294))
 
 -- INSERT INTO t VALUES (10, 'n', 1), after that
@@ -183,7 +183,7 @@ tenth_in = rows_in ((number 10 ∷ text (codes "n") ∷ number 1 ∷ []) ∷ [])
 
 no_number_left : Leaves (TheInsert tenth_in) t_full (Refused Full) [] t_full
     nothing
-no_number_left = insert_by_terms tenth_in t_full refl
+no_number_left = insert_by_terms tenth_in t_full refl refl
     (λ i. insert_parts (folds_over i) tenth_in catalog t_full)
 
 -- INSERT INTO t (g) VALUES ('q')
@@ -192,7 +192,7 @@ keyless = one_in (codes "g") (text (codes "q"))
 
 null_for_not_null : Leaves (TheInsert keyless) (table_t 5) (Refused NotNull) [] (table_t 5)
     nothing
-null_for_not_null = insert_by_terms keyless (table_t 5) refl
+null_for_not_null = insert_by_terms keyless (table_t 5) refl refl
     (λ i. insert_parts (folds_over i) keyless catalog (table_t 5))
 
 -- INSERT INTO t (k) VALUES (1)
@@ -202,7 +202,7 @@ first_again = one_in (codes "k") (number 1)
 first_key_taken : Leaves (TheInsert first_again) (table_t 5)
     (Refused (KeyTaken (codes "t") (Int (pos 1) ∷ []))) (needed K 0 ∷ []) (table_t 5)
     nothing
-first_key_taken = insert_by_terms first_again (table_t 5) refl
+first_key_taken = insert_by_terms first_again (table_t 5) refl refl
     (λ i. insert_parts (folds_over i) first_again catalog (table_t 5))
 
 -- INSERT INTO t VALUES (9, 'n', 1), (9, 'n', 1): no row that was there has the key
@@ -213,7 +213,7 @@ twice_in = rows_in
 
 key_twice : Leaves (TheInsert twice_in) (table_t 5) (Refused (KeyTaken (codes "t") (Int (pos 9) ∷ [])))
     [] (table_t 5) nothing
-key_twice = insert_by_terms twice_in (table_t 5) refl
+key_twice = insert_by_terms twice_in (table_t 5) refl refl
     (λ i. insert_parts (folds_over i) twice_in catalog (table_t 5))
 
 -- INSERT INTO t (v, k) VALUES (7, 8)
@@ -226,7 +226,7 @@ reversed_in = record {
 
 columns_by_name : Leaves (TheInsert reversed_in) (table_t 5) (Changed 1) []
     (t_of (rows_of_t ++ table_row 5 (Int (pos 8)) Null (Int (pos 7)) ∷ []) 6) (λ versions. new 5 ∷ [])
-columns_by_name = insert_by_terms reversed_in (table_t 5) refl
+columns_by_name = insert_by_terms reversed_in (table_t 5) refl refl
     (λ i. insert_parts (folds_over i) reversed_in catalog (table_t 5))
 
 -- UPDATE t SET k = v, v = k WHERE k = 2: both from the old row
@@ -246,7 +246,7 @@ from_the_old_row : Leaves (TheUpdate swapped) (table_t 5) (Changed 1) (needed L 
     ∷ []) 5)
     (λ versions. next versions 1 ∷ [])
 from_the_old_row =
-    update_by_terms swapped (table_t 5) refl
+    update_by_terms swapped (table_t 5) refl refl
     (λ i. update_parts (folds_over i) (made_of swapped catalog (table_t 5)) swapped catalog (table_t 5))
     (λ i. update_parts over (updated (folds_over i) swapped catalog (table_t 5)) swapped catalog
     (table_t 5))
@@ -258,7 +258,7 @@ null_keys = record { table = codes "t"; sets = set (codes "k") v ∷ []; pick = 
 null_from_a_row : Leaves (TheUpdate null_keys) (table_t 5) (Refused NotNull)
     (needed L 0 ∷ needed L 1 ∷ needed L 2 ∷ needed L 3 ∷ needed L 4 ∷ []) (table_t 5) nothing
 null_from_a_row =
-    update_by_terms null_keys (table_t 5) refl
+    update_by_terms null_keys (table_t 5) refl refl
     (λ i. update_parts (folds_over i) (made_of null_keys catalog (table_t 5)) null_keys catalog (table_t 5))
     (λ i. update_parts over (updated (folds_over i) null_keys catalog (table_t 5)) null_keys catalog
     (table_t 5))
@@ -270,5 +270,5 @@ all_out = record { table = codes "t"; pick = None }
 all_deleted : Leaves (TheDelete all_out) (table_t 5) (Changed 5)
     (needed L 0 ∷ needed L 1 ∷ needed L 2 ∷ needed L 3 ∷ needed L 4 ∷ []) (t_of [] 5)
     (λ versions. map (next versions) (0 ∷ 1 ∷ 2 ∷ 3 ∷ 4 ∷ []))
-all_deleted = delete_by_terms all_out (table_t 5) refl
+all_deleted = delete_by_terms all_out (table_t 5) refl refl
     (λ i. delete_parts (folds_over i) all_out catalog (table_t 5))

@@ -17,6 +17,7 @@ use Rattle.sql_engine.specs.Answering.{hidden_lineage}
 use Rattle.sql_engine.specs.Types.{Query, StoreHistory, Table}
 use Rattle.sql_laws.proofs.ItemLists.{all_append}
 use Rattle.sql_laws.proofs.NeedsSound.{answer_good, each_rejected, others_good}
+use Rattle.sql_model.proofs.Databases.{sorted_of_database}
 use Rattle.sql_model.specs.Needs.{sums_up}
 use Rattle.sql_model.specs.QueryAnswer.{Origin, answer, cut, lineage_of, rejected}
 use Rattle.sql_model.specs.Scope.{same_text, is_table, table_at, rows_of}
@@ -49,7 +50,7 @@ pub sorted_names : (store : StoreHistory) → is_database (tables_now store) ≡
     → IsStrictlySortedBy (slice_cmp nat_cmp) (table_names store)
 sorted_names store is =
     names-sorted (tables_now store)
-    (and-parts (list_all is_valid_table (tables_now store)) (is_strictly_sorted table_precedes (tables_now store)) is).1
+    sorted_of_database (tables_now store) is
 
 module _ (store : StoreHistory) where
   abbrev db : List Table

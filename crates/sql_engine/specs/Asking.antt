@@ -1,11 +1,13 @@
 -- What a statement is answered over a store, what is recorded of it, and what it makes of the store.
-use Rattle.std.specs.Prelude.{◌≡◌, ℕ, Bool, IsTrue, Option, Some, List, []}
+use Rattle.std.specs.Prelude.{◌≡◌, ℕ, Bool, IsTrue, map, Option, Some, List, []}
 use Rattle.dml_versions.specs.declared.change.Change.{Change}
 use Rattle.dml_versions.specs.Versions.{versions_now}
 use Rattle.run_model.specs.SqlDatabase.{SqlDatabase, db_after, lists_of}
-use Rattle.sql_engine.specs.Types.{Lists, Refused, SqlRefusal, Statement, StoreHistory}
+use Rattle.sql_engine.specs.Listing.{tables_asked}
+use Rattle.sql_engine.specs.Types.{Lists, Need, Refused, SqlRefusal, Statement, StoreHistory}
 use Rattle.sql_engine.specs.declared.done.Done.{Done}
-use Rattle.sql_model.specs.Needs.{asked_tables}
+use Rattle.sql_model.specs.Needs.{made_by, need_of, read_of}
+use Rattle.sql_model.specs.Scope.{catalog_of}
 use Rattle.sql_model.specs.Statements.{reply_of}
 use Rattle.table_store.specs.Histories.{tables_now}
 
@@ -24,15 +26,26 @@ pub record IsDone (statement : Option Statement) (keep : Bool) (old new : StoreH
   pub after : database new ≡ db_after statement (database old)
   pub lists : IsTrue keep → lists_in done ≡ lists_of statement (database old)
 
--- the tables that a statement names, where events are kept
-abbrev pub IsTold : Statement → Bool → StoreHistory → List (List ℕ) → Type 0
-IsTold statement keep store tables = IsTrue keep → tables ≡ asked_tables (Some statement) (tables_now store)
+-- the reply to a statement and the database after it, with the rows that it needs and makes where they are
+-- kept
+pub record IsOutcome (statement : Statement) (keep : Bool) (old new : StoreHistory) (change : Change)
+    : Type 0 where
+  pub reply : change.reply ≡ reply_of (Some statement) (tables_now old)
+  pub after : database new ≡ db_after (Some statement) (database old)
+  pub needs : IsTrue keep
+      → change.needs ≡ map (read_of (versions_now old)) (need_of (Some statement) (tables_now old))
+  pub made : IsTrue keep → change.made ≡ made_by (versions_now old) (Some statement) (tables_now old)
+
+-- the tables that a statement asks by the rows that it needs, where events are kept
+abbrev pub IsTold : Statement → Bool → StoreHistory → List Need → List (List ℕ) → Type 0
+IsTold statement keep store reads tables =
+    IsTrue keep → tables ≡ tables_asked statement reads (catalog_of (tables_now store))
 
 -- ---- on the way
 
 -- what the text or the schemas refuse
-abbrev pub refused : SqlRefusal → List (List ℕ) → Done
-refused refusal tables = record { reply = Refused refusal; tables = tables; reads = []; made = [] }
+abbrev pub refused : SqlRefusal → Change
+refused refusal = record { reply = Refused refusal; made = []; needs = [] }
 
 abbrev pub done_of : Change → List (List ℕ) → Done
 done_of change tables =

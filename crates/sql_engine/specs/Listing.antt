@@ -1,13 +1,10 @@
--- The lists that are recorded of a statement: the tables that it names, and the rows that it needs.
-use Rattle.std.specs.Prelude.{◌≡◌, ℕ, ◌+◌, ◌<◌, List, [], ◌∷◌, map, length, Bool}
+-- The lists that are recorded of a statement: the tables that it asks, and the rows that it needs.
+use Rattle.std.specs.Prelude.{ℕ, List, ◌++◌, map, filter, Bool}
 use Rattle.std.specs.List.{list_any}
-use Rattle.std.specs.declared.cmp.Ordering.{Ordering}
-use Rattle.std.specs.declared.cmp.Ordering.TheVariants.{Less, Equal, Greater}
-use Rattle.std.specs.Ordering.{nat_cmp, ordering_then}
-use Rattle.std.specs.Cmp.Lexicographic.{slice_cmp}
+use Rattle.core_parts.specs.Needing.{need_by, united}
 use Rattle.lineage.specs.Lineage.{Lineage, members_of}
-use Rattle.sql_engine.specs.Types.{L, H, Member, Need, Rule, Statement}
-use Rattle.sql_engine.specs.declared.needs.Next.{Next}
+use Rattle.sql_engine.specs.Types.{Catalog, L, H, Need, Statement}
+use Rattle.sql_model.specs.ForeignKeys.{with_parents}
 use Rattle.sql_model.specs.Refusals.{tables_of}
 use Rattle.sql_model.specs.Scope.{same_text}
 
@@ -20,43 +17,21 @@ is_text name other = same_text name other
 abbrev pub names_table : Statement → List ℕ → Bool
 names_table statement name = list_any (is_text name) (tables_of statement)
 
+-- the tables that a statement names, and those of the rows that it needs
+abbrev pub names_first : Statement → List Need → List (List ℕ)
+names_first statement reads = tables_of statement ++ map (λ need. need.member.table) reads
+
+abbrev pub is_in : List (List ℕ) → List ℕ → Bool
+is_in names name = list_any (same_text name) names
+
+-- the tables that a statement asks which needs these rows, sorted as the tables are
+abbrev pub tables_asked : Statement → List Need → Catalog → List (List ℕ)
+tables_asked statement reads catalog =
+    filter (is_in (with_parents (names_first statement reads) catalog)) catalog.names
+
 -- ---- needed rows
-
-abbrev pub need_by : Rule → Member → Need
-need_by rule member = record { member = member; rule = rule }
-
--- by table, then by number
-abbrev pub member_order : Member → Member → Ordering
-member_order a b = ordering_then (slice_cmp nat_cmp a.table b.table) (nat_cmp a.row b.row)
-
--- a need before, in place of, or after the first of others, which are sorted; `more` unites what follows it
-abbrev pub united_by : Ordering → Need → (List Need → List Need) → Need → List Need → List Need → List Need
-united_by Less need more other others into = need ∷ more (other ∷ others)
-united_by Equal need more other others into = need ∷ more others
-united_by Greater need more other others into = other ∷ into
-
-abbrev pub into : Need → (List Need → List Need) → List Need → List Need
-into need more [] = need ∷ more []
-into need more (other ∷ others) =
-    united_by (member_order need.member other.member) need more other others (into need more others)
-
--- two sorted lists as one; of a row that is in both, the first need
-abbrev pub united : List Need → List Need → List Need
-united [] others = others
-united (need ∷ needs) others = into need (united needs) others
 
 -- the rows of two sets: those of the first by rule L, those that are in the second alone by rule H
 abbrev pub needs_of : List (List ℕ) → Lineage → Lineage → List Need
 needs_of names lineage hidden =
     united (map (need_by L) (members_of names lineage)) (map (need_by H) (members_of names hidden))
-
--- ---- on the way
-
--- two lists are at their end
-abbrev pub IsLast : List Need → List Need → Type 0
-IsLast needs others = (needs ≡ []) × (others ≡ [])
-
--- the first need of two lists as one, and what is left of them
-pub record IsNext (needs others : List Need) (next : Next) : Type 0 where
-  pub united : united needs others ≡ next.need.now ∷ united next.needs.now next.others.now
-  pub fewer : length next.needs.now + length next.others.now < length needs + length others

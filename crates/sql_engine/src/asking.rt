@@ -1,39 +1,48 @@
 //! A text that is asked over a store.
 
-ghost use Rattle.std.specs.Prelude.{◌≡◌, ◌<◌, ◌≤◌, Some, Ok, filter, IfOk, OnOk, OnErr, IsTrue};
+ghost use Rattle.std.specs.Prelude.{◌≡◌, ◌<◌, ◌≤◌, Some, Ok, IfOk, OnOk, OnErr, IsTrue};
 ghost use Rattle.core_parts.specs.Checking.{IsQuery};
 ghost use Rattle.dml_versions.specs.Changing.{IsCheckedOver};
-ghost use Rattle.sql_engine.specs.Asking.{IsDone, IsTold, done_of};
-ghost use Rattle.sql_engine.specs.Listing.{names_table};
-ghost use Rattle.sql_model.specs.Scope.{catalog_of};
+ghost use Rattle.sql_engine.specs.Asking.{IsDone, IsOutcome, done_of};
+ghost use Rattle.sql_engine.specs.Listing.{tables_asked};
 ghost use Rattle.sql_model.specs.Texts.{statement_of};
 ghost use Rattle.table_store.specs.Histories.{tables_now};
 
 use crate::answered::{Answered, query_answer};
 use crate::done::{Done, refused};
 use crate::needs::needs_of;
-use crate::tables::named_tables;
+use crate::tables::{Taking, tables_asked, taking};
 use dml_versions::{Change, delete, insert, update};
 use ldv_value::{List, Names, Values};
 use sql_check::{CheckStop, check};
-use sql_model::{Checked, Reply, SqlRefusal, Statement};
+use sql_model::{Catalog, Checked, Needs, Reply, SqlRefusal, Statement};
 use sql_parse::{ParseStop, parse};
 use std::alloc::{AllocError, Global};
 use table_store::Store;
 
-// The tables that a statement names, where events are kept.
+// Memory for the tables that a statement asks, where events are kept.
+fn taking_of(alloc: Global, names: &Names, keep: bool) -> Result<Taking, AllocError> {
+    if keep {
+        taking(alloc, names)
+    } else {
+        taking(alloc, &List::new(alloc))
+    }
+}
+
+// The tables that a statement asks, where events are kept.
 fn tables_of(
-    alloc: Global,
+    taking: Taking,
     statement: &Statement,
-    names: &Names,
+    reads: &Needs,
+    catalog: &Catalog,
     keep: bool,
-) -> Result<Names, AllocError>
-    ensures { IfOk result (λ tables. IsTrue keep → tables ≡ filter (names_table statement.now) names.now) }
+) -> Names
+    ensures { IsTrue keep → result ≡ tables_asked statement.now reads.now catalog.now }
 {
     if keep {
-        named_tables(alloc, statement, names)
+        tables_asked(taking, statement, reads.items(), catalog)
     } else {
-        Ok(List::new(alloc))
+        List::new(reads.allocator())
     }
 }
 
@@ -42,13 +51,11 @@ fn asked_query(
     alloc: Global,
     checked: &Checked,
     store: &Store,
-    tables: Names,
     keep: bool,
-) -> Result<Done, AllocError>
+) -> Result<Change, AllocError>
     requires query { IsQuery checked.now.statement }
     requires checked { IsCheckedOver (tables_now store.now) checked.now }
-    ensures { IfOk result (λ done. IsTold checked.now.statement keep store.now tables
-        → IsDone (Some checked.now.statement) keep store.now store.now done) }
+    ensures { IfOk result (IsOutcome checked.now.statement keep store.now store.now) }
 {
     let Answered {
         rows,
@@ -57,15 +64,14 @@ fn asked_query(
     } = query_answer(alloc, checked, store, keep)?;
     store.tell_formed();
     let names = &store.catalog().names;
-    Ok(Done {
+    Ok(Change {
         reply: Reply::Rows(rows),
-        tables,
-        reads: needs_of(alloc, names, &lineage, &hidden)?,
         made: List::new(alloc),
+        needs: needs_of(alloc, names, &lineage, &hidden)?,
     })
 }
 
-// What a change gives, with the tables that its statement names.
+// What a statement gives, with the tables that it asks.
 fn done_of(change: Change, tables: Names) -> Done
     ensures { result ≡ done_of change tables }
 {
@@ -83,26 +89,46 @@ fn asked_checked(
     alloc: Global,
     checked: &Checked,
     store: &mut Store,
-    tables: Names,
     time: u32,
     keep: bool,
-) -> Result<Done, AllocError>
+) -> Result<Change, AllocError>
     requires checked { IsCheckedOver (tables_now store.old) checked.now }
     requires later { store.old.time < time }
-    ensures done { IfOk result (λ done. IsTold checked.now.statement keep store.old tables
-        → IsDone (Some checked.now.statement) keep store.old store.new done) }
+    ensures outcome { IfOk result (IsOutcome checked.now.statement keep store.old store.new) }
     ensures latest { OnOk result (store.new.time ≤ time) }
     ensures err { OnErr result (store.new ≡ store.old) }
 {
     match &checked.statement {
-        Statement::Query(_) => asked_query(alloc, checked, store, tables, keep),
-        Statement::Insert(_) => Ok(done_of(insert(checked, store, time, keep)?, tables)),
-        Statement::Update(_) => Ok(done_of(update(checked, store, time, keep)?, tables)),
-        Statement::Delete(_) => Ok(done_of(delete(checked, store, time, keep)?, tables)),
+        Statement::Query(_) => asked_query(alloc, checked, store, keep),
+        Statement::Insert(_) => insert(checked, store, time, keep),
+        Statement::Update(_) => update(checked, store, time, keep),
+        Statement::Delete(_) => delete(checked, store, time, keep),
     }
 }
 
-// A statement.
+// What a statement gives, refused by its check or not.
+fn asked_or_refused(
+    alloc: Global,
+    statement: &Statement,
+    store: &mut Store,
+    time: u32,
+    keep: bool,
+) -> Result<Change, AllocError>
+    requires later { store.old.time < time }
+    ensures outcome { IfOk result (IsOutcome statement.now keep store.old store.new) }
+    ensures latest { OnOk result (store.new.time ≤ time) }
+    ensures err { OnErr result (store.new ≡ store.old) }
+{
+    match check(alloc, statement, store.catalog()) {
+        Ok(checked) => asked_checked(alloc, &checked, store, time, keep),
+        Err(CheckStop::NoTable) => Ok(refused(alloc, SqlRefusal::NoTable)),
+        Err(CheckStop::NoColumn) => Ok(refused(alloc, SqlRefusal::NoColumn)),
+        Err(CheckStop::TypeClash) => Ok(refused(alloc, SqlRefusal::TypeClash)),
+        Err(CheckStop::NoMemory) => Err(AllocError),
+    }
+}
+
+// A statement. Once it has run, nothing can fail.
 fn asked_statement(
     alloc: Global,
     statement: &Statement,
@@ -115,14 +141,10 @@ fn asked_statement(
     ensures latest { OnOk result (store.new.time ≤ time) }
     ensures err { OnErr result (store.new ≡ store.old) }
 {
-    let tables = tables_of(alloc, statement, &store.catalog().names, keep)?;
-    match check(alloc, statement, store.catalog()) {
-        Ok(checked) => asked_checked(alloc, &checked, store, tables, time, keep),
-        Err(CheckStop::NoTable) => Ok(refused(alloc, SqlRefusal::NoTable, tables)),
-        Err(CheckStop::NoColumn) => Ok(refused(alloc, SqlRefusal::NoColumn, tables)),
-        Err(CheckStop::TypeClash) => Ok(refused(alloc, SqlRefusal::TypeClash, tables)),
-        Err(CheckStop::NoMemory) => Err(AllocError),
-    }
+    let taking = taking_of(alloc, &store.catalog().names, keep)?;
+    let change = asked_or_refused(alloc, statement, store, time, keep)?;
+    let tables = tables_of(taking, statement, &change.needs, store.catalog(), keep);
+    Ok(done_of(change, tables))
 }
 
 /// Answers a text with its parameters over the tables of a store at a time, which is later than that of the
@@ -142,7 +164,10 @@ pub(crate) fn asked(
 {
     match parse(alloc, text, params) {
         Ok(statement) => asked_statement(alloc, &statement, store, time, keep),
-        Err(ParseStop::Syntax) => Ok(refused(alloc, SqlRefusal::Syntax, List::new(alloc))),
+        Err(ParseStop::Syntax) => Ok(done_of(
+            refused(alloc, SqlRefusal::Syntax),
+            List::new(alloc),
+        )),
         Err(ParseStop::NoMemory) => Err(AllocError),
     }
 }

@@ -3,11 +3,12 @@
 ghost use Rattle.std.specs.Prelude.{◌≡◌, IfOk};
 ghost use Rattle.sql_engine.specs.Asking.{refused};
 
+use dml_versions::Change;
 use ldv_value::{List, Names};
 use sql_model::{Members, Needs, Reply, SqlRefusal};
 use std::alloc::Global;
 
-/// The reply to a statement, and what is recorded of it: the tables that it names, the rows that it needs and
+/// The reply to a statement, and what is recorded of it: the tables that it asks, the rows that it needs and
 /// the versions that it makes. Where no events are kept, the lists may be anything.
 #[derive(Drop)]
 pub(crate) struct Done {
@@ -18,13 +19,12 @@ pub(crate) struct Done {
 }
 
 /// A refusal that needs no row.
-pub(crate) fn refused(alloc: Global, refusal: SqlRefusal, tables: Names) -> Done
-    ensures { result ≡ refused refusal tables }
+pub(crate) fn refused(alloc: Global, refusal: SqlRefusal) -> Change
+    ensures { result ≡ refused refusal }
 {
-    Done {
+    Change {
         reply: Reply::Refused(refusal),
-        tables,
-        reads: List::new(alloc),
         made: List::new(alloc),
+        needs: List::new(alloc),
     }
 }

@@ -11,13 +11,15 @@ use Rattle.sql_model.specs.Tables.{have_distinct_columns}
 use Rattle.sql_laws.specs.Types.{Catalog, SqlRefusal, Syntax, Statement, TheQuery, TheInsert, TheUpdate, TheDelete, Column, Schema, Table}
 use Rattle.sql_laws.proofs.ChangedTables.{check-parts, else-parts, changed-valid}
 use Rattle.sql_laws.proofs.TableNames.{change_named, all-changed, map-changed}
+use Rattle.sql_model.proofs.Databases.{parents_of_database, database-from, valid_of_database, sorted_of_database}
 use Rattle.sql_model.proofs.Equations.{after_is, table_schema, schema_found, changed_name}
 use Rattle.sql_model.specs.Changes.{changed, target_of, changed_in, change_refusal}
+use Rattle.sql_model.specs.ForeignKeys.{have_parents}
 use Rattle.sql_model.specs.Refusals.{is_missing, check_refusal}
 use Rattle.sql_model.specs.Scope.{is_table, table_at, catalog_of, schema_at}
 use Rattle.sql_model.specs.SqlNames.{sql_name_test}
-use Rattle.sql_model.specs.Statements.{target, refusal_of, after_unless, after}
-use Rattle.sql_model.specs.Tables.{are_distinct, column_names_test, column_count_test, key_places_test, key_not_null_test, schema_test, is_valid_table, table_precedes, is_database, is_described}
+use Rattle.sql_model.specs.Statements.{target, own_refusal, reference_refusal, refusal_of, after_unless, after}
+use Rattle.sql_model.specs.Tables.{are_distinct, column_names_test, column_count_test, key_places_test, key_not_null_test, foreign_test, schema_test, is_valid_table, table_precedes, is_database, is_described}
 
 -- ---- what a statement keeps of each table
 
@@ -38,10 +40,10 @@ module _ (db : List Table) (valid : is_database db ≡ true) (distinct : have_di
   catalog = catalog_of db
 
   tables : list_all is_valid_table db ≡ true
-  tables = (and-parts (list_all is_valid_table db) (is_strictly_sorted table_precedes db) valid).0
+  tables = valid_of_database db valid
 
   sorted : is_strictly_sorted table_precedes db ≡ true
-  sorted = (and-parts (list_all is_valid_table db) (is_strictly_sorted table_precedes db) valid).1
+  sorted = sorted_of_database db valid
 
   abbrev Left : List Table → Type 0
   Left ts = (is_database ts ≡ true) × (catalog_of ts ≡ catalog)
@@ -53,10 +55,13 @@ module _ (db : List Table) (valid : is_database db ≡ true) (distinct : have_di
       let after : List Table = map (change_named (changed s catalog) name) db in
       let names : map (λ (t : Table). t.name) after ≡ map (λ (t : Table). t.name) db = map-changed (changed s catalog) (λ t. t.name) (changed_name s catalog) name db in
       let schemas : map table_schema after ≡ map table_schema db = map-changed (changed s catalog) table_schema (changed_schema s catalog) name db in
-      let order : is_strictly_sorted table_precedes after ≡ true = sym (names_sorted after) ∙ ap (is_strictly_sorted text_precedes) names ∙ names_sorted db ∙ sorted in (
-        and-from (list_all is_valid_table after) (is_strictly_sorted table_precedes after)
-            (all-changed (changed s catalog) is_valid_table name t good db found sorted tables) order,
-        λ j. record { names = names j; schemas = schemas j },
+      let order : is_strictly_sorted table_precedes after ≡ true = sym (names_sorted after) ∙ ap (is_strictly_sorted text_precedes) names ∙ names_sorted db ∙ sorted in
+      let same : catalog_of after ≡ catalog = λ j. record { names = names j; schemas = schemas j } in (
+        database-from after
+            (and-from (list_all is_valid_table after) (is_strictly_sorted table_precedes after)
+            (all-changed (changed s catalog) is_valid_table name t good db found sorted tables) order)
+            (ap have_parents same ∙ parents_of_database db valid),
+        same,
       )
 
   schema_of : (name : List ℕ) (t : Table) → table_at name db ≡ Some t → schema_at name catalog ≡ Some t.schema
@@ -98,7 +103,8 @@ module _ (db : List Table) (valid : is_database db ≡ true) (distinct : have_di
   left_after statement (Some refusal) is = (valid, refl)
   left_after None None is = absurd (none-some Syntax (sym is))
   left_after (Some s) None is =
-      let parts = else-parts (check_refusal s catalog) (change_refusal s catalog (target s db)) is in
+      let own = else-parts (own_refusal s db) (reference_refusal s catalog (target s db) db) is in
+      let parts = else-parts (check_refusal s catalog) (change_refusal s catalog (target s db)) own.0 in
       accepted s parts.0 parts.1
 
 pub database_law : DatabaseLaw
@@ -127,7 +133,8 @@ distinct_in t is =
     let columns = t.schema.columns in
     let key = t.schema.key in
     let one = and-parts (sql_name_test t.name) (schema_test t.schema) is in
-    let two = and-parts (column_count_test columns && column_names_test columns && key_places_test columns key) (key_not_null_test columns key) one.1 in
+    let all = and-parts (column_count_test columns && column_names_test columns && key_places_test columns key && key_not_null_test columns key) (foreign_test columns t.schema.foreign) one.1 in
+    let two = and-parts (column_count_test columns && column_names_test columns && key_places_test columns key) (key_not_null_test columns key) all.0 in
     let three = and-parts (column_count_test columns && column_names_test columns) (key_places_test columns key) two.0 in
     let four = and-parts (column_count_test columns) (column_names_test columns) three.0 in
     (and-parts (list_all (λ (c : Column). sql_name_test c.name) columns) (are_distinct columns) four.1).1

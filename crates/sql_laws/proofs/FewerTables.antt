@@ -1,16 +1,27 @@
 -- Over a database without tables that aren't asked, each table that is asked is found as it was, and so
 -- is all that its schema tells.
 use Rattle.std.proofs.Common.{◌≡◌, ℕ, List, [], ◌∷◌, ◌++◌, refl, sym, ap, ◌∙◌, Bool, true, false, inl, inr}
-use Rattle.std.specs.Prelude.{Option, Some, None, option_map, option_and_then, is_none, map, filter, not, ◌||◌, if◌then◌else◌}
+use Rattle.std.specs.Prelude.{Option, Some, None, option_map, option_and_then, is_none, map, filter, find, not, ◌||◌, if◌then◌else◌}
 use Rattle.std.specs.List.{flat_map, list_any, list_all}
-use Rattle.ldv_value.proofs.Booleans.{or-right}
+use Rattle.ldv_value.proofs.Booleans.{and-parts, and-from, or-left, or-right}
 use Rattle.ldv_value.proofs.Cases.{cases-bool}
-use Rattle.sql_laws.specs.Types.{Kind, SqlRefusal, NoTable, NoColumn, TypeClash, Core, FromItem, Order, Statement, TheQuery, TheInsert, TheUpdate, TheDelete, Column, Table}
+use Rattle.ldv_value.proofs.Lists.{list_any-append}
+use Rattle.ldv_value.proofs.SameBytes.{bytes_eq-true, bytes_eq-itself}
+use Rattle.sql_laws.specs.Types.{Foreign, Kind, SqlRefusal, NoTable, NoColumn, TypeClash, Core, FromItem, Order, Statement, TheQuery, TheInsert, TheUpdate, TheDelete, Column, Table}
 use Rattle.sql_model.proofs.Equations.{table_schema, schema_found}
-use Rattle.sql_model.specs.Needs.{table_name, asked_tables}
+use Rattle.sql_model.specs.Needs.{NeededRow, need_of, first_names, asked_names, is_asked, table_name, asked_tables}
 use Rattle.sql_model.specs.Refusals.{tables_of_core, tables_of, is_missing, doubles_source, lacks_in_scope, item_titles, answer_titles, is_order_key, kinds_in_scope, core_kinds, union_kinds, kinds_after, query_kinds, is_limit, check_refusal, insert_lacks_column, update_lacks_column, unresolved, delete_names, insert_clashes, update_clashes, pick_fits}
-use Rattle.sql_model.specs.Scope.{InScope, is_table, table_at, catalog_of, schema_at, columns_of, scope_of, own_scope}
+use Rattle.sql_model.specs.Scope.{InScope, same_text, is_table, table_at, catalog_of, schema_at, columns_of, scope_of, own_scope}
 use Rattle.sql_laws.specs.StatementLaw.{KeepTables, table_stays, KeepsAsked}
+use Rattle.sql_laws.proofs.ParentTables.{named_taken, parent_taken, parents_there}
+
+-- what some item has, the first has that is found
+pub found_there : {X : Type 0} (p : X → Bool) (xs : List X) → list_any p xs ≡ true → (x : X) × (find p xs ≡ Some x)
+found_there p [] there = cc
+found_there p (x ∷ xs) there = elim (cases-bool (p x)) [
+  | inl hit ↦ rw hit (x, refl)
+  | inr miss ↦ rw miss (found_there p xs (rw miss at there))
+]
 
 module _ (tables : KeepTables) where
   abbrev pub fewer : List Table → List Table
@@ -18,47 +29,98 @@ module _ (tables : KeepTables) where
 
   -- ---- tables by name
 
-  found_same : (name : List ℕ) (asks : Table → Bool)
-      → ((t : Table) → is_table name t ≡ true → asks t ≡ true)
-      → (db : List Table) → KeepsAsked tables (map table_name (filter asks db))
-      → table_at name (fewer db) ≡ table_at name db
-  found_same name asks named [] k = refl
-  found_same name asks named (t ∷ ts) k = elim (cases-bool (is_table name t)) [
+  -- where the table of the name is there, it stays
+  abbrev pub Kept : List Table → List ℕ → Type 0
+  Kept db name = list_any (is_table name) db ≡ true → tables name ≡ true
+
+  pub found_kept : (name : List ℕ) (db : List Table) → Kept db name → table_at name (fewer db) ≡ table_at name db
+  found_kept name [] kept = refl
+  found_kept name (t ∷ ts) kept = elim (cases-bool (is_table name t)) [
     | inl hit ↦
-        let asked : asks t ≡ true = named t hit in
-        let kk : KeepsAsked tables (t.name ∷ map table_name (filter asks ts)) = rw asked at k in
-        rw (kk.0, hit) refl
-    | inr miss ↦ elim (cases-bool (asks t)) [
-      | inl asked ↦ let kk : KeepsAsked tables (t.name ∷ map table_name (filter asks ts)) = rw asked at k in rw (kk.0, miss) (found_same name asks named ts kk.1)
-      | inr unasked ↦ let kk : KeepsAsked tables (map table_name (filter asks ts)) = rw unasked at k in elim (cases-bool (tables t.name)) [
-        | inl stays ↦ rw (stays, miss) (found_same name asks named ts kk)
-        | inr goes ↦ rw (goes, miss) (found_same name asks named ts kk)
-      ]
-    ]
+        let named : t.name ≡ name = bytes_eq-true t.name name hit in
+        let stays : tables t.name ≡ true = ap tables named ∙ kept (or-left (is_table name t) (list_any (is_table name) ts) hit) in
+        rw (stays, hit) refl
+    | inr miss ↦
+        let more : table_at name (fewer ts) ≡ table_at name ts = found_kept name ts (λ is. kept (or-right (is_table name t) (list_any (is_table name) ts) is)) in
+        elim (cases-bool (tables t.name)) [
+          | inl stays ↦ rw (stays, miss) more
+          | inr goes ↦ rw (goes, miss) more
+        ]
   ]
+
+  -- a table that is asked stays
+  pub asked_kept : (names : List (List ℕ)) (db : List Table) → KeepsAsked tables (map table_name (filter (is_asked names) db))
+      → (name : List ℕ) → list_any (same_text name) names ≡ true → Kept db name
+  asked_kept names [] k name among there = cc
+  asked_kept names (t ∷ ts) k name among there = elim (cases-bool (is_table name t)) [
+    | inl hit ↦
+        let named : t.name ≡ name = bytes_eq-true t.name name hit in
+        let asked : is_asked names t ≡ true = ap (λ (n : List ℕ). list_any (same_text n) names) named ∙ among in
+        let kk : KeepsAsked tables (t.name ∷ map table_name (filter (is_asked names) ts)) = rw asked at k in
+        sym (ap tables named) ∙ kk.0
+    | inr miss ↦
+        let later : list_any (is_table name) ts ≡ true = rw miss at there in
+        elim (cases-bool (is_asked names t)) [
+          | inl asked ↦ let kk : KeepsAsked tables (t.name ∷ map table_name (filter (is_asked names) ts)) = rw asked at k in asked_kept names ts kk.1 name among later
+          | inr unasked ↦ let kk : KeepsAsked tables (map table_name (filter (is_asked names) ts)) = rw unasked at k in asked_kept names ts kk name among later
+        ]
+  ]
+
+  -- all names that are asked are those of tables, so these stay
+  pub all_asked_kept : (names : List (List ℕ)) (db : List Table) → KeepsAsked tables (map table_name (filter (is_asked names) db))
+      → list_all (λ (name : List ℕ). list_any (is_table name) db) names ≡ true → list_all tables names ≡ true
+  all_asked_kept names db k there = by names (λ name is. is) there
+    where
+      by : (some : List (List ℕ)) → ((name : List ℕ) → list_any (same_text name) some ≡ true → list_any (same_text name) names ≡ true)
+          → list_all (λ (name : List ℕ). list_any (is_table name) db) some ≡ true → list_all tables some ≡ true
+      by [] among all = refl
+      by (name ∷ some) among all =
+          let both = and-parts (list_any (is_table name) db) (list_all (λ (n : List ℕ). list_any (is_table n) db) some) all in
+          let own : list_any (same_text name) names ≡ true = among name (or-left (same_text name name) (list_any (same_text name) some) (bytes_eq-itself name)) in
+          and-from (tables name) (list_all tables some) (asked_kept names db k name own both.0)
+          (by some (λ n is. among n (or-right (same_text n name) (list_any (same_text n) some) is)) both.1)
 
   -- each of the names finds its table
   abbrev pub Agrees : List Table → List (List ℕ) → Type 0
   Agrees db [] = Unit {0}
   Agrees db (name ∷ names) = (table_at name (fewer db) ≡ table_at name db) × Agrees db names
 
-  abbrev names_it : List (List ℕ) → Table → Bool
-  names_it names table = list_any (λ name. is_table name table) names
-
-  agree_part : (all : List (List ℕ)) (db : List Table)
-      → KeepsAsked tables (map table_name (filter (names_it all) db))
-      → (names : List (List ℕ)) → ((t : Table) → names_it names t ≡ true → names_it all t ≡ true)
+  pub agree_kept : (db : List Table) (names : List (List ℕ)) → ((name : List ℕ) → list_any (same_text name) names ≡ true → Kept db name)
       → Agrees db names
-  agree_part all db k [] among = tt
-  agree_part all db k (name ∷ names) among = (
-    found_same name (names_it all) (λ t hit. among t (rw hit refl)) db k,
-    agree_part all db k names (λ t more. among t (or-right (is_table name t) (names_it names t) more)),
+  agree_kept db [] kept = tt
+  agree_kept db (name ∷ names) kept = (
+    found_kept name db (kept name (or-left (same_text name name) (list_any (same_text name) names) (bytes_eq-itself name))),
+    agree_kept db names (λ n is. kept n (or-right (same_text n name) (list_any (same_text n) names) is)),
   )
 
-  pub agree_all : (statement : Statement) (db : List Table)
-      → KeepsAsked tables (asked_tables (Some statement) db)
-      → Agrees db (tables_of statement)
-  agree_all statement db k = agree_part (tables_of statement) db k (tables_of statement) (λ t more. more)
+  -- ---- the tables that a statement asks
+
+  module _ (statement : Statement) (db : List Table) (k : KeepsAsked tables (asked_tables (Some statement) db)) where
+    -- one that is named or of which a row is needed stays
+    pub first_kept : (name : List ℕ) → list_any (same_text name) (first_names statement db) ≡ true → Kept db name
+    first_kept name among there =
+        let found = found_there (is_table name) db there in
+        asked_kept (asked_names statement db) db k name (named_taken (first_names statement db) db name found.0 found.1 among) there
+
+    -- so do the parents of one that is named
+    pub parent_kept : (t : Table) → table_at t.name db ≡ Some t → list_any (same_text t.name) (tables_of statement) ≡ true
+        → (parent : List ℕ) → list_any (λ (f : Foreign). same_text f.parent parent) t.schema.foreign ≡ true → Kept db parent
+    parent_kept t is named parent refers there =
+        let found = found_there (is_table parent) db there in
+        let first : list_any (same_text t.name) (first_names statement db) ≡ true =
+        list_any-append (same_text t.name) (tables_of statement) (map (λ (need : NeededRow). need.table) (need_of (Some statement) db))
+        ∙ or-left (list_any (same_text t.name) (tables_of statement)) (list_any (same_text t.name) (map (λ (need : NeededRow). need.table) (need_of (Some statement) db))) named in
+        let own : list_any (same_text t.name) (asked_names statement db) ≡ true = named_taken (first_names statement db) db t.name t is first in
+        asked_kept (asked_names statement db) db k parent
+        (parent_taken (first_names statement db) db t.name parent t found.0 is found.1 refers own) there
+
+    pub agree_all : Agrees db (tables_of statement)
+    agree_all = agree_kept db (tables_of statement) (λ name among. first_kept name
+        (list_any-append (same_text name) (tables_of statement) (map (λ (need : NeededRow). need.table) (need_of (Some statement) db))
+        ∙ or-left (list_any (same_text name) (tables_of statement)) (list_any (same_text name) (map (λ (need : NeededRow). need.table) (need_of (Some statement) db))) among))
+
+    pub names_stay : list_all tables (asked_names statement db) ≡ true
+    names_stay = all_asked_kept (asked_names statement db) db k (parents_there (first_names statement db) db)
 
   pub agree_split : (db : List Table) (xs ys : List (List ℕ)) → Agrees db (xs ++ ys)
       → Agrees db xs × Agrees db ys

@@ -2,7 +2,7 @@
 use Rattle.std.proofs.Common.{◌≡◌, List, [], ◌∷◌, ◌++◌, refl, ◌∙◌}
 use Rattle.std.specs.Prelude.{Option, Some, None, map, filter, if◌then◌else◌}
 use Rattle.std.specs.List.{flat_map}
-use Rattle.sql_laws.specs.Types.{L, H, Rows, SqlRefusal, Syntax, NoTable, NoColumn, TypeClash, NotNull, KeyTaken, Full, Core, FromItem, Query, TheQuery, Table}
+use Rattle.sql_laws.specs.Types.{L, H, Rows, SqlRefusal, Syntax, NoTable, NoColumn, TypeClash, NotNull, KeyTaken, Full, NoParent, HasChild, Core, FromItem, Query, TheQuery, Table}
 use Rattle.sql_model.specs.QueryAnswer.{AnswerRow, answer_values, lineage_of, combinations, meets_all, row_environment, picked, rows_in_scope, once, core_rows, rejected_in_scope, rejected, united, rows_after, union_rows, sort_key, sort_rows, sorted_rows, limit_of, first_rows, other_rows}
 use Rattle.sql_model.specs.Changes.{or_else}
 use Rattle.sql_model.specs.Needs.{needed_by, sums_up}
@@ -74,8 +74,10 @@ module _ (tables : KeepTables) (db : List Table) where
     settled (Some NotNull) = record { reply = refl; needs = refl }
     settled (Some (KeyTaken name key)) = record { reply = refl; needs = refl }
     settled (Some Full) = record { reply = refl; needs = refl }
+    settled (Some (NoParent name key)) = record { reply = refl; needs = refl }
+    settled (Some (HasChild name key)) = record { reply = refl; needs = refl }
 
     pub query_fewer : Same (Some (TheQuery query)) small db
     query_fewer = same_by (TheQuery query) small db
-        (λ j. or_else (check_same tables (TheQuery query) db k j) None)
+        (λ j. or_else (or_else (check_same tables (TheQuery query) db k j) None) None)
         (settled (refusal_of (Some (TheQuery query)) db))

@@ -1,6 +1,6 @@
 -- What a statement makes of a table from which rows were left out.
 use Rattle.std.proofs.Common.{◌≡◌, ℕ, ◌+◌, ◌≤◌, List, [], ◌∷◌, ◌++◌, refl, sym, ap, ◌∙◌, Bool, true, false, inl, inr, arith}
-use Rattle.std.specs.Prelude.{map, filter, length, not, ◌&&◌, ◌||◌, ◌==◌, if◌then◌else◌}
+use Rattle.std.specs.Prelude.{Option, Some, None, map, filter, length, not, ◌&&◌, ◌||◌, ◌==◌, if◌then◌else◌}
 use Rattle.std.specs.List.{list_any, list_all}
 use Rattle.std.proofs.lemmas.Bool.Decides.{Decides-eqb}
 use Rattle.std.proofs.lemmas.List.Elements.{filter-append}
@@ -9,9 +9,10 @@ use Rattle.ldv_value.proofs.Cases.{cases-bool}
 use Rattle.ldv_value.proofs.Lists.{filter-filter, list_all-append, list_all-filter, list_all-map, list_all-weaker}
 use Rattle.sql_laws.specs.Types.{Value, Catalog, Insert, Statement, TheQuery, TheInsert, TheUpdate, TheDelete, Update, Table, TableRow}
 use Rattle.sql_model.specs.Changes.{is_matched, new_values, numbered, inserted, updated_row, with_rows, changed, matched, new_rows, has_null, lacks_value, is_full}
-use Rattle.sql_model.specs.Needs.{matched_row, stood}
-use Rattle.sql_laws.specs.QueryLaw.{Keep, stays, cut_table, KeepsNeeded}
-use Rattle.sql_model.specs.Scope.{InScope, own_scope}
+use Rattle.sql_model.specs.Changes.{stood, changed_in}
+use Rattle.sql_model.specs.Needs.{matched_row}
+use Rattle.sql_laws.specs.QueryLaw.{Keep, stays, cut_table, cut_tables, KeepsNeeded}
+use Rattle.sql_model.specs.Scope.{InScope, is_table, own_scope}
 use Rattle.sql_laws.proofs.QuerySorting.{filter_all}
 
 -- a test that a map doesn't change is made before it or after it
@@ -57,7 +58,7 @@ module _ (keep : Keep) (t : Table) where
   abbrev pub safe : TableRow → Bool
   safe row = stood t row || keep t.name row.number
 
-  stood_safe : list_all safe t.rows ≡ true
+  pub stood_safe : list_all safe t.rows ≡ true
   stood_safe = list_all-weaker (stood t) safe (λ row is. or-left (stood t row) (keep t.name row.number) is) t.rows (stood_all t.rows)
 
   inserted_stay : (insert : Insert) → KeepsNew → list_all (stays keep t) (inserted insert t) ≡ true
@@ -114,7 +115,7 @@ module _ (keep : Keep) (t : Table) where
 
     -- ---- the rows that are matched
 
-    matched_stay : (rows : List TableRow) → KeepsNeeded keep (map (matched_row t) rows)
+    pub matched_stay : (rows : List TableRow) → KeepsNeeded keep (map (matched_row t) rows)
         → list_all (stays keep t) rows ≡ true
     matched_stay [] k = refl
     matched_stay (row ∷ rows) k = λ j. k.0 j && matched_stay rows k.1 j
@@ -138,7 +139,7 @@ module _ (keep : Keep) (t : Table) where
     matched_full (TheUpdate update) full = cc
     matched_full (TheDelete delete) full = cc
 
-    new_same : (s : Statement) → matched s catalog small ≡ matched s catalog t
+    pub new_same : (s : Statement) → matched s catalog small ≡ matched s catalog t
         → new_rows s catalog small ≡ new_rows s catalog t
     new_same (TheQuery query) m = refl
     new_same (TheInsert insert) m = refl
@@ -157,7 +158,7 @@ module _ (keep : Keep) (t : Table) where
 
   -- ---- the rows that stood
 
-  number_stays : (n : ℕ) → keep t.name n ≡ true → (rows : List TableRow)
+  pub number_stays : (n : ℕ) → keep t.name n ≡ true → (rows : List TableRow)
       → has_number (filter (stays keep t) rows) n ≡ has_number rows n
   number_stays n k [] = refl
   number_stays n k (row ∷ rows) = elim (cases-bool (keep t.name row.number)) [
@@ -174,3 +175,30 @@ module _ (keep : Keep) (t : Table) where
   stood_same (row ∷ rows) all =
       let both = and-parts (keep t.name row.number) (list_all (stays keep t) rows) all in
       (λ j. if number_stays row.number both.0 t.rows j then row ∷ stood_same rows both.1 j else stood_same rows both.1 j)
+
+-- ---- all tables
+
+module _ (keep : Keep) where
+  -- the rows that are appended to any of the tables stay
+  abbrev pub KeepsAllNew : List Table → Type 0
+  KeepsAllNew [] = Unit {0}
+  KeepsAllNew (t ∷ ts) = KeepsNew keep t × KeepsAllNew ts
+
+  -- the tables after a statement, over any catalog
+
+  module _ (s : Statement) (catalog : Catalog) where
+    abbrev pub change_one : List ℕ → Table → Table
+    change_one name table = if is_table name table then changed s catalog table else table
+
+    tables_cut : (name : List ℕ) (ts : List Table) → KeepsAllNew ts
+        → map (change_one name) (cut_tables keep ts) ≡ cut_tables keep (map (change_one name) ts)
+    tables_cut name [] new = refl
+    tables_cut name (t ∷ ts) new = elim (cases-bool (is_table name t)) [
+      | inl hit ↦ rw hit (λ j. changed_cut keep t catalog s new.0 j ∷ tables_cut name ts new.1 j)
+      | inr miss ↦ rw miss (λ j. cut_table keep t ∷ tables_cut name ts new.1 j)
+    ]
+
+    pub in_cut : (name : Option (List ℕ)) (db : List Table) → KeepsAllNew db
+        → changed_in name s catalog (cut_tables keep db) ≡ cut_tables keep (changed_in name s catalog db)
+    in_cut None db new = refl
+    in_cut (Some name) db new = tables_cut name db new

@@ -6,23 +6,16 @@ use Rattle.ldv_value.proofs.Booleans.{and-parts}
 use Rattle.ldv_value.proofs.Cases.{cases-bool}
 use Rattle.sql_laws.specs.Types.{Catalog, SqlRefusal, NotNull, Full, Statement, Table, TableRow}
 use Rattle.sql_model.specs.Changes.{changed, matched, lacks_value, KeyClash, key_clash, key_refusal, is_full, or_else, refusal_if, change_refusal}
-use Rattle.sql_model.specs.Needs.{matched_row, matched_rows, stood, clash_rows, key_row, key_rows}
+use Rattle.sql_model.specs.Changes.{stood}
+use Rattle.sql_model.specs.Needs.{matched_row, matched_rows, clash_rows, key_row, key_rows}
 use Rattle.sql_laws.specs.QueryLaw.{Keep, stays, KeepsNeeded}
 use Rattle.sql_model.specs.Statements.{matched_count}
 use Rattle.sql_laws.proofs.KeptClash.{key_kept, key_among}
 use Rattle.sql_laws.proofs.LeftRows.{KeepsNew, small, safe, changed_safe, changed_cut, matched_same, matched_full, lacks_same, full_same, stood_same}
 use Rattle.sql_laws.proofs.QueryKeeps.{needed_split}
-use Rattle.sql_laws.proofs.StatementParts.{needs_at}
+pub use Rattle.sql_laws.proofs.StatementParts.{OnNone}
+use Rattle.sql_laws.proofs.StatementParts.{needs_at, on_any}
 use Rattle.sql_model.proofs.Equations.{changed_name}
-
--- where there is no refusal
-abbrev pub OnNone : Option SqlRefusal → Type 0 → Type 0
-OnNone None P = P
-OnNone (Some refusal) P = Unit {0}
-
-on_any : (refusal : Option SqlRefusal) {P : Type 0} → P → OnNone refusal P
-on_any None p = p
-on_any (Some refusal) p = tt
 
 -- a table gives the same refusal, needs and number of matched rows as another
 pub record SameAt (statement : Statement) (catalog : Catalog) (o : Option Table) (p : Option Table) : Type 0 where

@@ -1,3 +1,4 @@
+pub mod AskedTables
 pub mod ChangedTables
 pub mod CutDatabases
 pub mod DatabaseLaws
@@ -11,10 +12,14 @@ pub mod LeftRows
 pub mod LeftRowsRefusals
 pub mod LeftRowsStatements
 pub mod LineageLaws
+pub mod LostKeys
 pub mod NeedsLaws
 pub mod NeedsSound
 pub mod NewRows
+pub mod Orphans
 pub mod OtherRows
+pub mod ParentRows
+pub mod ParentTables
 pub mod QueryCombinations
 pub mod QueryKeeps
 pub mod QueryLaws

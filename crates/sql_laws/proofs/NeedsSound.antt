@@ -1,7 +1,8 @@
 -- What holds of the rows of all tables holds of the rows that a statement needs.
 use Rattle.std.proofs.Common.{◌≡◌, ℕ, zero, suc, List, [], ◌∷◌, ◌++◌, take, drop, refl, sym, ap, ◌∙◌, subst, Bool, true, false, inl, inr}
-use Rattle.std.specs.Prelude.{Option, Some, None, map, filter, not, ◌||◌, ◌==◌, if◌then◌else◌}
-use Rattle.std.specs.List.{flat_map, list_any, AllByRecursion}
+use Rattle.std.specs.Prelude.{Option, Some, None, option_map, option_to_list, map, filter, not, ◌&&◌, ◌||◌, ◌==◌, if◌then◌else◌}
+use Rattle.std.specs.List.{flat_map, filter_map, list_any, AllByRecursion, cons_option}
+use Rattle.ldv_value.proofs.Booleans.{and-parts}
 use Rattle.std.specs.declared.cmp.Ordering.{Ordering}
 use Rattle.std.specs.Ordering.{is_gt}
 use Rattle.std.proofs.lemmas.Bool.{cases_Bool}
@@ -11,26 +12,30 @@ use Rattle.ldv_value.proofs.Lists.{found-passes}
 use Rattle.sql_model.specs.declared.catalog.Catalog.{Catalog}
 use Rattle.sql_model.specs.declared.expr.ColumnName.{ColumnName}
 use Rattle.sql_model.specs.declared.need.Rule.{Rule}
-use Rattle.sql_model.specs.declared.need.Rule.TheVariants.{L, H, K}
+use Rattle.sql_model.specs.declared.need.Rule.TheVariants.{L, H, K, P as ParentRow, C as ChildRow}
 use Rattle.sql_model.specs.declared.reply.SqlRefusal.{SqlRefusal}
-use Rattle.sql_model.specs.declared.reply.SqlRefusal.TheVariants.{Syntax, NoTable, NoColumn, TypeClash, NotNull, KeyTaken, Full}
+use Rattle.sql_model.specs.declared.reply.SqlRefusal.TheVariants.{Syntax, NoTable, NoColumn, TypeClash, NotNull, KeyTaken, Full, NoParent, HasChild}
 use Rattle.sql_model.specs.declared.statement.Core.{Core}
 use Rattle.sql_model.specs.declared.statement.FromItem.{FromItem}
 use Rattle.sql_model.specs.declared.statement.Query.{Query}
 use Rattle.sql_model.specs.declared.statement.Statement.TheVariants.{Query as TheQuery, Insert as TheInsert, Update as TheUpdate, Delete as TheDelete}
 use Rattle.sql_model.specs.QueryAnswer.{Origin, AnswerRow, answer_values, lineage_of, Combination, combinations, combination_rows, meets_all, row_environment, picked, distinct, has_values, merged_row, merge, group_key, has_key, groups_of, is_kept, group_row, single, rows_in_scope, once, core_rows, rejected_in_scope, rejected, united, rows_after, union_rows, sort_key, order_by, sort_rows, sorted_rows, limit_of, first_rows, other_rows, answer, cut}
-use Rattle.sql_model.specs.Changes.{KeyClash, key_clash, changed, is_matched, matched}
-use Rattle.sql_model.specs.Needs.{NeededRow, needed_by, is_same_row, is_earlier_row, put_row, sorted_needs, lineage_rows, matched_row, matched_rows, sums_up, cut_rows, hidden_rows, stood, clash_rows, key_row, key_rows, accepted_needs, needs_by, need_of}
+use Rattle.sql_model.specs.Changes.{KeyClash, key_clash, changed, is_matched, matched, new_rows, stood}
+use Rattle.sql_model.specs.Needs.{NeededRow, needed_by, is_same_row, is_earlier_row, put_row, sorted_needs, lineage_rows, matched_row, matched_rows, sums_up, cut_rows, hidden_rows, clash_rows, key_row, key_rows, parent_rows, child_row, child_rows, accepted_needs, needs_by, need_of}
+use Rattle.sql_model.specs.References.{reference, has_key as has_foreign_key, Child, Orphan, first_in, is_lost, orphan_by, orphans_of, other_rows as other_rows_of, child_of, children, orphans, is_changed, parents_in, parents_by, parents_of, tables_after, first_orphan, parents_needed}
 use Rattle.sql_model.specs.Refusals.{groups, answer_titles}
-use Rattle.sql_model.specs.Scope.{InScope, table_at, is_table, rows_of, catalog_of, scope_of, own_scope}
+use Rattle.sql_model.specs.Scope.{InScope, same_text, table_at, is_table, rows_of, catalog_of, scope_of, own_scope}
 use Rattle.sql_model.specs.Sorting.{put_sorted, sorted_by}
 use Rattle.sql_model.specs.Statements.{target, refusal_of}
 use Rattle.sql_model.proofs.Equations.{need_is}
 use Rattle.sql_laws.proofs.StatementParts.{need_parts}
-use Rattle.sql_laws.specs.Types.{Statement, Table, TableRow}
+use Rattle.sql_laws.specs.Types.{Foreign, Statement, Table, TableRow}
 use Rattle.sql_laws.proofs.ItemLists.{all_append, all_filter, all_flat_map}
 
 -- ---- lists
+
+abbrev origin_in : List ℕ → TableRow → Origin
+origin_in name row = record { table = name; row = row.number }
 
 module _ {X Y : Type 0} (P : Y → Type 0) where
   each_map : (f : X → Y) → ((x : X) → P (f x)) → (xs : List X) → AllByRecursion P (map f xs)
@@ -290,23 +295,150 @@ module _ (P : List ℕ → ℕ → Type 0) (db : List Table) (sound : (name : Li
   keys_good s catalog None h = tt
   keys_good s catalog (Some t) h = stood_good t (clash_rows (key_clash (changed s catalog t))) h
 
+  -- ---- parent rows
+
+  -- of some rows those that stood in a table
+  origins_good : (name : List ℕ) (b : Table) → AllByRecursion (λ row. P name row.number) b.rows → (p : TableRow → Bool) (rows : List TableRow)
+      → AllByRecursion Comes (map (origin_in name) (filter (λ row. p row && stood b row) rows))
+  origins_good name b h p [] = tt
+  origins_good name b h p (row ∷ rows) = elim (cases_Bool (p row && stood b row)) [
+    | inl hit ↦
+        let there : stood b row ≡ true = (and-parts (p row) (stood b row) hit).1 in
+        let one : P name row.number = all_any (λ old. P name old.number) (λ old. old.number == row.number) (P name row.number)
+        (λ old same good. subst (P name) (nat_eq-true old.number row.number same) good) b.rows h there in
+        rw hit (one, origins_good name b h p rows)
+    | inr miss ↦ rw miss (origins_good name b h p rows)
+  ]
+
+  parents_in_good : (foreign : Foreign) (before after : Option Table) → AllByRecursion (λ row. P foreign.parent row.number) (rows_of before)
+      → (o : Option (List Value)) → AllByRecursion Comes (parents_in before after foreign o)
+  parents_in_good foreign before after h None = tt
+  parents_in_good foreign None after h (Some key) = tt
+  parents_in_good foreign (Some b) None h (Some key) = tt
+  parents_in_good foreign (Some b) (Some a) h (Some key) = origins_good foreign.parent b h (has_foreign_key a.schema.key key) a.rows
+
+  parents_by_good : (after : List Table) (values : List Value) (fs : List Foreign) → AllByRecursion Comes (flat_map (parents_by db after values) fs)
+  parents_by_good after values [] = tt
+  parents_by_good after values (f ∷ fs) =
+      all_append Comes (parents_by db after values f) (flat_map (parents_by db after values) fs)
+      (parents_in_good f (table_at f.parent db) (table_at f.parent after) (sound f.parent) (reference f values))
+      (parents_by_good after values fs)
+
+  parents_of_good : (after : List Table) (fs : List Foreign) (rows : List TableRow) → AllByRecursion Comes (parents_of db after fs rows)
+  parents_of_good after fs [] = tt
+  parents_of_good after fs (row ∷ rows) =
+      all_append Comes (flat_map (parents_by db after row.values) fs) (parents_of db after fs rows) (parents_by_good after row.values fs) (parents_of_good after fs rows)
+
+  parent_rows_good : (s : Statement) (catalog : Catalog) (o : Option Table) → AllByRecursion Needed (parent_rows s catalog o db)
+  parent_rows_good s catalog None = tt
+  parent_rows_good s catalog (Some t) =
+      as_needed ParentRow (parents_needed s catalog t db) (parents_of_good (tables_after s catalog db) t.schema.foreign (new_rows s catalog t))
+
+  -- ---- the child row
+
+  abbrev OrphanGood : Orphan → Type 0
+  OrphanGood orphan = P orphan.table orphan.row
+
+  abbrev OnOrphan : Option Orphan → Type 0
+  OnOrphan None = Unit {0}
+  OnOrphan (Some orphan) = OrphanGood orphan
+
+  orphan_by_good : (target : List ℕ) (lost : List Value → Bool) (child : Child) → P child.table child.row.number
+      → (f : Foreign) (o : Option (List Value)) → OnOrphan (orphan_by target lost child f o)
+  orphan_by_good target lost child h f None = tt
+  orphan_by_good target lost child h f (Some key) = elim (cases_Bool (same_text f.parent target && lost key)) [
+    | inl hit ↦ rw hit h
+    | inr miss ↦ rw miss tt
+  ]
+
+  with_orphan : (o : Option Orphan) → OnOrphan o → (more : List Orphan) → AllByRecursion OrphanGood more → AllByRecursion OrphanGood (cons_option o more)
+  with_orphan None h more all = all
+  with_orphan (Some orphan) h more all = (h, all)
+
+  orphans_of_good : (target : List ℕ) (lost : List Value → Bool) (child : Child) → P child.table child.row.number → (fs : List Foreign)
+      → AllByRecursion OrphanGood (filter_map (λ f. orphan_by target lost child f (reference f child.row.values)) fs)
+  orphans_of_good target lost child h [] = tt
+  orphans_of_good target lost child h (f ∷ fs) =
+      with_orphan (orphan_by target lost child f (reference f child.row.values)) (orphan_by_good target lost child h f (reference f child.row.values))
+      (filter_map (λ g. orphan_by target lost child g (reference g child.row.values)) fs) (orphans_of_good target lost child h fs)
+
+  all_orphans : (target : List ℕ) (lost : List Value → Bool) (all : List Child) → AllByRecursion (λ child. P child.table child.row.number) all
+      → AllByRecursion OrphanGood (flat_map (orphans_of target lost) all)
+  all_orphans target lost [] h = tt
+  all_orphans target lost (child ∷ all) h =
+      all_append OrphanGood (orphans_of target lost child) (flat_map (orphans_of target lost) all)
+      (orphans_of_good target lost child h.0 child.foreign) (all_orphans target lost all h.1)
+
+  rows_as_children : (t : Table) (rows : List TableRow) → AllByRecursion (λ row. P t.name row.number) rows
+      → AllByRecursion (λ child. P child.table child.row.number) (map (child_of t) rows)
+  rows_as_children t [] h = tt
+  rows_as_children t (row ∷ rows) h = (h.0, rows_as_children t rows h.1)
+
+  others_good_in : (has : TableRow → Bool) (target : List ℕ) (t : Table) → AllByRecursion (λ row. P t.name row.number) t.rows
+      → AllByRecursion (λ row. P t.name row.number) (other_rows_of has target t)
+  others_good_in has target t h = elim (cases_Bool (is_table target t)) [
+    | inl hit ↦ rw hit (all_filter (λ row. P t.name row.number) (λ row. not (has row)) t.rows h)
+    | inr miss ↦ rw miss h
+  ]
+
+  abbrev AllTables : List Table → Type 0
+  AllTables ts = AllByRecursion (λ (t : Table). AllByRecursion (λ row. P t.name row.number) t.rows) ts
+
+  children_good : (has : TableRow → Bool) (target : List ℕ) (ts : List Table) → AllTables ts
+      → AllByRecursion (λ child. P child.table child.row.number) (children has target ts)
+  children_good has target [] h = tt
+  children_good has target (t ∷ ts) h =
+      all_append (λ child. P child.table child.row.number) (map (child_of t) (other_rows_of has target t)) (children has target ts)
+      (rows_as_children t (other_rows_of has target t) (others_good_in has target t h.0)) (children_good has target ts h.1)
+
+  first_good_in : (orphans : List Orphan) → AllByRecursion OrphanGood orphans → OnOrphan (first_in orphans)
+  first_good_in [] h = tt
+  first_good_in (orphan ∷ more) h = h.0
+
+  child_good : (o : Option Orphan) → OnOrphan o → AllByRecursion Needed (option_to_list (option_map child_row o))
+  child_good None h = tt
+  child_good (Some orphan) h = (h, tt)
+
+  module _ (each : AllTables db) where
+    child_rows_good : (s : Statement) (catalog : Catalog) (o : Option Table) → AllByRecursion Needed (child_rows s catalog o db)
+    child_rows_good s catalog None = tt
+    child_rows_good s catalog (Some t) =
+        let lost : List Value → Bool = is_lost t.schema.key t.rows (changed s catalog t).rows in
+        child_good (first_orphan s catalog t db)
+        (first_good_in (orphans (is_changed s catalog) t (changed s catalog t) db)
+        (all_orphans t.name lost (children (is_changed s catalog) t.name db) (children_good (is_changed s catalog) t.name db each)))
+
+  -- ---- what is needed, by the refusal
+
   accepted_good : (s : Statement) → AllByRecursion Needed (accepted_needs s db)
   accepted_good (TheQuery query) = query_good query
-  accepted_good (TheInsert insert) = tt
-  accepted_good (TheUpdate update) = matched_good (TheUpdate update) (catalog_of db) (target (TheUpdate update) db) (target_good (TheUpdate update))
+  accepted_good (TheInsert insert) = parent_rows_good (TheInsert insert) (catalog_of db) (target (TheInsert insert) db)
+  accepted_good (TheUpdate update) =
+      all_append Needed (matched_rows (TheUpdate update) (catalog_of db) (target (TheUpdate update) db)) (parent_rows (TheUpdate update) (catalog_of db) (target (TheUpdate update) db) db)
+      (matched_good (TheUpdate update) (catalog_of db) (target (TheUpdate update) db) (target_good (TheUpdate update)))
+      (parent_rows_good (TheUpdate update) (catalog_of db) (target (TheUpdate update) db))
   accepted_good (TheDelete delete) = matched_good (TheDelete delete) (catalog_of db) (target (TheDelete delete) db) (target_good (TheDelete delete))
 
-  by_refusal : (refusal : Option SqlRefusal) (s : Statement) → AllByRecursion Needed (needs_by refusal s db)
-  by_refusal None s = accepted_good s
-  by_refusal (Some Syntax) s = tt
-  by_refusal (Some NoTable) s = tt
-  by_refusal (Some NoColumn) s = tt
-  by_refusal (Some TypeClash) s = tt
-  by_refusal (Some NotNull) s = matched_good s (catalog_of db) (target s db) (target_good s)
-  by_refusal (Some (KeyTaken table key)) s =
+  by_refusal : AllTables db → (refusal : Option SqlRefusal) (s : Statement) → AllByRecursion Needed (needs_by refusal s db)
+  by_refusal each None s = accepted_good s
+  by_refusal each (Some Syntax) s = tt
+  by_refusal each (Some NoTable) s = tt
+  by_refusal each (Some NoColumn) s = tt
+  by_refusal each (Some TypeClash) s = tt
+  by_refusal each (Some NotNull) s = matched_good s (catalog_of db) (target s db) (target_good s)
+  by_refusal each (Some (KeyTaken table key)) s =
       all_append Needed (matched_rows s (catalog_of db) (target s db)) (key_rows s (catalog_of db) (target s db))
       (matched_good s (catalog_of db) (target s db) (target_good s)) (keys_good s (catalog_of db) (target s db) (target_good s))
-  by_refusal (Some Full) s = tt
+  by_refusal each (Some Full) s = tt
+  by_refusal each (Some (NoParent table key)) s =
+      all_append Needed (matched_rows s (catalog_of db) (target s db)) (parent_rows s (catalog_of db) (target s db) db)
+      (matched_good s (catalog_of db) (target s db) (target_good s)) (parent_rows_good s (catalog_of db) (target s db))
+  by_refusal each (Some (HasChild table key)) s =
+      let parents : List NeededRow = parent_rows s (catalog_of db) (target s db) db in
+      let child : List NeededRow = child_rows s (catalog_of db) (target s db) db in
+      all_append Needed (matched_rows s (catalog_of db) (target s db)) (parents ++ child)
+      (matched_good s (catalog_of db) (target s db) (target_good s))
+      (all_append Needed parents child (parent_rows_good s (catalog_of db) (target s db)) (child_rows_good each s (catalog_of db) (target s db)))
 
   -- ---- all needs
 
@@ -324,6 +456,7 @@ module _ (P : List ℕ → ℕ → Type 0) (db : List Table) (sound : (name : Li
   rising_good [] h = tt
   rising_good (n ∷ ns) h = put_good n h.0 (sorted_needs ns) (rising_good ns h.1)
 
-  pub needs_good : (statement : Option Statement) → AllByRecursion Needed (need_of statement db)
-  needs_good None = subst (AllByRecursion Needed) (sym (need_is None db)) tt
-  needs_good (Some s) = subst (AllByRecursion Needed) (sym (need_parts s db)) (rising_good (needs_by (refusal_of (Some s) db) s db) (by_refusal (refusal_of (Some s) db) s))
+  -- of the rows of all tables, also of those that no name finds
+  pub needs_good : AllTables db → (statement : Option Statement) → AllByRecursion Needed (need_of statement db)
+  needs_good each None = subst (AllByRecursion Needed) (sym (need_is None db)) tt
+  needs_good each (Some s) = subst (AllByRecursion Needed) (sym (need_parts s db)) (rising_good (needs_by (refusal_of (Some s) db) s db) (by_refusal each (refusal_of (Some s) db) s))

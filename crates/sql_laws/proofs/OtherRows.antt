@@ -18,8 +18,8 @@ use Rattle.sql_model.specs.Tables.{is_valid_table, table_precedes, is_database}
 use Rattle.sql_model.proofs.NewNumbers.{row_precedes}
 use Rattle.sql_model.proofs.SortedLists.{sorted-all, sorted-tail}
 use Rattle.sql_laws.proofs.TableNames.{less-differs, more-differs, table-trans}
-use Rattle.sql_laws.proofs.LeftRows.{has_number}
-use Rattle.sql_laws.proofs.LeftRowsStatements.{KeepsAllNew}
+use Rattle.sql_laws.proofs.LeftRows.{has_number, KeepsAllNew}
+use Rattle.sql_model.proofs.Databases.{valid_of_database, sorted_of_database}
 
 -- ---- the tables without the rows
 
@@ -123,5 +123,4 @@ module _ (keep : Keep) (db : List Table) where
   -- the rows that are appended are no rows of the database
   pub new_others : is_database db ≡ true → KeepsAllNew (keep_others keep db) db
   new_others valid =
-      let both = and-parts (list_all is_valid_table db) (is_strictly_sorted table_precedes db) valid in
-      new_of db (all_free db both.0 both.1)
+      new_of db (all_free db (valid_of_database db valid) (sorted_of_database db valid))

@@ -35,7 +35,7 @@ module _ (keep : Keep) where
 
   pub refusal_same : (query : Query) (db : List Table)
       → refusal_of (Some (TheQuery query)) (cut_tables keep db) ≡ refusal_of (Some (TheQuery query)) db
-  refusal_same query db = ap (λ (c : Catalog). or_else (check_refusal (TheQuery query) c) None) (catalog_same db)
+  refusal_same query db = ap (λ (c : Catalog). or_else (or_else (check_refusal (TheQuery query) c) None) None) (catalog_same db)
 
   -- ---- combinations
 

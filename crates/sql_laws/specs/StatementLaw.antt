@@ -4,9 +4,10 @@
 use Rattle.std.specs.Prelude.{◌≡◌, ℕ, ◌==◌, List, [], ◌∷◌, filter, Bool, true, not, ◌&&◌, ◌||◌, Option}
 use Rattle.std.specs.List.{list_any}
 use Rattle.sql_laws.specs.Types.{Statement, Table}
+use Rattle.sql_model.specs.ForeignKeys.{have_parents}
 use Rattle.sql_model.specs.Needs.{need_of, asked_tables}
 use Rattle.sql_laws.specs.QueryLaw.{Keep, cut_tables, KeepsNeeded}
-use Rattle.sql_model.specs.Scope.{is_table}
+use Rattle.sql_model.specs.Scope.{same_text, is_table, catalog_of}
 use Rattle.sql_model.specs.Statements.{refusal_of, reply_of, after}
 use Rattle.sql_model.specs.Tables.{is_database, tables_test}
 
@@ -58,13 +59,49 @@ StatementLaw = (statement : Option Statement) (db : List Table) (tables : KeepTa
     → KeepsAsked tables (asked_tables statement db)
     → SameStatement statement tables keep db
 
--- a database without some rows and tables is a database, and so with the tables of a world
+-- a database without some rows and tables is a database where no parent of what is left was left out, and so
+-- with the tables of a world
 abbrev pub CutLaw : Type 0
 CutLaw = (tables : KeepTables) (keep : Keep) (db : List Table)
     → is_database db ≡ true
+    → have_parents (catalog_of (cut_database tables keep db)) ≡ true
     → is_database (cut_database tables keep db) ≡ true
 
 abbrev pub CutTablesLaw : Type 0
 CutTablesLaw = (tables : KeepTables) (keep : Keep) (db : List Table)
     → tables_test db ≡ true
+    → have_parents (catalog_of (cut_database tables keep db)) ≡ true
     → tables_test (cut_database tables keep db) ≡ true
+
+-- a table of one name refers to one of another
+abbrev pub refers : List Table → List ℕ → List ℕ → Bool
+refers db child parent =
+    list_any (λ t. same_text t.name child && list_any (λ f. same_text f.parent parent) t.schema.foreign) db
+
+-- of each table that stays, the parents stay
+abbrev pub KeepsParents : KeepTables → List Table → Type 0
+KeepsParents tables db = (child parent : List ℕ) → refers db child parent ≡ true → tables child ≡ true
+    → tables parent ≡ true
+
+-- then the parents of what is left are there
+abbrev pub CutParentsLaw : Type 0
+CutParentsLaw = (tables : KeepTables) (keep : Keep) (db : List Table)
+    → is_database db ≡ true
+    → KeepsParents tables db
+    → have_parents (catalog_of (cut_database tables keep db)) ≡ true
+
+abbrev pub asks : Option Statement → List Table → List ℕ → Bool
+asks statement db name = list_any (same_text name) (asked_tables statement db)
+
+-- a statement that asks a table asks its parents
+abbrev pub AskedParentsLaw : Type 0
+AskedParentsLaw = (statement : Option Statement) (db : List Table)
+    → is_database db ≡ true
+    → KeepsParents (asks statement db) db
+
+-- a statement asks each table of which it needs a row
+abbrev pub AskedNeedsLaw : Type 0
+AskedNeedsLaw = (statement : Option Statement) (db : List Table) (name : List ℕ)
+    → list_any (is_table name) db ≡ true
+    → list_any (λ need. same_text need.table name) (need_of statement db) ≡ true
+    → asks statement db name ≡ true

@@ -16,12 +16,13 @@ pub use Rattle.sql_model.specs.declared.kind.Kind.TheVariants.{Int as IntKind, T
 pub use Rattle.sql_model.specs.declared.kind.Kind.TheVariants.{Any as AnyKind, Truth as TruthKind}
 pub use Rattle.sql_model.specs.declared.need.Need.{Need}
 pub use Rattle.sql_model.specs.declared.need.Rule.{Rule}
-pub use Rattle.sql_model.specs.declared.need.Rule.TheVariants.{L, H, K}
+pub use Rattle.sql_model.specs.declared.need.Rule.TheVariants.{L, H, K, P, C}
 pub use Rattle.sql_model.specs.declared.reply.Reply.{Reply}
 pub use Rattle.sql_model.specs.declared.reply.Reply.TheVariants.{Rows, Changed, Refused}
 pub use Rattle.sql_model.specs.declared.reply.SqlRefusal.{SqlRefusal}
 pub use Rattle.sql_model.specs.declared.reply.SqlRefusal.TheVariants.{Syntax, NoTable, NoColumn, TypeClash}
 pub use Rattle.sql_model.specs.declared.reply.SqlRefusal.TheVariants.{NotNull, KeyTaken, Full}
+pub use Rattle.sql_model.specs.declared.reply.SqlRefusal.TheVariants.{NoParent, HasChild}
 pub use Rattle.sql_model.specs.declared.statement.Core.{Core}
 pub use Rattle.sql_model.specs.declared.statement.Delete.{Delete}
 pub use Rattle.sql_model.specs.declared.statement.FromItem.{FromItem}
@@ -39,6 +40,7 @@ pub use Rattle.sql_model.specs.declared.statement.Statement.TheVariants.{Update 
 pub use Rattle.sql_model.specs.declared.statement.Statement.TheVariants.{Delete as TheDelete}
 pub use Rattle.sql_model.specs.declared.statement.Update.{Update}
 pub use Rattle.sql_model.specs.declared.table.Column.{Column}
+pub use Rattle.sql_model.specs.declared.table.Foreign.{Foreign}
 pub use Rattle.sql_model.specs.declared.table.Schema.{Schema}
 pub use Rattle.sql_model.specs.declared.table.Table.{Table}
 pub use Rattle.sql_model.specs.declared.table.TableRow.{TableRow}

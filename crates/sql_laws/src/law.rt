@@ -7,7 +7,8 @@ ghost use Rattle.sql_laws.specs.LineageLaw.{SortSetsLaw, UnitesLaw};
 ghost use Rattle.sql_laws.specs.LineageLaw.{CutSetsLaw, MergeLaw, MergeSetsLaw, NeedsLaw, SortLaw};
 ghost use Rattle.sql_laws.specs.LineageLaw.{SortSetsLaw, UnitesLaw};
 ghost use Rattle.sql_laws.specs.QueryLaw.{QueryLaw};
-ghost use Rattle.sql_laws.specs.StatementLaw.{CutLaw, CutTablesLaw, StatementLaw};
+ghost use Rattle.sql_laws.specs.StatementLaw.{AskedNeedsLaw, AskedParentsLaw, CutLaw, CutParentsLaw};
+ghost use Rattle.sql_laws.specs.StatementLaw.{CutTablesLaw, StatementLaw};
 
 /// For every query, with any sources, conditions, groups, DISTINCT, UNION, UNION ALL, ORDER BY and LIMIT:
 /// over tables from which rows were left out that it doesn't need, its refusal, reply and needs are the
@@ -19,11 +20,16 @@ pub fn query_law()
 /// For every statement, and for texts that are none: over a database from which rows were left out that
 /// the statement doesn't need, and tables that it doesn't ask, its refusal, reply, needs and asked tables
 /// are the same, and the tables after it are those after it over the whole database, without the same rows
-/// and tables. What is left is a database, whichever rows and tables are left out.
+/// and tables. What is left is a database where each foreign key of a table that stays has its parent among
+/// those that stay, whichever rows are left out; a statement asks the parents of each table that it asks, and
+/// each table of which it needs a row.
 pub fn statement_law()
     ensures same { StatementLaw }
     ensures cut { CutLaw }
     ensures tables { CutTablesLaw }
+    ensures parents { CutParentsLaw }
+    ensures asked { AskedParentsLaw }
+    ensures needs { AskedNeedsLaw }
 {}
 
 /// Where the values of columns are of the columns' kinds, the value of each expression is of the kind that it

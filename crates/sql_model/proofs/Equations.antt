@@ -6,7 +6,7 @@ use Rattle.sql_model.specs.Needs.{needs_by, needs_of_reading, need_of, Versions,
 use Rattle.sql_model.specs.Scope.{table_at, is_table, catalog_of, is_schema, schema_in, schema_at}
 use Rattle.sql_model.specs.Statements.{refusal_of, reply_or, reply_of, after_unless, after}
 use Rattle.sql_model.specs.Types.{Catalog, Schema, Query, Statement, TheQuery, TheInsert, TheUpdate, TheDelete, Table}
-use Rattle.sql_model.specs.Types.{SqlRefusal, Syntax, NoTable, NoColumn, TypeClash, NotNull, KeyTaken, Full}
+use Rattle.sql_model.specs.Types.{SqlRefusal, Syntax, NoTable, NoColumn, TypeClash, NotNull, KeyTaken, Full, NoParent, HasChild}
 
 pub reply_is : (statement : Option Statement) (db : List Table)
     → reply_of statement db ≡ reply_or (refusal_of statement db) statement db
@@ -42,6 +42,8 @@ refused_needs query db TypeClash = refl
 refused_needs query db NotNull = refl
 refused_needs query db (KeyTaken table key) = refl
 refused_needs query db Full = refl
+refused_needs query db (NoParent table key) = refl
+refused_needs query db (HasChild table key) = refl
 
 -- ---- a change keeps a table's name
 

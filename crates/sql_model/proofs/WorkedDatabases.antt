@@ -6,7 +6,7 @@ use Rattle.sql_model.proofs.WorkedTables.{table_column, table_row, columns_of_t,
 
 -- the table t with other rows
 abbrev table_of : List TableRow → Table
-table_of rows = record { name = codes "t"; schema = record { columns = columns_of_t; key = 0 ∷ [] }; rows = rows; next = 5 }
+table_of rows = record { name = codes "t"; schema = record { columns = columns_of_t; key = 0 ∷ []; foreign = [] }; rows = rows; next = 5 }
 
 t_is_valid : is_database (table_t 5 ∷ []) ≡ true
 t_is_valid = refl
@@ -32,7 +32,7 @@ name_twice = refl
 -- ---- schemas
 
 abbrev schema_of : List Column → List ℕ → Schema
-schema_of columns key = record { columns = columns; key = key }
+schema_of columns key = record { columns = columns; key = key; foreign = [] }
 
 t_is_described : tables_test (table_t 5 ∷ []) ≡ true
 t_is_described = refl

@@ -24,7 +24,7 @@ abbrev pub columns_of_t : List TableColumn
 columns_of_t = table_column (codes "k") false true ∷ table_column (codes "g") true false ∷ table_column (codes "v") false false ∷ []
 
 abbrev pub table_t : ℕ → Table
-table_t next = record { name = codes "t"; schema = record { columns = columns_of_t; key = 0 ∷ [] }; rows = rows_of_t; next = next }
+table_t next = record { name = codes "t"; schema = record { columns = columns_of_t; key = 0 ∷ []; foreign = [] }; rows = rows_of_t; next = next }
 
 -- ---- parts of statements
 

@@ -1,6 +1,7 @@
 -- What INSERT, UPDATE and DELETE make of their table, and what the rows refuse.
 use Rattle.std.specs.Prelude.{ℕ, ◌+◌, List, [], ◌∷◌, ◌++◌, map, find, filter, zip, length, Bool, false, not}
-use Rattle.std.specs.Prelude.{◌&&◌, nat_lt, if◌then◌else◌, Option, Some, None, option_map, option_to_list}
+use Rattle.std.specs.Prelude.{◌&&◌, ◌==◌, nat_lt, if◌then◌else◌, Option, Some, None, option_map}
+use Rattle.std.specs.Prelude.{option_to_list}
 use Rattle.std.specs.List.{list_any}
 use Rattle.ldv_value.specs.Limits.{max_next}
 use Rattle.sql_model.specs.Types.{Value, Catalog, Expr, SqlRefusal, NotNull, KeyTaken, Full, Delete, Insert}
@@ -130,6 +131,10 @@ new_rows (TheUpdate update) catalog table =
     map (updated_row (own_scope update.table catalog) update table.schema.columns)
     (matched (TheUpdate update) catalog table)
 new_rows (TheDelete delete) catalog table = []
+
+-- a row of its number stood in the table
+abbrev pub stood : Table → TableRow → Bool
+stood table row = list_any (λ old. old.number == row.number) table.rows
 
 -- ---- code 5
 

@@ -1,6 +1,7 @@
 -- The code of each refusal.
 use Rattle.std.specs.Prelude.{ℕ}
 use Rattle.sql_model.specs.Types.{SqlRefusal, Syntax, NoTable, NoColumn, TypeClash, NotNull, KeyTaken, Full}
+use Rattle.sql_model.specs.Types.{NoParent, HasChild}
 
 abbrev pub code_of : SqlRefusal → ℕ
 code_of Syntax = 1
@@ -10,3 +11,5 @@ code_of TypeClash = 4
 code_of NotNull = 5
 code_of (KeyTaken table key) = 6
 code_of Full = 7
+code_of (NoParent table key) = 8
+code_of (HasChild table key) = 9

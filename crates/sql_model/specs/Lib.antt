@@ -3,10 +3,12 @@ pub mod Codes
 pub mod Columns
 pub mod Evaluation
 pub mod Expressions
+pub mod ForeignKeys
 pub mod Grammar
 pub mod GrammarOfStatements
 pub mod GrammarOfTokens
 pub mod KeyOrder
+pub mod KeySets
 pub mod Keys
 pub mod Kinds
 pub mod Levels
@@ -20,6 +22,7 @@ pub mod Places
 pub mod Queries
 pub mod QueryAnswer
 pub mod Reader
+pub mod References
 pub mod Refusals
 pub mod Scope
 pub mod Sorting

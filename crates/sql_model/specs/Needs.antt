@@ -1,19 +1,23 @@
--- What a statement needs of the tables: the rows that its reply rests on, and the tables that it names.
+-- What a statement needs of the tables: the rows that its reply rests on, and the tables that it asks.
 -- What it makes of them: versions of rows.
 --
 -- A row that is needed by several rules has the first of them.
 use Rattle.std.specs.Prelude.{ℕ, ◌+◌, List, [], ◌∷◌, ◌++◌, map, filter, Bool, false, not, ◌&&◌, ◌||◌, ◌==◌}
-use Rattle.std.specs.Prelude.{if◌then◌else◌, Option, Some, None}
+use Rattle.std.specs.Prelude.{if◌then◌else◌, Option, Some, None, option_map, option_to_list}
 use Rattle.std.specs.List.{flat_map, list_any, list_all}
 use Rattle.std.specs.Ordering.{nat_cmp, is_lt}
 use Rattle.std.specs.Cmp.Lexicographic.{slice_cmp}
-use Rattle.sql_model.specs.Types.{Catalog, Member, Need, Rule, L, H, K, SqlRefusal, Syntax, NoTable, NoColumn}
-use Rattle.sql_model.specs.Types.{TypeClash, NotNull, KeyTaken, Full, Core, Query, Statement, TheQuery}
-use Rattle.sql_model.specs.Types.{TheInsert, TheUpdate, TheDelete, Table, TableRow}
+use Rattle.sql_model.specs.Types.{Catalog, Member, Need, Rule, L, H, K, P, C, SqlRefusal, Syntax, NoTable}
+use Rattle.sql_model.specs.Types.{NoColumn, TypeClash, NotNull, KeyTaken, Full, NoParent, HasChild, Core}
+use Rattle.sql_model.specs.Types.{Query, Statement, TheQuery, TheInsert, TheUpdate, TheDelete, Table}
+use Rattle.sql_model.specs.Types.{TableRow}
 use Rattle.sql_model.specs.QueryAnswer.{Origin, lineage_of, rejected, answer, cut}
 use Rattle.sql_model.specs.Changes.{KeyClash, key_clash, changed, matched, inserted}
+pub use Rattle.sql_model.specs.Changes.{stood}
+use Rattle.sql_model.specs.ForeignKeys.{with_parents}
+use Rattle.sql_model.specs.References.{Orphan, first_orphan, parents_needed}
 use Rattle.sql_model.specs.Refusals.{tables_of, groups}
-use Rattle.sql_model.specs.Scope.{same_text, is_table, catalog_of}
+use Rattle.sql_model.specs.Scope.{same_text, catalog_of}
 use Rattle.sql_model.specs.Statements.{target, refusal_of}
 
 -- a row of a table by its number, and the rule by which it is needed
@@ -84,9 +88,6 @@ hidden_rows query db = map (needed_by H) (flat_map (rejected db) query.cores) ++
 
 -- ---- rule K: the row is one of the two of a refused key, where it stood before
 
-abbrev pub stood : Table → TableRow → Bool
-stood table row = list_any (λ old. old.number == row.number) table.rows
-
 abbrev pub clash_rows : Option KeyClash → List TableRow
 clash_rows None = []
 clash_rows (Some clash) = clash.earlier ∷ clash.later ∷ []
@@ -99,13 +100,33 @@ key_rows statement catalog None = []
 key_rows statement catalog (Some table) =
     map (key_row table) (filter (stood table) (clash_rows (key_clash (changed statement catalog table))))
 
+-- ---- rule P: the row stood before, and has after the statement a key to which an inserted or matched row
+-- refers there
+
+abbrev pub parent_rows : Statement → Catalog → Option Table → List Table → List NeededRow
+parent_rows statement catalog None db = []
+parent_rows statement catalog (Some table) db =
+    map (needed_by P) (parents_needed statement catalog table db)
+
+-- ---- rule C: the row is the first that would lose its parent
+
+abbrev pub child_row : Orphan → NeededRow
+child_row orphan = needed_row C orphan.table orphan.row
+
+abbrev pub child_rows : Statement → Catalog → Option Table → List Table → List NeededRow
+child_rows statement catalog None db = []
+child_rows statement catalog (Some table) db =
+    option_to_list (option_map child_row (first_orphan statement catalog table db))
+
 -- ---- needs
 
 abbrev pub accepted_needs : Statement → List Table → List NeededRow
 accepted_needs (TheQuery query) db = lineage_rows query db ++ hidden_rows query db
-accepted_needs (TheInsert insert) db = []
+accepted_needs (TheInsert insert) db =
+    parent_rows (TheInsert insert) (catalog_of db) (target (TheInsert insert) db) db
 accepted_needs (TheUpdate update) db =
     matched_rows (TheUpdate update) (catalog_of db) (target (TheUpdate update) db)
+    ++ parent_rows (TheUpdate update) (catalog_of db) (target (TheUpdate update) db) db
 accepted_needs (TheDelete delete) db =
     matched_rows (TheDelete delete) (catalog_of db) (target (TheDelete delete) db)
 
@@ -121,6 +142,13 @@ needs_by (Some (KeyTaken table key)) statement db =
     matched_rows statement (catalog_of db) (target statement db)
     ++ key_rows statement (catalog_of db) (target statement db)
 needs_by (Some Full) statement db = []
+needs_by (Some (NoParent table key)) statement db =
+    matched_rows statement (catalog_of db) (target statement db)
+    ++ parent_rows statement (catalog_of db) (target statement db) db
+needs_by (Some (HasChild table key)) statement db =
+    matched_rows statement (catalog_of db) (target statement db)
+    ++ (parent_rows statement (catalog_of db) (target statement db) db
+    ++ child_rows statement (catalog_of db) (target statement db) db)
 
 abbrev pub needs_of_reading : Option Statement → List Table → List NeededRow
 needs_of_reading None db = []
@@ -132,16 +160,24 @@ need_of statement db = needs_of_reading statement db
 
 -- ---- tables
 
-abbrev pub is_named : Statement → Table → Bool
-is_named statement table = list_any (λ name. is_table name table) (tables_of statement)
-
 abbrev pub table_name : Table → List ℕ
 table_name table = table.name
 
--- the names of the tables that are there and that a statement with a reading names, sorted as the tables are
+-- those that a statement names and those of the rows that it needs
+abbrev pub first_names : Statement → List Table → List (List ℕ)
+first_names statement db = tables_of statement ++ map (λ need. need.table) (need_of (Some statement) db)
+
+-- and all their parents
+abbrev pub asked_names : Statement → List Table → List (List ℕ)
+asked_names statement db = with_parents (first_names statement db) (catalog_of db)
+
+abbrev pub is_asked : List (List ℕ) → Table → Bool
+is_asked names table = list_any (same_text table.name) names
+
+-- the names of the tables that are there and that a statement with a reading asks, sorted as the tables are
 abbrev pub asked_tables : Option Statement → List Table → List (List ℕ)
 asked_tables None db = []
-asked_tables (Some statement) db = map table_name (filter (is_named statement) db)
+asked_tables (Some statement) db = map table_name (filter (is_asked (asked_names statement db)) db)
 
 -- ---- versions
 

@@ -1,9 +1,11 @@
 -- What a statement gives: its refusal, its reply and the database after it.
-use Rattle.std.specs.Prelude.{ℕ, List, length, Option, Some, None}
-use Rattle.sql_model.specs.Types.{Catalog, Reply, Rows, Changed, Refused, SqlRefusal, Syntax, Statement}
+use Rattle.std.specs.Prelude.{ℕ, List, length, Option, Some, None, option_map}
+use Rattle.sql_model.specs.Types.{Catalog, Reply, Rows, Changed, Refused, SqlRefusal, Syntax, NoParent}
+use Rattle.sql_model.specs.Types.{HasChild, Statement}
 use Rattle.sql_model.specs.Types.{TheQuery, TheInsert, TheUpdate, TheDelete, Table}
 use Rattle.sql_model.specs.QueryAnswer.{answer_rows}
 use Rattle.sql_model.specs.Changes.{target_of, table_of, changed_in, matched, or_else, change_refusal}
+use Rattle.sql_model.specs.References.{Missing, Orphan, first_missing, first_orphan}
 use Rattle.sql_model.specs.Refusals.{check_refusal}
 use Rattle.sql_model.specs.Scope.{catalog_of}
 
@@ -13,12 +15,33 @@ use Rattle.sql_model.specs.Scope.{catalog_of}
 abbrev pub target : Statement → List Table → Option Table
 target statement db = table_of (target_of statement) db
 
+-- code 8
+abbrev pub parent_refusal : Missing → SqlRefusal
+parent_refusal missing = NoParent missing.parent missing.key
+
+-- code 9
+abbrev pub child_refusal : Orphan → SqlRefusal
+child_refusal orphan = HasChild orphan.table orphan.key
+
+-- what references between tables refuse
+abbrev pub reference_refusal : Statement → Catalog → Option Table → List Table → Option SqlRefusal
+reference_refusal statement catalog None db = None
+reference_refusal statement catalog (Some table) db =
+    or_else (option_map parent_refusal (first_missing statement catalog table db))
+    (option_map child_refusal (first_orphan statement catalog table db))
+
+-- what the text, the schemas and the rows of the own table refuse
+abbrev pub own_refusal : Statement → List Table → Option SqlRefusal
+own_refusal statement db =
+    or_else (check_refusal statement (catalog_of db))
+    (change_refusal statement (catalog_of db) (target statement db))
+
 -- the first cause that holds, in the order of the codes, over the whole statement
 abbrev pub refusal_of : Option Statement → List Table → Option SqlRefusal
 refusal_of None db = Some Syntax
 refusal_of (Some statement) db =
-    or_else (check_refusal statement (catalog_of db))
-    (change_refusal statement (catalog_of db) (target statement db))
+    or_else (own_refusal statement db)
+    (reference_refusal statement (catalog_of db) (target statement db) db)
 
 -- ---- replies
 

@@ -7,10 +7,11 @@ use Rattle.std.specs.Prelude.{nat_le, Option, Some, None, slice_get}
 use Rattle.std.specs.List.{list_all, position_or_len}
 use Rattle.ldv_value.specs.Limits.{max_columns, max_next, text_limit}
 use Rattle.ldv_value.specs.Sorted.{is_strictly_sorted, text_precedes}
+use Rattle.sql_model.specs.ForeignKeys.{max_foreign, have_parents}
 use Rattle.sql_model.specs.Keys.{repeats, has_two_of_a_key}
-use Rattle.sql_model.specs.Scope.{same_text, is_column}
+use Rattle.sql_model.specs.Scope.{same_text, is_column, catalog_of}
 use Rattle.sql_model.specs.SqlNames.{sql_name_test}
-use Rattle.sql_model.specs.Types.{Value, Null, Int, Text, Column, Schema, Table}
+use Rattle.sql_model.specs.Types.{Value, Null, Int, Text, Column, Foreign, Schema, Table}
 
 -- ---- schemas: their own rules
 
@@ -45,10 +46,21 @@ is_not_null (Some column) = column.not_null
 abbrev pub key_not_null_test : List Column → List ℕ → Bool
 key_not_null_test columns key = list_all (λ place. is_not_null (slice_get columns place)) key
 
+-- so has a foreign key
+abbrev pub foreign_key_test : List Column → Foreign → Bool
+foreign_key_test columns foreign = key_places_test columns foreign.columns
+
+abbrev pub foreign_count_test : List Foreign → Bool
+foreign_count_test foreigns = nat_le (length foreigns) max_foreign
+
+abbrev pub foreign_test : List Column → List Foreign → Bool
+foreign_test columns foreigns = foreign_count_test foreigns && list_all (foreign_key_test columns) foreigns
+
 abbrev pub schema_test : Schema → Bool
 schema_test schema =
     column_count_test schema.columns && column_names_test schema.columns
     && key_places_test schema.columns schema.key && key_not_null_test schema.columns schema.key
+    && foreign_test schema.columns schema.foreign
 
 -- ---- values and their columns
 
@@ -109,8 +121,12 @@ abbrev pub table_precedes : Table → Table → Bool
 table_precedes a b = text_precedes a.name b.name
 
 -- valid tables, strictly increasing by name
+abbrev pub are_tables : List Table → Bool
+are_tables tables = list_all is_valid_table tables && is_strictly_sorted table_precedes tables
+
+-- and each foreign key has a parent with a fitting key; that rows refer to rows of it isn't asked
 abbrev pub is_database : List Table → Bool
-is_database tables = list_all is_valid_table tables && is_strictly_sorted table_precedes tables
+is_database tables = are_tables tables && have_parents (catalog_of tables)
 
 -- no table has two columns of one name
 abbrev pub have_distinct_columns : List Table → Bool

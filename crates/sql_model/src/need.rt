@@ -17,6 +17,10 @@ pub enum Rule {
     H,
     /// It is one of the two rows of a refused key.
     K,
+    /// It is a parent row: an inserted or matched row refers to its key after the statement.
+    P,
+    /// It is the child row for which a change of its parent's table is refused.
+    C,
 }
 
 /// A row of a table at a version, the number of earlier changes of that row.

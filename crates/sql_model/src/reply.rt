@@ -26,6 +26,12 @@ pub enum SqlRefusal {
     KeyTaken { table: Utf8, key: Values },
     /// A new row would have a number above 4,294,967,294.
     Full,
+    /// A row that is inserted or matched would refer to a key that no row of the parent `table` has. `key` is
+    /// that of the first such row, by number, and of its first such foreign key.
+    NoParent { table: Utf8, key: Values },
+    /// Another row, of `table`, would refer to a key that the statement's table had before and has no more.
+    /// `key` is that of the first such row, by table and number, and of its first such foreign key.
+    HasChild { table: Utf8, key: Values },
 }
 
 /// The reply to a statement.
@@ -45,7 +51,7 @@ pub type Replies = List<Reply>;
 impl SqlRefusal {
     ghost use Rattle.sql_model.specs.Codes.{code_of};
 
-    /// The refusal's code, 1 to 7, in the order of the refusals.
+    /// The refusal's code, 1 to 9, in the order of the refusals.
     pub fn code(&self) -> u8
         ensures { result ≡ code_of self.now }
     {
@@ -57,6 +63,8 @@ impl SqlRefusal {
             SqlRefusal::NotNull => 5,
             SqlRefusal::KeyTaken { table: _, key: _ } => 6,
             SqlRefusal::Full => 7,
+            SqlRefusal::NoParent { table: _, key: _ } => 8,
+            SqlRefusal::HasChild { table: _, key: _ } => 9,
         }
     }
 }
@@ -74,6 +82,14 @@ impl CopyItem for SqlRefusal {
                 key: key.copy()?,
             }),
             SqlRefusal::Full => Ok(SqlRefusal::Full),
+            SqlRefusal::NoParent { table, key } => Ok(SqlRefusal::NoParent {
+                table: table.copy()?,
+                key: key.copy()?,
+            }),
+            SqlRefusal::HasChild { table, key } => Ok(SqlRefusal::HasChild {
+                table: table.copy()?,
+                key: key.copy()?,
+            }),
         }
     }
 }

@@ -4,15 +4,17 @@ ghost use Rattle.std.specs.Prelude.{◌≡◌, IfOk, map, slice_get, length, nat
 ghost use Rattle.std.specs.List.{list_all};
 ghost use Rattle.sql_model.specs.SqlNames.{sql_name_test};
 ghost use Rattle.sql_model.specs.Tables.{column_count_test, column_names, column_names_test, is_not_null};
-ghost use Rattle.sql_model.specs.Tables.{key_not_null_test, key_places_test, schema_test};
+ghost use Rattle.sql_model.specs.Tables.{foreign_key_test, foreign_test, key_not_null_test, key_places_test};
+ghost use Rattle.sql_model.specs.Tables.{schema_test};
 
+use crate::foreign::MAX_FOREIGN;
 use crate::names::is_sql_name;
 use crate::repeats::has_twice;
-use crate::table::{Columns, Schema};
+use crate::table::{Columns, Foreigns, Schema};
 use ldv_value::{MAX_COLUMNS, Places};
 use std::alloc::{AllocError, Global};
 
-/// Whether a schema meets the rules: the number and the names of its columns, and its key.
+/// Whether a schema meets the rules: the number and the names of its columns, its key and its foreign keys.
 pub fn meets_schema(alloc: Global, schema: &Schema) -> Result<bool, AllocError>
     ensures { IfOk result (λ holds. holds ≡ schema_test schema.now) }
 {
@@ -25,7 +27,39 @@ pub fn meets_schema(alloc: Global, schema: &Schema) -> Result<bool, AllocError>
     if !meets_key_places(alloc, &schema.columns, &schema.key)? {
         return Ok(false);
     }
-    Ok(is_key_not_null(&schema.columns, &schema.key))
+    if !is_key_not_null(&schema.columns, &schema.key) {
+        return Ok(false);
+    }
+    meets_foreign(alloc, &schema.columns, &schema.foreign)
+}
+
+/// Whether there are at most 16 foreign keys, each with places of columns, from 0, none of them twice.
+pub fn meets_foreign(
+    alloc: Global,
+    columns: &Columns,
+    foreigns: &Foreigns,
+) -> Result<bool, AllocError>
+    ensures { IfOk result (λ holds. holds ≡ foreign_test columns.now foreigns.now) }
+{
+    if foreigns.len() > MAX_FOREIGN {
+        return Ok(false);
+    }
+    each_foreign_placed(alloc, columns, foreigns)
+}
+
+fn each_foreign_placed(
+    alloc: Global,
+    columns: &Columns,
+    foreigns: &Foreigns,
+) -> Result<bool, AllocError>
+    ensures { IfOk result (λ holds. holds ≡ list_all (foreign_key_test columns.now) foreigns.now) }
+{
+    for foreign in foreigns.items() {
+        if !meets_key_places(alloc, columns, &foreign.columns)? {
+            return Ok(false);
+        }
+    }
+    Ok(true)
 }
 
 /// Whether there are 1 to 64 columns.

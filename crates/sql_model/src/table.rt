@@ -11,11 +11,21 @@ pub struct Column {
     pub not_null: bool,
 }
 
-/// The columns of a table, 1 to 64, and the places of its key's columns, from 0; none is no key.
+/// A foreign key: the places of its columns, from 0, and the name of the table to whose key they refer, the
+/// parent. It has as many columns as that key, and they fit it place by place in INT and TEXT.
+#[derive(Drop)]
+pub struct Foreign {
+    pub columns: Places,
+    pub parent: Utf8,
+}
+
+/// The columns of a table, 1 to 64; the places of its key's columns, from 0, none being no key; and its
+/// foreign keys, at most 16.
 #[derive(Drop)]
 pub struct Schema {
     pub columns: Columns,
     pub key: Places,
+    pub foreign: Foreigns,
 }
 
 /// A row with its number, at most 4,294,967,294, which it keeps until it is deleted.
@@ -37,6 +47,8 @@ pub struct Table {
 
 /// Columns.
 pub type Columns = List<Column>;
+/// Foreign keys.
+pub type Foreigns = List<Foreign>;
 /// Schemas.
 pub type Schemas = List<Schema>;
 /// Rows with their numbers.
@@ -54,11 +66,21 @@ impl CopyItem for Column {
     }
 }
 
+impl CopyItem for Foreign {
+    fn copy_item(&self, _alloc: Global) -> Result<Self, AllocError> {
+        Ok(Foreign {
+            columns: self.columns.copy()?,
+            parent: self.parent.copy()?,
+        })
+    }
+}
+
 impl CopyItem for Schema {
     fn copy_item(&self, _alloc: Global) -> Result<Self, AllocError> {
         Ok(Schema {
             columns: self.columns.copy()?,
             key: self.key.copy()?,
+            foreign: self.foreign.copy()?,
         })
     }
 }

@@ -16,7 +16,7 @@ use Rattle.table_store.specs.KeyIndex.{has_key, Held, AreHeld, AreIndexed}
 use Rattle.table_store.specs.RowOrder.{AreInOrder}
 use Rattle.table_store.specs.Stops.{StopsAs}
 use Rattle.table_store.specs.declared.stop.StoreStop.{StoreStop}
-use Rattle.table_store.specs.declared.stop.StoreStop.TheVariants.{NotNull, KeyTaken, Full, NoMemory}
+use Rattle.table_store.specs.declared.stop.StoreStop.TheVariants.{NotNull, KeyTaken, Full, NoParent, HasChild, NoMemory}
 use Rattle.table_store.proofs.IndexLaws.{no_slot_has, held_pushed, still_held}
 
 -- ---- numbered rows
@@ -98,6 +98,26 @@ stop_kept X Y due more NoMemory stays is = tt
 stop_kept X Y due more NotNull stays is = stays NotNull is
 stop_kept X Y due more (KeyTaken earlier later key) stays is = stays (KeyTaken earlier later key) is
 stop_kept X Y due more Full stays is = stays Full is
+stop_kept X Y due more (NoParent table key) stays is = stays (NoParent table key) is
+stop_kept X Y due more (HasChild table row key) stays is = stays (HasChild table row key) is
+
+-- a refusal that is due
+pub stop_due : (X : Type 0) (stop : StoreStop) → StopsAs {X = X} (Some stop) (Err stop)
+stop_due X NoMemory = tt
+stop_due X NotNull = refl
+stop_due X (KeyTaken earlier later key) = refl
+stop_due X Full = refl
+stop_due X (NoParent table key) = refl
+stop_due X (HasChild table row key) = refl
+
+-- a first refusal that is due, whatever comes after it
+pub stop_before : (X Y : Type 0) (due later : Option StoreStop) (stop : StoreStop) → StopsAs {X = X} due (Err stop) → StopsAs {X = Y} (option_or due later) (Err stop)
+stop_before X Y due later stop = stop_kept X Y due (option_or due later) stop (λ is same. ap (λ (o : Option StoreStop). option_or o later) same)
+
+-- a later one, where there is no first
+pub stop_later : (X : Type 0) (due later : Option StoreStop) (stop : StoreStop) → due ≡ None → later ≡ Some stop → StopsAs {X = X} (option_or due later) (Err stop)
+stop_later X due later stop none is =
+    subst (λ (o : Option StoreStop). StopsAs {X = X} o (Err stop)) (sym (ap (λ (o : Option StoreStop). option_or o later) none ∙ is)) (stop_due X stop)
 
 pub claim_taken : (places : List ℕ) (next : ℕ) (row : TableRow) (o : Option TableRow) (rest : Option KeyClash) (stop : StoreStop)
     → StopsAs {X = Unit {0}} (taken_stop places next row.values o) (Err stop) → StopsAs {X = Unit {0}} (claim_stop places next (clash_or o row rest)) (Err stop)

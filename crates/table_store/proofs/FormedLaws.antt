@@ -9,6 +9,8 @@ use Rattle.ldv_value.proofs.Lists.{found-passes, found-all, list_all-append, lis
 use Rattle.ldv_value.proofs.Options.{none-some}
 use Rattle.ldv_value.specs.Limits.{max_next}
 use Rattle.ldv_value.specs.Sorted.{is_strictly_sorted}
+use Rattle.sql_model.proofs.Databases.{database-from, parents_of_database, valid_of_database}
+use Rattle.sql_model.specs.ForeignKeys.{have_parents}
 use Rattle.sql_model.proofs.NewNumbers.{numbers-insert, numbers-map, numbers-filter, next-within}
 use Rattle.sql_model.proofs.UniqueKeys.{unique-clash, unique-fewer}
 use Rattle.sql_model.proofs.ValidTables.{TableParts, table-parts, table-from, row_from}
@@ -21,7 +23,7 @@ use Rattle.table_store.specs.declared.stop.StoreStop.TheVariants.{NotNull, Full}
 
 -- ---- what no stop says
 
-or_none : {A : Type 0} (a b : Option A) → option_or a b ≡ None → (a ≡ None) × (b ≡ None)
+pub or_none : {A : Type 0} (a b : Option A) → option_or a b ≡ None → (a ≡ None) × (b ≡ None)
 or_none None b is = (refl, is)
 or_none (Some x) b is = absurd (none-some x (sym is))
 
@@ -138,17 +140,20 @@ all_set p (x ∷ xs) (suc i) y all one =
     and-from (p x) (list_all p (set xs i y)) both.0 (all_set p xs i y both.1 one)
 
 pub valid_all : (db : List Table) → AreWellFormed db → list_all is_valid_table db ≡ true
-valid_all db formed = (and-parts (list_all is_valid_table db) (is_strictly_sorted table_precedes db) formed.database).0
+valid_all db formed = valid_of_database db formed.database
 
 distinct_by : (db : List Table) → list_all (λ (s : Schema). are_distinct s.columns) (map (λ (t : Table). t.schema) db) ≡ have_distinct_columns db
 distinct_by db = list_all-map (λ (s : Schema). are_distinct s.columns) (λ (t : Table). t.schema) db
 
 -- one table has other rows
 pub formed_set : (db : List Table) (place : ℕ) (new : Table) → AreWellFormed db → is_valid_table new ≡ true
+    → map (λ (t : Table). t.name) (set db place new) ≡ map (λ (t : Table). t.name) db
     → map (λ (t : Table). t.schema) (set db place new) ≡ map (λ (t : Table). t.schema) db
     → is_strictly_sorted table_precedes (set db place new) ≡ true → AreWellFormed (set db place new)
-formed_set db place new formed valid schemas sorted = record {
-  database = and-from (list_all is_valid_table (set db place new)) (is_strictly_sorted table_precedes (set db place new))
-      (all_set is_valid_table db place new (valid_all db formed) valid) sorted;
+formed_set db place new formed valid names schemas sorted = record {
+  database = database-from (set db place new)
+      (and-from (list_all is_valid_table (set db place new)) (is_strictly_sorted table_precedes (set db place new))
+      (all_set is_valid_table db place new (valid_all db formed) valid) sorted)
+      ((λ j. have_parents (record { names = names j; schemas = schemas j })) ∙ parents_of_database db formed.database);
   distinct = sym (distinct_by (set db place new)) ∙ ap (list_all (λ (s : Schema). are_distinct s.columns)) schemas ∙ distinct_by db ∙ formed.distinct;
 }

@@ -10,7 +10,7 @@ use Rattle.ldv_value.proofs.Booleans.{and-parts}
 use Rattle.sql_model.specs.Changes.{KeyClash, key_clash, clash_or, clash_after, clash_by, numbered, shares_key, has_null, refuses_null}
 use Rattle.sql_model.specs.Keys.{values_at, key_at}
 use Rattle.row_version.specs.History.{current}
-use Rattle.table_store.specs.Types.{Value, Column, TableRow}
+use Rattle.table_store.specs.Types.{Value, Column, Foreign, TableRow}
 use Rattle.table_store.specs.Claims.{claim_stop}
 use Rattle.table_store.specs.Grid.{are_of_kinds, AreNumberedFrom, next_after}
 use Rattle.table_store.specs.Histories.{RowHistory, TableHistory, no_history, row_of, row_now, rows_now, added, table_now, last_next}
@@ -190,9 +190,9 @@ new_stood rows next [] from none = tt
 new_stood rows next (row ∷ more) from none = (none.0 ∙ sym (le-ltb row.number next from.0), new_stood rows next more from.1 none.1)
 
 -- of a table with rows that stand, and new ones
-module _ (name : List ℕ) (columns : List Column) (slots : List RowHistory) (next : ℕ) (order : AreInOrder slots next) (values : List (List Value)) where
+module _ (name : List ℕ) (columns : List Column) (foreign : List Foreign) (slots : List RowHistory) (next : ℕ) (order : AreInOrder slots next) (values : List (List Value)) where
   key_after : (key : List ℕ) (clash : Option KeyClash) → clash_after key (rows_now slots) (numbered next values) ≡ clash
-      → key_stop (record { name = name; schema = record { columns = columns; key = key }; rows = rows_now slots; next = next }) clash ≡ claim_stop key next clash
+      → key_stop (record { name = name; schema = record { columns = columns; key = key; foreign = foreign }; rows = rows_now slots; next = next }) clash ≡ claim_stop key next clash
   key_after key None is = refl
   key_after key (Some clash) is =
       let old = rows_below next slots order.below in
@@ -203,12 +203,12 @@ module _ (name : List ℕ) (columns : List Column) (slots : List RowHistory) (ne
       λ j. Some (KeyTaken (if both.0 j then Some clash.earlier.number else None) (if both.1 j then Some clash.later.number else None) (values_at key clash.later.values))
 
   pub key_is : (key : List ℕ) (held : Held) → Alike held → AreIndexed key held (rows_now slots)
-      → key_stop (record { name = name; schema = record { columns = columns; key = key }; rows = rows_now slots; next = next }) (clash_by key (rows_now slots ++ numbered next values))
+      → key_stop (record { name = name; schema = record { columns = columns; key = key; foreign = foreign }; rows = rows_now slots; next = next }) (clash_by key (rows_now slots ++ numbered next values))
       ≡ claim_stop key next (clash_by key (rows_now slots ++ numbered next values))
   key_is [] held alike indexed = refl
   key_is (place ∷ places) held alike indexed =
       let same = clash_new (place ∷ places) held alike slots next order indexed (numbered next values) in
-      ap (key_stop (record { name = name; schema = record { columns = columns; key = place ∷ places }; rows = rows_now slots; next = next })) same
+      ap (key_stop (record { name = name; schema = record { columns = columns; key = place ∷ places; foreign = foreign }; rows = rows_now slots; next = next })) same
       ∙ key_after (place ∷ places) (clash_after (place ∷ places) (rows_now slots) (numbered next values)) refl
       ∙ ap (claim_stop (place ∷ places) next) (sym same)
 
@@ -226,7 +226,7 @@ insert_stop_is rows t held alike order indexed is =
     ap (λ b. option_or (stop_if b NotNull) (option_or (key_stop (table_now t) (key_clash (with_inserted rows (table_now t)))) (stop_if (nat_lt max_next (last_next t.nexts + length rows)) Full)))
     (lacks_numbered t.schema.columns (last_next t.nexts) rows ∙ is)
     ∙ ap (λ (o : Option StoreStop). option_or o (stop_if (nat_lt max_next (last_next t.nexts + length rows)) Full))
-    (key_is t.name t.schema.columns t.slots (last_next t.nexts) order rows t.schema.key held alike indexed)
+    (key_is t.name t.schema.columns t.schema.foreign t.slots (last_next t.nexts) order rows t.schema.key held alike indexed)
 
 -- where the number after the last is told in another way
 pub insert_stop_by : (rows : List (List Value)) (t : TableHistory) (next : ℕ) (items : List (List Value)) (held : Held) → Alike held → AreInOrder t.slots next → AreIndexed t.schema.key held (rows_now t.slots) → next ≡ last_next t.nexts → items ≡ rows

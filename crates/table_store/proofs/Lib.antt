@@ -2,6 +2,7 @@ pub mod CellLaws
 pub mod ChangeLaws
 pub mod ChosenLaws
 pub mod ClaimLaws
+pub mod FirstLaws
 pub mod FlagLaws
 pub mod FormedLaws
 pub mod GivenKeyLaws
@@ -14,12 +15,17 @@ pub mod InsertLaws
 pub mod IntCellLaws
 pub mod KeptKeyLaws
 pub mod KeyMapLaws
+pub mod LaterLaws
+pub mod LossLaws
 pub mod NamedLaws
 pub mod NextLaws
 pub mod NowLaws
+pub mod PutLaws
+pub mod RefusalLaws
 pub mod RekeyLaws
 pub mod RowLaws
 pub mod RowWalks
+pub mod SearchLaws
 pub mod StandingRows
 pub mod StoreChangeLaws
 pub mod StoreLaws

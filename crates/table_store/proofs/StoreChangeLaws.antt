@@ -67,6 +67,7 @@ module _ (catalog : Catalog) (tables : List TableHistory) (time : ℕ) (stored :
     catalog_is = stored.catalog_is ∙ (λ j. record { names = sym names j; schemas = sym schemas j });
     sorted = set_sorted (λ (t : TableHistory). t.name) no_table tables place new name_is ∙ stored.sorted;
     formed = subst AreWellFormed (sym listed) (formed_set (map table_now tables) place (table_now new) stored.formed valid
+        (ap (map (λ (t : Table). t.name)) (sym listed) ∙ names)
         (ap (map (λ (t : Table). t.schema)) (sym listed) ∙ schemas)
         (ap (is_strictly_sorted table_precedes) (sym listed) ∙ sorted_now (set tables place new) ∙ set_sorted (λ (t : TableHistory). t.name) no_table tables place new name_is ∙ stored.sorted));
     timed = λ k below.

@@ -3,6 +3,7 @@ use Rattle.std.proofs.Common.{◌≡◌, ℕ, zero, suc, ◌<◌, ◌≤◌, tru
 use Rattle.std.specs.List.{list_all}
 use Rattle.ldv_value.proofs.Booleans.{and-parts}
 use Rattle.ldv_value.specs.Sorted.{is_strictly_sorted, precedes_first, text_precedes}
+use Rattle.sql_model.proofs.Databases.{sorted_of_database, valid_of_database}
 use Rattle.sql_model.specs.Scope.{catalog_of}
 use Rattle.sql_model.specs.Tables.{AreWellFormed, have_distinct_columns, is_database, is_valid_table, table_precedes}
 use Rattle.table_store.specs.Types.{Catalog, Table}
@@ -25,13 +26,13 @@ timed_begun (table ∷ tables) zero below = omega arith
 timed_begun (table ∷ tables) (suc k) below = timed_begun tables k (omega (arith, below))
 
 pub valid_tables : (tables : List Table) → is_database tables ≡ true → list_all is_valid_table tables ≡ true
-valid_tables tables is = (and-parts (list_all is_valid_table tables) (is_strictly_sorted table_precedes tables) is).0
+valid_tables tables is = valid_of_database tables is
 
 pub stored_begun : (catalog : Catalog) (tables : List Table) (held : List TableHistory) → is_database tables ≡ true → have_distinct_columns tables ≡ true → catalog ≡ catalog_of tables → held ≡ map begun tables → AreStored catalog held 0
 stored_begun catalog tables held is distinct listed made =
     subst (λ (l : List TableHistory). AreStored catalog l 0) (sym made) (record {
       catalog_is = listed ∙ ap catalog_of (sym (begun_all tables));
-      sorted = sorted_begun tables ∙ (and-parts (list_all is_valid_table tables) (is_strictly_sorted table_precedes tables) is).1;
+      sorted = sorted_begun tables ∙ sorted_of_database tables is;
       formed = subst AreWellFormed (sym (begun_all tables)) (record { database = is; distinct = distinct });
       timed = timed_begun tables;
     })

@@ -1,3 +1,4 @@
+pub mod Afterwards
 pub mod Cells
 pub mod CellTests
 pub mod Claims
@@ -11,6 +12,7 @@ pub mod IntCells
 pub mod KeyIndex
 pub mod LentCells
 pub mod Nexts
+pub mod Referring
 pub mod RowChains
 pub mod RowChanges
 pub mod RowOrder

@@ -5,14 +5,14 @@ use Rattle.std.specs.List.{list_any, list_all}
 use Rattle.std.specs.Option.{option_or}
 use Rattle.ldv_value.specs.Limits.{max_next}
 use Rattle.ldv_value.specs.Sorted.{is_strictly_sorted}
-use Rattle.sql_model.specs.Changes.{KeyClash, has_null, key_clash, numbered, with_rows}
+use Rattle.sql_model.specs.Changes.{KeyClash, has_null, key_clash, numbered, stood, with_rows}
 use Rattle.sql_model.specs.Keys.{values_at}
-use Rattle.sql_model.specs.Needs.{stood}
 use Rattle.sql_model.specs.Scope.{is_table}
 use Rattle.sql_model.specs.Tables.{each_value, has_kind}
 use Rattle.table_store.specs.Types.{Value, Column, Table, TableRow}
 use Rattle.table_store.specs.declared.stop.StoreStop.{StoreStop}
-use Rattle.table_store.specs.declared.stop.StoreStop.TheVariants.{NotNull, KeyTaken, Full, NoMemory}
+use Rattle.table_store.specs.declared.stop.StoreStop.TheVariants.{NotNull, KeyTaken, Full, NoParent}
+use Rattle.table_store.specs.declared.stop.StoreStop.TheVariants.{HasChild, NoMemory}
 
 -- one value for each column, of its kind
 abbrev pub has_shape : List Column → List Value → Bool
@@ -84,7 +84,7 @@ all_stood rows table = list_all (stood table) rows
 abbrev pub all_stand : List ℕ → Table → Bool
 all_stand numbers table = list_all (has_number table) numbers
 
--- ---- what refuses a change
+-- ---- what refuses a change, by the rows of its own table
 
 -- what refuses new rows
 abbrev pub insert_stop : List (List Value) → Table → Option StoreStop
@@ -105,4 +105,6 @@ StopsAs due (Ok x) = due ≡ None
 StopsAs due (Err NotNull) = due ≡ Some NotNull
 StopsAs due (Err (KeyTaken earlier later key)) = due ≡ Some (KeyTaken earlier later key)
 StopsAs due (Err Full) = due ≡ Some Full
+StopsAs due (Err (NoParent table key)) = due ≡ Some (NoParent table key)
+StopsAs due (Err (HasChild table row key)) = due ≡ Some (HasChild table row key)
 StopsAs due (Err NoMemory) = Unit {0}

@@ -9,7 +9,12 @@ use Rattle.table_store.specs.TableView.{begun}
 use Rattle.table_store.specs.declared.store.Store.TheInside.{Inside}
 
 abbrev pub no_table : TableHistory
-no_table = record { name = []; schema = record { columns = []; key = [] }; slots = []; nexts = [] }
+no_table = record {
+  name = [];
+  schema = record { columns = []; key = []; foreign = [] };
+  slots = [];
+  nexts = [];
+}
 
 abbrev pub seen_store : Inside → StoreHistory
 seen_store a = record { tables = a.tables.items; time = a.time }

@@ -9,6 +9,8 @@
 //!   it, or refuse the rows for the first cause that holds; a refusal changes nothing (`specs/Stops.antt`);
 //! - `rows_at`, `next_at` and `version` return what those functions say. What tables were before a change
 //!   they stay, and from the last change on they are what they are now;
+//! - they refuse also what references between tables refuse (`specs/Referring.antt`), and `parents_of` gives
+//!   the rows to which given rows refer;
 //! - `by_key` returns the number of the row that has a key, and `None` exactly where no row has it;
 //! - `slots`, `slot_row` and `row_values` give a table slot by slot, for layers that look through it. There
 //!   is a slot for each row that the table ever held, by number. `scan` and `scan_nulls` tell by bits which
@@ -39,11 +41,13 @@ mod cell;
 mod cell_test;
 mod chains;
 mod change;
+mod children;
 mod chosen;
 mod claim;
 mod clash;
 mod column;
 mod columns;
+mod given;
 mod grid;
 mod grow;
 mod high_keys;
@@ -52,7 +56,10 @@ mod insert;
 mod int_column;
 mod key_map;
 mod nexts;
+mod parent_rows;
+mod parents;
 mod push;
+mod refusals;
 mod rekey;
 mod room;
 mod rows;

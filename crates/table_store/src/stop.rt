@@ -1,6 +1,6 @@
 //! Why a change of rows is refused.
 
-use ldv_value::Values;
+use ldv_value::{Utf8, Values};
 use std::alloc::AllocError;
 
 /// Why a change of rows is refused. Nothing has changed then.
@@ -17,6 +17,19 @@ pub enum StoreStop {
     },
     /// The number of the next row would be above 4,294,967,295.
     Full,
+    /// A given row refers to a key that no row of the parent `table` has afterwards: the first such row, in
+    /// the order of numbers, and its first such foreign key.
+    NoParent {
+        table: Utf8,
+        key: Values,
+    },
+    /// A row that isn't given, the first by `table` and number, refers to a key that the changed table had
+    /// before and has no more.
+    HasChild {
+        table: Utf8,
+        row: u32,
+        key: Values,
+    },
     /// Out of memory.
     NoMemory,
 }

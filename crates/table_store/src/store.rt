@@ -4,7 +4,7 @@ ghost use Rattle.std.specs.Prelude.{◌≡◌, ◌==◌, ℕ, ◌+◌, ◌*◌, 
 ghost use Rattle.std.specs.Prelude.{◌++◌, Option, Some, None, find, OnOk, OnErr, IfOk, IsOk, IsSome, IfSome};
 ghost use Rattle.std.specs.Prelude.{length, map, slice_get, slice_index_or, slice_set};
 ghost use Rattle.std.specs.List.{list_all};
-ghost use Rattle.std.specs.Option.{option_map, option_map_or, option_and_then};
+ghost use Rattle.std.specs.Option.{option_map, option_map_or, option_and_then, option_or};
 ghost use Rattle.lanes.specs.Sets.{member};
 ghost use Rattle.row_version.specs.History.{current};
 ghost use Rattle.ldv_value.specs.Sorted.{text_precedes};
@@ -18,15 +18,21 @@ ghost use Rattle.table_store.specs.Histories.{row_now, no_history};
 ghost use Rattle.table_store.specs.KeyIndex.{has_key};
 ghost use Rattle.table_store.specs.Stops.{have_shape, values_of, are_sorted_rows, are_sorted_numbers};
 ghost use Rattle.table_store.specs.Stops.{all_stood, all_stand, insert_stop, replace_stop, with_changed};
-ghost use Rattle.table_store.specs.Stops.{with_inserted, with_replaced, with_removed, StopsAs};
+ghost use Rattle.table_store.specs.Stops.{is_among, with_inserted, with_replaced, with_removed, StopsAs};
+ghost use Rattle.sql_model.specs.Changes.{numbered};
+ghost use Rattle.table_store.specs.Referring.{are_apart, insert_refusal, replace_refusal, delete_refusal};
+ghost use Rattle.table_store.specs.Referring.{parents_now};
+ghost use Rattle.table_store.specs.Referring.{CanBePut, is_of, missing_stop, orphan_stop};
 ghost use Rattle.table_store.specs.StoreView.{started, no_table, are_sorted};
 ghost use Rattle.table_store.specs.TableView.{begun};
-ghost use Rattle.table_store.specs.Types.{Null};
+ghost use Rattle.table_store.specs.Types.{Null, Value};
 
+use crate::parent_rows::parents_of;
+use crate::refusals::{delete_refusal, insert_refusal, replace_refusal};
 use crate::stop::StoreStop;
 use crate::table::TableStore;
 use ldv_value::{Cmp, Numbers, RowList, Values};
-use sql_model::{Catalog, TableRows, Tables};
+use sql_model::{Catalog, Members, TableRow, TableRows, Tables};
 use std::alloc::{AllocError, Global};
 use std::marker::Model;
 
@@ -74,6 +80,13 @@ impl Store {
         ensures { AreWellFormed (tables_now self.now) }
     {
         let _tables = &self.tables;
+    }
+
+    /// The tables, sorted by name.
+    pub(crate) fn tables(&self) -> &[TableStore]
+        ensures { result.now ≡ self.now.tables }
+    {
+        self.tables.as_slice()
     }
 
     /// The names and the schemas of the tables.
@@ -233,17 +246,36 @@ impl Store {
         }
     }
 
+    /// The rows, at their versions, that would have, once `rows` were put into a table, a key to which one of
+    /// `rows` refers, and that stand: row by row, and of each by the foreign keys in their order. A row to
+    /// which several refer is there several times. The table is there, `rows` stand in it, sorted by number,
+    /// or are numbered from the number of its next row on. Where two rows would have one key, nothing is
+    /// said.
+    pub fn parents_of(&self, table: &str, rows: &TableRows) -> Result<Members, AllocError>
+        requires there { IsSome (table_at table.now (tables_now self.now)) }
+        requires put { IfSome (table_at table.now (tables_now self.now)) (CanBePut rows.now) }
+        ensures { IfOk result (λ members. IfSome (table_at table.now (tables_now self.now))
+            (λ own. are_apart rows.now own ≡ true → members ≡ parents_now self.now rows.now own)) }
+    {
+        match self.table(table) {
+            None => unreachable!(),
+            Some(own) => parents_of(self, own, rows.items()),
+        }
+    }
+
     /// Adds rows to a table at a time, numbered from the number of its next row on, and returns that
     /// number. The table is there, the time is later than that of the last change, and each row has a value
-    /// for each column, of its kind. NotNull, KeyTaken, Full: what the rows refuse, in this order;
+    /// for each column, of its kind. NotNull, KeyTaken, Full, NoParent: what the rows refuse, in this order;
     /// NoMemory: out of memory. Nothing has changed then.
     pub fn insert_all(&mut self, table: &str, rows: RowList, time: u32) -> Result<u32, StoreStop>
         requires there { IsSome (table_at table.now (tables_now self.old)) }
         requires later { self.old.time < time }
         requires shape { IfSome (table_at table.now (tables_now self.old))
             (λ table. have_shape rows table ≡ true) }
-        ensures stop { StopsAs (option_and_then (insert_stop rows)
+        ensures stop { StopsAs (option_and_then (insert_refusal rows (tables_now self.old))
             (table_at table.now (tables_now self.old))) result }
+        ensures childless { (child : List ℕ) (row : ℕ) (key : List Value)
+            → ¬ (result ≡ Err (StoreStop.HasChild child row key)) }
         ensures first { IfOk result (λ first. option_map (λ table. table.next)
             (table_at table.now (tables_now self.old)) ≡ Some first) }
         ensures ok { OnOk result (self.new ≡ changed_at time table.now (inserted time rows) self.old) }
@@ -255,7 +287,8 @@ impl Store {
         match place_in(&self.tables, table) {
             None => unreachable!(),
             Some(place) => {
-                match insert_in(&mut self.tables, place, rows, time) {
+                let later = self.later_of_insert(table, &rows)?;
+                match insert_in(&mut self.tables, place, rows, later, time) {
                     Err(stop) => Err(stop),
                     Ok(first) => {
                         self.time = time;
@@ -268,9 +301,9 @@ impl Store {
 
     /// Gives the rows of these numbers other values at a time. The table is there, and the time is later
     /// than that of the last change. The rows are sorted by number, each has the number of a row that
-    /// stands and a value for each column, of its kind. NotNull, KeyTaken: what the rows refuse, in this
-    /// order, where keys are those of the table afterwards; NoMemory: out of memory. Nothing has changed
-    /// then.
+    /// stands and a value for each column, of its kind. NotNull, KeyTaken, NoParent, HasChild: what the rows
+    /// refuse, in this order, where keys are those of the tables afterwards; NoMemory: out of memory. Nothing
+    /// has changed then.
     pub fn replace_all(&mut self, table: &str, rows: TableRows, time: u32) -> Result<(), StoreStop>
         requires there { IsSome (table_at table.now (tables_now self.old)) }
         requires later { self.old.time < time }
@@ -279,7 +312,7 @@ impl Store {
         requires sorted { are_sorted_rows rows ≡ true }
         requires stand { IfSome (table_at table.now (tables_now self.old))
             (λ table. all_stood rows table ≡ true) }
-        ensures stop { StopsAs (option_and_then (replace_stop rows)
+        ensures stop { StopsAs (option_and_then (replace_refusal rows (tables_now self.old))
             (table_at table.now (tables_now self.old))) result }
         ensures ok { OnOk result (self.new ≡ changed_at time table.now (replaced time rows) self.old) }
         ensures now { OnOk result (tables_now self.new
@@ -290,7 +323,8 @@ impl Store {
         match place_in(&self.tables, table) {
             None => unreachable!(),
             Some(place) => {
-                match replace_in(&mut self.tables, place, rows, time) {
+                let later = self.later_of_replace(table, rows.items())?;
+                match replace_in(&mut self.tables, place, rows, later, time) {
                     Err(stop) => Err(stop),
                     Ok(()) => {
                         self.time = time;
@@ -302,19 +336,16 @@ impl Store {
     }
 
     /// Drops the rows of these numbers at a time. The table is there, and the time is later than that of
-    /// the last change. The numbers are sorted, and each is that of a row that stands. On `AllocError`
-    /// nothing has changed.
-    pub fn delete_all(
-        &mut self,
-        table: &str,
-        numbers: &Numbers,
-        time: u32,
-    ) -> Result<(), AllocError>
+    /// the last change. The numbers are sorted, and each is that of a row that stands. HasChild: another row
+    /// refers to a key that would be gone; NoMemory: out of memory. Nothing has changed then.
+    pub fn delete_all(&mut self, table: &str, numbers: &Numbers, time: u32) -> Result<(), StoreStop>
         requires there { IsSome (table_at table.now (tables_now self.old)) }
         requires later { self.old.time < time }
         requires sorted { are_sorted_numbers numbers.now ≡ true }
         requires stand { IfSome (table_at table.now (tables_now self.old))
             (λ table. all_stand numbers.now table ≡ true) }
+        ensures stop { StopsAs (option_and_then (delete_refusal numbers.now (tables_now self.old))
+            (table_at table.now (tables_now self.old))) result }
         ensures ok { OnOk result (self.new ≡ changed_at time table.now (removed time numbers.now) self.old) }
         ensures now { OnOk result (tables_now self.new
             ≡ with_changed table.now (with_removed numbers.now) (tables_now self.old)) }
@@ -324,13 +355,78 @@ impl Store {
         match place_in(&self.tables, table) {
             None => unreachable!(),
             Some(place) => {
+                let later = self.later_of_delete(table, numbers.items())?;
+                if let Some(stop) = later {
+                    return Err(stop);
+                }
                 match delete_in(&mut self.tables, place, numbers, time) {
-                    Err(refused) => Err(refused),
+                    Err(_refused) => Err(StoreStop::NoMemory),
                     Ok(()) => {
                         self.time = time;
                         Ok(())
                     }
                 }
+            }
+        }
+    }
+
+    // What references refuse new rows for.
+    fn later_of_insert(&self, table: &str, rows: &RowList) -> Result<Option<StoreStop>, AllocError>
+        requires { IsSome (table_at table.now (tables_now self.now)) }
+        ensures { IfOk result (λ later. option_map
+            (λ own. missing_stop own.schema.foreign (numbered own.next rows.now)
+            (with_changed own.name (with_inserted rows.now) (tables_now self.now)))
+            (table_at table.now (tables_now self.now)) ≡ Some later) }
+    {
+        match self.table(table) {
+            None => unreachable!(),
+            Some(own) => {
+                let later = insert_refusal(self, own, rows)?;
+                Ok(later)
+            }
+        }
+    }
+
+    // What they refuse new values of rows for.
+    fn later_of_replace(
+        &self,
+        table: &str,
+        rows: &[TableRow],
+    ) -> Result<Option<StoreStop>, AllocError>
+        requires there { IsSome (table_at table.now (tables_now self.now)) }
+        requires sorted { are_sorted_rows rows.now ≡ true }
+        requires stand { IfSome (table_at table.now (tables_now self.now))
+            (λ table. all_stood rows.now table ≡ true) }
+        ensures { IfOk result (λ later. option_map
+            (λ own. option_or (missing_stop own.schema.foreign rows.now
+            (with_changed own.name (with_replaced rows.now) (tables_now self.now)))
+            (orphan_stop (is_of rows.now) own (with_replaced rows.now own) (tables_now self.now)))
+            (table_at table.now (tables_now self.now)) ≡ Some later) }
+    {
+        match self.table(table) {
+            None => unreachable!(),
+            Some(own) => {
+                let later = replace_refusal(self, own, rows)?;
+                Ok(later)
+            }
+        }
+    }
+
+    // What they refuse to drop rows for.
+    fn later_of_delete(&self, table: &str, numbers: &[u32]) -> Result<Option<StoreStop>, AllocError>
+        requires there { IsSome (table_at table.now (tables_now self.now)) }
+        requires sorted { are_sorted_numbers numbers.now ≡ true }
+        requires stand { IfSome (table_at table.now (tables_now self.now))
+            (λ table. all_stand numbers.now table ≡ true) }
+        ensures { IfOk result (λ later. option_map
+            (λ own. orphan_stop (is_among numbers.now) own (with_removed numbers.now own)
+            (tables_now self.now)) (table_at table.now (tables_now self.now)) ≡ Some later) }
+    {
+        match self.table(table) {
+            None => unreachable!(),
+            Some(own) => {
+                let later = delete_refusal(self, own, numbers)?;
+                Ok(later)
             }
         }
     }
@@ -384,13 +480,14 @@ fn insert_in(
     tables: &mut Vec<TableStore>,
     place: usize,
     rows: RowList,
+    later: Option<StoreStop>,
     time: u32,
 ) -> Result<u32, StoreStop>
     requires within { place < length tables.old.items }
     requires later { last_since (slice_index_or tables.old.items place no_table).nexts < time }
     requires shape { have_shape rows (table_now (slice_index_or tables.old.items place no_table)) ≡ true }
-    ensures stop { StopsAs (insert_stop rows (table_now (slice_index_or tables.old.items place no_table)))
-        result }
+    ensures stop { StopsAs (option_or
+        (insert_stop rows (table_now (slice_index_or tables.old.items place no_table))) later) result }
     ensures first { IfOk result (λ first. first
         ≡ (table_now (slice_index_or tables.old.items place no_table)).next) }
     ensures ok { OnOk result (tables.new.items
@@ -399,7 +496,7 @@ fn insert_in(
     ensures err { OnErr result (tables.new.items ≡ tables.old.items) }
 {
     let held = &mut tables[place];
-    held.insert_all(rows, time)
+    held.insert_all(rows, later, time)
 }
 
 // Gives rows of the table at a place other values.
@@ -407,6 +504,7 @@ fn replace_in(
     tables: &mut Vec<TableStore>,
     place: usize,
     rows: TableRows,
+    later: Option<StoreStop>,
     time: u32,
 ) -> Result<(), StoreStop>
     requires within { place < length tables.old.items }
@@ -415,8 +513,8 @@ fn replace_in(
         ≡ true }
     requires sorted { are_sorted_rows rows ≡ true }
     requires stand { all_stood rows (table_now (slice_index_or tables.old.items place no_table)) ≡ true }
-    ensures stop { StopsAs (replace_stop rows (table_now (slice_index_or tables.old.items place no_table)))
-        result }
+    ensures stop { StopsAs (option_or
+        (replace_stop rows (table_now (slice_index_or tables.old.items place no_table))) later) result }
     ensures ok { OnOk result (tables.new.items
         ≡ slice_set tables.old.items place
         (replaced time rows (slice_index_or tables.old.items place no_table))) }
@@ -425,7 +523,7 @@ fn replace_in(
     ensures err { OnErr result (tables.new.items ≡ tables.old.items) }
 {
     let held = &mut tables[place];
-    held.replace_all(rows, time)
+    held.replace_all(rows, later, time)
 }
 
 // Drops rows of the table at a place.

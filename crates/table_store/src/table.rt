@@ -3,7 +3,7 @@
 ghost use Rattle.std.specs.Prelude.{◌≡◌, ◌==◌, ℕ, ◌+◌, ◌*◌, ◌/◌, ◌^◌, ◌<◌, ◌≤◌, Bool, true, false, List, []};
 ghost use Rattle.std.specs.Prelude.{◌∷◌, ◌++◌, Option, Some, None, find, OnOk, OnErr, IfOk, IsOk, IsSome};
 ghost use Rattle.std.specs.Prelude.{IfSome, length, map, slice_get, slice_index_or, is_some, if◌then◌else◌};
-ghost use Rattle.std.specs.Option.{option_map, option_map_or, option_to_list};
+ghost use Rattle.std.specs.Option.{option_map, option_map_or, option_or, option_to_list};
 ghost use Rattle.std.specs.List.{filter_map};
 ghost use Rattle.lanes.specs.Sets.{member};
 ghost use Rattle.row_version.specs.History.{current, version};
@@ -105,6 +105,18 @@ impl TableStore {
         ensures { result.now ≡ self.now.schema }
     {
         &self.schema
+    }
+
+    /// The allocator.
+    pub(crate) fn allocator(&self) -> Global {
+        self.name.allocator()
+    }
+
+    /// A copy of the name.
+    pub(crate) fn copy_name(&self) -> Result<Utf8, AllocError>
+        ensures { IfOk result (λ name. name ≡ self.now.name) }
+    {
+        self.name.copy()
     }
 
     /// The rows are in the order of their numbers, which are below that of the next row. The call does
@@ -283,12 +295,17 @@ impl TableStore {
 
     /// Adds rows at a time, numbered from the number of the next row on, and returns that number. The time
     /// is later than that of each earlier change, and each row has a value for each column, of its kind.
-    /// NotNull, KeyTaken, Full: what the rows refuse, in this order; NoMemory: out of memory. The table is
-    /// then as it was.
-    pub(crate) fn insert_all(&mut self, rows: RowList, time: u32) -> Result<u32, StoreStop>
+    /// NotNull, KeyTaken, Full: what the rows refuse, in this order, and then `later`; NoMemory: out of
+    /// memory. The table is then as it was.
+    pub(crate) fn insert_all(
+        &mut self,
+        rows: RowList,
+        later: Option<StoreStop>,
+        time: u32,
+    ) -> Result<u32, StoreStop>
         requires later { last_since self.old.nexts < time }
         requires shape { list_all (has_shape self.old.schema.columns) rows ≡ true }
-        ensures stop { StopsAs (insert_stop rows (table_now self.old)) result }
+        ensures stop { StopsAs (option_or (insert_stop rows (table_now self.old)) later) result }
         ensures first { IfOk result (λ first. first ≡ last_next self.old.nexts) }
         ensures ok { OnOk result (self.new ≡ inserted time rows self.old) }
         ensures err { OnErr result (self.new ≡ self.old) }
@@ -313,6 +330,10 @@ impl TableStore {
         if is_full(next, rows.len()) {
             return Err(StoreStop::Full);
         }
+        match later {
+            None => {}
+            Some(stop) => return Err(stop),
+        }
         let made = numbered_rows(alloc, rows, next)?;
         add_rows(&mut self.rows, &mut self.nexts, made, time)?;
         Ok(next)
@@ -321,13 +342,18 @@ impl TableStore {
     /// Gives the rows of these numbers other values at a time. The time is later than that of each earlier
     /// change. The rows are sorted by number, each has the number of a row that stands and a value for each
     /// column, of its kind. NotNull, KeyTaken: what the rows refuse, in this order, where keys are those of
-    /// the table afterwards; NoMemory: out of memory. The table is then as it was.
-    pub(crate) fn replace_all(&mut self, rows: TableRows, time: u32) -> Result<(), StoreStop>
+    /// the table afterwards, and then `later`; NoMemory: out of memory. The table is then as it was.
+    pub(crate) fn replace_all(
+        &mut self,
+        rows: TableRows,
+        later: Option<StoreStop>,
+        time: u32,
+    ) -> Result<(), StoreStop>
         requires later { last_since self.old.nexts < time }
         requires shape { have_shape (values_of rows) (table_now self.old) ≡ true }
         requires sorted { are_sorted_rows rows ≡ true }
         requires stand { all_stood rows (table_now self.old) ≡ true }
-        ensures stop { StopsAs (replace_stop rows (table_now self.old)) result }
+        ensures stop { StopsAs (option_or (replace_stop rows (table_now self.old)) later) result }
         ensures ok { OnOk result (self.new ≡ replaced time rows self.old) }
         ensures now { OnOk result (table_now (replaced time rows self.old)
             ≡ with_replaced rows (table_now self.old)) }
@@ -347,6 +373,10 @@ impl TableStore {
             Ok(claims) => claims,
             Err(stop) => return Err(stop),
         };
+        match later {
+            None => {}
+            Some(stop) => return Err(stop),
+        }
         self.index.open_all(&claims)?;
         self.rows.tell_order();
         let given = rewrites(alloc, rows)?;

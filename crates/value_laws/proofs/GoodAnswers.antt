@@ -7,12 +7,13 @@ use Rattle.ldv_value.proofs.Booleans.{and-parts, and-from}
 use Rattle.sql_laws.specs.Types.{Value, Catalog, Reply, Rows, Changed, SqlRefusal, Syntax, Statement, TheQuery, TheInsert, TheUpdate, TheDelete, Table}
 use Rattle.sql_laws.proofs.ChangedTables.{else-parts}
 use Rattle.sql_laws.proofs.ItemLists.{all_found}
+use Rattle.sql_model.proofs.Databases.{tables_of_database}
 use Rattle.sql_model.proofs.Equations.{reply_is, after_is}
 use Rattle.sql_model.specs.Changes.{is_matched, target_of, table_of, change_refusal}
 use Rattle.sql_model.specs.QueryAnswer.{answer_rows}
 use Rattle.sql_model.specs.Refusals.{check_refusal}
 use Rattle.sql_model.specs.Scope.{is_table, table_at, catalog_of, own_scope}
-use Rattle.sql_model.specs.Statements.{target, refusal_of, accepted_reply, reply_or, reply_of, after_unless, after}
+use Rattle.sql_model.specs.Statements.{target, own_refusal, reference_refusal, refusal_of, accepted_reply, reply_or, reply_of, after_unless, after}
 use Rattle.sql_model.specs.Tables.{is_short, is_valid_table, table_precedes}
 use Rattle.ldv_value.specs.Sorted.{is_strictly_sorted}
 use Rattle.run_model.specs.TypedPackage.{TypedValues}
@@ -22,6 +23,7 @@ use Rattle.value_laws.specs.Values.{GoodStatement, GoodTable, GoodTables, GoodRe
 use Rattle.value_laws.proofs.GoodChanges.{changed_in_good}
 use Rattle.value_laws.proofs.GoodCounts.{matched_small, inserted_small}
 use Rattle.value_laws.proofs.GoodQueries.{Fitting, answer_fit}
+use Rattle.value_laws.proofs.GoodReferences.{references_good}
 use Rattle.value_laws.proofs.GoodRefusals.{typed_values, short_values, GoodRefusal, GoodTarget, else_good, check_good, change_good}
 
 -- ---- replies
@@ -61,8 +63,11 @@ module _ (db : List Table) (tables : GoodTables db) (valid : list_all is_valid_t
   catalog = catalog_of db
 
   refusal_good : (s : Statement) → GoodStatement s → GoodRefusal (refusal_of (Some s) db)
-  refusal_good s good = else_good (check_refusal s catalog) (change_refusal s catalog (target s db))
-      (check_good s catalog) (change_good s catalog (target s db) good (target_good (target_of s) db tables))
+  refusal_good s good =
+      let table : GoodTarget (target s db) = target_good (target_of s) db tables in
+      else_good (own_refusal s db) (reference_refusal s catalog (target s db) db)
+      (else_good (check_refusal s catalog) (change_refusal s catalog (target s db)) (check_good s catalog) (change_good s catalog (target s db) good table))
+      (references_good s catalog (target s db) db good table tables)
 
   accepted_good : (s : Statement) → GoodStatement s → check_refusal s catalog ≡ None
       → change_refusal s catalog (target s db) ≡ None
@@ -78,7 +83,8 @@ module _ (db : List Table) (tables : GoodTables db) (valid : list_all is_valid_t
       → GoodReply (reply_or o (Some s) db)
   reply_by s good (Some refusal) is refused = refused
   reply_by s good None is refused =
-      let parts = else-parts (check_refusal s catalog) (change_refusal s catalog (target s db)) is in
+      let own = else-parts (own_refusal s db) (reference_refusal s catalog (target s db) db) is in
+      let parts = else-parts (check_refusal s catalog) (change_refusal s catalog (target s db)) own.0 in
       accepted_good s good parts.0 parts.1
 
   reply_good : (s : Statement) → GoodStatement s → GoodReply (reply_of (Some s) db)
@@ -94,7 +100,7 @@ module _ (db : List Table) (tables : GoodTables db) (valid : list_all is_valid_t
 
 pub answers_law : AnswersLaw
 answers_law s db good tables database =
-    let valid : list_all is_valid_table db ≡ true = (and-parts (list_all is_valid_table db) (is_strictly_sorted table_precedes db) database).0 in
+    let valid : list_all is_valid_table db ≡ true = (and-parts (list_all is_valid_table db) (is_strictly_sorted table_precedes db) (tables_of_database db database)).0 in
     record { reply = reply_good db tables valid s good; tables = after_good db tables valid s good }
 
 -- ---- a text that is no statement

@@ -6,10 +6,10 @@ use Rattle.std.specs.Str.{IsUtf8}
 use Rattle.ldv_value.specs.Limits.{max_columns}
 use Rattle.sql_laws.specs.Types.{Value, Catalog, Expr, Set, Statement, TheQuery, TheInsert, TheUpdate, TheDelete, Update, Column, Schema, Table, TableRow}
 use Rattle.sql_laws.proofs.ItemLists.{all_append, all_filter, all_found}
-use Rattle.sql_model.specs.Changes.{is_matched, plain_value, is_given, given_value, value_given, new_values, numbered, inserted, sets_column, value_set, updated_value, updated_row, update_one, after_insert, after_update, after_delete, changed, changed_in}
+use Rattle.sql_model.specs.Changes.{is_matched, plain_value, is_given, given_value, value_given, new_values, numbered, inserted, sets_column, value_set, updated_value, updated_row, update_one, after_insert, after_update, after_delete, changed, changed_in, matched, new_rows}
 use Rattle.sql_model.specs.Meaning.{Environment, or_null}
 use Rattle.sql_model.specs.Scope.{InScope, is_table, own_scope, environment}
-use Rattle.value_laws.specs.Values.{GoodValue, GoodValues, GoodExpr, GoodExprs, GoodSet, GoodStatement, GoodRow, GoodTable, GoodTables}
+use Rattle.value_laws.specs.Values.{GoodValue, GoodValues, GoodExpr, GoodExprs, GoodSet, GoodStatement, GoodRow, GoodForeign, GoodTable, GoodTables}
 use Rattle.value_laws.proofs.GoodMeaning.{null_good, GoodEnvironment, environment_good, eval_good}
 
 -- ---- INSERT
@@ -76,6 +76,11 @@ module _ (scope : List InScope) (update : Update) (sets : AllByRecursion GoodSet
   updated_good : (row : TableRow) → GoodRow row → GoodRow (updated_row scope update columns row)
   updated_good row good = cells_good update.sets sets (environment scope row.values) (environment_good scope row.values good) columns row.values good
 
+  pub each_updated : (rows : List TableRow) → AllByRecursion GoodRow rows
+      → AllByRecursion GoodRow (map (updated_row scope update columns) rows)
+  each_updated [] all = tt
+  each_updated (row ∷ rows) all = (updated_good row all.0, each_updated rows all.1)
+
   row_chosen : (b : Bool) (new old : TableRow) → GoodRow new → GoodRow old → GoodRow (if b then new else old)
   row_chosen true new old first second = first
   row_chosen false new old first second = second
@@ -97,6 +102,7 @@ with_good before after name schema good rows = record {
   name = subst (λ (n : List ℕ). IsUtf8 n) (sym name) good.name;
   columns = subst (λ (s : Schema). length s.columns ≤ max_columns) (sym schema) good.columns;
   key = subst (λ (s : Schema). length s.key ≤ max_columns) (sym schema) good.key;
+  foreign = subst (λ (s : Schema). AllByRecursion GoodForeign s.foreign) (sym schema) good.foreign;
   rows = rows;
 }
 
@@ -113,6 +119,18 @@ changed_good (TheDelete delete) catalog t good table =
     let scope : List InScope = own_scope delete.table catalog in
     with_good t (after_delete scope delete t) refl refl table
     (all_filter GoodRow (λ row. not (is_matched scope delete.pick row)) t.rows table.rows)
+
+-- the rows that it inserts or matches, as they are afterwards
+pub new_rows_good : (s : Statement) (catalog : Catalog) (t : Table) → GoodStatement s → GoodTable t
+    → AllByRecursion GoodRow (new_rows s catalog t)
+new_rows_good (TheQuery query) catalog t good table = tt
+new_rows_good (TheInsert insert) catalog t good table =
+    numbered_good insert.columns t.schema.columns t.next insert.rows good
+new_rows_good (TheUpdate update) catalog t good table =
+    let scope : List InScope = own_scope update.table catalog in
+    each_updated scope update good.sets t.schema.columns (matched (TheUpdate update) catalog t)
+    (all_filter GoodRow (is_matched scope update.pick) t.rows table.rows)
+new_rows_good (TheDelete delete) catalog t good table = tt
 
 -- ---- the tables after a statement
 

@@ -69,7 +69,7 @@ clash_by_good : (key : List ℕ) (rows : List TableRow) → AllByRecursion GoodR
 clash_by_good [] rows all = tt
 clash_by_good (place ∷ places) rows all = clash_good (place ∷ places) [] rows all
 
-key_good : (places : List ℕ) (row : List Value) → GoodValues row → GoodValues (values_at places row)
+pub key_good : (places : List ℕ) (row : List Value) → GoodValues row → GoodValues (values_at places row)
 key_good [] row all = tt
 key_good (place ∷ places) row all = (value_at_good row place all, key_good places row all)
 

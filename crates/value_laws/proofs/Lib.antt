@@ -3,6 +3,7 @@ pub mod GoodChanges
 pub mod GoodCounts
 pub mod GoodMeaning
 pub mod GoodQueries
+pub mod GoodReferences
 pub mod GoodRefusals
 pub mod GoodScripts
 pub mod GoodStatements

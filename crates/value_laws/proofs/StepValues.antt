@@ -114,6 +114,8 @@ refusal_small refusals.TypeClash = omega arith
 refusal_small refusals.NotNull = omega arith
 refusal_small (refusals.KeyTaken table key) = omega arith
 refusal_small refusals.Full = omega arith
+refusal_small (refusals.NoParent table key) = omega arith
+refusal_small (refusals.HasChild table key) = omega arith
 
 code_small : (r : Reply) → code_in r < 2 ^ 63
 code_small (Rows rows) = omega arith

@@ -8,7 +8,7 @@ use Rattle.sql_model.specs.declared.expr.Expr.TheOpen as open_expr
 use Rattle.sql_model.specs.declared.expr.Expr.TheFolds.{fold-Expr}
 use Rattle.sql_model.specs.Tables.{is_short}
 use Rattle.sql_laws.specs.Types.{Value, Expr, Expr-F, Core, Item, Query, Set, Update, Statement, TheQuery}
-use Rattle.sql_laws.specs.Types.{TheInsert, TheUpdate, TheDelete, Reply, Table, TableRow}
+use Rattle.sql_laws.specs.Types.{TheInsert, TheUpdate, TheDelete, Foreign, Reply, Table, TableRow}
 use Rattle.run_model.specs.declared.package.Entry.{Entry}
 use Rattle.run_model.specs.TypedPackage.{TypedValue, TypedReply, TypedEntry}
 use Rattle.run_model.specs.ValidPackage.{reply_rule, entry_rule}
@@ -92,11 +92,15 @@ GoodStatement (TheDelete delete) = GoodPick delete.pick
 abbrev pub GoodRow : TableRow → Type 0
 GoodRow row = GoodValues row.values
 
+abbrev pub GoodForeign : Foreign → Type 0
+GoodForeign foreign = IsUtf8 foreign.parent × (length foreign.columns ≤ max_columns)
+
 -- That each row has a value for each column, and `next` its bound, is what `is_database` says.
 pub record GoodTable (table : Table) : Type 0 where
   pub name : IsUtf8 table.name
   pub columns : length table.schema.columns ≤ max_columns
   pub key : length table.schema.key ≤ max_columns
+  pub foreign : AllByRecursion GoodForeign table.schema.foreign
   pub rows : AllByRecursion GoodRow table.rows
 
 abbrev pub GoodTables : List Table → Type 0

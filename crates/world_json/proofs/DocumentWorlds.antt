@@ -18,8 +18,10 @@ use Rattle.script_parse.specs.Script.{script_of}
 use Rattle.script_parse.specs.declared.script.Instr.{Instr}
 use Rattle.sql_model.proofs.ValidTables.{fits-from}
 use Rattle.sql_model.specs.Keys.{repeats}
-use Rattle.sql_model.specs.Scope.{same_text, is_column, has_column}
-use Rattle.sql_model.specs.Tables.{places_named, key_places_test, schema_test, has_kind, allows, is_row, is_short, each_value, numbers_test, are_keys_unique, table_precedes}
+use Rattle.sql_model.specs.ForeignKeys.{max_foreign, have_parents}
+use Rattle.sql_model.specs.References.{references_hold}
+use Rattle.sql_model.specs.Scope.{same_text, is_column, has_column, catalog_of}
+use Rattle.sql_model.specs.Tables.{places_named, key_places_test, foreign_key_test, foreign_count_test, foreign_test, schema_test, has_kind, allows, is_row, is_short, each_value, numbers_test, are_keys_unique, table_precedes}
 use Rattle.sql_model.specs.declared.table.Column.{Column}
 use Rattle.sql_model.specs.declared.table.Table.{Table}
 use Rattle.run_model.specs.ValidPackage.{packed_file_precedes, packed_table_precedes, start_rule, file_rule, files_rule, rows_rule, table_rule, tables_rule, is_script_file, script_rule}
@@ -28,13 +30,14 @@ use Rattle.run_model.specs.declared.package.PackedTable.{PackedTable}
 use Rattle.run_model.specs.declared.world.World.{World}
 use Rattle.run_model.proofs.KeyPlaces.{found}
 use Rattle.run_model.specs.ValidWorld.{all_of_file, all_of_row, all_of_table, TypedWorld, world_rules, ValidWorld, CanRun}
-use Rattle.run_model.proofs.ValidWorlds.{valid_runs}
+use Rattle.run_model.proofs.ValidWorlds.{all_of_catalog, valid_runs}
 use Rattle.world_json.proofs.ReadDocuments.{IsWide, IsDocument, world_read}
 use Rattle.world_json.proofs.Readings.{IsWorldOf}
 use Rattle.world_json.specs.Faults as faults
 use Rattle.world_json.specs.Faults.{each_row_value, key_places}
 use Rattle.world_json.specs.declared.document.Document.{Document}
 use Rattle.world_json.specs.declared.document.Draft.{Draft}
+use Rattle.world_json.specs.declared.document.DraftForeign.{DraftForeign}
 use Rattle.world_json.specs.declared.fault.WorldStop.{WorldStop}
 use Rattle.world_json.specs.Reading.{numbered_from, table_as, world_as, script_fault, start_fault_of, world_reading}
 
@@ -136,17 +139,39 @@ rows_fit columns (row ∷ rows) kinds filled wide =
 
 -- ---- tables
 
-table_met : (draft : Draft) → faults.is_table_named draft ≡ true → faults.is_table_within draft ≡ true → each_row_value has_kind draft ≡ true → each_row_value allows draft ≡ true → faults.is_table_keyed draft ≡ true → IsWide draft
+-- the foreign keys by names are foreign keys by places
+foreign_met : (tables : List (List ℕ)) (columns : List Column) (foreigns : List DraftForeign)
+    → list_all (faults.is_foreign_named tables columns) foreigns ≡ true
+    → list_all (foreign_key_test columns) (map (faults.foreign_key columns) foreigns) ≡ true
+foreign_met tables columns [] named = refl
+foreign_met tables columns (f ∷ fs) named =
+    let both = and-parts (faults.is_foreign_named tables columns f) (list_all (faults.is_foreign_named tables columns) fs) named in
+    let columns_named = and-first (faults.is_key_named columns f.columns) (list_any (same_text f.parent) tables) both.0 in
+    and-from (foreign_key_test columns (faults.foreign_key columns f)) (list_all (foreign_key_test columns) (map (faults.foreign_key columns) fs))
+    (key_placed columns f.columns columns_named) (foreign_met tables columns fs both.1)
+
+foreigns_met : (tables : List (List ℕ)) (draft : Draft) → list_all (faults.is_foreign_named tables draft.columns) draft.foreign ≡ true
+    → nat_le (length draft.foreign) max_foreign ≡ true → foreign_test draft.columns (faults.foreign_keys draft) ≡ true
+foreigns_met tables draft named few =
+    and-from (foreign_count_test (faults.foreign_keys draft)) (list_all (foreign_key_test draft.columns) (faults.foreign_keys draft))
+    (ap (λ (n : ℕ). nat_le n max_foreign) (length-map draft.foreign (faults.foreign_key draft.columns)) ∙ few)
+    (foreign_met tables draft.columns draft.foreign named)
+
+table_met : (tables : List (List ℕ)) (draft : Draft) → faults.is_table_named tables draft ≡ true → faults.is_table_within draft ≡ true → each_row_value has_kind draft ≡ true → each_row_value allows draft ≡ true → faults.is_table_keyed draft ≡ true → IsWide draft
     → table_rule (all_of_table (table_as draft)) ≡ true
-table_met draft named limits typed filled keyed wide =
+table_met tables draft named limits typed filled keyed wide =
     let packed : PackedTable = all_of_table (table_as draft) in
-    let names = and-parts _ _ named in
+    let refers = and-parts _ _ named in
+    let names = and-parts _ _ refers.0 in
     let table_names = and-parts _ _ names.0 in
     let bounds = and-parts _ _ limits in
     let short = and-parts _ _ bounds.0 in
+    let counts = and-parts _ _ (and-first _ _ short.0) in
     let key = and-parts _ _ keyed in
     let room : 0 + length draft.rows ≤ draft.next = at_zero (length draft.rows) draft.next (and-first _ _ bounds.1) in
-    let schema : schema_test packed.schema ≡ true = and-from _ _ (and-from _ _ (and-from _ _ (and-first _ _ short.0) table_names.1) (key_placed draft.columns draft.key names.1)) key.0 in
+    let schema : schema_test packed.schema ≡ true =
+    and-from _ _ (and-from _ _ (and-from _ _ (and-from _ _ counts.0 table_names.1) (key_placed draft.columns draft.key names.1)) key.0)
+    (foreigns_met tables draft refers.1 counts.1) in
     let rows : rows_rule packed ≡ true =
     and-from _ _ (and-from _ _ (rows_numbered draft.next 0 draft.rows room) (values_packed (is_row draft.columns) 0 draft.rows (rows_fit draft.columns draft.rows typed filled wide)))
     (values_packed (list_all is_short) 0 draft.rows short.1) in
@@ -156,16 +181,16 @@ table_met draft named limits typed filled keyed wide =
     at_zero : (count next : ℕ) → nat_le count next ≡ true → 0 + count ≤ next
     at_zero count next fits = let less : count ≤ next = leb-true count next fits in omega arith
 
-tables_met : (drafts : List Draft) → list_all faults.is_table_named drafts ≡ true → list_all faults.is_table_within drafts ≡ true → list_all (each_row_value has_kind) drafts ≡ true → list_all (each_row_value allows) drafts ≡ true → list_all faults.is_table_keyed drafts ≡ true → AllByRecursion IsWide drafts
+tables_met : (names : List (List ℕ)) (drafts : List Draft) → list_all (faults.is_table_named names) drafts ≡ true → list_all faults.is_table_within drafts ≡ true → list_all (each_row_value has_kind) drafts ≡ true → list_all (each_row_value allows) drafts ≡ true → list_all faults.is_table_keyed drafts ≡ true → AllByRecursion IsWide drafts
     → list_all table_rule (map all_of_table (map table_as drafts)) ≡ true
-tables_met [] named limits typed filled keyed wide = refl
-tables_met (draft ∷ drafts) named limits typed filled keyed wide =
+tables_met names [] named limits typed filled keyed wide = refl
+tables_met names (draft ∷ drafts) named limits typed filled keyed wide =
     let n = and-parts _ _ named in
     let l = and-parts _ _ limits in
     let t = and-parts _ _ typed in
     let f = and-parts _ _ filled in
     let k = and-parts _ _ keyed in
-    and-from _ _ (table_met draft n.0 l.0 t.0 f.0 k.0 wide.0) (tables_met drafts n.1 l.1 t.1 f.1 k.1 wide.1)
+    and-from _ _ (table_met names draft n.0 l.0 t.0 f.0 k.0 wide.0) (tables_met names drafts n.1 l.1 t.1 f.1 k.1 wide.1)
 
 -- ---- start words, files and the script
 
@@ -211,14 +236,15 @@ document_met doc w passes form =
     let bounds = and-parts _ _ parts.0 in
     let small = and-parts _ _ bounds.0 in
     let tables : List Table = map table_as doc.tables in
-    let each = tables_met doc.tables names.1 limits.1 passes.typed passes.filled passes.keyed form.wide in
+    let each = tables_met (faults.table_names doc) doc.tables names.1 limits.1 passes.typed passes.filled passes.keyed form.wide in
     let files_are : files_rule (map all_of_file doc.files) ≡ true =
     and-from _ _ (ap (λ (n : ℕ). nat_le n max_files) (length-map doc.files all_of_file) ∙ small.0)
     (and-from _ _ (list_all-map file_rule all_of_file doc.files ∙ all-both (λ (f : File). path_test f.path) is_small doc.files names.0 small.1) (sorted-under packed_file_precedes all_of_file doc.files ∙ form.files)) in
     let count : length (map all_of_table tables) ≡ length doc.tables = length-map tables all_of_table ∙ length-map doc.tables table_as in
     let tables_are : tables_rule (map all_of_table tables) ≡ true =
     and-from _ _ (ap (λ (n : ℕ). nat_le n max_tables) count ∙ parts.1)
-    (and-from _ _ each (sorted-under packed_table_precedes all_of_table tables ∙ sorted-under table_precedes table_as doc.tables ∙ form.tables)) in
+    (and-from _ _ (and-from _ _ each (sorted-under packed_table_precedes all_of_table tables ∙ sorted-under table_precedes table_as doc.tables ∙ form.tables))
+    (ap have_parents (all_of_catalog tables) ∙ and-first (have_parents (catalog_of tables)) (references_hold tables) passes.referring)) in
     and-from _ _ (and-from _ _ (and-from _ _ (start_met doc.start named.1 bounds.1) files_are) tables_are) (script_met doc doc.start passes.started small.1)
 
 document_rules : (bytes : List ℕ) (w : World) → world_reading bytes ≡ Ok w → IsTrue (world_rules w)

@@ -19,12 +19,13 @@ use Rattle.ldv_value.proofs.Booleans.{and-from, or-from}
 use Rattle.ldv_value.specs.Limits.{text_limit}
 use Rattle.ldv_value.specs.Sorted.{is_strictly_sorted}
 use Rattle.ldv_value.specs.declared.value.Value.{Value}
+use Rattle.sql_model.specs.ForeignKeys.{have_parents}
 use Rattle.sql_model.specs.Keys.{repeats, same_values, values_at}
 use Rattle.sql_model.specs.SqlNames.{sql_name_test}
 use Rattle.sql_model.specs.Tables.{schema_test, is_row, is_short, numbers_test, are_keys_unique}
 use Rattle.run_model.specs.TypedPackage.{IsU32, TypedRow}
 use Rattle.run_model.specs.declared.world.World.{World}
-use Rattle.run_model.specs.ValidPackage.{start_rule, files_rule, packed_table_precedes, rows_rule, table_rule, tables_rule, script_rule}
+use Rattle.run_model.specs.ValidPackage.{start_rule, files_rule, packed_table_precedes, rows_rule, table_rule, packed_catalog, tables_rule, script_rule}
 use Rattle.run_model.specs.declared.package.PackedFile.{PackedFile}
 use Rattle.run_model.specs.declared.package.PackedRow.{PackedRow}
 use Rattle.run_model.specs.declared.package.PackedTable.{PackedTable}
@@ -156,9 +157,13 @@ tables n = all_of_table customers ∷ packed n ∷ []
 
 tables_met : (n : ℕ) → tables_rule (tables n) ≡ true
 tables_met n =
-    and-from (list_all table_rule (tables n)) (is_strictly_sorted packed_table_precedes (tables n))
+    let each : Bool = list_all table_rule (tables n) in
+    let sorted : Bool = is_strictly_sorted packed_table_precedes (tables n) in
+    and-from (each && sorted) (have_parents (packed_catalog (tables n)))
+    (and-from each sorted
     (and-from (table_rule (all_of_table customers)) (list_all table_rule (packed n ∷ [])) customers_met
     (and-from (table_rule (packed n)) true (orders_met n) refl))
+    refl)
     refl
 
 -- ---- the world
@@ -235,8 +240,8 @@ generated_typed n small =
             (main, tt),
             (
               (
-                (word_typed (codes "customers") refl, ((id, (word_typed (codes "name") refl, tt)), (ten, customers_typed 0 10 (omega arith)))),
-                ((word_typed (codes "orders") refl, ((id, (word_typed (codes "customer") refl, (word_typed (codes "amount") refl, tt))), (small, orders_typed 0 n (omega (arith, small))))), tt),
+                (word_typed (codes "customers") refl, (((id, (word_typed (codes "name") refl, tt)), tt), (ten, customers_typed 0 10 (omega arith)))),
+                ((word_typed (codes "orders") refl, (((id, (word_typed (codes "customer") refl, (word_typed (codes "amount") refl, tt))), tt), (small, orders_typed 0 n (omega (arith, small))))), tt),
               ),
               (tt, tt),
             ),

@@ -5,6 +5,7 @@ pub mod Found
 pub mod JsonText
 pub mod Lookups
 pub mod Numbering
+pub mod Pairs
 pub mod ReadDocuments
 pub mod Readings
 pub mod WorldFiles

@@ -22,7 +22,8 @@ use Rattle.sql_model.specs.declared.table.Column.{Column}
 use Rattle.run_model.specs.declared.world.World.{World}
 use Rattle.world_json.specs.declared.document.Document.{Document}
 use Rattle.world_json.specs.declared.document.Draft.{Draft}
-use Rattle.world_json.specs.Shape.{◌>>=◌, each_member, array_of, object_of, only, required, optional, whole_of, content_of, file_of, cell_of, column_of, draft_of, is_width, table_from, table_in, table_of, table_members, document_as, document_from, document_in, document_of, document_members}
+use Rattle.world_json.specs.declared.document.DraftForeign.{DraftForeign}
+use Rattle.world_json.specs.Shape.{◌>>=◌, each_member, array_of, object_of, only, required, optional, whole_of, content_of, file_of, cell_of, column_of, foreign_of, draft_of, is_width, table_from, table_in, table_of, table_members, document_as, document_from, document_in, document_of, document_members}
 use Rattle.world_json.specs.Reading.{table_as, world_as, shaped, parsed, json_of, world_reading}
 use Rattle.world_json.specs.SortedWorld.{is_sorted_world}
 use Rattle.world_json.proofs.Readings.{IsWorldOf, document_passes}
@@ -217,36 +218,47 @@ abbrev IsTable : List ℕ → Draft → Type 0
 IsTable name table = (table.name ≡ name) × IsWide table
 
 -- the steps of a table, each with those before it
-abbrev by_next : List ℕ → List Column → List (List ℕ) → List (List Value) → ℕ → Option Draft
-by_next name columns key rows next = if is_width (length columns) rows then Some (draft_of name columns key rows next) else None
+abbrev by_next : List ℕ → List Column → List (List ℕ) → List DraftForeign → List (List Value) → ℕ → Option Draft
+by_next name columns key foreign rows next =
+    if is_width (length columns) rows then Some (draft_of name columns key foreign rows next) else None
 
-abbrev by_rows : List ℕ → Option Data → List Column → List (List ℕ) → List (List Value) → Option Draft
-by_rows name next columns key rows = optional whole_of (length rows) next >>= by_next name columns key rows
+abbrev by_rows : List ℕ → Option Data → List Column → List (List ℕ) → List DraftForeign → List (List Value) → Option Draft
+by_rows name next columns key foreign rows = optional whole_of (length rows) next >>= by_next name columns key foreign rows
 
-abbrev by_key : List ℕ → Option Data → Option Data → List Column → List (List ℕ) → Option Draft
-by_key name rows next columns key = optional (array_of (array_of cell_of)) [] rows >>= by_rows name next columns key
+abbrev by_foreign : List ℕ → Option Data → Option Data → List Column → List (List ℕ) → List DraftForeign → Option Draft
+by_foreign name rows next columns key foreign =
+    optional (array_of (array_of cell_of)) [] rows >>= by_rows name next columns key foreign
 
-abbrev by_columns : List ℕ → Option Data → Option Data → Option Data → List Column → Option Draft
-by_columns name key rows next columns = optional (array_of as_str) [] key >>= by_key name rows next columns
+abbrev by_key : List ℕ → Option Data → Option Data → Option Data → List Column → List (List ℕ) → Option Draft
+by_key name foreign rows next columns key =
+    optional (array_of foreign_of) [] foreign >>= by_foreign name rows next columns key
 
-table_from_read : (name : List ℕ) (columns key rows next : Option Data) → Holds (IsTable name) (table_from name columns key rows next)
-table_from_read name columns key rows next =
+abbrev by_columns : List ℕ → Option Data → Option Data → Option Data → Option Data → List Column → Option Draft
+by_columns name key foreign rows next columns =
+    optional (array_of as_str) [] key >>= by_key name foreign rows next columns
+
+table_from_read : (name : List ℕ) (columns key foreign rows next : Option Data) → Holds (IsTable name) (table_from name columns key foreign rows next)
+table_from_read name columns key foreign rows next =
     let column_list = required (array_of column_of) columns in
     let key_list = optional (array_of as_str) [] key in
+    let foreign_list = optional (array_of foreign_of) [] foreign in
     let row_list = optional (array_of (array_of cell_of)) [] rows in
-    holds_then Any (IsTable name) (by_columns name key rows next)
-    (λ columns h. holds_then Any (IsTable name) (by_key name rows next columns)
-    (λ key h. holds_then Any (IsTable name) (by_rows name next columns key)
-    (λ rows h. holds_then Any (IsTable name) (by_next name columns key rows)
-    (λ number h. holds_when (IsTable name) (is_width (length columns) rows) (draft_of name columns key rows number) (λ wide. (refl, wide)))
+    holds_then Any (IsTable name) (by_columns name key foreign rows next)
+    (λ columns h. holds_then Any (IsTable name) (by_key name foreign rows next columns)
+    (λ key h. holds_then Any (IsTable name) (by_foreign name rows next columns key)
+    (λ foreign h. holds_then Any (IsTable name) (by_rows name next columns key foreign)
+    (λ rows h. holds_then Any (IsTable name) (by_next name columns key foreign rows)
+    (λ number h. holds_when (IsTable name) (is_width (length columns) rows) (draft_of name columns key foreign rows number) (λ wide. (refl, wide)))
     (optional whole_of (length rows) next) (holds_any (optional whole_of (length rows) next)))
     row_list (holds_any row_list))
+    foreign_list (holds_any foreign_list))
     key_list (holds_any key_list))
     column_list (holds_any column_list)
 
 table_read : (name : List ℕ) (d : Data) → Holds (IsTable name) (table_of name d)
 table_read name d = holds_then Any (IsTable name) (table_in name)
-    (λ ms h. holds_if (IsTable name) (only table_members ms) (table_from name (get_member (codes "columns") ms) (get_member (codes "key") ms) (get_member (codes "rows") ms) (get_member (codes "next") ms)) (table_from_read name (get_member (codes "columns") ms) (get_member (codes "key") ms) (get_member (codes "rows") ms) (get_member (codes "next") ms)))
+    (λ ms h. holds_if (IsTable name) (only table_members ms) (table_from name (get_member (codes "columns") ms) (get_member (codes "key") ms) (get_member (codes "foreign") ms) (get_member (codes "rows") ms) (get_member (codes "next") ms))
+    (table_from_read name (get_member (codes "columns") ms) (get_member (codes "key") ms) (get_member (codes "foreign") ms) (get_member (codes "rows") ms) (get_member (codes "next") ms)))
     (as_object d) (holds_any (as_object d))
 
 -- ---- the document

@@ -4,7 +4,7 @@ use Rattle.run_model.specs.declared.world.World.{World}
 use Rattle.world_json.specs.declared.document.Document.{Document}
 use Rattle.world_json.specs.declared.fault.WorldFault.{WorldFault}
 use Rattle.world_json.specs.Faults.{is_named, is_within, is_typed, is_filled, is_keyed}
-use Rattle.world_json.specs.Reading.{world_as, start_fault, ending, reading_of}
+use Rattle.world_json.specs.Reading.{world_as, is_referring, start_fault, ending, reading_of}
 
 -- no fault of a document holds, and the world is its world
 pub record IsWorldOf (doc : Document) (world : World) : Type 0 where
@@ -13,6 +13,7 @@ pub record IsWorldOf (doc : Document) (world : World) : Type 0 where
   pub typed : is_typed doc ≡ true
   pub filled : is_filled doc ≡ true
   pub keyed : is_keyed doc ≡ true
+  pub referring : is_referring doc ≡ true
   pub started : start_fault doc ≡ None
   pub world_is : world_as doc ≡ world
 
@@ -31,5 +32,15 @@ document_passes doc world is =
     let typed = passed (is_typed doc) _ _ world within.1 in
     let filled = passed (is_filled doc) _ _ world typed.1 in
     let keyed = passed (is_keyed doc) _ _ world filled.1 in
-    let ends = ended doc (start_fault doc) world keyed.1 in
-    record { named = named.0; within = within.0; typed = typed.0; filled = filled.0; keyed = keyed.0; started = ends.0; world_is = ends.1 }
+    let referring = passed (is_referring doc) _ _ world keyed.1 in
+    let ends = ended doc (start_fault doc) world referring.1 in
+    record {
+      named = named.0;
+      within = within.0;
+      typed = typed.0;
+      filled = filled.0;
+      keyed = keyed.0;
+      referring = referring.0;
+      started = ends.0;
+      world_is = ends.1;
+    }

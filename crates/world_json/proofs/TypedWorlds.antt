@@ -5,11 +5,12 @@ use Rattle.std.proofs.lemmas.Bool.{leb-true}
 use Rattle.ldv_value.proofs.Booleans.{and-parts, and-second}
 use Rattle.ldv_value.specs.Limits.{max_next, max_rows}
 use Rattle.ldv_value.specs.declared.value.Value.{Value}
+use Rattle.sql_model.specs.ForeignKeys.{max_foreign}
 use Rattle.sql_model.specs.Tables.{column_count_test, is_short}
-use Rattle.run_model.specs.TypedPackage.{TypedRow, TypedTable, TypedValues}
+use Rattle.run_model.specs.TypedPackage.{TypedForeign, TypedRow, TypedTable, TypedValues}
 use Rattle.run_model.specs.ValidWorld.{all_of_file, all_of_row, all_of_table, TypedWorld}
 use Rattle.run_model.specs.declared.world.World.{World}
-use Rattle.world_json.specs.Faults.{is_next_right, is_table_within, is_within}
+use Rattle.world_json.specs.Faults.{foreign_key, foreign_keys, is_next_right, is_table_within, is_within}
 use Rattle.world_json.specs.Reading.{numbered_from, table_as, world_as}
 use Rattle.world_json.specs.Typed.{TypedDraft, TypedDocument}
 use Rattle.world_json.specs.declared.document.Document.{Document}
@@ -36,12 +37,14 @@ rows_typed n (row ∷ rows) few typed =
 table_typed : (draft : Draft) → is_table_within draft ≡ true → TypedDraft draft → TypedTable (all_of_table (table_as draft))
 table_typed draft within typed =
     let right : is_next_right draft ≡ true =
-    and-second (column_count_test draft.columns && nat_le (length draft.rows) max_rows && list_all (list_all is_short) draft.rows) (is_next_right draft) within in
+    and-second (column_count_test draft.columns && nat_le (length draft.foreign) max_foreign && nat_le (length draft.rows) max_rows && list_all (list_all is_short) draft.rows) (is_next_right draft) within in
     let next = and-parts (nat_le (length draft.rows) draft.next) (nat_le draft.next max_next) right in
     let few : length draft.rows ≤ draft.next = leb-true (length draft.rows) draft.next next.0 in
     let most : draft.next ≤ max_next = leb-true draft.next max_next next.1 in
     let bytes : draft.next < 2 ^ 32 = omega (arith, most) in
-    (typed.name, (typed.columns, (bytes, rows_typed 0 draft.rows (omega (arith, few, most)) typed.rows)))
+    let foreign : AllByRecursion TypedForeign (foreign_keys draft) =
+    all_made TypedForeign (foreign_key draft.columns) draft.foreign typed.foreign in
+    (typed.name, ((typed.columns, foreign), (bytes, rows_typed 0 draft.rows (omega (arith, few, most)) typed.rows)))
 
 tables_typed : (drafts : List Draft) → list_all is_table_within drafts ≡ true → AllByRecursion TypedDraft drafts
     → AllByRecursion TypedTable (map all_of_table (map table_as drafts))

@@ -46,7 +46,7 @@ abbrev pub needed_column : List ℕ → Bool → Column
 needed_column name text = record { name = name; text = text; not_null = true }
 
 abbrev pub keyed_by_first : List Column → Schema
-keyed_by_first columns = record { columns = columns; key = 0 ∷ [] }
+keyed_by_first columns = record { columns = columns; key = 0 ∷ []; foreign = [] }
 
 abbrev pub keyed_table : List ℕ → List Column → List TableRow → ℕ → Table
 keyed_table name columns rows next =

@@ -1,3 +1,4 @@
+pub mod NameSets
 pub mod Numbers
 pub mod Shape
 pub mod Faults

@@ -1,5 +1,5 @@
 -- The world that a document is, or the first fault by which it is none.
-use Rattle.std.specs.Prelude.{◌≡◌, ℕ, ◌+◌, List, [], ◌∷◌, map, if◌then◌else◌, Option, Some, None}
+use Rattle.std.specs.Prelude.{◌≡◌, ℕ, ◌+◌, List, [], ◌∷◌, map, Bool, ◌&&◌, if◌then◌else◌, Option, Some, None}
 use Rattle.std.specs.Prelude.{Result, Ok, Err}
 use Rattle.std.specs.Str.{is_utf8}
 use Rattle.serde_json.specs.Data.{Data}
@@ -8,6 +8,9 @@ use Rattle.ldv_value.specs.declared.file.File.{File}
 use Rattle.script_parse.specs.Script.{script_of, first_bad_line}
 use Rattle.script_parse.specs.declared.script.Instr.{Instr}
 use Rattle.ldv_value.specs.declared.value.Value.{Value}
+use Rattle.sql_model.specs.ForeignKeys.{have_parents}
+use Rattle.sql_model.specs.References.{references_hold}
+use Rattle.sql_model.specs.Scope.{catalog_of}
 use Rattle.sql_model.specs.declared.table.Table.{Table}
 use Rattle.sql_model.specs.declared.table.TableRow.{TableRow}
 use Rattle.run_model.specs.declared.world.World.{World}
@@ -15,12 +18,13 @@ use Rattle.world_json.specs.declared.document.Document.{Document}
 use Rattle.world_json.specs.declared.document.Draft.{Draft}
 use Rattle.world_json.specs.declared.fault.WorldFault.{WorldFault}
 use Rattle.world_json.specs.declared.fault.WorldFault.TheVariants.{NotJson, Shape, Name, Limit, RowType}
-use Rattle.world_json.specs.declared.fault.WorldFault.TheVariants.{NotNull, Key, NoStart, BadScript}
+use Rattle.world_json.specs.declared.fault.WorldFault.TheVariants.{NotNull, Key, Reference, NoStart}
+use Rattle.world_json.specs.declared.fault.WorldFault.TheVariants.{BadScript}
 use Rattle.world_json.specs.declared.fault.WorldStop.{WorldStop}
 use Rattle.world_json.specs.declared.fault.WorldStop.TheVariants.{Fault, NoMemory}
 use Rattle.world_json.specs.Shape.{document_of}
 use Rattle.world_json.specs.Faults.{is_named, is_within, is_typed, is_filled, is_keyed, key_places}
-use Rattle.world_json.specs.Faults.{start_file}
+use Rattle.world_json.specs.Faults.{foreign_keys, start_file}
 
 -- ---- the world of a document without a fault
 
@@ -32,7 +36,7 @@ numbered_from n (row ∷ rows) = record { number = n; values = row } ∷ numbere
 abbrev pub table_as : Draft → Table
 table_as draft = record {
   name = draft.name;
-  schema = record { columns = draft.columns; key = key_places draft };
+  schema = record { columns = draft.columns; key = key_places draft; foreign = foreign_keys draft };
   rows = numbered_from 0 draft.rows;
   next = draft.next;
 }
@@ -40,6 +44,14 @@ table_as draft = record {
 abbrev pub world_as : Document → World
 world_as doc =
     record { start = doc.start; seed = doc.seed; files = doc.files; tables = map table_as doc.tables }
+
+-- ---- Reference: each foreign key has a parent with a fitting key, which has a row for each row that refers
+
+abbrev pub have_references : List Table → Bool
+have_references tables = have_parents (catalog_of tables) && references_hold tables
+
+abbrev pub is_referring : Document → Bool
+is_referring doc = have_references (map table_as doc.tables)
 
 -- ---- the faults in their order, each over the whole document
 
@@ -60,13 +72,16 @@ abbrev pub ending : Document → Option WorldFault → Result World WorldFault
 ending doc None = Ok (world_as doc)
 ending doc (Some fault) = Err fault
 
+abbrev pub referring_of : Document → Result World WorldFault
+referring_of doc = if is_referring doc then ending doc (start_fault doc) else Err Reference
+
 abbrev pub reading_of : Document → Result World WorldFault
 reading_of doc =
     if is_named doc
     then (if is_within doc
     then (if is_typed doc
     then (if is_filled doc
-    then (if is_keyed doc then ending doc (start_fault doc) else Err Key)
+    then (if is_keyed doc then referring_of doc else Err Key)
     else Err NotNull)
     else Err RowType)
     else Err Limit)

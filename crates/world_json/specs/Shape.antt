@@ -13,6 +13,7 @@ use Rattle.ldv_value.specs.declared.value.Value.TheVariants.{Null, Int, Text}
 use Rattle.sql_model.specs.declared.table.Column.{Column}
 use Rattle.world_json.specs.declared.document.Document.{Document}
 use Rattle.world_json.specs.declared.document.Draft.{Draft}
+use Rattle.world_json.specs.declared.document.DraftForeign.{DraftForeign}
 
 -- the next step, where there is a value
 infixl 10 ◌>>=◌
@@ -120,31 +121,52 @@ column_from (name ∷ kind ∷ other ∷ more) = None
 abbrev pub column_of : Data → Option Column
 column_of d = array_of as_str d >>= column_from
 
-abbrev pub draft_of : List ℕ → List Column → List (List ℕ) → List (List Value) → ℕ → Draft
-draft_of name columns key rows next =
-    record { name = name; columns = columns; key = key; rows = rows; next = next }
+abbrev pub foreign_from : List (List ℕ) → List ℕ → Option DraftForeign
+foreign_from columns parent = Some (record { columns = columns; parent = parent })
+
+abbrev pub foreign_of_two : Data → Data → Option DraftForeign
+foreign_of_two columns parent = do
+  columns ← array_of as_str columns
+  parent ← as_str parent
+  foreign_from columns parent
+
+-- two items, the names of columns and that of the parent
+abbrev pub foreign_in : Items → Option DraftForeign
+foreign_in no_items = None
+foreign_in (item columns no_items) = None
+foreign_in (item columns (item parent no_items)) = foreign_of_two columns parent
+foreign_in (item columns (item parent (item other more))) = None
+
+abbrev pub foreign_of : Data → Option DraftForeign
+foreign_of d = as_array d >>= foreign_in
+
+abbrev pub draft_of : List ℕ → List Column → List (List ℕ) → List DraftForeign → List (List Value) → ℕ → Draft
+draft_of name columns key foreign rows next =
+    record { name = name; columns = columns; key = key; foreign = foreign; rows = rows; next = next }
 
 -- each row has one value for each column
 abbrev pub is_width : ℕ → List (List Value) → Bool
 is_width width rows = list_all (λ row. length row == width) rows
 
--- a table by its columns, key, rows and next number
-abbrev pub table_from : List ℕ → Option Data → Option Data → Option Data → Option Data → Option Draft
-table_from name columns key rows next = do
+-- a table by its columns, key, foreign keys, rows and next number
+abbrev pub table_from :
+    List ℕ → Option Data → Option Data → Option Data → Option Data → Option Data → Option Draft
+table_from name columns key foreign rows next = do
   columns ← required (array_of column_of) columns
   key ← optional (array_of as_str) [] key
+  foreign ← optional (array_of foreign_of) [] foreign
   rows ← optional (array_of (array_of cell_of)) [] rows
   next ← optional whole_of (length rows) next
-  (if is_width (length columns) rows then Some (draft_of name columns key rows next) else None)
+  (if is_width (length columns) rows then Some (draft_of name columns key foreign rows next) else None)
 
 abbrev pub table_members : List (List ℕ)
-table_members = codes "columns" ∷ codes "key" ∷ codes "rows" ∷ codes "next" ∷ []
+table_members = codes "columns" ∷ codes "key" ∷ codes "foreign" ∷ codes "rows" ∷ codes "next" ∷ []
 
 abbrev pub table_in : List ℕ → Members → Option Draft
 table_in name ms =
     if only table_members ms
     then table_from name (get_member (codes "columns") ms) (get_member (codes "key") ms)
-    (get_member (codes "rows") ms) (get_member (codes "next") ms)
+    (get_member (codes "foreign") ms) (get_member (codes "rows") ms) (get_member (codes "next") ms)
     else None
 
 abbrev pub table_of : List ℕ → Data → Option Draft

@@ -8,13 +8,18 @@ use Rattle.run_model.specs.TypedPackage.{TypedColumn, TypedFile, TypedValues}
 use Rattle.run_model.specs.ValidWorld.{all_of_file}
 use Rattle.world_json.specs.declared.document.Document.{Document}
 use Rattle.world_json.specs.declared.document.Draft.{Draft}
+use Rattle.world_json.specs.declared.document.DraftForeign.{DraftForeign}
 
 abbrev pub TypedDocumentFile : File → Type 0
 TypedDocumentFile file = TypedFile (all_of_file file)
 
+abbrev pub TypedDraftForeign : DraftForeign → Type 0
+TypedDraftForeign foreign = IsUtf8 foreign.parent
+
 pub record TypedDraft (draft : Draft) : Type 0 where
   pub name : IsUtf8 draft.name
   pub columns : AllByRecursion TypedColumn draft.columns
+  pub foreign : AllByRecursion TypedDraftForeign draft.foreign
   pub rows : AllByRecursion TypedValues draft.rows
 
 pub record TypedDocument (doc : Document) : Type 0 where

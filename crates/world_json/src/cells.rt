@@ -1,11 +1,14 @@
-//! Texts, cells and columns of a document.
+//! Texts, cells, columns and foreign keys of a document.
 
 ghost use Rattle.std.specs.List.{AllByRecursion};
 ghost use Rattle.std.specs.Prelude.{◌≡◌, ◌≢◌, Some, None, IfOk};
 ghost use Rattle.std.specs.Str.{IsUtf8};
 ghost use Rattle.run_model.specs.TypedPackage.{TypedColumn};
-ghost use Rattle.world_json.specs.Shape.{column_from, kind_of, column_as};
+ghost use Rattle.serde_json.specs.View.{view, items_view};
+ghost use Rattle.world_json.specs.Shape.{column_from, kind_of, column_as, foreign_in, foreign_of_two};
+ghost use Rattle.world_json.specs.Typed.{TypedDraftForeign};
 
+use crate::document::DraftForeign;
 use crate::shape::{FromItem, ShapeStop, name_of_text, read_array};
 use ldv_value::{List, Names, Utf8, Value};
 use serde_json::Value as Json;
@@ -63,6 +66,48 @@ impl FromItem for Column {
             Err(stop) => Err(stop),
         }
     }
+}
+
+impl FromItem for DraftForeign {
+    ghost use Rattle.world_json.specs.Shape.{foreign_of};
+    ghost use Rattle.world_json.specs.Typed.{TypedDraftForeign};
+
+    ghost of_item = { foreign_of };
+
+    ghost typed = { TypedDraftForeign };
+
+    fn from_item(alloc: Global, value: Json) -> Result<Self, ShapeStop> {
+        match value {
+            Json::Array(items) => foreign_of_items(alloc, items),
+            _ => Err(ShapeStop::Shape),
+        }
+    }
+}
+
+// Two items, the names of the columns and the name of the parent.
+#[tactic(auto, using(crate::proofs::Pairs::two_items, crate::proofs::Pairs::other_items))]
+fn foreign_of_items(alloc: Global, mut items: Vec<Json>) -> Result<DraftForeign, ShapeStop>
+    ensures ok { IfOk result (λ foreign. foreign_in (items_view items.items) ≡ Some foreign) }
+    ensures shape { result ≡ Err ShapeStop.Shape → foreign_in (items_view items.items) ≡ None }
+    ensures typed { IfOk result (λ foreign. TypedDraftForeign foreign) }
+{
+    if items.len() != 2 {
+        return Err(ShapeStop::Shape);
+    }
+    match (items.pop(), items.pop()) {
+        (Some(parent), Some(columns)) => foreign_of_parts(alloc, columns, parent),
+        _ => unreachable!(),
+    }
+}
+
+fn foreign_of_parts(alloc: Global, columns: Json, parent: Json) -> Result<DraftForeign, ShapeStop>
+    ensures ok { IfOk result (λ foreign. foreign_of_two (view columns) (view parent) ≡ Some foreign) }
+    ensures shape { result ≡ Err ShapeStop.Shape → foreign_of_two (view columns) (view parent) ≡ None }
+    ensures typed { IfOk result (λ foreign. TypedDraftForeign foreign) }
+{
+    let columns = read_array(alloc, columns)?;
+    let parent = Utf8::from_item(alloc, parent)?;
+    Ok(DraftForeign { columns, parent })
 }
 
 // Two texts, the name and the kind.

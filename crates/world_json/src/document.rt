@@ -20,9 +20,20 @@ pub(crate) struct Draft {
     pub name: Utf8,
     pub columns: Columns,
     pub key: Names,
+    pub foreign: DraftForeigns,
     pub rows: NumberedRows,
     pub next: u64,
 }
+
+/// The parts of a foreign key: the names of its columns and that of the parent.
+#[derive(Drop)]
+pub(crate) struct DraftForeign {
+    pub columns: Names,
+    pub parent: Utf8,
+}
+
+/// Foreign keys.
+pub(crate) type DraftForeigns = List<DraftForeign>;
 
 /// Tables.
 pub(crate) type Drafts = List<Draft>;

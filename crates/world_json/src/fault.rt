@@ -19,6 +19,9 @@ pub enum WorldFault {
     NotNull,
     /// A key column that may be NULL, or two rows of one key.
     Key,
+    /// A foreign key whose parent has no key or one that it doesn't fit, or a row that refers to a key that
+    /// no row of the parent has.
+    Reference,
     /// The first start word is no file.
     NoStart,
     /// The file of the first start word is no script: its first bad line, from 1.

@@ -11,7 +11,7 @@ ghost use Rattle.world_json.specs.Generated.{order_values, orders, script_file};
 use itoa::Buffer;
 use ldv_value::{Bytes, File, Files, Places, Utf8, Value, Values, Words};
 use run_model::World;
-use sql_model::{Column, Columns, Schema, Table, TableRow, TableRows, Tables};
+use sql_model::{Column, Columns, Foreigns, Schema, Table, TableRow, TableRows, Tables};
 use std::alloc::{AllocError, Global};
 
 const START: &str = "main";
@@ -94,7 +94,11 @@ fn keyed_table(
     key.push(0)?;
     Ok(Table {
         name: Utf8::of(alloc, name)?,
-        schema: Schema { columns, key },
+        schema: Schema {
+            columns,
+            key,
+            foreign: Foreigns::new(alloc),
+        },
         rows,
         next,
     })

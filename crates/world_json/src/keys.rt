@@ -1,14 +1,14 @@
 //! The fault Key: a key column that may be NULL, or two rows of the same key.
 
-ghost use Rattle.std.specs.Prelude.{◌≡◌, IfOk, position};
+ghost use Rattle.std.specs.Prelude.{◌≡◌, IfOk, map, position};
 ghost use Rattle.std.specs.List.{list_all, position_or_len};
 ghost use Rattle.sql_model.specs.Scope.{is_column};
 ghost use Rattle.sql_model.specs.Tables.{places_named};
-ghost use Rattle.world_json.specs.Faults.{is_keyed, is_table_keyed};
+ghost use Rattle.world_json.specs.Faults.{foreign_key, is_keyed, is_table_keyed};
 
-use crate::document::{Document, Draft, Drafts};
+use crate::document::{Document, Draft, DraftForeign, DraftForeigns, Drafts};
 use ldv_value::{List, Names, Places, Utf8};
-use sql_model::{Columns, has_key_twice, is_key_not_null};
+use sql_model::{Columns, Foreign, Foreigns, has_key_twice, is_key_not_null};
 use std::alloc::{AllocError, Global};
 
 /// Whether every key column is NOT NULL, and no two rows of a table have the same key. `AllocError` means
@@ -53,6 +53,34 @@ pub(crate) fn places_of_key(
         places.push(place_of_column(columns, name))?;
     }
     Ok(places)
+}
+
+/// The foreign keys of a table, whose columns are given by their names.
+pub(crate) fn foreign_keys(
+    alloc: Global,
+    columns: &Columns,
+    drafts: DraftForeigns,
+) -> Result<Foreigns, AllocError>
+    ensures { IfOk result (λ foreigns. foreigns ≡ map (foreign_key columns.now) drafts) }
+{
+    let mut foreigns = List::with_capacity(alloc, drafts.len())?;
+    for draft in drafts.into_vec() {
+        foreigns.push(foreign_key(alloc, columns, draft)?)?;
+    }
+    Ok(foreigns)
+}
+
+fn foreign_key(alloc: Global, columns: &Columns, draft: DraftForeign) -> Result<Foreign, AllocError>
+    ensures { IfOk result (λ foreign. foreign ≡ foreign_key columns.now draft) }
+{
+    let DraftForeign {
+        columns: names,
+        parent,
+    } = draft;
+    Ok(Foreign {
+        columns: places_of_key(alloc, columns, &names)?,
+        parent,
+    })
 }
 
 #[tactic(auto, using(ldv_value::proofs::Places::place_or_len))]

@@ -13,7 +13,7 @@ use ldv_value::{
     FILE_LIMIT, Files, MAX_FILES, MAX_NEXT, MAX_ROWS, MAX_START_WORDS, MAX_TABLES, TEXT_LIMIT,
     Words,
 };
-use sql_model::{TableRow, are_short, meets_column_count};
+use sql_model::{MAX_FOREIGN, TableRow, are_short, meets_column_count};
 
 /// Whether no limit is passed.
 pub(crate) fn meets_limits(document: &Document) -> bool
@@ -62,6 +62,7 @@ fn meets_table_limit(table: &Draft) -> bool
     ensures { result ≡ is_table_within table.now }
 {
     meets_column_count(&table.columns)
+        && table.foreign.len() <= MAX_FOREIGN
         && table.rows.len() <= MAX_ROWS
         && are_rows_short(&table.rows)
         && is_next_right(table)

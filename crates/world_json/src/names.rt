@@ -1,15 +1,14 @@
 //! The fault Name: a path, a table name, a column name or a key name outside its rule.
 
-ghost use Rattle.std.specs.Prelude.{◌≡◌, ℕ, List, IfOk, map};
-ghost use Rattle.std.specs.List.{list_all};
-ghost use Rattle.std.specs.Cmp.Lexicographic.{slice_cmp};
-ghost use Rattle.std.specs.Ordering.{nat_cmp};
-ghost use Rattle.std.specs.BTreeSet.{contains_by};
+ghost use Rattle.std.specs.Prelude.{◌≡◌, ◌&&◌, ℕ, List, IfOk, map};
+ghost use Rattle.std.specs.List.{list_all, list_any};
 ghost use Rattle.ldv_value.specs.Names.{path_test};
-ghost use Rattle.sql_model.specs.Scope.{has_column};
-ghost use Rattle.world_json.specs.Faults.{is_named, is_table_named, is_start_named, is_key_named};
+ghost use Rattle.sql_model.specs.Scope.{same_text, has_column};
+ghost use Rattle.world_json.specs.Faults.{is_named, is_table_named, is_start_named};
+ghost use Rattle.world_json.specs.NameSets.{is_known, is_key_known, is_foreign_known, are_keys_known};
+ghost use Rattle.world_json.specs.NameSets.{is_table_known};
 
-use crate::document::{Document, Draft, Drafts};
+use crate::document::{Document, Draft, DraftForeign, DraftForeigns, Drafts};
 use ldv_value::{Files, Names, Words, is_path};
 use sql_model::{Columns, has_twice, is_sql_name, meets_column_names};
 use std::alloc::{AllocError, Global};
@@ -45,18 +44,41 @@ fn meets_start(words: &Words) -> bool
 }
 
 fn meets_table_names(alloc: Global, tables: &Drafts) -> Result<bool, AllocError>
-    ensures { IfOk result (λ holds. holds ≡ list_all is_table_named tables.now) }
+    ensures { IfOk result (λ holds. holds
+        ≡ list_all (is_table_named (map (λ table. table.name) tables.now)) tables.now) }
+{
+    let known = table_set(alloc, tables)?;
+    each_table_known(alloc, &known, tables)
+}
+
+fn table_set<'a>(alloc: Global, tables: &'a Drafts) -> Result<BTreeSet<&'a str>, AllocError>
+    ensures { IfOk result (λ known. (name : List ℕ)
+        → is_known known name ≡ list_any (λ table. same_text table.name name) tables.now) }
+{
+    let mut known = BTreeSet::new(alloc);
+    for table in tables.items() {
+        known.insert(table.name.as_str())?;
+    }
+    Ok(known)
+}
+
+fn each_table_known(
+    alloc: Global,
+    known: &BTreeSet<&str>,
+    tables: &Drafts,
+) -> Result<bool, AllocError>
+    ensures { IfOk result (λ holds. holds ≡ list_all (is_table_known known.now) tables.now) }
 {
     for table in tables.items() {
-        if !meets_table_name(alloc, table)? {
+        if !is_table_known(alloc, known, table)? {
             return Ok(false);
         }
     }
     Ok(true)
 }
 
-fn meets_table_name(alloc: Global, table: &Draft) -> Result<bool, AllocError>
-    ensures { IfOk result (λ holds. holds ≡ is_table_named table.now) }
+fn is_table_known(alloc: Global, tables: &BTreeSet<&str>, table: &Draft) -> Result<bool, AllocError>
+    ensures { IfOk result (λ holds. holds ≡ is_table_known tables.now table.now) }
 {
     if !is_sql_name(table.name.as_str()) {
         return Ok(false);
@@ -64,15 +86,68 @@ fn meets_table_name(alloc: Global, table: &Draft) -> Result<bool, AllocError>
     if !meets_column_names(alloc, &table.columns)? {
         return Ok(false);
     }
-    meets_key_names(alloc, &table.columns, &table.key)
+    are_keys_known(alloc, tables, table)
+}
+
+// The key and the foreign keys name columns of the table, and the parents are tables.
+fn are_keys_known(alloc: Global, tables: &BTreeSet<&str>, table: &Draft) -> Result<bool, AllocError>
+    ensures { IfOk result (λ holds. holds ≡ are_keys_known tables.now table.now) }
+{
+    let columns = column_set(alloc, &table.columns)?;
+    are_all_known(alloc, &columns, tables, table)
+}
+
+fn are_all_known(
+    alloc: Global,
+    columns: &BTreeSet<&str>,
+    tables: &BTreeSet<&str>,
+    table: &Draft,
+) -> Result<bool, AllocError>
+    ensures { IfOk result (λ holds. holds ≡ (is_key_known columns.now table.now.key
+        && list_all (is_foreign_known columns.now tables.now) table.now.foreign)) }
+{
+    if !is_key_known(alloc, columns, &table.key)? {
+        return Ok(false);
+    }
+    each_foreign_known(alloc, columns, tables, &table.foreign)
+}
+
+fn each_foreign_known(
+    alloc: Global,
+    columns: &BTreeSet<&str>,
+    tables: &BTreeSet<&str>,
+    foreigns: &DraftForeigns,
+) -> Result<bool, AllocError>
+    ensures { IfOk result (λ holds. holds
+        ≡ list_all (is_foreign_known columns.now tables.now) foreigns.now) }
+{
+    for foreign in foreigns.items() {
+        if !is_foreign_known(alloc, columns, tables, foreign)? {
+            return Ok(false);
+        }
+    }
+    Ok(true)
+}
+
+fn is_foreign_known(
+    alloc: Global,
+    columns: &BTreeSet<&str>,
+    tables: &BTreeSet<&str>,
+    foreign: &DraftForeign,
+) -> Result<bool, AllocError>
+    ensures { IfOk result (λ holds. holds ≡ is_foreign_known columns.now tables.now foreign.now) }
+{
+    if !is_key_known(alloc, columns, &foreign.columns)? {
+        return Ok(false);
+    }
+    Ok(tables.contains(foreign.parent.as_str()))
 }
 
 // Every name of the key is a column's, and no two are the same.
-fn meets_key_names(alloc: Global, columns: &Columns, key: &Names) -> Result<bool, AllocError>
-    ensures { IfOk result (λ holds. holds ≡ is_key_named columns.now key.now) }
+fn is_key_known(alloc: Global, known: &BTreeSet<&str>, key: &Names) -> Result<bool, AllocError>
+    ensures { IfOk result (λ holds. holds ≡ is_key_known known.now key.now) }
 {
-    let known = column_set(alloc, columns)?;
-    if !are_known(&known, key) {
+    if !are_known(known, key) {
         return Ok(false);
     }
     let names = key_names(alloc, key)?;
@@ -80,8 +155,7 @@ fn meets_key_names(alloc: Global, columns: &Columns, key: &Names) -> Result<bool
 }
 
 fn column_set<'a>(alloc: Global, columns: &'a Columns) -> Result<BTreeSet<&'a str>, AllocError>
-    ensures { IfOk result (λ known. (name : List ℕ)
-        → contains_by (λ column. slice_cmp nat_cmp name column.now) known ≡ has_column columns.now name) }
+    ensures { IfOk result (λ known. (name : List ℕ) → is_known known name ≡ has_column columns.now name) }
 {
     let mut known = BTreeSet::new(alloc);
     for column in columns.items() {
@@ -91,8 +165,7 @@ fn column_set<'a>(alloc: Global, columns: &'a Columns) -> Result<BTreeSet<&'a st
 }
 
 fn are_known(known: &BTreeSet<&str>, key: &Names) -> bool
-    ensures { result
-        ≡ list_all (λ name. contains_by (λ column. slice_cmp nat_cmp name column.now) known.now) key.now }
+    ensures { result ≡ list_all (is_known known.now) key.now }
 {
     key.items().iter().all(|name| known.contains(name.as_str()))
 }

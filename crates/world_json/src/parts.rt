@@ -10,7 +10,7 @@ ghost use Rattle.world_json.specs.Shape.{is_width, table_from, table_in, table_o
 ghost use Rattle.world_json.specs.Shape.{document_from, document_in, document_of};
 ghost use Rattle.world_json.specs.Typed.{TypedDocument, TypedDocumentFile, TypedDraft};
 
-use crate::document::{Document, Draft, Drafts};
+use crate::document::{Document, Draft, DraftForeigns, Drafts};
 use crate::members::{has_only, take_member};
 use crate::rows::{NumberedRows, read_rows};
 use crate::shape::{FromItem, FromMember, ShapeStop, read_array, read_object};
@@ -23,6 +23,7 @@ use std::alloc::Global;
 struct TableParts {
     columns: Option<Value>,
     key: Option<Value>,
+    foreign: Option<Value>,
     rows: Option<Value>,
     next: Option<Value>,
 }
@@ -119,7 +120,7 @@ fn read_table(alloc: Global, name: Utf8, members: Map<String, Value>) -> Result<
     ensures shape { result ≡ Err ShapeStop.Shape → table_in name (members_view members.entries) ≡ None }
     ensures typed { IfOk result (λ draft. TypedDraft draft) }
 {
-    if !has_only(&members, &["columns", "key", "rows", "next"]) {
+    if !has_only(&members, &["columns", "key", "foreign", "rows", "next"]) {
         return Err(ShapeStop::Shape);
     }
     table_of_parts(alloc, name, table_parts(members))
@@ -129,16 +130,20 @@ fn table_parts(mut members: Map<String, Value>) -> TableParts
     ensures columns { option_map view result.columns
         ≡ get_member (codes "columns") (members_view members.entries) }
     ensures key { option_map view result.key ≡ get_member (codes "key") (members_view members.entries) }
+    ensures foreign { option_map view result.foreign
+        ≡ get_member (codes "foreign") (members_view members.entries) }
     ensures rows { option_map view result.rows ≡ get_member (codes "rows") (members_view members.entries) }
     ensures next { option_map view result.next ≡ get_member (codes "next") (members_view members.entries) }
 {
     let columns = take_member(&mut members, "columns");
     let key = take_member(&mut members, "key");
+    let foreign = take_member(&mut members, "foreign");
     let rows = take_member(&mut members, "rows");
     let next = take_member(&mut members, "next");
     TableParts {
         columns,
         key,
+        foreign,
         rows,
         next,
     }
@@ -147,20 +152,23 @@ fn table_parts(mut members: Map<String, Value>) -> TableParts
 fn table_of_parts(alloc: Global, name: Utf8, parts: TableParts) -> Result<Draft, ShapeStop>
     requires { IsUtf8 name }
     ensures ok { IfOk result (λ draft. table_from name (option_map view parts.columns)
-        (option_map view parts.key) (option_map view parts.rows) (option_map view parts.next) ≡ Some draft) }
+        (option_map view parts.key) (option_map view parts.foreign) (option_map view parts.rows)
+        (option_map view parts.next) ≡ Some draft) }
     ensures shape { result ≡ Err ShapeStop.Shape
         → table_from name (option_map view parts.columns) (option_map view parts.key)
-        (option_map view parts.rows) (option_map view parts.next) ≡ None }
+        (option_map view parts.foreign) (option_map view parts.rows) (option_map view parts.next) ≡ None }
     ensures typed { IfOk result (λ draft. TypedDraft draft) }
 {
     let TableParts {
         columns,
         key,
+        foreign,
         rows,
         next,
     } = parts;
     let columns: Columns = read_required(alloc, columns)?;
     let key: Names = read_optional(alloc, key)?;
+    let foreign: DraftForeigns = read_optional(alloc, foreign)?;
     let rows = read_rows(alloc, rows)?;
     let next = read_whole(next, rows.len() as u64)?;
     if !has_width(&rows, columns.len()) {
@@ -170,6 +178,7 @@ fn table_of_parts(alloc: Global, name: Utf8, parts: TableParts) -> Result<Draft,
         name,
         columns,
         key,
+        foreign,
         rows,
         next,
     })

@@ -5,24 +5,24 @@ ghost use Rattle.std.specs.Option.{option_map};
 ghost use Rattle.ldv_value.specs.FileState.{file_at};
 ghost use Rattle.ldv_value.specs.Limits.{file_limit};
 ghost use Rattle.script_parse.specs.Script.{script_of};
-ghost use Rattle.world_json.specs.Faults.{start_file, is_within, are_files_within};
-ghost use Rattle.world_json.specs.Reading.{start_fault, script_fault};
+ghost use Rattle.world_json.specs.Faults.{start_of, are_files_within};
+ghost use Rattle.world_json.specs.Reading.{start_fault_of, script_fault};
 
-use crate::document::Document;
 use crate::fault::WorldFault;
-use ldv_value::{File, Files, Utf8};
+use ldv_value::{File, Files, Utf8, Words};
 use script_parse::{ScriptStop, parse_script};
 use std::alloc::{AllocError, Global};
 
 /// The fault of the file of the first start word, if it has one. `AllocError` means out of memory only.
 pub(crate) fn find_start_fault(
     alloc: Global,
-    document: &Document,
+    start: &Words,
+    files: &Files,
 ) -> Result<Option<WorldFault>, AllocError>
-    requires { is_within document.now ≡ true }
-    ensures { IfOk result (λ fault. fault ≡ start_fault document.now) }
+    requires { are_files_within files.now ≡ true }
+    ensures { IfOk result (λ fault. fault ≡ start_fault_of (start_of start.now files.now)) }
 {
-    match find_start(document) {
+    match find_start(start, files) {
         None => Ok(Some(WorldFault::NoStart)),
         Some(file) => find_script_fault(alloc, file.content.as_slice()),
     }
@@ -39,14 +39,14 @@ fn find_script_fault(alloc: Global, bytes: &[u8]) -> Result<Option<WorldFault>, 
     }
 }
 
-fn find_start(document: &Document) -> Option<&File>
-    requires { is_within document.now ≡ true }
-    ensures file { option_map (λ file. file.now) result ≡ start_file document.now }
+fn find_start<'a>(start: &Words, files: &'a Files) -> Option<&'a File>
+    requires { are_files_within files.now ≡ true }
+    ensures file { option_map (λ file. file.now) result ≡ start_of start.now files.now }
     ensures short { IfSome result (λ file. length file.now.content ≤ file_limit) }
 {
-    match document.start.get(0) {
+    match start.get(0) {
         None => None,
-        Some(word) => find_short_file(&document.files, word),
+        Some(word) => find_short_file(files, word),
     }
 }
 

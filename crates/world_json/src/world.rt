@@ -5,13 +5,14 @@ ghost use Rattle.std.specs.List.{list_all};
 ghost use Rattle.serde_json.specs.View.{view};
 ghost use Rattle.run_model.specs.ValidWorld.{CanRun, TypedWorld, ValidWorld};
 ghost use Rattle.world_json.specs.Faults.{is_within, is_table_within};
-ghost use Rattle.world_json.specs.Reading.{world_reading, parsed, reading_of, world_as, table_as, IsFaultOf};
+ghost use Rattle.world_json.specs.Reading.{world_reading, parsed, reading_of, referring_of, have_references};
+ghost use Rattle.world_json.specs.Reading.{world_as, table_as, IsFaultOf};
 ghost use Rattle.world_json.specs.SortedWorld.{is_sorted_world};
 ghost use Rattle.world_json.specs.Typed.{TypedDocument};
 
 use crate::document::{Document, Draft, Drafts};
 use crate::fault::{WorldFault, WorldStop};
-use crate::keys::{meets_keys, places_of_key};
+use crate::keys::{foreign_keys, meets_keys, places_of_key};
 use crate::kinds::{meets_kinds, meets_not_null};
 use crate::limits::meets_limits;
 use crate::names::meets_names;
@@ -22,7 +23,7 @@ use crate::start::find_start_fault;
 use ldv_value::List;
 use run_model::World;
 use serde_json::Value;
-use sql_model::{Schema, Table, Tables};
+use sql_model::{Schema, Table, Tables, have_parents, references_hold};
 use std::alloc::{AllocError, Global};
 
 /// The world that a document is. The faults are tried in the order of `WorldFault`, each over the whole
@@ -75,10 +76,35 @@ fn world_of_document(alloc: Global, document: Document) -> Result<World, WorldSt
     if !meets_keys(alloc, &document)? {
         return Err(WorldStop::Fault(WorldFault::Key));
     }
-    if let Some(fault) = find_start_fault(alloc, &document)? {
+    referring_world(alloc, document)
+}
+
+// The world of a document that has none of the faults before Reference.
+fn referring_world(alloc: Global, document: Document) -> Result<World, WorldStop>
+    requires within { is_within document ≡ true }
+    requires typed { TypedDocument document }
+    ensures world { IfOk result (λ world. referring_of document ≡ Ok world) }
+    ensures fault { IfErr result (IsFaultOf (referring_of document)) }
+    ensures typed { IfOk result (λ world. TypedWorld world) }
+{
+    let world = to_world(alloc, document)?;
+    if !have_references(alloc, &world.tables)? {
+        return Err(WorldStop::Fault(WorldFault::Reference));
+    }
+    if let Some(fault) = find_start_fault(alloc, &world.start, &world.files)? {
         return Err(WorldStop::Fault(fault));
     }
-    Ok(to_world(alloc, document)?)
+    Ok(world)
+}
+
+// Whether each foreign key has a parent that it fits, and each row that refers has a parent row.
+fn have_references(alloc: Global, tables: &Tables) -> Result<bool, AllocError>
+    ensures { IfOk result (λ holds. holds ≡ have_references tables.now) }
+{
+    if !have_parents(tables.items()) {
+        return Ok(false);
+    }
+    references_hold(alloc, tables)
 }
 
 fn to_world(alloc: Global, document: Document) -> Result<World, AllocError>
@@ -121,15 +147,21 @@ fn to_table(alloc: Global, draft: Draft) -> Result<Table, AllocError>
         name,
         columns,
         key,
+        foreign,
         rows,
         next,
     } = draft;
     let key = places_of_key(alloc, &columns, &key)?;
+    let foreign = foreign_keys(alloc, &columns, foreign)?;
     let rows = rows.into_rows();
     let next = next as u32;
     Ok(Table {
         name,
-        schema: Schema { columns, key },
+        schema: Schema {
+            columns,
+            key,
+            foreign,
+        },
         rows,
         next,
     })

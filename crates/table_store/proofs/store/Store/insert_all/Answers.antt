@@ -1,12 +1,18 @@
-use Rattle.std.proofs.Common.{◌≡◌, ◌∙◌, ap, sym, subst, ℕ, Option, Some, true, get_or}
+use Rattle.std.proofs.Common.{refl, List, ◌≡◌, ◌∙◌, ap, sym, subst, ℕ, Option, Some, true, get_or}
 use Rattle.std.specs.Prelude.{Err}
 use Rattle.std.specs.Option.{option_and_then, option_map}
+use Rattle.sql_model.specs.Scope.{table_at}
 use Rattle.table_store.specs.Types.{Table}
+use Rattle.sql_model.specs.Changes.{numbered}
 use Rattle.sql_model.specs.Tables.{is_valid_table}
-use Rattle.table_store.specs.Histories.{TableHistory, inserted, table_now}
-use Rattle.table_store.specs.Stops.{with_inserted, StopsAs, have_shape, insert_stop}
+use Rattle.table_store.specs.Referring.{missing_stop}
+use Rattle.table_store.specs.Histories.{tables_now, TableHistory, inserted, table_now}
+use Rattle.table_store.specs.Stops.{with_changed, with_inserted, have_shape, insert_stop}
 use Rattle.table_store.specs.StoreView.{no_table}
-use Rattle.table_store.proofs.FormedLaws.{inserted_valid}
+use Rattle.table_store.specs.declared.stop.StoreStop.{StoreStop}
+use Rattle.table_store.specs.declared.stop.StoreStop.TheVariants.{HasChild}
+use Rattle.table_store.proofs.LaterLaws.{later_is, whole_none, whole_stops, childless, same_error}
+use Rattle.table_store.proofs.FormedLaws.{or_none, inserted_valid}
 use Rattle.table_store.proofs.StoreChangeLaws.{insert_is, valid_there, at_place, later_there, given_there, after_stored, after_is, after_now, after_kept, not_missing}
 use Rattle.table_store.proofs.TableChangeLaws.{inserted_now}
 use Rattle.table_store.proofs.store.Store.insert_all.Goals as goal
@@ -41,7 +47,7 @@ invariant_of-self-in-Ok c =
     let there : TableHistory = get_or tables place no_table in
     let valid = valid_there a.catalog tables a.time c.self.invariant c.args.table.now place found.0 found.1 in
     after_stored a.catalog tables a.time c.self.invariant c.args.self.now c.self.view_is c.args.table.now place found c.args.time c.requires.later (inserted c.args.time c.args.rows) (insert_is c.args.time c.args.rows) c.insert_in.new.tables.items c.in-Ok.ensures.ok
-    (ap is_valid_table (inserted_now c.args.time c.args.rows there) ∙ inserted_valid (table_now there) valid c.args.rows (given_there a.catalog tables a.time c.self.invariant c.args.self.now c.self.view_is c.args.table.now place found c.args.time c.requires.later (λ table. have_shape c.args.rows table ≡ true) c.requires.shape) c.in-Ok.ensures.stop)
+    (ap is_valid_table (inserted_now c.args.time c.args.rows there) ∙ inserted_valid (table_now there) valid c.args.rows (given_there a.catalog tables a.time c.self.invariant c.args.self.now c.self.view_is c.args.table.now place found c.args.time c.requires.later (λ table. have_shape c.args.rows table ≡ true) c.requires.shape) (or_none (insert_stop c.args.rows (table_now there)) c.in_ok-later.later c.in-Ok.ensures.stop).0)
 
 pub returns-in-Ok-clause-ok : goal.returns-in-Ok-clause-ok
 returns-in-Ok-clause-ok c =
@@ -74,7 +80,13 @@ returns-in-Ok-clause-stop c =
     let tables = a.tables.items in
     let place = c.in-Some.place in
     let found = c.in-Some.ensures.found in
-    ap (option_and_then (insert_stop c.args.rows)) (at_place a.catalog tables a.time c.self.invariant c.args.self.now c.self.view_is c.args.table.now place found c.args.time c.requires.later) ∙ c.in-Ok.ensures.stop
+    let there : TableHistory = get_or tables place no_table in
+    let db : List Table = tables_now c.args.self.now in
+    let o : Option Table = table_at c.args.table.now db in
+    let at : o ≡ Some (table_now there) = at_place a.catalog tables a.time c.self.invariant c.args.self.now c.self.view_is c.args.table.now place found c.args.time c.requires.later in
+    let rest : Table → Option StoreStop = λ (own : Table). missing_stop own.schema.foreign (numbered own.next c.args.rows) (with_changed own.name (with_inserted c.args.rows) db) in
+    let same : rest (table_now there) ≡ c.in_ok-later.later = later_is rest o (table_now there) c.in_ok-later.later at c.in_ok-later.ensures in
+    whole_none (insert_stop c.args.rows) rest o (table_now there) c.in_ok-later.later at same c.in-Ok.ensures.stop
 
 pub returns-in-Err-clause-stop : goal.returns-in-Err-clause-stop
 returns-in-Err-clause-stop c =
@@ -82,7 +94,29 @@ returns-in-Err-clause-stop c =
     let tables = a.tables.items in
     let place = c.in-Some.place in
     let found = c.in-Some.ensures.found in
-    subst (λ (o : Option Table). StopsAs {X = ℕ} (option_and_then (insert_stop c.args.rows) o) (Err c.in-Err.stop)) (sym (at_place a.catalog tables a.time c.self.invariant c.args.self.now c.self.view_is c.args.table.now place found c.args.time c.requires.later)) c.in-Err.ensures.stop
+    let there : TableHistory = get_or tables place no_table in
+    let db : List Table = tables_now c.args.self.now in
+    let o : Option Table = table_at c.args.table.now db in
+    let at : o ≡ Some (table_now there) = at_place a.catalog tables a.time c.self.invariant c.args.self.now c.self.view_is c.args.table.now place found c.args.time c.requires.later in
+    let rest : Table → Option StoreStop = λ (own : Table). missing_stop own.schema.foreign (numbered own.next c.args.rows) (with_changed own.name (with_inserted c.args.rows) db) in
+    let same : rest (table_now there) ≡ c.in_ok-later.later = later_is rest o (table_now there) c.in_ok-later.later at c.in_ok-later.ensures in
+    whole_stops (ℕ) (insert_stop c.args.rows) rest o (table_now there) c.in_ok-later.later c.in-Err.stop at same c.in-Err.ensures.stop
+
+pub returns-in-Err-clause-childless : goal.returns-in-Err-clause-childless
+returns-in-Err-clause-childless c = λ child row key is.
+    let a = c.self.inside in
+    let tables = a.tables.items in
+    let place = c.in-Some.place in
+    let found = c.in-Some.ensures.found in
+    let there : TableHistory = get_or tables place no_table in
+    let db : List Table = tables_now c.args.self.now in
+    let o : Option Table = table_at c.args.table.now db in
+    let at : o ≡ Some (table_now there) = at_place a.catalog tables a.time c.self.invariant c.args.self.now c.self.view_is c.args.table.now place found c.args.time c.requires.later in
+    let rest : Table → Option StoreStop = λ (own : Table). missing_stop own.schema.foreign (numbered own.next c.args.rows) (with_changed own.name (with_inserted c.args.rows) db) in
+    let same : rest (table_now there) ≡ c.in_ok-later.later = later_is rest o (table_now there) c.in_ok-later.later at c.in_ok-later.ensures in
+    childless child row key c.args.rows db o c.in-Err.stop
+    (whole_stops (ℕ) (insert_stop c.args.rows) rest o (table_now there) c.in_ok-later.later c.in-Err.stop at same c.in-Err.ensures.stop)
+    (same_error (Err c.in-Err.stop) (Err (HasChild child row key)) c.in-Err.stop (HasChild child row key) refl refl is)
 
 pub returns-in-Ok-clause-first : goal.returns-in-Ok-clause-first
 returns-in-Ok-clause-first c =

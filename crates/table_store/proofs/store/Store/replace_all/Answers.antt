@@ -1,12 +1,17 @@
-use Rattle.std.proofs.Common.{◌≡◌, ◌∙◌, ap, sym, subst, Option, true, get_or}
+use Rattle.std.proofs.Common.{List, ◌≡◌, ◌∙◌, ap, sym, subst, Option, true, get_or}
 use Rattle.std.specs.Prelude.{Err}
 use Rattle.std.specs.Option.{option_and_then}
+use Rattle.sql_model.specs.Scope.{table_at}
 use Rattle.table_store.specs.Types.{Table}
 use Rattle.sql_model.specs.Tables.{is_valid_table}
-use Rattle.table_store.specs.Histories.{TableHistory, replaced, table_now}
-use Rattle.table_store.specs.Stops.{with_replaced, StopsAs, have_shape, values_of, all_stood, replace_stop}
+use Rattle.table_store.specs.Referring.{is_of, missing_stop, orphan_stop}
+use Rattle.std.specs.Option.{option_or}
+use Rattle.table_store.specs.Histories.{tables_now, TableHistory, replaced, table_now}
+use Rattle.table_store.specs.Stops.{with_changed, with_replaced, have_shape, values_of, all_stood, replace_stop}
 use Rattle.table_store.specs.StoreView.{no_table}
-use Rattle.table_store.proofs.FormedLaws.{replaced_valid}
+use Rattle.table_store.specs.declared.stop.StoreStop.{StoreStop}
+use Rattle.table_store.proofs.LaterLaws.{later_is, whole_none, whole_stops}
+use Rattle.table_store.proofs.FormedLaws.{or_none, replaced_valid}
 use Rattle.table_store.proofs.StoreChangeLaws.{replace_is, valid_there, at_place, later_there, given_there, after_stored, after_is, after_now, after_kept, not_missing}
 use Rattle.table_store.proofs.store.Store.replace_all.Goals as goal
 
@@ -48,7 +53,7 @@ invariant_of-self-in-Ok c =
     let there : TableHistory = get_or tables place no_table in
     let valid = valid_there a.catalog tables a.time c.self.invariant c.args.table.now place found.0 found.1 in
     after_stored a.catalog tables a.time c.self.invariant c.args.self.now c.self.view_is c.args.table.now place found c.args.time c.requires.later (replaced c.args.time c.args.rows) (replace_is c.args.time c.args.rows) c.replace_in.new.tables.items c.in-Ok.ensures.ok
-    (ap is_valid_table c.in-Ok.ensures.now ∙ replaced_valid (table_now there) valid c.args.rows (given_there a.catalog tables a.time c.self.invariant c.args.self.now c.self.view_is c.args.table.now place found c.args.time c.requires.later (λ table. have_shape (values_of c.args.rows) table ≡ true) c.requires.shape) c.in-Ok.ensures.stop)
+    (ap is_valid_table c.in-Ok.ensures.now ∙ replaced_valid (table_now there) valid c.args.rows (given_there a.catalog tables a.time c.self.invariant c.args.self.now c.self.view_is c.args.table.now place found c.args.time c.requires.later (λ table. have_shape (values_of c.args.rows) table ≡ true) c.requires.shape) (or_none (replace_stop c.args.rows (table_now there)) c.in_ok-later.later c.in-Ok.ensures.stop).0)
 
 pub returns-in-Ok-clause-ok : goal.returns-in-Ok-clause-ok
 returns-in-Ok-clause-ok c =
@@ -81,7 +86,13 @@ returns-in-Ok-clause-stop c =
     let tables = a.tables.items in
     let place = c.in-Some.place in
     let found = c.in-Some.ensures.found in
-    ap (option_and_then (replace_stop c.args.rows)) (at_place a.catalog tables a.time c.self.invariant c.args.self.now c.self.view_is c.args.table.now place found c.args.time c.requires.later) ∙ c.in-Ok.ensures.stop
+    let there : TableHistory = get_or tables place no_table in
+    let db : List Table = tables_now c.args.self.now in
+    let o : Option Table = table_at c.args.table.now db in
+    let at : o ≡ Some (table_now there) = at_place a.catalog tables a.time c.self.invariant c.args.self.now c.self.view_is c.args.table.now place found c.args.time c.requires.later in
+    let rest : Table → Option StoreStop = λ (own : Table). option_or (missing_stop own.schema.foreign c.args.rows (with_changed own.name (with_replaced c.args.rows) db)) (orphan_stop (is_of c.args.rows) own (with_replaced c.args.rows own) db) in
+    let same : rest (table_now there) ≡ c.in_ok-later.later = later_is rest o (table_now there) c.in_ok-later.later at c.in_ok-later.ensures in
+    whole_none (replace_stop c.args.rows) rest o (table_now there) c.in_ok-later.later at same c.in-Ok.ensures.stop
 
 pub returns-in-Err-clause-stop : goal.returns-in-Err-clause-stop
 returns-in-Err-clause-stop c =
@@ -89,4 +100,10 @@ returns-in-Err-clause-stop c =
     let tables = a.tables.items in
     let place = c.in-Some.place in
     let found = c.in-Some.ensures.found in
-    subst (λ (o : Option Table). StopsAs {X = Unit {0}} (option_and_then (replace_stop c.args.rows) o) (Err c.in-Err.stop)) (sym (at_place a.catalog tables a.time c.self.invariant c.args.self.now c.self.view_is c.args.table.now place found c.args.time c.requires.later)) c.in-Err.ensures.stop
+    let there : TableHistory = get_or tables place no_table in
+    let db : List Table = tables_now c.args.self.now in
+    let o : Option Table = table_at c.args.table.now db in
+    let at : o ≡ Some (table_now there) = at_place a.catalog tables a.time c.self.invariant c.args.self.now c.self.view_is c.args.table.now place found c.args.time c.requires.later in
+    let rest : Table → Option StoreStop = λ (own : Table). option_or (missing_stop own.schema.foreign c.args.rows (with_changed own.name (with_replaced c.args.rows) db)) (orphan_stop (is_of c.args.rows) own (with_replaced c.args.rows own) db) in
+    let same : rest (table_now there) ≡ c.in_ok-later.later = later_is rest o (table_now there) c.in_ok-later.later at c.in_ok-later.ensures in
+    whole_stops (Unit {0}) (replace_stop c.args.rows) rest o (table_now there) c.in_ok-later.later c.in-Err.stop at same c.in-Err.ensures.stop

@@ -12,7 +12,7 @@ use Rattle.table_store.proofs.table.TableStore.of_table.Goals as goal
 pub invariant_of-result : goal.invariant_of-result
 invariant_of-result c =
     let table = c.args.table in
-    let schema : Schema = record { columns = table.schema.columns; key = table.schema.key } in
+    let schema : Schema = record { columns = table.schema.columns; key = table.schema.key; foreign = table.schema.foreign } in
     let held : Held = λ key. held_in c.in_ok-index.index key in
     let rows : RowsHistory = record { slots = map (added 0) table.rows; kinds = kinds_in table.schema.columns; next = table.next } in
     let made : c.set_next.new.self ≡ rows =

@@ -1,6 +1,7 @@
 use Rattle.std.proofs.Common.{rules, ◌≡◌, ◌∙◌, ◌==◌, ◌<◌, ap, sym, subst, ℕ, List, Bool, map, true, false, None, Option, refl}
 use Rattle.std.specs.Prelude.{Err}
 use Rattle.std.specs.List.{list_all, list_any}
+use Rattle.std.specs.Option.{option_or}
 use Rattle.row_version.specs.History.{Change}
 use Rattle.sql_model.specs.Changes.{has_null, clash_by}
 use Rattle.table_store.specs.Types.{TableRow}
@@ -18,6 +19,7 @@ use Rattle.table_store.specs.declared.change.RowChange.{RowChange}
 use Rattle.table_store.specs.declared.stop.StoreStop.{StoreStop}
 use Rattle.table_store.specs.declared.index.Index.{Index}
 use Rattle.table_store.proofs.IndexChangeLaws.{claims_kept, indexed_same}
+use Rattle.table_store.proofs.ClaimLaws.{stop_before, stop_later}
 use Rattle.table_store.proofs.RekeyLaws.{replace_stop_is, stop_as}
 use Rattle.table_store.proofs.TableChangeLaws.{before_all, rewrites_rise, rewrites_stand, rewrites_fit, changes_written, stored_changed, stored_wider, indexed_replaced, GivenStand, given_stand, replaced_now}
 use Rattle.table_store.proofs.table.TableStore.replace_all.Goals as goal
@@ -58,8 +60,20 @@ returns-in-Err-clause-stop c =
     let given = c.items-3.ensures in
     let stop = subst (λ (l : List TableRow). StopsAs {X = Unit {0}} (both_stop a.schema.key (clash_by a.schema.key (map (replaced_by l) (rows_now a.rows.slots)))) (Err c.in-Err.stop)) given
     (stop_as Index (Unit {0}) (both_stop a.schema.key (clash_by a.schema.key (map (replaced_by c.items-3.result.now) (rows_now a.rows.slots)))) c.in-Err.stop c.in-Err.ensures.stop) in
-    subst (λ (t : TableHistory). StopsAs {X = Unit {0}} (replace_stop c.args.rows (table_now t)) (Err c.in-Err.stop)) c.self.view_is
-    (subst (λ (o : Option StoreStop). StopsAs {X = Unit {0}} o (Err c.in-Err.stop)) (sym (replace_stop_is c.args.rows made lacks)) stop)
+    stop_before (Unit {0}) (Unit {0}) (replace_stop c.args.rows (table_now c.args.self.now)) c.args.later c.in-Err.stop
+    (subst (λ (t : TableHistory). StopsAs {X = Unit {0}} (replace_stop c.args.rows (table_now t)) (Err c.in-Err.stop)) c.self.view_is
+    (subst (λ (o : Option StoreStop). StopsAs {X = Unit {0}} o (Err c.in-Err.stop)) (sym (replace_stop_is c.args.rows made lacks)) stop))
+
+pub returns-in-Some-clause-stop : goal.returns-in-Some-clause-stop
+returns-in-Some-clause-stop c =
+    let a = c.self.inside in
+    let made : TableHistory = record { name = a.name; schema = a.schema; slots = a.rows.slots; nexts = nexts_of a.nexts.items } in
+    let lacks : list_any (has_null made.schema.columns) c.args.rows ≡ false = search rules in
+    let given = c.items-3.ensures in
+    let none = subst (λ (l : List TableRow). both_stop a.schema.key (clash_by a.schema.key (map (replaced_by l) (rows_now a.rows.slots))) ≡ None) given c.in-Ok.ensures.stop in
+    let own : replace_stop c.args.rows (table_now c.args.self.now) ≡ None =
+    subst (λ (t : TableHistory). replace_stop c.args.rows (table_now t) ≡ None) c.self.view_is (replace_stop_is c.args.rows made lacks ∙ none) in
+    stop_later (Unit {0}) (replace_stop c.args.rows (table_now c.args.self.now)) c.args.later c.in-Some.stop own c.in-Some.is
 
 pub returns-clause-stop : goal.returns-clause-stop
 returns-clause-stop c =
@@ -68,7 +82,9 @@ returns-clause-stop c =
     let lacks : list_any (has_null made.schema.columns) c.args.rows ≡ false = search rules in
     let given = c.items-3.ensures in
     let none = subst (λ (l : List TableRow). both_stop a.schema.key (clash_by a.schema.key (map (replaced_by l) (rows_now a.rows.slots))) ≡ None) given c.in-Ok.ensures.stop in
-    subst (λ (t : TableHistory). replace_stop c.args.rows (table_now t) ≡ None) c.self.view_is (replace_stop_is c.args.rows made lacks ∙ none)
+    let own : replace_stop c.args.rows (table_now c.args.self.now) ≡ None =
+    subst (λ (t : TableHistory). replace_stop c.args.rows (table_now t) ≡ None) c.self.view_is (replace_stop_is c.args.rows made lacks ∙ none) in
+    ap (λ (o : Option StoreStop). option_or o c.args.later) own ∙ c.in-None.is
 
 pub invariant_of-self : goal.invariant_of-self
 invariant_of-self c =

@@ -1,0 +1,151 @@
+//! Lists of needed rows, sorted by table and number.
+
+ghost use Rattle.std.specs.Prelude.{◌≡◌, [], ◌∷◌, map, IfOk, MatchOption};
+ghost use Rattle.core_parts.specs.Needing.{need_by, sorted_once, united, member_order, IsLast, IsNext};
+
+use ldv_value::{CopyItem, List};
+use sql_model::{Member, Members, Need, Needs, Rule};
+use std::alloc::{AllocError, Global};
+use std::cmp::Ordering;
+
+// By table, then by number.
+fn member_order(a: &Member, b: &Member) -> Ordering
+    ensures { result ≡ member_order a.now b.now }
+{
+    let tables = a.table.as_str().cmp(b.table.as_str());
+    tables.then(a.row.cmp(&b.row))
+}
+
+/// Rows that are needed by a rule.
+pub fn needed_by(rule: Rule, members: Members) -> Result<Needs, AllocError>
+    ensures { IfOk result (λ needs. needs ≡ map (need_by rule) members) }
+{
+    let mut needs = List::with_capacity(members.allocator(), members.len())?;
+    for member in members.into_vec() {
+        needs.push(Need { member, rule })?;
+    }
+    Ok(needs)
+}
+
+/// Needs in any order, sorted by table and number, each row once; of a row that is there several times, the
+/// first need.
+pub fn sorted_once(alloc: Global, needs: Needs) -> Result<Needs, AllocError>
+    ensures { IfOk result (λ made. made ≡ sorted_once needs) }
+{
+    let mut items = needs.into_vec();
+    items.sort_by(|a, b| member_order(&a.member, &b.member))?;
+    let mut made = List::with_capacity(alloc, items.len())?;
+    for need in items {
+        if is_other(made.items(), &need) {
+            made.push(need)?;
+        }
+    }
+    Ok(made)
+}
+
+// Whether a need is of another row than the last one.
+fn is_other(needs: &[Need], need: &Need) -> bool {
+    match needs.last() {
+        None => true,
+        Some(last) => member_order(&last.member, &need.member).is_ne(),
+    }
+}
+
+// The first need of two lists as one, and what is left of them.
+#[derive(Clone, Copy)]
+struct Next<'a> {
+    need: &'a Need,
+    needs: &'a [Need],
+    others: &'a [Need],
+}
+
+// Where both lists go on.
+fn next_of_both<'a>(
+    need: &'a Need,
+    more: &'a [Need],
+    other: &'a Need,
+    rest: &'a [Need],
+    needs: &'a [Need],
+    others: &'a [Need],
+) -> Next<'a>
+    requires needs { needs.now ≡ need.now ∷ more.now }
+    requires others { others.now ≡ other.now ∷ rest.now }
+    ensures { IsNext needs.now others.now result }
+{
+    match member_order(&need.member, &other.member) {
+        Ordering::Less => Next {
+            need,
+            needs: more,
+            others,
+        },
+        Ordering::Equal => Next {
+            need,
+            needs: more,
+            others: rest,
+        },
+        Ordering::Greater => Next {
+            need: other,
+            needs,
+            others: rest,
+        },
+    }
+}
+
+// Where the first list is at its end.
+fn next_of_others<'a>(needs: &'a [Need], others: &'a [Need]) -> Option<Next<'a>>
+    requires { needs.now ≡ [] }
+    ensures { MatchOption result (IsLast needs.now others.now) (IsNext needs.now others.now) }
+{
+    match others {
+        [] => None,
+        [other, rest @ ..] => Some(Next {
+            need: other,
+            needs,
+            others: rest,
+        }),
+    }
+}
+
+// Where the first list goes on.
+fn next_of_needs<'a>(
+    need: &'a Need,
+    more: &'a [Need],
+    needs: &'a [Need],
+    others: &'a [Need],
+) -> Next<'a>
+    requires { needs.now ≡ need.now ∷ more.now }
+    ensures { IsNext needs.now others.now result }
+{
+    match others {
+        [] => Next {
+            need,
+            needs: more,
+            others,
+        },
+        [other, rest @ ..] => next_of_both(need, more, other, rest, needs, others),
+    }
+}
+
+fn next_of<'a>(needs: &'a [Need], others: &'a [Need]) -> Option<Next<'a>>
+    ensures { MatchOption result (IsLast needs.now others.now) (IsNext needs.now others.now) }
+{
+    match needs {
+        [] => next_of_others(needs, others),
+        [need, more @ ..] => Some(next_of_needs(need, more, needs, others)),
+    }
+}
+
+/// Two lists that are sorted by table and number as one; of a row that is in both, the first need.
+pub fn united(alloc: Global, needs: &[Need], others: &[Need]) -> Result<Needs, AllocError>
+    ensures { IfOk result (λ made. made ≡ united needs.now others.now) }
+{
+    let mut made = List::with_capacity(alloc, needs.len())?;
+    let mut left = needs;
+    let mut right = others;
+    'needs: while let Some(next) = next_of(left, right) {
+        made.push(next.need.copy_item(alloc)?)?;
+        left = next.needs;
+        right = next.others;
+    }
+    Ok(made)
+}

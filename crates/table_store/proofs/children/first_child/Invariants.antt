@@ -1,0 +1,8 @@
+use Rattle.std.proofs.Common.{◌≡◌, None, take}
+use Rattle.table_store.specs.Afterwards.{first_some, in_set, orphan_in_table}
+use Rattle.table_store.specs.Stops.{is_among}
+use Rattle.table_store.proofs.children.first_child.Given as goal
+
+abbrev pub invariant-loop-table : goal.invariant-loop-table
+invariant-loop-table l =
+    first_some (orphan_in_table (is_among l.numbers) l.target (in_set l.lost)) (take l.table-index l.tables) ≡ None

@@ -1,0 +1,35 @@
+use Rattle.std.proofs.Common.{rules, ◌≡◌, ◌∙◌, ap, sym, get_or, is_some, true, false, arith}
+use Rattle.std.specs.Option.{option_map}
+use Rattle.table_store.specs.Afterwards.{has_put, in_set, missing_put}
+use Rattle.table_store.specs.Histories.{tables_now}
+use Rattle.table_store.specs.Referring.{parent_stop}
+use Rattle.table_store.specs.Types.{Foreign}
+use Rattle.table_store.proofs.FirstLaws.{first_goes_on, first_stops, first_ends}
+use Rattle.table_store.proofs.parents.missing_by_each.Goals as goal
+
+pub loop-foreign-preserved : goal.loop-foreign-preserved
+loop-foreign-preserved c =
+    let f = missing_put (has_put (in_set c.args.keys.now) c.args.numbers.now c.args.own.now) (tables_now c.args.store.now) c.args.values.now in
+    let h = parent_stop in
+    let xs = c.items.result.now in
+    let here : c.in_ok-stop.stop ≡ option_map h (f (get_or xs c.loop-foreign.foreign-index c.foreign-item.result)) =
+    c.in_ok-stop.ensures ∙ ap (λ (x : Foreign). option_map h (f x)) c.foreign-item.is in
+    let none : is_some c.in_ok-stop.stop ≡ false = search rules in
+    first_goes_on f h xs c.loop-foreign.foreign-index c.foreign-item.result c.in_ok-stop.stop c.loop-foreign-test.true c.loop-foreign.invariant here none
+
+pub returns-then-is_some : goal.returns-then-is_some
+returns-then-is_some c =
+    let f = missing_put (has_put (in_set c.args.keys.now) c.args.numbers.now c.args.own.now) (tables_now c.args.store.now) c.args.values.now in
+    let h = parent_stop in
+    let xs = c.items.result.now in
+    let here : c.in_ok-stop.stop ≡ option_map h (f (get_or xs c.loop-foreign.foreign-index c.foreign-item.result)) =
+    c.in_ok-stop.ensures ∙ ap (λ (x : Foreign). option_map h (f x)) c.foreign-item.is in
+    let some : is_some c.in_ok-stop.stop ≡ true = search rules in
+    first_stops f h xs c.loop-foreign.foreign-index c.foreign-item.result c.in_ok-stop.stop c.loop-foreign-test.true c.loop-foreign.invariant here some
+
+pub returns : goal.returns
+returns c =
+    let f = missing_put (has_put (in_set c.args.keys.now) c.args.numbers.now c.args.own.now) (tables_now c.args.store.now) c.args.values.now in
+    let h = parent_stop in
+    let xs = c.items.result.now in
+    first_ends f h xs c.loop-foreign.foreign-index (omega arith) c.loop-foreign.invariant

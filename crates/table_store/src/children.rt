@@ -1,0 +1,223 @@
+//! What refuses a change for a child row that would lose its parent.
+
+ghost use Rattle.std.specs.Prelude.{◌≡◌, ◌==◌, ◌&&◌, ◌||◌, ℕ, List, [], ◌∷◌, true, false, Some, IfOk};
+ghost use Rattle.std.specs.Prelude.{slice_index_or};
+ghost use Rattle.std.specs.List.{list_any};
+ghost use Rattle.std.specs.Option.{option_map, option_map_or};
+ghost use Rattle.sql_model.specs.References.{child_of, has_key, orphan_by, reference};
+ghost use Rattle.table_store.specs.Afterwards.{first_some, in_set, loses, orphan_in_row, orphan_in_slot};
+ghost use Rattle.table_store.specs.Afterwards.{orphan_in_table, orphan_in_tables};
+ghost use Rattle.table_store.specs.Histories.{no_history, row_now, table_now};
+ghost use Rattle.table_store.specs.Referring.{child_stop};
+ghost use Rattle.table_store.specs.Stops.{are_sorted_numbers, is_among};
+ghost use Rattle.sql_model.specs.Keys.{same_values, values_at};
+ghost use Rattle.sql_model.specs.Scope.{is_table};
+ghost use Rattle.table_store.specs.Types.{Value};
+ghost use Rattle.table_store.specs.declared.stop.StoreStop.TheVariants.{HasChild};
+
+use crate::given::is_given;
+use crate::index::key_of;
+use crate::stop::StoreStop;
+use crate::table::TableStore;
+use ldv_value::Values;
+use sql_model::{Foreign, RowKey, refers_to_none};
+use std::alloc::{AllocError, Global};
+use std::collections::BTreeSet;
+
+/// The keys that the rows of some numbers have and that aren't among those of given rows.
+pub(crate) fn lost_keys(
+    alloc: Global,
+    held: &TableStore,
+    numbers: &[u32],
+    keys: &BTreeSet<RowKey>,
+) -> Result<BTreeSet<RowKey>, AllocError>
+    ensures { IfOk result (λ lost. (key : List Value) → in_set lost key
+        ≡ loses (in_set keys.now) numbers.now (table_now held.now) key) }
+{
+    let mut lost = BTreeSet::new(alloc);
+    for number in numbers {
+        add_lost(alloc, held, *number, keys, &mut lost)?;
+    }
+    Ok(lost)
+}
+
+// The row of a number had the key.
+fn add_lost(
+    alloc: Global,
+    held: &TableStore,
+    number: u32,
+    keys: &BTreeSet<RowKey>,
+    lost: &mut BTreeSet<RowKey>,
+) -> Result<(), AllocError>
+    ensures { IfOk result (λ _. (key : List Value) → in_set lost.new key
+        ≡ (in_set lost.old key || loses (in_set keys.now) (number ∷ []) (table_now held.now) key)) }
+{
+    match key_at(alloc, held, number)? {
+        None => Ok(()),
+        Some(key) => {
+            if !keys.contains(&key) {
+                lost.insert(key)?;
+            }
+            Ok(())
+        }
+    }
+}
+
+// The key of the row of a number, where it stands.
+fn key_at(alloc: Global, held: &TableStore, number: u32) -> Result<Option<RowKey>, AllocError>
+    ensures { IfOk result (λ found. (key : List Value)
+        → option_map_or (λ k. same_values k.values key) found false
+        ≡ list_any (λ row. is_among (number ∷ []) row && has_key held.now.schema.key key row)
+        (table_now held.now).rows) }
+{
+    match held.slot_of(number) {
+        None => Ok(None),
+        Some(slot) => key_in(alloc, held, slot),
+    }
+}
+
+fn key_in(alloc: Global, held: &TableStore, slot: u64) -> Result<Option<RowKey>, AllocError>
+    ensures { IfOk result (λ found. option_map (λ key. key.values) found
+        ≡ option_map (λ row. values_at held.now.schema.key row.values)
+        (row_now (slice_index_or held.now.slots slot no_history))) }
+{
+    match held.slot_row(slot) {
+        None => Ok(None),
+        Some(_number) => {
+            let values = held.row_values(slot)?;
+            Ok(Some(key_of(alloc, &held.schema().key, &values)?))
+        }
+    }
+}
+
+/// The first row, by table and number, that isn't given and refers to one of some keys of a table.
+pub(crate) fn first_child(
+    alloc: Global,
+    tables: &[TableStore],
+    target: &str,
+    numbers: &[u32],
+    lost: &BTreeSet<RowKey>,
+) -> Result<Option<StoreStop>, AllocError>
+    requires { are_sorted_numbers numbers.now ≡ true }
+    ensures { IfOk result (λ stop. stop ≡ option_map child_stop
+        (orphan_in_tables (is_among numbers.now) target.now (in_set lost.now) tables.now)) }
+{
+    for table in tables {
+        let stop = child_in(alloc, table, target, numbers, lost)?;
+        if stop.is_some() {
+            return Ok(stop);
+        }
+    }
+    Ok(None)
+}
+
+fn child_in(
+    alloc: Global,
+    table: &TableStore,
+    target: &str,
+    numbers: &[u32],
+    lost: &BTreeSet<RowKey>,
+) -> Result<Option<StoreStop>, AllocError>
+    requires { are_sorted_numbers numbers.now ≡ true }
+    ensures { IfOk result (λ stop. stop ≡ option_map child_stop
+        (orphan_in_table (is_among numbers.now) target.now (in_set lost.now) table.now)) }
+{
+    for slot in 0..table.slots() {
+        let stop = child_at(alloc, table, slot, target, numbers, lost)?;
+        if stop.is_some() {
+            return Ok(stop);
+        }
+    }
+    Ok(None)
+}
+
+// The row in a slot, if it stands, isn't given and refers to one of the keys.
+fn child_at(
+    alloc: Global,
+    table: &TableStore,
+    slot: u64,
+    target: &str,
+    numbers: &[u32],
+    lost: &BTreeSet<RowKey>,
+) -> Result<Option<StoreStop>, AllocError>
+    requires { are_sorted_numbers numbers.now ≡ true }
+    ensures { IfOk result (λ stop. stop ≡ option_map child_stop
+        (orphan_in_slot (is_among numbers.now) target.now (in_set lost.now) (table_now table.now)
+        (slice_index_or table.now.slots slot no_history))) }
+{
+    match table.slot_row(slot) {
+        None => Ok(None),
+        Some(number) => {
+            if is_passed(table, target, numbers, number) {
+                return Ok(None);
+            }
+            let values = table.row_values(slot)?;
+            child_by_each(alloc, table, target, lost, number, &values)
+        }
+    }
+}
+
+// Whether a row is given.
+fn is_passed(table: &TableStore, target: &str, numbers: &[u32], number: u32) -> bool
+    requires { are_sorted_numbers numbers.now ≡ true }
+    ensures { result ≡ (is_table target.now (table_now table.now)
+        && list_any (λ given. given == number) numbers.now) }
+{
+    table.name() == target && is_given(numbers, number)
+}
+
+fn child_by_each(
+    alloc: Global,
+    table: &TableStore,
+    target: &str,
+    lost: &BTreeSet<RowKey>,
+    number: u32,
+    values: &Values,
+) -> Result<Option<StoreStop>, AllocError>
+    ensures { IfOk result (λ stop. stop ≡ option_map child_stop
+        (orphan_in_row target.now (in_set lost.now) (table_now table.now)
+        (record { number = number; values = values.now }))) }
+{
+    for foreign in table.schema().foreign.items() {
+        let stop = child_by(alloc, table, target, lost, number, values, foreign)?;
+        if stop.is_some() {
+            return Ok(stop);
+        }
+    }
+    Ok(None)
+}
+
+fn child_by(
+    alloc: Global,
+    table: &TableStore,
+    target: &str,
+    lost: &BTreeSet<RowKey>,
+    number: u32,
+    values: &Values,
+    foreign: &Foreign,
+) -> Result<Option<StoreStop>, AllocError>
+    ensures { IfOk result (λ stop. stop ≡ option_map child_stop
+        (orphan_by target.now (in_set lost.now)
+        (child_of (table_now table.now) (record { number = number; values = values.now })) foreign.now
+        (reference foreign.now values.now))) }
+{
+    if refers_to_none(foreign, values) {
+        return Ok(None);
+    }
+    let key = key_of(alloc, &foreign.columns, values)?;
+    if foreign.parent.is_text(target) && lost.contains(&key) {
+        return child(table, number, key);
+    }
+    Ok(None)
+}
+
+fn child(table: &TableStore, row: u32, key: RowKey) -> Result<Option<StoreStop>, AllocError>
+    ensures { IfOk result (λ stop. stop ≡ Some (HasChild table.now.name row key.values)) }
+{
+    let table = table.copy_name()?;
+    Ok(Some(StoreStop::HasChild {
+        table,
+        row,
+        key: key.values,
+    }))
+}

@@ -1,0 +1,191 @@
+//! What refuses given rows for want of a parent.
+
+ghost use Rattle.std.specs.Prelude.{◌≡◌, ◌<◌, ℕ, List, true, false, Some, None, IfOk, IfSome, length, map};
+ghost use Rattle.std.specs.List.{list_all, list_any};
+ghost use Rattle.std.specs.Option.{option_map, option_map_or};
+ghost use Rattle.sql_model.specs.Keys.{values_at};
+ghost use Rattle.sql_model.specs.Meaning.{is_null};
+ghost use Rattle.sql_model.specs.References.{has_key};
+ghost use Rattle.sql_model.specs.Scope.{table_at};
+ghost use Rattle.sql_model.specs.Tables.{are_keys_unique, row_values};
+ghost use Rattle.table_store.specs.Afterwards.{has_put, in_set, is_keyed, keeps, missing_in_row};
+ghost use Rattle.table_store.specs.Afterwards.{missing_in_rows, missing_put};
+ghost use Rattle.table_store.specs.Histories.{table_now, tables_now};
+ghost use Rattle.table_store.specs.Referring.{parent_stop};
+ghost use Rattle.table_store.specs.Stops.{are_sorted_numbers};
+ghost use Rattle.table_store.specs.Types.{Value};
+
+use crate::given::is_given;
+use crate::index::key_of;
+use crate::stop::StoreStop;
+use crate::store::Store;
+use crate::table::TableStore;
+use ldv_value::Values;
+use sql_model::{Foreign, Foreigns, HasValues, RowKey, refers_to_none};
+use std::alloc::{AllocError, Global};
+use std::collections::BTreeSet;
+
+/// The first key to which one of some rows of a table refers and that no row of the parent has once rows are
+/// given: row by row, and in each in the order of the foreign keys. `keys` are those of the given rows, and
+/// `numbers`, sorted, those of the rows whose place they take.
+pub(crate) fn missing_parent<R: HasValues>(
+    alloc: Global,
+    store: &Store,
+    own: &TableStore,
+    keys: &BTreeSet<RowKey>,
+    numbers: &[u32],
+    rows: &[R],
+) -> Result<Option<StoreStop>, AllocError>
+    requires sorted { are_sorted_numbers numbers.now ≡ true }
+    requires keyed { list_all (is_keyed (tables_now store.now)) own.now.schema.foreign ≡ true }
+    ensures { IfOk result (λ stop. stop ≡ option_map parent_stop
+        (missing_in_rows (has_put (in_set keys.now) numbers.now own.now.name) (tables_now store.now)
+        own.now.schema.foreign (map R.cells rows.now))) }
+{
+    for row in rows {
+        let stop = missing_in_row(alloc, store, own, keys, numbers, row.values())?;
+        if stop.is_some() {
+            return Ok(stop);
+        }
+    }
+    Ok(None)
+}
+
+fn missing_in_row(
+    alloc: Global,
+    store: &Store,
+    own: &TableStore,
+    keys: &BTreeSet<RowKey>,
+    numbers: &[u32],
+    values: &Values,
+) -> Result<Option<StoreStop>, AllocError>
+    requires sorted { are_sorted_numbers numbers.now ≡ true }
+    requires keyed { list_all (is_keyed (tables_now store.now)) own.now.schema.foreign ≡ true }
+    ensures { IfOk result (λ stop. stop ≡ option_map parent_stop
+        (missing_in_row (has_put (in_set keys.now) numbers.now own.now.name) (tables_now store.now)
+        own.now.schema.foreign values.now)) }
+{
+    missing_by_each(
+        alloc,
+        store,
+        own.name(),
+        keys,
+        numbers,
+        values,
+        &own.schema().foreign,
+    )
+}
+
+fn missing_by_each(
+    alloc: Global,
+    store: &Store,
+    own: &str,
+    keys: &BTreeSet<RowKey>,
+    numbers: &[u32],
+    values: &Values,
+    foreigns: &Foreigns,
+) -> Result<Option<StoreStop>, AllocError>
+    requires sorted { are_sorted_numbers numbers.now ≡ true }
+    requires keyed { list_all (is_keyed (tables_now store.now)) foreigns.now ≡ true }
+    ensures { IfOk result (λ stop. stop ≡ option_map parent_stop
+        (missing_in_row (has_put (in_set keys.now) numbers.now own.now) (tables_now store.now) foreigns.now
+        values.now)) }
+{
+    for foreign in foreigns.items() {
+        let stop = missing_by(alloc, store, own, keys, numbers, values, foreign)?;
+        if stop.is_some() {
+            return Ok(stop);
+        }
+    }
+    Ok(None)
+}
+
+fn missing_by(
+    alloc: Global,
+    store: &Store,
+    own: &str,
+    keys: &BTreeSet<RowKey>,
+    numbers: &[u32],
+    values: &Values,
+    foreign: &Foreign,
+) -> Result<Option<StoreStop>, AllocError>
+    requires sorted { are_sorted_numbers numbers.now ≡ true }
+    requires keyed { is_keyed (tables_now store.now) foreign.now ≡ true }
+    ensures { IfOk result (λ stop. stop ≡ option_map parent_stop
+        (missing_put (has_put (in_set keys.now) numbers.now own.now) (tables_now store.now) values.now
+        foreign.now)) }
+{
+    if refers_to_none(foreign, values) {
+        return Ok(None);
+    }
+    let key = key_of(alloc, &foreign.columns, values)?;
+    if has_parent(store, own, keys, numbers, foreign, &key) {
+        return Ok(None);
+    }
+    let table = foreign.parent.copy()?;
+    Ok(Some(StoreStop::NoParent {
+        table,
+        key: key.values,
+    }))
+}
+
+// Whether a row of the parent has a key once rows are given.
+fn has_parent(
+    store: &Store,
+    own: &str,
+    keys: &BTreeSet<RowKey>,
+    numbers: &[u32],
+    foreign: &Foreign,
+    key: &RowKey,
+) -> bool
+    requires sorted { are_sorted_numbers numbers.now ≡ true }
+    requires keyed { is_keyed (tables_now store.now) foreign.now ≡ true }
+    ensures { result ≡ option_map_or
+        (λ parent. has_put (in_set keys.now) numbers.now own.now parent key.now.values)
+        (table_at foreign.now.parent (tables_now store.now)) false }
+{
+    store.tell_formed();
+    match store.table(foreign.parent.as_str()) {
+        None => false,
+        Some(parent) => has_put(parent, own, keys, numbers, key),
+    }
+}
+
+fn has_put(
+    parent: &TableStore,
+    own: &str,
+    keys: &BTreeSet<RowKey>,
+    numbers: &[u32],
+    key: &RowKey,
+) -> bool
+    requires sorted { are_sorted_numbers numbers.now ≡ true }
+    requires keyed { 0 < length parent.now.schema.key }
+    requires apart { are_keys_unique parent.now.schema.key (row_values (table_now parent.now)) ≡ true }
+    ensures { result ≡ has_put (in_set keys.now) numbers.now own.now (table_now parent.now) key.now.values }
+{
+    if parent.name() == own {
+        keys.contains(key) || is_kept(parent, numbers, key)
+    } else {
+        has_row(parent, key)
+    }
+}
+
+fn has_row(parent: &TableStore, key: &RowKey) -> bool
+    requires { 0 < length parent.now.schema.key }
+    ensures { result ≡ list_any (has_key parent.now.schema.key key.now.values) (table_now parent.now).rows }
+{
+    parent.by_row_key(key).is_some()
+}
+
+// Whether a row that isn't given has a key.
+fn is_kept(parent: &TableStore, numbers: &[u32], key: &RowKey) -> bool
+    requires sorted { are_sorted_numbers numbers.now ≡ true }
+    requires keyed { 0 < length parent.now.schema.key }
+    requires apart { are_keys_unique parent.now.schema.key (row_values (table_now parent.now)) ≡ true }
+    ensures { result ≡ keeps numbers.now (table_now parent.now) key.now.values }
+{
+    match parent.by_row_key(key) {
+        None => false,
+        Some(number) => !is_given(numbers, number),
+    }
+}
