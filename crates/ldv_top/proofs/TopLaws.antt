@@ -4,10 +4,12 @@ use Rattle.std.specs.Prelude.{Option, Some, None, is_some, IfSome, ◌⊎◌, tr
 use Rattle.std.specs.Io.KnownBytes.{Consumes, IsAtEnd}
 use Rattle.ldv_io.specs.Causes.{Rose}
 use Rattle.run_model.specs.declared.package.Mode.{Mode}
+use Rattle.run_model.specs.declared.package.Mode.TheVariants.{Excluded}
 use Rattle.run_model.specs.declared.world.World.{World}
-use Rattle.run_model.specs.WorldRun.{steps_by}
+use Rattle.run_model.specs.WorldRun.{events_within, steps_by}
+use Rattle.free_order.specs.Private.{private_test}
 use Rattle.ldv_top.specs.Comes.{Comes, IsQuiet}
-use Rattle.ldv_top.specs.Due.{Due, due_of, due_record, due_replay, due_world, is_too_long}
+use Rattle.ldv_top.specs.Due.{Due, due_of, due_record, due_replay, due_replay_seed, due_world, is_too_long}
 use Rattle.ldv_top.specs.DueOfMigrations.{due_migrate}
 use Rattle.ldv_top.specs.DueOfReports.{due_inspect}
 use Rattle.ldv_top.specs.Ends.{Ends, Responds}
@@ -16,10 +18,10 @@ use Rattle.ldv_top.specs.Migrated.{Migrated}
 use Rattle.ldv_top.specs.Reported.{Depends}
 use Rattle.ldv_top.specs.Words.{command_of, reads}
 use Rattle.ldv_top.specs.declared.command.Command.{Command}
-use Rattle.ldv_top.specs.declared.command.Command.TheVariants.{Run, Record, Replay, Audit, Table, Inspect, Generate, Migrate}
+use Rattle.ldv_top.specs.declared.command.Command.TheVariants.{Run, Record, Replay, ReplaySeed, Audit, Table, Inspect, Generate, Migrate}
 use Rattle.ldv_top.specs.declared.command.Report.TheVariants.{Depends as DependsOn}
 use Rattle.ldv_top.specs.declared.exit.Exit.{Exit}
-use Rattle.ldv_top.specs.declared.exit.Exit.TheVariants.{Done, Usage, ReadFault, WriteFault, TooLong, NotWorld, NotEnded, Damaged, Diverged, NoSuch, NoMemory, PackageTooLong}
+use Rattle.ldv_top.specs.declared.exit.Exit.TheVariants.{Done, Usage, ReadFault, WriteFault, TooLong, NotWorld, NotEnded, Damaged, Diverged, NoSuch, NoMemory, PackageTooLong, NotPrivate}
 
 -- what was read to the end is all that there was
 pub got_all : (old new : Option (List ℕ)) (got input : List ℕ) → old ≡ Some input → Consumes old new got → IsAtEnd new → got ≡ input
@@ -43,12 +45,14 @@ complete d (Damaged kind) old new R W out is read write no_read no_write = let e
 complete d (Diverged process index) old new R W out is read write no_read no_write = let e : Diverged process index ≡ Done = sym out ∙ is in cc
 complete d NoSuch old new R W out is read write no_read no_write = let e : NoSuch ≡ Done = sym out ∙ is in cc
 complete d PackageTooLong old new R W out is read write no_read no_write = let e : PackageTooLong ≡ Done = sym out ∙ is in cc
+complete d NotPrivate old new R W out is read write no_read no_write = let e : NotPrivate ≡ Done = sym out ∙ is in cc
 
 -- what is due for a command that reads nothing is the same for every input
 pub due_unread : (command : Command) → reads (Some command) ≡ false → (given input : List ℕ) → due_of (Some command) given ≡ due_of (Some command) input
 due_unread (Run budget) unread given input = let never : true ≡ false = unread in cc
 due_unread (Record mode budget) unread given input = let never : true ≡ false = unread in cc
 due_unread (Replay budget) unread given input = let never : true ≡ false = unread in cc
+due_unread (ReplaySeed seed budget) unread given input = let never : true ≡ false = unread in cc
 due_unread (Audit budget) unread given input = let never : true ≡ false = unread in cc
 due_unread (Table name step budget) unread given input = let never : true ≡ false = unread in cc
 due_unread (Inspect report) unread given input = let never : true ≡ false = unread in cc
@@ -61,6 +65,7 @@ pub too_long_due : (command : Command) → reads (Some command) ≡ true → (in
 too_long_due (Run budget) reading input long = rw long refl
 too_long_due (Record mode budget) reading input long = rw long refl
 too_long_due (Replay budget) reading input long = rw long refl
+too_long_due (ReplaySeed seed budget) reading input long = rw long refl
 too_long_due (Audit budget) reading input long = rw long refl
 too_long_due (Table name step budget) reading input long = rw long refl
 too_long_due (Inspect report) reading input long = rw long refl
@@ -97,6 +102,8 @@ module _ {Reader Writer : Type 0} (left : Reader → Option (List ℕ)) (read_fa
     recorded = λ mode budget document is told done. let never : Usage ≡ Done = done in cc;
     headline = λ mode n budget w input is told packed enough.
         let never : None ≡ Some (Replay budget) = sym none ∙ is in cc;
+    reseeded = λ n seed budget w input is told packed private enough.
+        let never : None ≡ Some (ReplaySeed seed budget) = sym none ∙ is in cc;
     migrated = λ input is told done. let never : Usage ≡ Done = done in cc;
     depends = λ path input is told done. let never : Usage ≡ Done = done in cc;
   }
@@ -118,6 +125,7 @@ module _ {Reader Writer : Type 0} (left : Reader → Option (List ℕ)) (read_fa
     complete = λ input is done no_read no_write. inr refl;
     recorded = λ mode budget document is told done. let never : NoMemory ≡ Done = done in cc;
     headline = λ mode n budget w input is told packed enough. tt;
+    reseeded = λ n seed budget w input is told packed private enough. tt;
     migrated = λ input is told done. let never : NoMemory ≡ Done = done in cc;
     depends = λ path input is told done. let never : NoMemory ≡ Done = done in cc;
   }
@@ -147,6 +155,8 @@ module _ {Reader Writer : Type 0} (left : Reader → Option (List ℕ)) (read_fa
             let never : false ≡ true = sym none_read ∙ ap reads named in cc;
         headline = λ mode n budget w input named told packed enough.
             let never : false ≡ true = sym none_read ∙ ap reads named in cc;
+        reseeded = λ n seed budget w input named told packed private enough.
+            let never : false ≡ true = sym none_read ∙ ap reads named in cc;
         migrated = λ input named told done. let never : false ≡ true = sym none_read ∙ ap reads named in cc;
         depends = λ path input named told done. let never : false ≡ true = sym none_read ∙ ap reads named in cc;
       }
@@ -167,6 +177,9 @@ module _ {Reader Writer : Type 0} (left : Reader → Option (List ℕ)) (read_fa
       (not_usage : exit ≢ Usage)
       (replayed : (mode : Mode) (n budget : ℕ) (w : World) (input : List ℕ) → IsPackageOf mode n w input
       → steps_by n [] w ≤ budget → due_replay budget input ≡ due_world n w)
+      (any_seed : (n seed budget : ℕ) (w : World) (input : List ℕ) → IsPackageOf Excluded n w input
+      → private_test (events_within n w) ≡ true → steps_by n [] w ≤ budget
+      → due_replay_seed seed budget input ≡ due_world n w)
       (reported : (path input : List ℕ) → (due_inspect (DependsOn path) input).exit ≡ Done
       → Depends path input (due_inspect (DependsOn path) input).bytes) where
     reads_input : reads (command_of words) ≡ true
@@ -194,6 +207,12 @@ module _ {Reader Writer : Type 0} (left : Reader → Option (List ℕ)) (read_fa
           let same : Some command ≡ Some (Replay budget) = sym is ∙ named in
           subst (λ (d : Due). Comes d exit (taken sink) (taken sink_after))
           (ap (λ (k : Command). due_of (Some k) input) (some_same same) ∙ replayed mode n budget w input packed enough)
+          (due input told);
+      reseeded = λ n seed budget w input named told packed private enough.
+          let same : Some command ≡ Some (ReplaySeed seed budget) = sym is ∙ named in
+          subst (λ (d : Due). Comes d exit (taken sink) (taken sink_after))
+          (ap (λ (k : Command). due_of (Some k) input) (some_same same)
+          ∙ any_seed n seed budget w input packed private enough)
           (due input told);
       migrated = λ input named told done.
           let same : Some command ≡ Some Migrate = sym is ∙ named in

@@ -6,10 +6,12 @@ use Rattle.std.specs.Prelude.{◌≡◌, ◌≢◌, ◌⊎◌, ◌↔◌, ◌≤
 use Rattle.std.specs.Io.KnownBytes.{IsAtEnd}
 use Rattle.ldv_io.specs.Causes.{Rose}
 use Rattle.run_model.specs.declared.package.Mode.{Mode}
+use Rattle.run_model.specs.declared.package.Mode.TheVariants.{Excluded}
 use Rattle.run_model.specs.declared.world.World.{World}
-use Rattle.run_model.specs.WorldRun.{steps_by}
+use Rattle.run_model.specs.WorldRun.{events_within, steps_by}
+use Rattle.free_order.specs.Private.{private_test}
 use Rattle.ldv_top.specs.Comes.{IsInput, Comes, IsQuiet}
-use Rattle.ldv_top.specs.declared.command.Command.TheVariants.{Record, Replay, Inspect, Migrate}
+use Rattle.ldv_top.specs.declared.command.Command.TheVariants.{Record, Replay, ReplaySeed, Inspect, Migrate}
 use Rattle.ldv_top.specs.declared.command.Report.TheVariants.{Depends as DependsOn}
 use Rattle.ldv_top.specs.declared.exit.Exit.{Exit}
 use Rattle.ldv_top.specs.declared.exit.Exit.TheVariants.{Done, Usage, ReadFault, WriteFault, NoMemory}
@@ -66,6 +68,12 @@ pub record Ends {Reader Writer : Type 0}
   -- the package of a valid world is replayed as the world is run, within at least the steps of that run
   pub headline : (mode : Mode) (n budget : ℕ) (w : World) (input : List ℕ)
       → command_of words ≡ Some (Replay budget) → left source ≡ Some input → IsPackageOf mode n w input
+      → steps_by n [] w ≤ budget → Comes (due_world n w) exit (taken sink) (taken sink_after)
+  -- that of the recorded replies is replayed so under every seed, where no path that one of the world's processes
+  -- changes is named by another
+  pub reseeded : (n seed budget : ℕ) (w : World) (input : List ℕ)
+      → command_of words ≡ Some (ReplaySeed seed budget) → left source ≡ Some input
+      → IsPackageOf Excluded n w input → private_test (events_within n w) ≡ true
       → steps_by n [] w ≤ budget → Comes (due_world n w) exit (taken sink) (taken sink_after)
   -- what was migrated is the same package in the version that is written
   pub migrated : (input : List ℕ) → command_of words ≡ Some Migrate → left source ≡ Some input → exit ≡ Done

@@ -3,7 +3,7 @@ use Rattle.std.specs.Prelude.{ℕ, ◌≤◌, List, [], ◌∷◌, codes, Bool, 
 use Rattle.std.specs.Prelude.{Option, Some, None, option_map}
 use Rattle.ldv_value.specs.Limits.{max_steps, default_steps}
 use Rattle.ldv_top.specs.declared.command.Command.{Command}
-use Rattle.ldv_top.specs.declared.command.Command.TheVariants.{Run, Record, Replay, Audit, Table, Inspect}
+use Rattle.ldv_top.specs.declared.command.Command.TheVariants.{Run, Record, Replay, ReplaySeed, Audit, Table, Inspect}
 use Rattle.ldv_top.specs.declared.command.Command.TheVariants.{Generate, Migrate}
 use Rattle.ldv_top.specs.WordsOfGenerate.{generate_of}
 use Rattle.ldv_top.specs.WordsOfMigrations.{migrate_of}
@@ -29,6 +29,7 @@ reads None = false
 reads (Some (Run budget)) = true
 reads (Some (Record mode budget)) = true
 reads (Some (Replay budget)) = true
+reads (Some (ReplaySeed seed budget)) = true
 reads (Some (Audit budget)) = true
 reads (Some (Table name step budget)) = true
 reads (Some (Inspect report)) = true
@@ -40,6 +41,7 @@ abbrev pub budget_of : Command → ℕ
 budget_of (Run budget) = budget
 budget_of (Record mode budget) = budget
 budget_of (Replay budget) = budget
+budget_of (ReplaySeed seed budget) = budget
 budget_of (Audit budget) = budget
 budget_of (Table name step budget) = budget
 budget_of (Inspect report) = 0

@@ -37,6 +37,8 @@ pub enum Exit {
     NoMemory,
     /// The package would have more than 67,108,864 bytes.
     PackageTooLong,
+    /// The package has rows, or its processes share a path that one of them changes.
+    NotPrivate,
 }
 
 /// The status with which the program ends.
@@ -59,5 +61,6 @@ pub fn status(exit: &Exit) -> u8
         Exit::NoSuch => 10,
         Exit::NoMemory => 11,
         Exit::PackageTooLong => 12,
+        Exit::NotPrivate => 14,
     }
 }

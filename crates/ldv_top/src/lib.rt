@@ -18,6 +18,8 @@
 //!   over the recorded replies, is run again, and its trace isn't asked;
 //! - a package of recorded replies, whoever made it, is said to diverge exactly where a statement of its run
 //!   isn't the recorded one, by the process and the number of the statement;
+//! - the package of recorded replies of such a world, whose processes share no path that one of them changes, is
+//!   replayed so under every seed (`replay --seed`, by the calls of `free_order`);
 //! - what `migrate` wrote is the same package, so that its replays, tables and reports are the same, and the
 //!   audit of both finds them sound or of neither (`specs/Migrated.antt`);
 //! - what `inspect depends` lists are the nodes of the trace's graph from which a path leads to the path that
@@ -41,7 +43,9 @@ mod reading;
 mod record;
 mod replay;
 mod report_law;
+mod reseeding;
 mod response;
+mod seed_law;
 mod tabling;
 mod top;
 mod word_stop;

@@ -34,6 +34,8 @@ pub enum Response {
     NoSuch,
     /// The package would have more than 67,108,864 bytes.
     PackageTooLong,
+    /// The package has rows, or its processes share a path that one of them changes.
+    NotPrivate,
 }
 
 /// The response to what comes of the run of a world within a budget.

@@ -27,7 +27,9 @@ use crate::migrating::migrate_response;
 use crate::record::record_response;
 use crate::replay::replay_response;
 use crate::report_law::report_law;
+use crate::reseeding::replay_seed_response;
 use crate::response::{Response, run_response};
+use crate::seed_law::seed_law;
 use crate::tabling::table_response;
 use crate::word_stop::WordStop;
 use ldv_io::{ReadStop, Sink, Source, read_all, write_all};
@@ -57,6 +59,7 @@ fn write_response<K: Sink>(sink: &mut K, response: Response) -> Exit
         Response::Damaged(kind) => Exit::Damaged(kind),
         Response::NoSuch => Exit::NoSuch,
         Response::PackageTooLong => Exit::PackageTooLong,
+        Response::NotPrivate => Exit::NotPrivate,
     }
 }
 
@@ -75,6 +78,7 @@ fn respond(alloc: Global, command: Command, input: Bytes) -> Result<Response, Al
         Command::Run { budget } => run_response(alloc, budget, input),
         Command::Record { mode, budget } => record_response(alloc, mode, budget, input),
         Command::Replay { budget } => replay_response(alloc, budget, input),
+        Command::ReplaySeed { seed, budget } => replay_seed_response(alloc, seed, budget, input),
         Command::Audit { budget } => audit_response(alloc, budget, &input),
         Command::Table { name, step, budget } => {
             table_response(alloc, name.as_str(), step, budget, input)
@@ -109,6 +113,7 @@ fn reads(command: &Command) -> bool
         Command::Run { budget: _ } => true,
         Command::Record { mode: _, budget: _ } => true,
         Command::Replay { budget: _ } => true,
+        Command::ReplaySeed { seed: _, budget: _ } => true,
         Command::Audit { budget: _ } => true,
         Command::Table {
             name: _,
@@ -178,6 +183,7 @@ pub fn ldv<S: Source, K: Sink>(
 {
     headline_law();
     report_law();
+    seed_law();
     match read_words(alloc, words) {
         Ok(command) => {
             if reads(&command) {
