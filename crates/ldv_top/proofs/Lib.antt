@@ -1,5 +1,6 @@
 pub mod AuditResponses
 pub mod BareLaws
+pub mod DocumentLaws
 pub mod GenerateLaws
 pub mod HeadlineLaw
 pub mod LogResponses

@@ -19,13 +19,15 @@ use Rattle.world_json.specs.declared.fault.WorldFault.{WorldFault}
 use Rattle.ldv_top.specs.declared.response.Response.{Response}
 use Rattle.ldv_top.specs.declared.response.Response.TheVariants as responses
 use Rattle.ldv_top.specs.declared.command.Command.{Command}
-use Rattle.ldv_top.specs.declared.command.Command.TheVariants.{Run, Record, Replay, ReplaySeed, Audit, Table, Inspect}
-use Rattle.ldv_top.specs.declared.command.Command.TheVariants.{Generate, Migrate}
+use Rattle.ldv_top.specs.declared.command.Command.TheVariants.{Run, Record, Replay, ReplaySeed, Audit, Table}
+use Rattle.ldv_top.specs.declared.command.Command.TheVariants.{Inspect, Generate, Migrate, Prov, ProvDepends}
 use Rattle.ldv_top.specs.declared.exit.Exit.TheVariants.{Usage, TooLong, NotWorld, NotEnded, Damaged}
 use Rattle.ldv_top.specs.declared.exit.Exit.TheVariants.{Diverged, NoSuch, PackageTooLong, NotPrivate}
+use Rattle.ldv_top.specs.declared.exit.Exit.TheVariants.{NotProv}
 use Rattle.ldv_top.specs.DueOfAudits.{due_audit}
 use Rattle.ldv_top.specs.DueOfGenerate.{due_generate}
 use Rattle.ldv_top.specs.DueOfMigrations.{due_migrate}
+use Rattle.ldv_top.specs.DueOfProv.{due_prov, due_prov_depends}
 use Rattle.ldv_top.specs.DueOfReports.{due_inspect}
 use Rattle.ldv_top.specs.DueOfTables.{due_table}
 use Rattle.ldv_top.specs.Words.{command_of}
@@ -111,6 +113,8 @@ due_of (Some (Table name step budget)) input = due_table name step budget input
 due_of (Some (Inspect report)) input = due_inspect report input
 due_of (Some (Generate orders)) input = due_generate orders
 due_of (Some Migrate) input = due_migrate input
+due_of (Some Prov) input = due_prov input
+due_of (Some (ProvDepends path)) input = due_prov_depends path input
 
 abbrev pub due : List (List ℕ) → List ℕ → Due
 due words input = due_of (command_of words) input
@@ -126,3 +130,4 @@ response_due (responses.Damaged kind) = refused (Damaged kind)
 response_due responses.NoSuch = refused NoSuch
 response_due responses.PackageTooLong = refused PackageTooLong
 response_due responses.NotPrivate = refused NotPrivate
+response_due responses.NotProv = refused NotProv

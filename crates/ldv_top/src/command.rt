@@ -12,6 +12,7 @@ use crate::generating::generate_of;
 use crate::inspecting::report_of;
 use crate::migrating::migrate_of;
 use crate::numbers::{long_within, positive_within};
+use crate::proving::prov_of;
 use crate::tabling::table_of;
 use crate::word_stop::WordStop;
 use ldv_value::{DEFAULT_STEPS, MAX_STEPS, Utf8};
@@ -59,6 +60,10 @@ pub enum Command {
     /// `migrate`: the input is a package of either version, the output the same package in the version that
     /// is written.
     Migrate,
+    /// `prov`: the input is a package, the output the provenance document of its graph.
+    Prov,
+    /// `prov depends`: the input is a provenance document, the output what it says that a path depends on.
+    ProvDepends { path: Utf8 },
 }
 
 /// The command that the words are. `Usage` exactly where they are none.
@@ -85,6 +90,8 @@ fn command_of(alloc: Global, word: &str, others: &[String]) -> Result<Command, W
         known(generate_of(others))
     } else if word == "migrate" {
         known(migrate_of(others))
+    } else if word == "prov" {
+        prov_of(alloc, others)
     } else {
         known(run_of(word, others))
     }

@@ -39,6 +39,8 @@ pub enum Exit {
     PackageTooLong,
     /// The package has rows, or its processes share a path that one of them changes.
     NotPrivate,
+    /// The input is no provenance document.
+    NotProv,
 }
 
 /// The status with which the program ends.
@@ -62,5 +64,6 @@ pub fn status(exit: &Exit) -> u8
         Exit::NoMemory => 11,
         Exit::PackageTooLong => 12,
         Exit::NotPrivate => 14,
+        Exit::NotProv => 16,
     }
 }

@@ -31,6 +31,7 @@
 
 mod auditing;
 mod command;
+mod document_law;
 mod exit;
 mod generating;
 mod headline;
@@ -39,6 +40,7 @@ mod messages;
 mod migrating;
 mod migration;
 mod numbers;
+mod proving;
 mod reading;
 mod record;
 mod replay;

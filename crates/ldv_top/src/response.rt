@@ -36,6 +36,8 @@ pub enum Response {
     PackageTooLong,
     /// The package has rows, or its processes share a path that one of them changes.
     NotPrivate,
+    /// The input is no provenance document.
+    NotProv,
 }
 
 /// The response to what comes of the run of a world within a budget.

@@ -18,12 +18,14 @@ ghost use Rattle.run_model.specs.declared.package.Mode.{Mode};
 
 use crate::auditing::audit_response;
 use crate::command::{Command, read_words};
+use crate::document_law::document_law;
 use crate::exit::{Exit, status};
 use crate::generating::generate_response;
 use crate::headline::headline_law;
 use crate::inspecting::inspect_response;
 use crate::messages::exit_line;
 use crate::migrating::migrate_response;
+use crate::proving::{prov_depends_response, prov_response};
 use crate::record::record_response;
 use crate::replay::replay_response;
 use crate::report_law::report_law;
@@ -60,6 +62,7 @@ fn write_response<K: Sink>(sink: &mut K, response: Response) -> Exit
         Response::NoSuch => Exit::NoSuch,
         Response::PackageTooLong => Exit::PackageTooLong,
         Response::NotPrivate => Exit::NotPrivate,
+        Response::NotProv => Exit::NotProv,
     }
 }
 
@@ -86,6 +89,8 @@ fn respond(alloc: Global, command: Command, input: Bytes) -> Result<Response, Al
         Command::Inspect { report } => inspect_response(alloc, &report, input),
         Command::Generate { orders } => generate_response(alloc, orders),
         Command::Migrate => migrate_response(alloc, input),
+        Command::Prov => prov_response(alloc, input),
+        Command::ProvDepends { path } => prov_depends_response(alloc, path.as_str(), input),
     }
 }
 
@@ -123,6 +128,8 @@ fn reads(command: &Command) -> bool
         Command::Inspect { report: _ } => true,
         Command::Generate { orders: _ } => false,
         Command::Migrate => true,
+        Command::Prov => true,
+        Command::ProvDepends { path: _ } => true,
     }
 }
 
@@ -184,6 +191,7 @@ pub fn ldv<S: Source, K: Sink>(
     headline_law();
     report_law();
     seed_law();
+    document_law();
     match read_words(alloc, words) {
         Ok(command) => {
             if reads(&command) {

@@ -1,0 +1,8 @@
+use Rattle.std.proofs.Common.{◌∙◌, sym}
+use Rattle.prov_export.specs.Names.{names_of}
+use Rattle.prov_export.proofs.NameMaps.{first_stays, new_noted}
+use Rattle.prov_export.proofs.names.note_at.Goals as goal
+
+pub returns-in-Some : goal.returns-in-Some
+returns-in-Some c =
+    first_stays (names_of c.args.names.now) c.args.place c.args.name.now c.in-Some._first.now (sym c.in-Some.ensures)
