@@ -5,7 +5,6 @@
 use Rattle.std.specs.Prelude.{◌≡◌, ◌≢◌, ◌⊎◌, ◌↔◌, ◌≤◌, ℕ, List, [], true, false, Option, Some, None}
 use Rattle.std.specs.Io.KnownBytes.{IsAtEnd}
 use Rattle.ldv_io.specs.Causes.{Rose}
-use Rattle.prov_export.specs.Laws.{depends_by}
 use Rattle.run_model.specs.declared.package.Mode.{Mode}
 use Rattle.run_model.specs.declared.package.Mode.TheVariants.{Excluded}
 use Rattle.run_model.specs.declared.package.Package.{Package}
@@ -20,10 +19,10 @@ use Rattle.ldv_top.specs.declared.exit.Exit.{Exit}
 use Rattle.ldv_top.specs.declared.exit.Exit.TheVariants.{Done, Usage, ReadFault, WriteFault, NoMemory}
 use Rattle.ldv_top.specs.Due.{Due, due_of, due_record, due_world}
 use Rattle.ldv_top.specs.DueOfMigrations.{due_migrate}
-use Rattle.ldv_top.specs.DueOfReports.{due_inspect, item_due}
+use Rattle.ldv_top.specs.DueOfReports.{due_inspect, report_due}
 use Rattle.ldv_top.specs.Headline.{IsPackageOf, Recorded}
 use Rattle.ldv_top.specs.Migrated.{Migrated}
-use Rattle.ldv_top.specs.ProvReported.{IsDocumentOf}
+use Rattle.ldv_top.specs.ProvReported.{IsDocumentOf, named_due, numbered_due}
 use Rattle.ldv_top.specs.Reported.{Depends}
 use Rattle.ldv_top.specs.Words.{command_of, reads}
 
@@ -85,7 +84,9 @@ pub record Ends {Reader Writer : Type 0}
   -- what a path depends on are the nodes from which a path of the graph leads to it, and no others
   pub depends : (path input : List ℕ) → command_of words ≡ Some (Inspect (DependsOn path))
       → left source ≡ Some input → exit ≡ Done → Depends path input (due_inspect (DependsOn path) input).bytes
-  -- what a package's document says of a path are the nodes that the report on the package names
+  -- what a package's document says of a path are the nodes that the report on the package names, in the same
+  -- order, with processes by their creation numbers
   pub documented : (p : Package) (path input : List ℕ) → command_of words ≡ Some (ProvDepends path)
       → left source ≡ Some input → IsDocumentOf p input
-      → Comes (item_due (depends_by p.events p.steps path)) exit (taken sink) (taken sink_after)
+      → (report_due (DependsOn path) p ≡ named_due p path)
+      × Comes (numbered_due p path) exit (taken sink) (taken sink_after)

@@ -34,16 +34,19 @@ abbrev pub command_seeded : List ℕ → ℕ → ℕ → Option Command
 command_seeded word budget seed =
     if bytes_eq word (codes "replay") then Some (ReplaySeed seed budget) else None
 
--- with `--seed S` as the words after the first
-abbrev pub seeded : List ℕ → List ℕ → List ℕ → ℕ → Option Command
-seeded word option seed budget =
-    if bytes_eq option (codes "--seed")
-    then option_and_then (command_seeded word budget) (number_within max_seed seed) else None
+-- S of `--seed S`, with the steps that the run may take
+abbrev pub seeded : List ℕ → List ℕ → ℕ → Option Command
+seeded word seed budget = option_and_then (command_seeded word budget) (number_within max_seed seed)
+
+-- `--seed S` before `--steps N`
+abbrev pub seeded_within : List ℕ → List ℕ → List ℕ → ℕ → Option Command
+seeded_within word option seed budget =
+    if bytes_eq option (codes "--seed") then seeded word seed budget else None
 
 -- `--seed S` or `--steps N`
 abbrev pub command_with : List ℕ → List ℕ → List ℕ → Option Command
 command_with word option number =
-    if bytes_eq option (codes "--seed") then seeded word option number default_steps
+    if bytes_eq option (codes "--seed") then seeded word number default_steps
     else option_and_then (command_named word) (budget_in option number)
 
 -- by the first word and the others
@@ -54,5 +57,5 @@ run_of word (option ∷ number ∷ []) = command_with word option number
 run_of word (flag ∷ option ∷ number ∷ []) =
     option_and_then (command_flagged word flag) (budget_in option number)
 run_of word (option ∷ seed ∷ steps ∷ number ∷ []) =
-    option_and_then (seeded word option seed) (budget_in steps number)
+    option_and_then (seeded_within word option seed) (budget_in steps number)
 run_of word (option ∷ seed ∷ steps ∷ number ∷ more ∷ words) = None

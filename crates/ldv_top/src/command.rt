@@ -6,7 +6,7 @@ ghost use Rattle.ldv_value.specs.Limits.{max_steps};
 ghost use Rattle.ldv_top.specs.WordStops.{Stops};
 ghost use Rattle.ldv_top.specs.Words.{IsBounded, command_of, inspect_of};
 ghost use Rattle.ldv_top.specs.WordsOfRuns.{budget_in, command_flagged, command_named, command_seeded};
-ghost use Rattle.ldv_top.specs.WordsOfRuns.{command_with, run_of, seeded};
+ghost use Rattle.ldv_top.specs.WordsOfRuns.{command_with, run_of, seeded, seeded_within};
 
 use crate::generating::generate_of;
 use crate::inspecting::report_of;
@@ -132,7 +132,7 @@ fn run_of(word: &str, others: &[String]) -> Option<Command>
             flag.as_str(),
             budget_in(option.as_str(), number.as_str())?,
         ),
-        [option, seed, steps, number] => seeded(
+        [option, seed, steps, number] => seeded_within(
             word,
             option.as_str(),
             seed.as_str(),
@@ -180,23 +180,31 @@ fn command_with(word: &str, option: &str, number: &str) -> Option<Command>
     ensures bounded { IfSome result (λ command. IsBounded command) }
 {
     if option == "--seed" {
-        seeded(word, option, number, DEFAULT_STEPS)
+        seeded(word, number, DEFAULT_STEPS)
     } else {
         command_named(word, budget_in(option, number)?)
     }
 }
 
-// With `--seed S` as the words after the first.
-fn seeded(word: &str, option: &str, seed: &str, budget: u32) -> Option<Command>
+// With `--seed S` before `--steps N`.
+fn seeded_within(word: &str, option: &str, seed: &str, budget: u32) -> Option<Command>
     requires { budget ≤ max_steps }
-    ensures command { result ≡ seeded word.now option.now seed.now budget }
+    ensures command { result ≡ seeded_within word.now option.now seed.now budget }
     ensures bounded { IfSome result (λ command. IsBounded command) }
 {
     if option == "--seed" {
-        command_seeded(word, budget, long_within(MAX_SEED, seed.as_bytes())?)
+        seeded(word, seed, budget)
     } else {
         None
     }
+}
+
+fn seeded(word: &str, seed: &str, budget: u32) -> Option<Command>
+    requires { budget ≤ max_steps }
+    ensures command { result ≡ seeded word.now seed.now budget }
+    ensures bounded { IfSome result (λ command. IsBounded command) }
+{
+    command_seeded(word, budget, long_within(MAX_SEED, seed.as_bytes())?)
 }
 
 fn command_seeded(word: &str, budget: u32, seed: u64) -> Option<Command>

@@ -5,7 +5,8 @@
 //! `replay_log`. `audit` says whether a package is that of its own world's run, `table` shows a table after a
 //! step of such a run, `inspect` reports on a package, by the calls of `inspect`, `gen` sums up the record
 //! and the replay of a world that it makes, and `migrate` writes a package of either version in the second
-//! one.
+//! one. `prov` writes the graph of a package as a provenance document, and `prov depends` reads such a document,
+//! by the calls of `prov_export`.
 //!
 //! It promises, in the clauses of `ldv`:
 //! - the exit and the bytes are those that are due for the words and the input (`specs/Due.antt`); only a
@@ -24,6 +25,8 @@
 //!   audit of both finds them sound or of neither (`specs/Migrated.antt`);
 //! - what `inspect depends` lists are the nodes of the trace's graph from which a path leads to the path that
 //!   was asked for, in time, and no others (`specs/Reported.antt`);
+//! - what `prov depends` lists of the document of a valid package are these nodes, in the same order
+//!   (`specs/ProvReported.antt`);
 //! - bytes that are no package and a package that would be too long are refused, and then nothing is written.
 //!
 //! `ldv_main` says the same of the exit of which it tells the line and gives the status.
