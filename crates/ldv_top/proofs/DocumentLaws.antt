@@ -1,5 +1,5 @@
 -- What a document says of a path is what the report on its package says.
-use Rattle.std.proofs.Common.{◌≡◌, ◌∙◌, refl, sym, ap, subst, ℕ, ◌≤◌, List, length, true, Bool}
+use Rattle.std.proofs.Common.{◌≡◌, ◌∙◌, refl, sym, ap, subst, ℕ, ◌≤◌, List, length, Bool}
 use Rattle.std.specs.Prelude.{nat_le, if◌then◌else◌, Option, Some, None, Ok, option_map}
 use Rattle.std.proofs.lemmas.Bool.{leb-true}
 use Rattle.ldv_value.proofs.Booleans.{and-second}

@@ -72,8 +72,8 @@ pub record Ends {Reader Writer : Type 0}
   pub headline : (mode : Mode) (n budget : ℕ) (w : World) (input : List ℕ)
       → command_of words ≡ Some (Replay budget) → left source ≡ Some input → IsPackageOf mode n w input
       → steps_by n [] w ≤ budget → Comes (due_world n w) exit (taken sink) (taken sink_after)
-  -- that of the recorded replies is replayed so under every seed, where no path that one of the world's processes
-  -- changes is named by another
+  -- that of the recorded replies is replayed so under every seed, where no path that one of the world's
+  -- processes changes is named by another
   pub reseeded : (n seed budget : ℕ) (w : World) (input : List ℕ)
       → command_of words ≡ Some (ReplaySeed seed budget) → left source ≡ Some input
       → IsPackageOf Excluded n w input → private_test (events_within n w) ≡ true

@@ -34,7 +34,8 @@ named_due p path = item_due (option_map (named_report p.events) (sources_of p pa
 abbrev pub numbered_due : Package → List ℕ → Due
 numbered_due p path = item_due (option_map numbered_report (sources_of p path))
 
--- what is due for a document and a path names the nodes that the report on the package names, in the same order
+-- what is due for a document and a path names the nodes that the report on the package names, in the same
+-- order
 abbrev pub DocumentLaw : Type 0
 DocumentLaw = (p : Package) (path input : List ℕ) → IsDocumentOf p input
     → due_prov_depends path input ≡ numbered_due p path

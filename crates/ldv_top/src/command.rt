@@ -46,8 +46,8 @@ pub enum Command {
     Record { mode: Mode, budget: u32 },
     /// `replay`: the input is a package, the output the outcome of the world in it.
     Replay { budget: u32 },
-    /// `replay --seed`: the input is a package of recorded replies, the output the outcome of its run under this
-    /// seed.
+    /// `replay --seed`: the input is a package of recorded replies, the output the outcome of its run under
+    /// this seed.
     ReplaySeed { seed: u64, budget: u32 },
     /// `audit`: the input is a package, the output whether it is that of its own world's run.
     Audit { budget: u32 },
