@@ -1,4 +1,3 @@
-use Rattle.std.proofs.Common.{ℕ, List, Bor, ap}
 use Rattle.serde_json.specs.View.{members_view}
 use Rattle.prov_export.specs.Names.{names_of}
 use Rattle.prov_export.proofs.NameMaps.{none_at, both_noted}
