@@ -1,9 +1,9 @@
 """Reads PROV-JSON by the Python package prov and says what it found.
 
 It runs by itself, under an interpreter that has the package. Its input is lines, each a JSON array of texts
-of PROV-JSON. It writes a line for each, an array that has of each text the lines of its PROV-N by the package,
-whether it is the same after it was written in each format that the package has here and read again, and how
-many nodes and edges a picture of it has.
+of PROV-JSON. For each it writes a line: an array that has, of each text, the lines of its PROV-N by the
+package, whether it is the same after it was written in each format that the package has here and read again,
+and how many nodes and edges a picture of it has.
 """
 import json
 import sys

@@ -1,6 +1,6 @@
 -- When the graph that was taken out of bytes is kept, and what follows of what was read.
-use Rattle.std.proofs.Common.{◌≡◌, ◌∙◌, refl, sym, ap, ℕ, List, Bool, true, false, cond}
-use Rattle.std.specs.Prelude.{Some, None, ◌&&◌, bytes_eq, Result, Ok, Err, IfOk}
+use Rattle.std.proofs.Common.{◌≡◌, ◌∙◌, sym, ap, ℕ, List, Bool, true, false, cond}
+use Rattle.std.specs.Prelude.{Option, Some, None, ◌&&◌, bytes_eq, Result, Ok, Err, IfOk}
 use Rattle.ldv_value.specs.Gives.{Gives}
 use Rattle.trace_graph.specs.Graph.{Parts}
 use Rattle.trace_graph.specs.WellFormed.{WellFormed, well_formed}

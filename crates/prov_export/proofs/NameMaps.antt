@@ -6,8 +6,8 @@ use Rattle.std.specs.BTreeMap.{BTreeMap, Updates, get, is_at}
 use Rattle.std.specs.Map.{lookup}
 use Rattle.std.specs.Cmp.{unsigned_tied}
 use Rattle.std.specs.Ordering.{nat_cmp, is_eq}
-use Rattle.std.proofs.lemmas.Bool.{eqb-true, eq-eqb, cases_Bool}
-use Rattle.serde_json.specs.Data.{Data, Members, no_members, member}
+use Rattle.std.proofs.lemmas.Bool.{eqb-true, eq-eqb}
+use Rattle.serde_json.specs.Data.{Data, Members, member}
 use Rattle.prov_export.specs.Names.{names_of}
 use Rattle.prov_export.specs.Reading.{is_number, name_if, named_at, number_at}
 

@@ -93,7 +93,7 @@ fn is_text_of(alloc: Global, graph: &Graph, bytes: &[u8]) -> Result<bool, AllocE
 // A well-formed graph, if its document has that text.
 fn kept_written(alloc: Global, bytes: &[u8], graph: Graph) -> Result<Graph, ProvStop>
     requires { WellFormed graph }
-    ensures { Gives Stops result (kept_as bytes.now graph.entry) }
+    ensures { Gives Stops result (kept_as bytes.now graph) }
 {
     let same = is_text_of(alloc, &graph, bytes)?;
     if same {
@@ -104,7 +104,7 @@ fn kept_written(alloc: Global, bytes: &[u8], graph: Graph) -> Result<Graph, Prov
 }
 
 fn kept(alloc: Global, bytes: &[u8], draft: Draft) -> Result<Graph, ProvStop>
-    ensures { Gives Stops result (kept_as bytes.now draft.entry) }
+    ensures { Gives Stops result (kept_as bytes.now draft) }
 {
     let Draft { nodes, edges } = draft;
     let formed = is_well_formed(alloc, nodes.items(), edges.items())?;

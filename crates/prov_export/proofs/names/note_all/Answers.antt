@@ -1,4 +1,4 @@
-use Rattle.std.proofs.Common.{◌≡◌, ◌∙◌, ℕ, List, string_bytes, sym, ap}
+use Rattle.std.proofs.Common.{◌∙◌, ℕ, List, string_bytes, sym, ap}
 use Rattle.std.specs.Option.{option_or}
 use Rattle.serde_json.specs.View.{view, members_view}
 use Rattle.serde_json.proofs.Views.{Entry}
