@@ -1,13 +1,13 @@
-"""orders.py, over packages that packages.py spells and a program in place of ldv; and private runs in all orders."""
+"""orders.py, over packages that packages.py spells, with a program in place of ldv; runs in all orders."""
 import json
 import os
 import random
-import sys
+import shlex
+import unittest.mock
 
 import packages
 
 from ldvtools import orders
-from ldvtools.errors import Malformed
 from ldvtools.outcomes import read_outcome
 from ldvtools.rerun import Machine, World, answers_of, differences
 from ldvtools.values import changed_reply, rows_reply
@@ -23,17 +23,16 @@ NAMING = ["spawned", "unspawned", "opened read", *CHANGING[:3], "unopened", "rea
 OUTCOME = b"outcome 1 0\nprocess 0 0 0 0\n\n"
 OTHER = b"outcome 1 0\nprocess 0 1 0 0\n\n"
 
-# In place of ldv: notes its words, and answers by the seed. The package's own has the name None.
-PROGRAM = """#!{python}
-import json, sys
-words = sys.argv[1:]
-sys.stdin.buffer.read()
-print(json.dumps(words), file=open({calls!r}, "a"))
-seed = words[words.index("--seed") + 1] if "--seed" in words else "None"
-status, output, error = json.loads({answers!r}).get(seed, [0, {outcome!r}, ""])
-sys.stdout.write(output)
-sys.stderr.write(error)
-sys.exit(status)
+# In place of ldv: notes its words, and answers by the seed. The package's own has the name own.
+PROGRAM = """#!/bin/sh
+cat > /dev/null
+echo "$*" >> {calls}
+seed=own
+[ "$2" = --seed ] && seed=$3
+case $seed in
+{answers}
+*) printf %s {outcome};;
+esac
 """
 
 # The kinds of the examples with several processes: the paths that they share. Read off their scripts.
@@ -44,7 +43,8 @@ STEPS = {"apart": 82, "jobs": 66, "orders": 28}
 def spelled(*trace, children=2, **parts):
     """A package of a run of two children and of these events."""
     made = [packages.spawned(1 + place, 0, "s") for place in range(children)]
-    given = dict(version=2, mode=EXCLUDED, steps=9, trace=[packages.started(), *made, *trace, packages.ended(9)])
+    trace = [packages.started(), *made, *trace, packages.ended(9)]
+    given = dict(version=2, mode=EXCLUDED, steps=9, trace=trace)
     return packages.encode(packages.package(**{**given, **parts}))
 
 
@@ -115,12 +115,12 @@ file b
     def test_rows(self):
         """A package with rows isn't run under other seeds; its paths are told all the same."""
         found = self.kind(act("wrote", 1), act("read", 2), mode=1)
-        self.assertTrue(found.startswith("not private\nit has rows, and its processes share these tables"), found)
+        self.assertTrue(found.startswith("not private\nit has rows, and its processes share"), found)
         self.assertIn("file f\n", found)
 
     def test_processes(self):
         """The first process and 65,533 others are fewer than 65,535."""
-        for times, said in ((65_533, "private: 65534 processes,"), (65_534, "65535 processes were made, so that")):
+        for times, said in ((65_533, "private: 65534 processes,"), (65_534, "65535 processes were made")):
             runs = [packages.run(packages.started()), packages.run(packages.spawned(1, 0, "s"), times, 1),
                     packages.run(packages.ended(70_000))]
             data = packages.encode(packages.package(version=2, mode=EXCLUDED, steps=70_000, runs=runs))
@@ -152,14 +152,17 @@ class Tried(InFolder):
     """Other seeds, with a program in place of ldv."""
 
     def tried(self, answers=None, *words, steps=9):
-        path = os.path.join(self.folder, "calls")
+        path, quoted = os.path.join(self.folder, "calls"), shlex.quote
         open(path, "w").close()
-        program = self.put("ldv", PROGRAM.format(python=sys.executable, calls=path, outcome=OUTCOME.decode(),
-                                                 answers=json.dumps(answers or {})))
+        lines = [f"{seed}) printf %s {quoted(output)}; printf %s {quoted(error)} >&2; exit {status};;"
+                 for seed, (status, output, error) in (answers or {}).items()]
+        program = self.put("ldv", PROGRAM.format(calls=quoted(path), outcome=quoted(OUTCOME.decode()),
+                                                 answers="\n".join(lines)))
         os.chmod(program, 0o755)
-        found = tool(orders, "--ldv", program, *words, given=spelled(steps=steps))
+        with unittest.mock.patch("ldvtools.progress.SECONDS", 1e9):
+            found = tool(orders, "--ldv", program, *words, given=spelled(steps=steps))
         with open(path) as file:
-            return found, [json.loads(line) for line in file]
+            return found, [line.split() for line in file]
 
     def test_agree(self):
         """It is replayed within its own steps, under its own seed and under each other one."""
@@ -188,7 +191,7 @@ class Tried(InFolder):
     def test_own(self):
         """A package whose own run diverges has no outcome to compare with."""
         diverged = [9, "", "ldv: diverged: process 0 statement 1\n"]
-        (status, out, err), _ = self.tried({"None": diverged, "0": diverged}, "--seeds", "2")
+        (status, out, err), _ = self.tried({"own": diverged, "0": diverged}, "--seeds", "2")
         self.assertEqual((status, err), (1, ""))
         self.assertEqual(out.decode().split("\n")[1:], [
             "its own seed: ldv: diverged: process 0 statement 1",
@@ -209,7 +212,7 @@ class Tried(InFolder):
 
     def test_refused(self):
         """A program that isn't there, or that takes no package."""
-        (status, out, err), _ = self.tried({"None": [8, "", "ldv: damaged: form\n"]})
+        (status, out, err), _ = self.tried({"own": [8, "", "ldv: damaged: form\n"]})
         self.assertEqual((status, out[:8]), (2, b"private:"))
         self.assertIn("replay ends with 8: ldv: damaged: form\n", err)
         (status, _, err), _ = self.tried({"0": [2, "", "ldv: usage\n"]})
@@ -223,7 +226,7 @@ class Tried(InFolder):
 # ---- all orders
 
 class Chosen(Machine):
-    """A run in which `picks` says who takes each step, by places among those that can; then the first one does.
+    """A run in which `picks` says who takes each step, by places among those that can; then the first does.
 
     `choices` has how many could take each step.
     """
@@ -253,9 +256,8 @@ def every_order(world, answer):
 
 def ended(machine):
     """What a run comes to, by the names of processes."""
-    made = {process.name: (process.status, "".join(process.printed)) for process in machine.processes}
-    return made, {path: bytes(machine.files[path]) if path in machine.files else None
-                  for path in machine.touched}
+    made = [(process.name, process.status, "".join(process.printed)) for process in machine.processes]
+    return sorted(made), sorted((path, bytes(machine.files.get(path, b"gone"))) for path in machine.touched)
 
 
 def asked_of_tables(tables):
@@ -269,11 +271,14 @@ def asked_of_tables(tables):
 
 
 MAIN = 'spawn a "one" else bad\nspawn b "two" else bad\nwait x a\nwait y b\nprint x y\nbad:\n'
-# Two scripts, and whether the run is private: from each order to the next the outcome may change where it isn't.
+# Two scripts, and whether the run is private. Of each that isn't, two orders have different outcomes.
 PAIRS = [
-    ('open f w "f" else z\nwrite f 1\nclose f\nremove "f" else z\nz:\nexit 3\n', 'exists x "g"\nprint x\n', True),
-    ('open f r "data" else z\nreadline x f else z\nprint x\nz:\n', 'open f r "data" else z\nprint "there"\nz:\n', True),
-    ('spawn c "leaf" else z\nwait x c\nz:\nprint x\n', 'open f n "new" else z\nwrite f arg1\nz:\n', True),
+    ('open f w "f" else z\nwrite f 1\nclose f\nremove "f" else z\nz:\nexit 3\n',
+     'exists x "g"\nprint x\n', True),
+    ('open f r "data" else z\nreadline x f else z\nprint x\nz:\n',
+     'open f r "data" else z\nprint "there"\nz:\n', True),
+    ('spawn c "leaf" else z\nwait x c\nz:\nprint x\n',
+     'open f n "new" else z\nwrite f arg1\nz:\n', True),
     ('open f a "log" else z\nwrite f 1\nz:\n', 'open f a "log" else z\nwrite f 2\nz:\n', False),
     ('open f w "mark" else z\nz:\n', 'exists x "mark"\nprint x\n', False),
     ('remove "data" else z\nexit 1\nz:\n', 'open f r "data" else z\nexit 1\nz:\n', False),
@@ -285,8 +290,8 @@ class Orders(InFolder):
     """The examples and small worlds in other orders of steps, by the runs of rerun.py."""
 
     def test_examples(self):
-        """Over SQLite, each example has its outcome; under other seeds those whose statements don't meet have it
-        too."""
+        """Over SQLite, each example has its outcome, and under other seeds those whose statements don't meet
+        have it too."""
         for name, always in (("apart", True), ("handed", True), ("jobs", False)):
             data = read(f"{EXAMPLES}/{name}.json")
             document, tables = read_world(data), json.loads(data)["tables"]
@@ -313,8 +318,8 @@ class Orders(InFolder):
                 self.assertEqual((list(differences(machine, outcome)), machine.step), ([], steps), name)
 
     def test_every_order(self):
-        """Small worlds in all orders of their steps: one outcome after one number of steps where they are private,
-        and several where two processes share what one of them changes."""
+        """Small worlds in all orders of their steps: one outcome after one number of steps where they are
+        private, and several where two processes share what one of them changes."""
         for one, two, is_private in PAIRS:
             files = {"main": MAIN, "one": one, "two": two, "leaf": "print 7\n", "data": "line\n"}
             world = World(["main"], 0, {path: text.encode() for path, text in files.items()})
@@ -322,7 +327,7 @@ class Orders(InFolder):
             for machine in every_order(world, answers_of({})):
                 seen.add((str(ended(machine)), machine.step if is_private else 0))
                 count += 1
-            self.assertGreater(count, 20)
+            self.assertGreater(count, 10)
             self.assertEqual(len(seen) == 1, is_private, (one, two, sorted(seen)))
 
     def test_program(self):
@@ -334,25 +339,30 @@ class Orders(InFolder):
             self.assertEqual((status, err), (0, b""))
             status, out, err = tool(orders, "--ldv", support.PROGRAM, "--seeds", "10", given=data)
             self.assertEqual((status, err), (1 if paths else 0, ""), name)
-            self.assertEqual([line[5:] for line in out.decode().split("\n") if line.startswith("file ")], paths)
+            found = [line[5:] for line in out.decode().split("\n") if line.startswith("file ")]
+            self.assertEqual(found, paths)
             for seed in ("0", "18446744073709551615"):
                 status, outcome, _ = ldv(["replay", "--seed", seed], data)
                 self.assertEqual((status, outcome), (14, b"") if paths else (
                     0, read(f"{EXAMPLES}/{name}.outcome")), name)
 
     def test_lying_trace(self):
-        """A package by hand whose trace names no path that its scripts share: it is private by its trace, and another
-        order leads elsewhere, which is told."""
+        """A package by hand whose trace names no path that its scripts share: it is private by its trace, and
+        another order leads elsewhere, which is told."""
         if not os.access(support.PROGRAM, os.X_OK):
             self.skipTest(f"{support.PROGRAM} isn't there; compile it with ./ldv")
-        # The first child removes what the second one asks for: it asks SELECT 1 where it was there, else SELECT 2.
+        # The first child removes d, and the second one asks SELECT 0 where d is gone, else SELECT 1.
         files = [packages.file("d", ""), packages.file("m", 'spawn a "o" else z\nspawn b "t" else z\nz:\n'),
                  packages.file("o", 'remove "d" else z\nz:\n'),
                  packages.file("t", 'exists x "d"\nlet q = "SELECT " ++ x\nsql c q\n')]
         trace = [packages.started("m"), packages.spawned(1, 0, "o"), packages.spawned(2, 0, "t"),
                  packages.ended(9)]
-        self.assertRaises(Malformed, read_outcome, b"")
+        logs = [packages.log([0, 1], packages.entry("SELECT 0"))]
         data = packages.encode(packages.package(version=2, mode=EXCLUDED, start=["m"], steps=9, files=files,
-                                                trace=trace))
-        status, out, err = tool(orders, "--ldv", support.PROGRAM, "--seeds", "40", given=data)
-        self.assertIn(status, (1, 2), (out, err))
+                                                logs=logs, trace=trace))
+        status, out, err = tool(orders, "--ldv", support.PROGRAM, "--seeds", "9", given=data)
+        self.assertEqual((status, err), (1, ""))
+        self.assertEqual(out.decode().split("\n")[1:], [
+            "seed 6: ldv: diverged: process 0.1 statement 0",
+            "seed 8: ldv: diverged: process 0.1 statement 0",
+            "7 of 9 seeds: the outcome of the recorded run, after no more than its 9 steps", ""])
