@@ -11,8 +11,9 @@ from typing import Any, List, Optional, Sequence, Tuple
 from .errors import Misused, Refused
 from .progress import Progress
 from .values import plain_count
+from .world_columns import NO_VALUE, Column, Table
 from .world_settings import Settings, tidy_name, tidy_names
-from .world_tables import NO_VALUE, Column, Table, keep_columns
+from .world_tables import keep_columns
 
 MARKS = ((b"\xef\xbb\xbf", "utf-8-sig"), (b"\xff\xfe\x00\x00", "utf-32"), (b"\x00\x00\xfe\xff", "utf-32"),
          (b"\xff\xfe", "utf-16"), (b"\xfe\xff", "utf-16"))
@@ -38,13 +39,12 @@ def read_file(path: str, size: int = -1) -> bytes:
         raise Refused(f"{path}: {fault.strerror}") from None
 
 
-def read_csv(word: str, settings: Settings, delimiter: str, encoding: str, hints: List[str],
-             progress: Progress) -> Table:
+def read_csv(word: str, settings: Settings, hints: List[str], progress: Progress) -> Table:
     """The table of a CSV file, not settled yet."""
     given, path = named_file(word)
     name = given or os.path.splitext(os.path.basename(path))[0]
     name = settings.new_name(name, tidy_name(name) if settings.tidy and not given else name)
-    lines = Lines(path, text_of(path, encoding), "\t" if settings.is_tsv else delimiter, settings.is_tsv)
+    lines = lines_of(name, path, settings)
     records = records_of(lines, progress)
     if not records:
         raise Refused(f"{path} is empty; its first line has to name the columns")
@@ -63,12 +63,24 @@ def read_csv(word: str, settings: Settings, delimiter: str, encoding: str, hints
     elif blank:
         hints.append(hint_of_blank(lines, blank))
     plain = tidy_names(header) if settings.tidy else header
-    columns = [Column(settings.new_name(f"{name}.{cell}", own, f"{name}.#{place}"), cell)
+    columns = [Column(settings.new_name(f"{name}.{cell}", own, f"{name}.#{place}"), cell, place)
                for place, (cell, own) in enumerate(zip(header, plain), 1)]
     for column, cells in zip(columns, zip(*records)):
         column.cells = list(cells)
     return Table(name, keep_columns(name, columns, settings), len(records), from_text=True,
                  row_name=lambda row: f"{path} line {lines.of(kept[row] + 1)} (row {row} of {name})")
+
+
+def lines_of(name: str, path: str, settings: Settings) -> Lines:
+    """The lines of the file of a table. Excel may say in a line before the header what stands between cells."""
+    delimiter = settings.of_table("--delimiter", name, ",")
+    delimiter = "\t" if delimiter == "tab" or settings.is_tsv else delimiter
+    text = text_of(path, settings.of_table("--encoding", name, "utf-8"))
+    said = re.match(r"sep=(.)\r?\n", text)
+    if said:
+        # An empty line in its place leaves the numbers of the others.
+        delimiter, text = said[1], "\n" + text[said.end():]
+    return Lines(path, text, delimiter, settings.is_tsv)
 
 
 def check_header(lines: Lines, header: Sequence[str], records: List[List[str]]) -> None:
