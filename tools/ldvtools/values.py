@@ -12,7 +12,7 @@ Row = List[Value]
 
 
 class Scaled(int):
-    """A number that is carried as a whole number of tenths, hundredths and so on, and shown as the decimal."""
+    """A number that is carried as a whole number of tenths, hundredths and so on, and shown as a decimal."""
 
     scale: int
 

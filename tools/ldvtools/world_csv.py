@@ -72,7 +72,7 @@ def read_csv(word: str, settings: Settings, hints: List[str], progress: Progress
 
 
 def lines_of(name: str, path: str, settings: Settings) -> Lines:
-    """The lines of the file of a table. Excel may say in a line before the header what stands between cells."""
+    """The lines of the file of a table. Excel may say before the header what stands between cells."""
     delimiter = settings.of_table("--delimiter", name, ",")
     delimiter = "\t" if delimiter == "tab" or settings.is_tsv else delimiter
     text = text_of(path, settings.of_table("--encoding", name, "utf-8"))

@@ -229,7 +229,8 @@ def hint_of_numbers(table: Table, column: Column, cells: Sequence[str]) -> Optio
             else "decimals with a comma" if found.form.decimal == ","
             else "numbers with a word for what isn't known")
     odd = next(cell for cell in sample if (cell in found.others if is_plain else is_odd(cell, found)))
-    return (f"{name} is TEXT, and looks like {what}, such as {shown(odd)}; {number_words(name, found)} carries "
+    return (f"{name} is TEXT, and looks like {what}, such as {shown(odd)}; {number_words(name, found)} "
+            f"carries "
             f"it as whole numbers{thousands_words(name, found)}")
 
 
@@ -304,7 +305,8 @@ def number_advice(table: Table, column: Column, value: Cell) -> str:
         return ""
     name = table.full_name(column)
     if may_be_null(value):
-        return (f"; where it stands for NULL: --null {shlex.quote(value)}, or {null_word(name, value)} for this "
+        return (f"; where it stands for NULL: --null {shlex.quote(value)}, or {null_word(name, value)} "
+                f"for this "
                 "column alone")
     found = written([value])
     words = form_words(name, found.form) if found else []

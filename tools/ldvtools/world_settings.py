@@ -169,7 +169,8 @@ def form_of(option: str) -> str:
 
 def check_broad(option: str, name: str, value: str) -> None:
     if option in OF_TABLES and "." in name:
-        raise Misused(f"{option} {name}={value}: it is of a whole file; give {name.partition('.')[0]}={value}")
+        raise Misused(f"{option} {name}={value}: it is of a whole file; give "
+                      f"{name.partition('.')[0]}={value}")
     if option == "--delimiter" and value != "tab" and (len(value) != 1 or value in '"\r\n'):
         raise Misused("--delimiter is one character, or tab")
     if option == "--decimal" and (len(value) != 1 or value.isalnum() or value in "+-"):

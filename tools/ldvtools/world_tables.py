@@ -14,7 +14,7 @@ from .language import MAX_COLUMNS, MAX_INT, MAX_NAME, MAX_ROWS, MAX_TEXT, MIN_IN
 from .world_cells import (MAX_SCALE, comparable, has_no_equal, scaled_number, shown, text_value,
                           whole_number)
 from .world_columns import NO_VALUE, Cell, Column, Form, Table
-from .world_hints import SAMPLE, hint_of_dates, hint_of_text, number_advice, scale_advised
+from .world_hints import hint_of_dates, hint_of_text, number_advice, scale_advised
 from .world_settings import Settings, fold, tidy_names
 
 # Written in C where that is built.
@@ -128,7 +128,8 @@ def is_scaled(column: Column) -> bool:
     if set(map(type, column.cells)) - {str, type(None)}:
         return False
     scale, sign = column.scale, column.form.decimal
-    match = re.compile(rf"-?[0-9]{{1,{MAX_SCALE - scale or 1}}}(?:{re.escape(sign)}[0-9]{{0,{scale}}})?\Z").match
+    most = MAX_SCALE - scale or 1
+    match = re.compile(rf"-?[0-9]{{1,{most}}}(?:{re.escape(sign)}[0-9]{{0,{scale}}})?\Z").match
     texts = [cell for cell in column.cells if cell is not None]
     if scale >= MAX_SCALE or not all(map(match, texts)):
         return False
@@ -285,7 +286,8 @@ def hint_of_unit(table: Table, column: Column, hints: List[str]) -> None:
     unit, cells = column.form.unit, [cell for cell in column.cells if cell is not None]
     missing = sum(unit not in str(cell) for cell in cells)
     if missing:
-        hints.append(f"{table.full_name(column)}: {missing} of {len(cells)} cells have no {unit}, and are read "
+        hints.append(f"{table.full_name(column)}: {missing} of {len(cells)} cells have no {unit}, and "
+                     f"are read "
                      "as if they had it")
 
 

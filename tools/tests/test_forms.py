@@ -69,33 +69,37 @@ class Numbers(Forms):
             self.assertIn("--decimal t.a=, --thousands 't.a= ' --scale t.a=1 carries", err)
             table = self.table(self.column([f"1{blank}234,5", "7"]), "--delimiter", ";", *words)
             self.assertEqual([row[0] for row in table["rows"]], [12345, 70])
-        self.assertIn("--scale t.a=3 carries it as whole numbers, or, if these are thousands, --thousands t.a=. "
+        self.assertIn("--scale t.a=3 carries it as whole numbers, or, if these are thousands, "
+                      "--thousands t.a=. "
                       "--kind t.a=INT\n", self.said("a\n1.234\n12.500\n"))
         self.assertNotIn("thousands", self.said("a\n0.125\n12.500\n"))
         self.csv_refused("column a: '12.5' is no whole number", "a\n1.234\n12.5\n", "--thousands", "t.a=.")
         self.csv_refused("t.a: --decimal and --thousands are both ,", "a\n1\n", "--thousands", ",",
                          "--decimal", ",", status=2)
         # A text column is left alone by what holds for a whole table.
-        table = self.table("a;b\n1.234;x.123\n", "--delimiter", ";", "--thousands", "t=.", "--kind", "t.a=INT")
+        words = ["--delimiter", ";", "--thousands", "t=.", "--kind", "t.a=INT"]
+        table = self.table("a;b\n1.234;x.123\n", *words)
         self.assertEqual(table["rows"], [[1234, "x.123"]])
 
     def test_words_for_null(self):
         """A word where a number is due is said with the option that takes it for NULL."""
         for cell, word in (("-", "-"), ("n/a", "n/a"), ("k. A.", "'k. A.'")):
-            self.csv_refused(f"column a: {cell!r} is no decimal number such as -1.25; where it stands for NULL: "
+            self.csv_refused(f"column a: {cell!r} is no decimal number such as -1.25; where it stands "
+                             f"for NULL: "
                              f"--null {word}, or --null ", f"a\n1.5\n{cell}\n", "--scale", "t.a=1")
-            self.csv_refused(f"column a: {cell!r} is no whole number, and the column is INT; where it stands for "
+            self.csv_refused(f"column a: {cell!r} is no whole number, and the column is INT; where it "
+                             f"stands for "
                              f"NULL: --null {word}, or --null ", f"a\n1\n{cell}\n", "--kind", "t.a=INT")
             for words in (["--null", cell], ["--null", f"t.a={cell}"], ["--null", f"t={cell}"]):
                 table = self.table(f"a\n1.5\n{cell}\n", "--scale", "t.a=1", *words)
                 self.assertEqual(table["rows"], [[15], [None]])
         self.csv_refused("'1x' is no whole number, and the column is INT\n", "a\n1x\n", "--kind", "t.a=INT")
-        self.csv_refused("'5%' is no decimal number such as -1.25; --unit t.a=% takes it", "a\n5%\n", "--scale",
-                         "t.a=1")
+        self.csv_refused("'5%' is no decimal number such as -1.25; --unit t.a=% takes it",
+                         "a\n5%\n", "--scale", "t.a=1")
         self.csv_refused("'1,5' is no decimal number such as -1.25; --decimal t.a=, takes it", "a\n\"1,5\"\n",
                          "--scale", "t.a=1")
-        self.csv_refused("'1.5' is no whole number, and the column is INT; --scale t.a=1 takes it", "a\n1.5\n",
-                         "--kind", "t.a=INT")
+        self.csv_refused("'1.5' is no whole number, and the column is INT; --scale t.a=1 takes it",
+                         "a\n1.5\n", "--kind", "t.a=INT")
         self.assertEqual(self.words_said(["1", "-", "3"], "--kind t.a=INT --null t.a=-"), [1, None, 3])
         self.assertEqual(self.words_said(["1,5", "NA", "3"], "--decimal t.a=, --scale t.a=1 --null t.a=NA"),
                          [15, None, 30])
@@ -123,20 +127,25 @@ class Dates(Forms):
         # One that is far down is seen too.
         self.assertIn(looks, self.said("a\n" + "10:30\n" * 5000 + "9:05\n"))
         for cell in ("24:00", "9:60", "13:00 pm", "0:30 am", "9h05"):
-            self.csv_refused(f"column a: {cell!r} is no clock time such as 9:05 (--date time)", f"a\n{cell}\n",
-                             "--date", "t.a=time")
+            self.csv_refused(f"column a: {cell!r} is no clock time such as 9:05 (--date time)",
+                             f"a\n{cell}\n", "--date", "t.a=time")
 
     def test_dates(self):
         """Dates that don't compare as dates are said, with the options that make them so."""
         looks = "t.a is TEXT, and looks like dates such as {!r}: these don't compare as dates; "
-        both = ("--date t.a=dmy reads the day first and carries it as 2020-02-01, and --date t.a=mdy reads the "
+        both = ("--date t.a=dmy reads the day first and carries it as 2020-02-01, and --date t.a=mdy "
+                "reads the "
                 "month first and carries it as 2020-01-02\n")
         for cells, said in (
                 (["1/2/2020", "3/4/2020"], both),
-                (["1/2/2020", "13/4/2020"], "--date t.a=dmy reads the day first and carries it as 2020-02-01\n"),
-                (["1/2/2020", "3/14/2020"], "--date t.a=mdy reads the month first and carries it as 2020-01-02\n"),
-                (["1/2/2020", "3/14/2020", "14/3/2020"], "some have the day first and some the month: write "),
-                (["1.2.2020", "2.3.2020"], "--date t.a=dmy reads the day first and carries it as 2020-02-01\n"),
+                (["1/2/2020", "13/4/2020"], "--date t.a=dmy reads the day first and carries it as "
+                                            "2020-02-01\n"),
+                (["1/2/2020", "3/14/2020"], "--date t.a=mdy reads the month first and carries it as "
+                                            "2020-01-02\n"),
+                (["1/2/2020", "3/14/2020", "14/3/2020"], "some have the day first and some the month: "
+                                                         "write "),
+                (["1.2.2020", "2.3.2020"], "--date t.a=dmy reads the day first and carries it as "
+                                           "2020-02-01\n"),
                 (["1.2.2020 9:05", "2.3.2020 10:00"], "--date t.a=dmy reads the day first and carries it as "
                                                       "2020-02-01 09:05\n"),
                 (["1.2.20", "2.3.20"], "write their years with four digits first\n"),
@@ -146,7 +155,8 @@ class Dates(Forms):
                 (["2020-02-01 9:05", "2020-03-14 10:00"], "--date t.a=ymd carries it as 2020-02-01 09:05\n")):
             self.assertIn(looks.format(cells[0]) + said, self.said(self.column(cells), "--delimiter", ";"))
         for cells in (["2020-02-01", "2020-03-14"], ["2020/02/01", "2020/03/14"],
-                      ["2020-02-01 09:05", "2020-02-01 10:00:00"], ["2020-02-01T09:05:00Z", "2020-02-01T10:05:00Z"],
+                      ["2020-02-01 09:05", "2020-02-01 10:00:00"],
+                      ["2020-02-01T09:05:00Z", "2020-02-01T10:05:00Z"],
                       ["10.0.0.1", "10.0.0.2"], ["1/2", "3/4"]):
             self.assertNotIn("looks like", self.said(self.column(cells), "--delimiter", ";"), cells)
         self.assertIn("'2020-2-1'", self.said("a\n" + "2020-02-01\n" * 5000 + "2020-2-1\n"))
@@ -154,7 +164,8 @@ class Dates(Forms):
     def test_carried(self):
         self.assertEqual(self.dated(["1.2.2020", "31.12.1999 9:05", "", "2020-03-04"], "dmy"),
                          ["2020-02-01", "1999-12-31 09:05", None, "2020-03-04"])
-        self.assertEqual(self.dated(["1/2/2020", "12/31/1999 9:05 PM"], "mdy"), ["2020-01-02", "1999-12-31 21:05"])
+        self.assertEqual(self.dated(["1/2/2020", "12/31/1999 9:05 PM"], "mdy"),
+                         ["2020-01-02", "1999-12-31 21:05"])
         self.assertEqual(self.dated(["2020/2/1", "2020-2-1T9:05"], "ymd"), ["2020-02-01", "2020-02-01 09:05"])
         for cell in ("31.2.2020", "1.2.20", "1.13.2020", "x", "1.2/2020", "1.2.2020 25:00", "29.2.2019"):
             self.csv_refused(f"column a: {cell!r} is no date such as 31.1.2019 (--date dmy)", f"a\n{cell}\n",
@@ -218,9 +229,9 @@ class OneOfMany(Forms):
         self.assertEqual(self.table("a,b\n1,x=y\n", "--null", "t.b=x=y")["rows"], [[1, None]])
 
     def test_wrong_names(self):
-        for words, message in ((["--delimiter", "u=;"], "--delimiter u: nothing that was read has this name; the "
-                                                        "tables are t"),
-                               (["--null", "t.b=NA"], "--null t.b: nothing that was read has this name; t has a"),
+        nothing = "nothing that was read has this name; "
+        for words, message in ((["--delimiter", "u=;"], f"--delimiter u: {nothing}the tables are t"),
+                               (["--null", "t.b=NA"], f"--null t.b: {nothing}t has a"),
                                (["--decimal", "u=,"], "--decimal u: nothing that was read"),
                                (["--delimiter", "t.a=;"], "it is of a whole file; give t=;"),
                                (["--delimiter", "t=ab"], "--delimiter is one character, or tab"),
@@ -230,11 +241,12 @@ class OneOfMany(Forms):
             self.csv_refused(message, "a\n1\n", *words, status=2)
 
     def test_unknown_key(self):
-        """A key of a table that isn't there is said with the tables that there are, whatever else is wrong."""
+        """A key of a table that isn't there is said with the tables that there are."""
         first, second = self.put("t.csv", "Id,A\n1,x\n"), self.put("u.csv", "b\nx\n")
         for words in ([], ["--lower"], ["--lower", "--kind", "t.a=INT"]):
             for key in ("obs=id", "obs=none", "T=id"):
-                self.refused(f"--key {key.partition('=')[0]}: nothing that was read has this name; the tables are "
+                self.refused(f"--key {key.partition('=')[0]}: nothing that was read has this name; the "
+                             f"tables are "
                              "t, u", "--csv", first, "--csv", second, *ASK, "--key", key, *words, status=2)
         self.refused("--key id: give TABLE=COLUMN,..", "--csv", first, *ASK, "--key", "id", status=2)
 
@@ -250,10 +262,10 @@ class Headers(Forms):
         """A column is left out by its place, whatever its header is."""
         table = self.table("a,,b,\n1,2,3,4\n", "--leave-out", "t.#2", "--leave-out", "t.#4")
         self.assertEqual((table["columns"], table["rows"]), ([["a", "INT"], ["b", "INT"]], [[1, 3]]))
-        self.csv_refused('column 4 \'\' isn\'t a name: a letter a to z or _, then such letters, digits and _; '
-                         'give --rename "t.#4=NAME"', "a,,b,\n1,2,3,4\n", "--leave-out", "t.#2")
-        self.csv_refused("--leave-out t.#5: nothing that was read has this name", "a\n1\n", "--leave-out", "t.#5",
-                         status=2)
+        self.csv_refused('column 4 \'\' isn\'t a name: a letter a to z or _, then such letters, digits and '
+                         '_; give --rename "t.#4=NAME"', "a,,b,\n1,2,3,4\n", "--leave-out", "t.#2")
+        self.csv_refused("--leave-out t.#5: nothing that was read has this name", "a\n1\n",
+                         "--leave-out", "t.#5", status=2)
         path = os.path.join(self.folder, "t.db")
         make_database(path, 'CREATE TABLE t (a INT, "a b" BLOB); INSERT INTO t VALUES (1, x\'00\');')
         status, out, err = tool(world, "--sqlite", path, *ASK, "--leave-out", "t.#2")

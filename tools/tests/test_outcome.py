@@ -1,4 +1,5 @@
 """outcome.py."""
+import json
 import os
 
 from ldvtools import outcome
@@ -141,7 +142,8 @@ file bb was removed
         """What a process printed, or one file, and nothing else."""
         self.assertEqual(tool(outcome, "--printed", given=FAMILY), (0, b"total 3\n", ENDS))
         self.assertEqual(tool(outcome, "--printed", "--process", "0.1", given=FAMILY)[1], "\u00f8\n".encode())
-        self.assertEqual(tool(outcome, "--printed", "--process", "0.0", "--strict", given=FAMILY), (1, b"", ENDS))
+        words = ["--printed", "--process", "0.0", "--strict"]
+        self.assertEqual(tool(outcome, *words, given=FAMILY), (1, b"", ENDS))
         self.assertEqual(tool(outcome, "--file", "a", given=FAMILY), (0, b"x\ny", ENDS))
         raw = b"outcome 1 1\nprocess 0 0 0 0\n\nfile 1 3\nf\n\xff\x00\n\n"
         self.assertEqual(tool(outcome, "--file", "f", given=raw), (0, b"\xff\x00\n", ""))
@@ -169,11 +171,13 @@ file bb was removed
         table = tool(outcome, "--scale", "1=2", "--scale", "2=1", given=given)[1].decode()
         self.assertIn("\n                 -123.45 | \"7\"\n", table)
         self.assertIn("\n    NULL                 | 0.7\n", table)
-        world = self.put("w", '{"start":["m"],"files":{"m":"sql q \\"SELECT cents, SUM(cents) FROM t GROUP BY '
-                              'cents\\"\\n"},"tables":{"t":{"columns":[["cents","INT"]]}}}')
+        text = 'sql q "SELECT cents, SUM(cents) FROM t GROUP BY cents"\n'
+        world = self.put("w", json.dumps({"start": ["m"], "files": {"m": text},
+                                          "tables": {"t": {"columns": [["cents", "INT"]]}}}))
         given = b"outcome 1 0\nprocess 0 0 0 1\n\nrows 1\nrow 2\nint 1250\nint 2500\n"
         words = ["--world", world, "--scale", "cents=2"]
-        self.assertIn(b"cents | 2\n    ------+-----\n    12.50 | 2500\n", tool(outcome, *words, given=given)[1])
+        shown = b"cents | 2\n    ------+-----\n    12.50 | 2500\n"
+        self.assertIn(shown, tool(outcome, *words, given=given)[1])
         self.assertEqual(tool(outcome, *words, "--scale", "2=2", "--csv", given=given)[1].split(b"\n")[-2],
                          b"12.50,25.00")
         folder = os.path.join(self.folder, "replies")

@@ -288,7 +288,8 @@ class ScriptsAndFiles(InFolder):
     def test_help(self):
         """What holds for all CSV files is said, and what holds for one."""
         text = tool(world, "--help")[1].decode()
-        self.assertIn("--delimiter, --encoding, --decimal, --thousands and --null hold for all CSV files, or for the "
+        self.assertIn("--delimiter, --encoding, --decimal, --thousands and --null hold for all CSV "
+                      "files, or for the "
                       "one whose table\nis named", text)
         self.assertIn("--tsv, --skip-blank, --round, --lower and --tidy hold for all files.", text)
 
