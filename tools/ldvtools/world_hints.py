@@ -264,7 +264,7 @@ def hint_of_text(table: Table, column: Column, hints: List[str]) -> None:
     sample: List[str] = list(itertools.islice(filter(None, column.cells), SAMPLE))
     if not any(map(DIGIT.search, sample)):
         return
-    cells = [cell for cell in column.cells if cell is not None]
+    cells = [cell for cell in column.cells if cell is not None] if None in column.cells else column.cells
     hint = hint_of_dates(table, column, cells) or hint_of_numbers(table, column, cells)
     if hint is None and are_most([cell for cell in sample if DECIMAL.match(cell)], sample):
         hint = hint_of_decimals(table, column)

@@ -9,6 +9,7 @@ import json.encoder
 import re
 from typing import Callable, Dict, Iterator, List, Optional, Sequence, Tuple
 
+from .documents import Rows, row_lines
 from .errors import Misused, Refused, Unfit
 from .language import MAX_COLUMNS, MAX_INT, MAX_NAME, MAX_ROWS, MAX_TEXT, MIN_INT, NAME, RESERVED
 from .world_cells import (MAX_SCALE, comparable, has_no_equal, scaled_number, shown, text_value,
@@ -40,19 +41,27 @@ def check_name(what: str, name: str, place: str = "") -> None:
 
 # ---- kinds
 
-def canonical_numbers(cells: Sequence[Optional[str]]) -> Optional[List[Optional[int]]]:
-    """The numbers of texts that are each written in the only way that loses nothing as a number, or None."""
+def canonical_numbers(cells: List[Optional[str]]) -> Optional[Tuple[List[Optional[int]], List[str]]]:
+    """The numbers of texts that are each written in the only way that loses nothing as a number, and how the
+    document has them, or None."""
+    has_null = None in cells
     texts = [cell for cell in cells if cell is not None]
     try:
         numbers = list(map(int, texts))
     except ValueError:
         return None
-    if not numbers or list(map(str, numbers)) != texts or min(numbers) < MIN_INT or max(numbers) > MAX_INT:
+    if not numbers or list(map(str, numbers)) != texts or not are_within(numbers, texts):
         return None
-    if len(numbers) == len(cells):
-        return list(numbers)
+    if not has_null:
+        return list(numbers), texts
     following = iter(numbers)
-    return [None if cell is None else next(following) for cell in cells]
+    return ([None if cell is None else next(following) for cell in cells],
+            ["null" if cell is None else cell for cell in cells])
+
+
+def are_within(numbers: Sequence[int], texts: Sequence[str]) -> bool:
+    """Whether all numbers have 64 bits. One of at most 18 digits has them."""
+    return max(map(len, texts)) <= MAX_SCALE or min(numbers) >= MIN_INT and max(numbers) <= MAX_INT
 
 
 def no_equal(table: Table, column: Column, value: Cell) -> Unfit:
@@ -111,10 +120,11 @@ def fill_column(table: Table, column: Column, is_given: bool, settings: Settings
 
 def is_filled(column: Column) -> bool:
     """Whether all cells are as the column carries them already."""
-    types = set(map(type, column.cells))
-    if column.scale is not None or column.date is not None or column.not_null and type(None) in types:
+    if column.scale is not None or column.date is not None or column.not_null and None in column.cells:
         return False
-    types.discard(type(None))
+    if column.spelled is not None:
+        return True
+    types = set(map(type, column.cells)) - {type(None)}
     if column.kind == "TEXT":
         return types <= {str} and max(map(len, filter(None, column.cells)), default=0) * 4 <= MAX_TEXT
     return types <= {int}
@@ -130,12 +140,17 @@ def is_scaled(column: Column) -> bool:
     scale, sign = column.scale, column.form.decimal
     most = MAX_SCALE - scale or 1
     match = re.compile(rf"-?[0-9]{{1,{most}}}(?:{re.escape(sign)}[0-9]{{0,{scale}}})?\Z").match
-    texts = [cell for cell in column.cells if cell is not None]
+    # Measurements have few values, each many times.
+    texts = set(column.cells) - {None}
     if scale >= MAX_SCALE or not all(map(match, texts)):
         return False
-    numbers = iter([int(whole + part.ljust(scale, "0"))
-                    for whole, _, part in (text.partition(sign) for text in texts)])
-    column.cells = [None if cell is None else next(numbers) for cell in column.cells]
+    parts = ((text, text.partition(sign)) for text in texts)
+    numbers: Dict[Optional[str], Optional[int]] = {
+        text: int(whole + part.ljust(scale, "0")) for text, (whole, _, part) in parts}
+    numbers[None] = None
+    spelled = {text: "null" if number is None else str(number) for text, number in numbers.items()}
+    column.spelled = list(map(spelled.__getitem__, column.cells))
+    column.cells = list(map(numbers.__getitem__, column.cells))
     return True
 
 
@@ -219,7 +234,8 @@ def settle_kind(table: Table, column: Column, settings: Settings) -> bool:
     nulls = settings.nulls_of(table.name, column.name)
     if table.from_text:
         words = nulls | (set() if is_text else {""}) | ({NO_VALUE} if settings.is_tsv else set())
-        column.cells = [None if cell in words else cell for cell in column.cells]
+        if any(word in column.cells for word in words):
+            column.cells = [None if cell in words else cell for cell in column.cells]
     return kind is not None or bool(column.form.unit)
 
 
@@ -259,14 +275,14 @@ def first_float(column: Column) -> Iterator[Tuple[int, float]]:
 
 
 def settle_cells(table: Table, column: Column, is_given: bool, settings: Settings, hints: List[str]) -> None:
+    if table.from_text and column.kind != "TEXT" and column.scale is None:
+        found = canonical_numbers(column.cells)
+        if found is not None:
+            column.kind = "INT"
+            column.cells, column.spelled = found
     if column.kind is None and table.from_text:
-        numbers = canonical_numbers(column.cells)
-        column.kind = "TEXT" if numbers is None else "INT"
-        if numbers is None:
-            hint_of_text(table, column, hints)
-        else:
-            column.spelled = ["null" if cell is None else cell for cell in column.cells]
-            column.cells = list(numbers)
+        column.kind = "TEXT"
+        hint_of_text(table, column, hints)
     elif column.kind is None:
         column.kind = kind_of_values(table, column)
     if column.form.unit:
@@ -313,8 +329,8 @@ def keep_columns(table_name: str, columns: Sequence[Column], settings: Settings)
 SPELLERS: Dict[str, Callable[[Cell], str]] = {"INT": str, "TEXT": spelled_text}
 
 
-def rows_json(columns: Sequence[Column]) -> List[str]:
-    """The rows of a settled table, each as JSON."""
+def rows_json(columns: Sequence[Column]) -> Rows:
+    """The rows of a settled table as JSON."""
     spelled: List[Sequence[str]] = []
     for column in columns:
         if column.spelled is not None:
@@ -324,4 +340,4 @@ def rows_json(columns: Sequence[Column]) -> List[str]:
         has_null = None in column.cells
         spelled.append(["null" if cell is None else spell(cell) for cell in column.cells] if has_null
                        else list(map(spell, column.cells)))
-    return ["[" + row + "]" for row in map(",".join, zip(*spelled))]
+    return row_lines(map(",".join, zip(*spelled)), len(columns[0].cells))
