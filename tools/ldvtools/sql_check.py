@@ -276,12 +276,10 @@ def told(expr: Expr, kind: str) -> str:
 
 
 def quotes_hint(expr: Expr, kinds: Sequence[str]) -> str:
-    """Where a column is compared with a constant of the other kind, the constant that it may have meant."""
+    """Where a number is compared with a number in quotes, the number."""
     for part, kind in zip(expr.parts, kinds):
         if part.form == "constant" and kind == TEXT and re.fullmatch(r"-?[0-9]{1,18}", str(part.value)):
             return f"; a number has no quotes: {part.value}"
-        if part.form == "constant" and kind == INT:
-            return f"; a text has quotes: '{part.value}'"
     return ""
 
 

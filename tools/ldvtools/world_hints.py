@@ -229,17 +229,17 @@ def hint_of_numbers(table: Table, column: Column, cells: Sequence[str]) -> Optio
             else "decimals with a comma" if found.form.decimal == ","
             else "numbers with a word for what isn't known")
     odd = next(cell for cell in sample if (cell in found.others if is_plain else is_odd(cell, found)))
-    return (f"{name} is TEXT, and looks like {what}, such as {shown(odd)}; {number_words(name, found)} "
-            f"carries "
-            f"it as whole numbers{thousands_words(name, found)}")
+    return f"{name} is TEXT, and looks like {what}, such as {shown(odd)}; {carrying_words(name, found)}"
 
 
-def thousands_words(name: str, found: Written) -> str:
-    """The other reading of a column such as 1,234."""
+def carrying_words(name: str, found: Written) -> str:
+    """What carries such a column as whole numbers. 1,234 has two readings."""
+    words = number_words(name, found)
     if not found.are_thousands:
-        return ""
-    words = form_words(name, Form(".", found.form.decimal, found.form.unit))
-    return ", or, if these are thousands, " + " ".join(words + [f"--kind {name}=INT"])
+        return f"{words} carries it as whole numbers"
+    others = [null_word(name, each) for each in found.others]
+    whole = [*form_words(name, Form(".", found.form.decimal, found.form.unit)), f"--kind {name}=INT", *others]
+    return f"where these are thousands, {' '.join(whole)} carries it as whole numbers, where decimals, {words}"
 
 
 def is_odd(cell: str, found: Written) -> bool:
@@ -285,9 +285,8 @@ def hint_of_decimals(table: Table, column: Column) -> Optional[str]:
     scale, name = max(numbers, default=0), table.full_name(column)
     how = "--null, --kind or --scale say otherwise"
     if len(numbers) == len(there) and 0 < scale <= MAX_SCALE:
-        how = f"--scale {name}={scale} carries it as whole numbers"
         found = written([cell for _, cell in there])
-        how += thousands_words(name, found) if found else ""
+        how = carrying_words(name, found or Written(PLAIN, scale, False, False, []))
     return f"{name} is TEXT, since {table.row_name(row)} has {shown(first)}; {how}"
 
 

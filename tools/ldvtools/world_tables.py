@@ -24,8 +24,8 @@ spelled_text: Callable[[str], str] = getattr(json.encoder, "encode_basestring")
 
 # ---- names
 
-def check_name(what: str, name: str, place: str = "") -> None:
-    how = f"--rename \"{place}=NAME\"" if place else "--rename"
+def check_name(what: str, name: str, place: str = "", how: str = "") -> None:
+    how = how or (f"--rename \"{place}=NAME\"" if place else f"--rename \"{name}=NAME\"")
     if name in RESERVED:
         raise Refused(f"{what} {name!r} is a reserved word; give {how}")
     # A word of the command line that isn't UTF-8 has half surrogate pairs.
@@ -168,7 +168,7 @@ def settle(tables: Sequence[Table], settings: Settings, hints: List[str]) -> Non
 
 def prepare(table: Table, settings: Settings) -> List[bool]:
     """Takes what the options say of a table. Whether they name the kind, of each column."""
-    check_name("the table", table.name)
+    check_name("the table", table.name, how="--csv NAME=FILE, or --tidy" if table.from_text else "")
     if not 1 <= len(table.columns) <= MAX_COLUMNS:
         raise Refused(f"{table.name} has {len(table.columns)} columns; a table has 1 to {MAX_COLUMNS}")
     if table.count > MAX_ROWS:

@@ -69,9 +69,10 @@ class Numbers(Forms):
             self.assertIn("--decimal t.a=, --thousands 't.a= ' --scale t.a=1 carries", err)
             table = self.table(self.column([f"1{blank}234,5", "7"]), "--delimiter", ";", *words)
             self.assertEqual([row[0] for row in table["rows"]], [12345, 70])
-        self.assertIn("--scale t.a=3 carries it as whole numbers, or, if these are thousands, "
-                      "--thousands t.a=. "
-                      "--kind t.a=INT\n", self.said("a\n1.234\n12.500\n"))
+        for cells in (["1.234", "12.500"], ["1.278", "234"]):
+            self.assertIn("; where these are thousands, --thousands t.a=. --kind t.a=INT carries it as whole "
+                          "numbers, where decimals, --scale t.a=3\n", self.said(self.column(cells),
+                                                                                "--delimiter", ";"))
         self.assertNotIn("thousands", self.said("a\n0.125\n12.500\n"))
         self.csv_refused("column a: '12.5' is no whole number", "a\n1.234\n12.5\n", "--thousands", "t.a=.")
         self.csv_refused("t.a: --decimal and --thousands are both ,", "a\n1\n", "--thousands", ",",
@@ -287,6 +288,14 @@ class Headers(Forms):
         self.assertIn("a second Count, in\ncolumn 5, becomes count__5.", text)
         self.assertEqual(tidy_names(["Count", "b", "c", "d", "Count"]), ["count_", "b", "c", "d", "count__5"])
         self.assertEqual(tidy_names(["", "b", ""]), ["column", "b", "column_3"])
+
+    def test_name_of_file(self):
+        """A file whose name is no name of a table."""
+        path = self.put("My data 2023.csv", "a\n1\n")
+        self.refused("the table 'My data 2023' isn't a name: a letter a to z or _, then such letters, digits "
+                     "and _; give --csv NAME=FILE, or --tidy\n", "--csv", path, *ASK)
+        for words in (["--csv", f"t={path}"], ["--csv", path, "--tidy"]):
+            self.assertEqual(tool(world, *words, *ASK)[0], 0)
 
     def test_tidy_names(self):
         """No name is made twice, and none is too long."""

@@ -151,8 +151,9 @@ class CsvFiles(InFolder):
         for cells, are_thousands in (("1,234 12,500", True), ("999 1,234", True), ("1,234 12,50", False)):
             err = tool(world, "--csv", self.put("t.csv", "a;b\n" + cells.replace(" ", ";x\n") + ";x\n"),
                        "--delimiter", ";", *ASK)[2]
-            self.assertIn("--decimal t.a=, --scale t.a=3 carries it as whole numbers", err)
-            rest = "whole numbers, or, if these are thousands, --thousands t.a=, --kind t.a=INT\n"
+            self.assertIn("--decimal t.a=, --scale t.a=3", err)
+            rest = ("; where these are thousands, --thousands t.a=, --kind t.a=INT carries it as whole numbers, "
+                    "where decimals, --decimal t.a=, --scale t.a=3\n")
             self.assertEqual(rest in err, are_thousands, cells)
 
     def test_rounding(self):
