@@ -239,7 +239,8 @@ def carrying_words(name: str, found: Written) -> str:
         return f"{words} carries it as whole numbers"
     others = [null_word(name, each) for each in found.others]
     whole = [*form_words(name, Form(".", found.form.decimal, found.form.unit)), f"--kind {name}=INT", *others]
-    return f"where these are thousands, {' '.join(whole)} carries it as whole numbers, where decimals, {words}"
+    return (f"where these are thousands, {' '.join(whole)} carries it as whole numbers, where decimals, "
+            f"{words}")
 
 
 def is_odd(cell: str, found: Written) -> bool:

@@ -152,8 +152,8 @@ class CsvFiles(InFolder):
             err = tool(world, "--csv", self.put("t.csv", "a;b\n" + cells.replace(" ", ";x\n") + ";x\n"),
                        "--delimiter", ";", *ASK)[2]
             self.assertIn("--decimal t.a=, --scale t.a=3", err)
-            rest = ("; where these are thousands, --thousands t.a=, --kind t.a=INT carries it as whole numbers, "
-                    "where decimals, --decimal t.a=, --scale t.a=3\n")
+            rest = ("; where these are thousands, --thousands t.a=, --kind t.a=INT carries it as whole "
+                    "numbers, where decimals, --decimal t.a=, --scale t.a=3\n")
             self.assertEqual(rest in err, are_thousands, cells)
 
     def test_rounding(self):
