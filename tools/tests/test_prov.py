@@ -225,8 +225,9 @@ class Standard(InFolder):
         given = [DOCUMENT.encode(), *documents()]
         read_ones = [read_provenance(document) for document in given]
         texts = [prov.prov_json(each, None, "urn:ldv:") for each in read_ones]
-        done = subprocess.run([with_package(), "-I", os.path.join(HERE, "prov_package.py")], check=False,
-                              input=json.dumps(texts).encode(), stdout=subprocess.PIPE, stderr=subprocess.PIPE)
+        done = subprocess.run([with_package(), "-I", os.path.join(HERE, "prov_package.py")],
+                              input=json.dumps(texts).encode(), check=False, stdout=subprocess.PIPE,
+                              stderr=subprocess.PIPE)
         self.assertEqual(done.returncode, 0, done.stderr.decode())
         seen = json.loads(done.stdout)
         self.assertEqual(len(seen), len(given))
