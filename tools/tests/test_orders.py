@@ -83,13 +83,13 @@ class Shared(InFolder):
         """A path that isn't there, and is asked for, is named too."""
         for name in ("tested", "unopened", "unspawned"):
             events = [act("removed", 1), packages.act(name, "f", 4, 2, found=0)]
-            self.assertIn("file f\n  process 0.0: removed\n", self.kind(*events))
+            self.assertIn("file f\n  process 0.0: removed it\n", self.kind(*events))
 
     def test_script(self):
         """A script that one starts and another changes."""
-        self.assertIn("file main\n  process 0: started the script\n  process 0.0: wrote\n",
+        self.assertIn("file main\n  process 0: started the script\n  process 0.0: wrote it\n",
                       self.kind(act("wrote", 1, "main")))
-        self.assertIn("file s\n  process 0: made a child of the script\n  process 0.1: removed\n",
+        self.assertIn("file s\n  process 0: made a child of the script\n  process 0.1: removed it\n",
                       self.kind(act("removed", 2, "s")))
 
     def test_lines(self):
@@ -100,11 +100,11 @@ class Shared(InFolder):
         self.assertEqual(self.kind(*trace), """not private
 2 paths that one process changes and another one names
 file B
-  process 0.0: removed
-  process 0: looked for
+  process 0.0: removed it
+  process 0: looked for it
 file b
-  process 0.1: opened for appending, wrote
-  process 0.0: opened for appending
+  process 0.1: opened it for appending, wrote it
+  process 0.0: opened it for appending
 """)
 
     def test_one_process(self):
