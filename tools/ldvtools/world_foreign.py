@@ -8,8 +8,9 @@ from typing import List, Sequence, Tuple
 
 from .errors import Refused, Unfit
 from .language import MAX_FOREIGN
+from .world_cells import shown
+from .world_columns import Column, Foreign, Reference, Table
 from .world_settings import Settings, fold
-from .world_tables import Column, Foreign, Reference, Table, shown
 
 
 def settle_foreign(tables: Sequence[Table], settings: Settings, notes: List[str]) -> None:

@@ -11,26 +11,24 @@ use Rattle.run_model.specs.LogRun.{log_outcome}
 use Rattle.run_model.specs.Package.{package_of, own_world}
 use Rattle.run_model.specs.WorldRun.{ends_within, outcome_within, steps_by}
 use Rattle.sql_model.specs.Tables.{tables_test}
-use Rattle.package_layout.specs.Plain.{fits_version}
-use Rattle.package_layout.specs.Valid.{Valid, reading}
-use Rattle.package_layout.specs.Counted.{IsCounted}
+use Rattle.package_layout.specs.Valid.{reading}
 use Rattle.package_layout.specs.Version.{version_of}
-use Rattle.package_layout.specs.declared.version.Version.{Version}
 use Rattle.package_layout.specs.declared.version.Version.TheVariants.{Two}
-use Rattle.package_layout.specs.Whole.{spelling_as, spelling, IsTyped}
+use Rattle.package_layout.specs.Whole.{spelling}
 use Rattle.run_laws.proofs.BudgetLaw.{outcome_ends, ended_outcome, enough_outcome}
 use Rattle.run_laws.proofs.EndedLaw.{ended_starts}
 use Rattle.run_laws.proofs.RunSteps.{steps_at_most}
 use Rattle.replay_db.specs.Auditing.{SoundLaw, RecordedSoundLaw, IsOwn}
 use Rattle.run_laws.specs.Laws.{SameRun, ReplayLaw}
 use Rattle.run_laws.specs.LogLaws.{PickedLogLaw}
-use Rattle.replay_db.specs.Worlds.{TypedFor, TypedWorld, ValidWorld, WorldTablesLaw, ValidPackageLaw, TypedPackageLaw}
+use Rattle.replay_db.specs.Worlds.{ValidWorld, WorldTablesLaw, ValidPackageLaw, TypedPackageLaw}
 use Rattle.world_json.specs.Reading.{world_reading}
 use Rattle.ldv_top.specs.declared.exit.Exit.TheVariants.{Done}
 use Rattle.ldv_top.specs.Due.{Due, due_outcome, outcome_due, due_world, due_reading, due_run, due_spelling, package_due, recorded_world, recorded_reading, due_record, due_divergence, due_log, replayed_as, replayed_reading, due_replay}
 use Rattle.ldv_top.specs.DueOfAudits.{due_audit}
 use Rattle.ldv_top.specs.DueParts.{done}
 use Rattle.ldv_top.specs.Headline.{IsPackageOf, Recorded}
+use Rattle.ldv_top.proofs.ReadBack.{ReadAgain, ShortCounted, read_back as packed_read}
 use Rattle.ldv_top.proofs.RecordLaws.{not_too_long, Spelled, spelling_done}
 use Rattle.ldv_top.proofs.SoundLaws.{Written, run_written, version_spelled, sound_from}
 
@@ -44,21 +42,11 @@ same_due n m v w outcome of_v of_w =
 
 -- ---- the laws
 
--- whatever a package of this mode asks of a world's values
-typed_for : (mode : Mode) (w : World) → TypedWorld w → TypedFor mode w
-typed_for Included w typed = tt
-typed_for Excluded w typed = typed
-
-module _ (again : (version : Version) (p : Package) → IsTyped p → Valid p → IsTrue (fits_version version p) → IsCounted version p → reading (spelling_as version p) ≡ Ok p)
-    (counted : (version : Version) (p : Package) → length (spelling_as version p) ≤ input_limit → IsCounted version p)
-    (valid : ValidPackageLaw) (typed : TypedPackageLaw) (valid_tables : WorldTablesLaw) (replay : ReplayLaw) (logs : PickedLogLaw) (sound : SoundLaw) (own_sound : RecordedSoundLaw) where
+module _ (again : ReadAgain) (counted : ShortCounted) (valid : ValidPackageLaw) (typed : TypedPackageLaw) (valid_tables : WorldTablesLaw) (replay : ReplayLaw) (logs : PickedLogLaw) (sound : SoundLaw) (own_sound : RecordedSoundLaw) where
   read_back : (mode : Mode) (n : ℕ) (w : World) → ValidWorld w → n ≤ max_steps → ends_within n w ≡ true
       → length (spelling (package_of mode n w)) ≤ input_limit
       → reading (spelling (package_of mode n w)) ≡ Ok (package_of mode n w)
-  read_back mode n w valid_world bounded ended short =
-      again Two (package_of mode n w) (typed mode n w valid_world bounded ended)
-      (valid mode n w valid_world.ruled (valid_tables w valid_world) (typed_for mode w valid_world.typed) bounded ended)
-      refl (counted Two (package_of mode n w) short)
+  read_back = packed_read again counted valid typed valid_tables
 
   -- over the needed rows
   own_due : (n budget : ℕ) (w : World) → ends_within n w ≡ true → tables_test w.tables ≡ true → steps_by n [] w ≤ budget

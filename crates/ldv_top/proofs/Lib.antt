@@ -1,12 +1,16 @@
 pub mod AuditResponses
 pub mod BareLaws
+pub mod DocumentLaws
 pub mod GenerateLaws
 pub mod HeadlineLaw
 pub mod LogResponses
 pub mod MigrationLaws
+pub mod ReadBack
 pub mod RecordLaws
 pub mod ReportLaws
 pub mod ResponseLaws
+pub mod SeedLaws
+pub mod SeedResponses
 pub mod SoundLaws
 pub mod TopLaws
 pub mod Traces

@@ -4,22 +4,29 @@ use Rattle.std.specs.Prelude.{Option, Some, None, is_some, IfSome, ◌⊎◌, tr
 use Rattle.std.specs.Io.KnownBytes.{Consumes, IsAtEnd}
 use Rattle.ldv_io.specs.Causes.{Rose}
 use Rattle.run_model.specs.declared.package.Mode.{Mode}
+use Rattle.run_model.specs.declared.package.Mode.TheVariants.{Excluded}
 use Rattle.run_model.specs.declared.world.World.{World}
-use Rattle.run_model.specs.WorldRun.{steps_by}
+use Rattle.run_model.specs.WorldRun.{events_within, steps_by}
+use Rattle.free_order.specs.Private.{private_test}
 use Rattle.ldv_top.specs.Comes.{Comes, IsQuiet}
-use Rattle.ldv_top.specs.Due.{Due, due_of, due_record, due_replay, due_world, is_too_long}
+use Rattle.ldv_top.specs.Due.{Due, due_of, due_record, due_replay, due_replay_seed, due_world, is_too_long}
 use Rattle.ldv_top.specs.DueOfMigrations.{due_migrate}
 use Rattle.ldv_top.specs.DueOfReports.{due_inspect}
 use Rattle.ldv_top.specs.Ends.{Ends, Responds}
 use Rattle.ldv_top.specs.Headline.{IsPackageOf, Recorded}
 use Rattle.ldv_top.specs.Migrated.{Migrated}
+use Rattle.ldv_top.specs.ProvReported.{DocumentLaw, numbered_due}
 use Rattle.ldv_top.specs.Reported.{Depends}
 use Rattle.ldv_top.specs.Words.{command_of, reads}
 use Rattle.ldv_top.specs.declared.command.Command.{Command}
-use Rattle.ldv_top.specs.declared.command.Command.TheVariants.{Run, Record, Replay, Audit, Table, Inspect, Generate, Migrate}
+use Rattle.ldv_top.specs.declared.command.Command.TheVariants.{Run, Record, Replay, ReplaySeed, Audit, Table}
+use Rattle.ldv_top.specs.declared.command.Command.TheVariants.{Inspect, Generate, Migrate, Prov, ProvDepends}
 use Rattle.ldv_top.specs.declared.command.Report.TheVariants.{Depends as DependsOn}
 use Rattle.ldv_top.specs.declared.exit.Exit.{Exit}
-use Rattle.ldv_top.specs.declared.exit.Exit.TheVariants.{Done, Usage, ReadFault, WriteFault, TooLong, NotWorld, NotEnded, Damaged, Diverged, NoSuch, NoMemory, PackageTooLong}
+use Rattle.ldv_top.specs.declared.exit.Exit.TheVariants.{Done, Usage, ReadFault, WriteFault, TooLong}
+use Rattle.ldv_top.specs.declared.exit.Exit.TheVariants.{NotWorld, NotEnded, Damaged, Diverged, NoSuch}
+use Rattle.ldv_top.specs.declared.exit.Exit.TheVariants.{NoMemory, PackageTooLong, NotPrivate, NotProv}
+use Rattle.ldv_top.proofs.DocumentLaws.{named_same}
 
 -- what was read to the end is all that there was
 pub got_all : (old new : Option (List ℕ)) (got input : List ℕ) → old ≡ Some input → Consumes old new got → IsAtEnd new → got ≡ input
@@ -43,17 +50,22 @@ complete d (Damaged kind) old new R W out is read write no_read no_write = let e
 complete d (Diverged process index) old new R W out is read write no_read no_write = let e : Diverged process index ≡ Done = sym out ∙ is in cc
 complete d NoSuch old new R W out is read write no_read no_write = let e : NoSuch ≡ Done = sym out ∙ is in cc
 complete d PackageTooLong old new R W out is read write no_read no_write = let e : PackageTooLong ≡ Done = sym out ∙ is in cc
+complete d NotPrivate old new R W out is read write no_read no_write = let e : NotPrivate ≡ Done = sym out ∙ is in cc
+complete d NotProv old new R W out is read write no_read no_write = let e : NotProv ≡ Done = sym out ∙ is in cc
 
 -- what is due for a command that reads nothing is the same for every input
 pub due_unread : (command : Command) → reads (Some command) ≡ false → (given input : List ℕ) → due_of (Some command) given ≡ due_of (Some command) input
 due_unread (Run budget) unread given input = let never : true ≡ false = unread in cc
 due_unread (Record mode budget) unread given input = let never : true ≡ false = unread in cc
 due_unread (Replay budget) unread given input = let never : true ≡ false = unread in cc
+due_unread (ReplaySeed seed budget) unread given input = let never : true ≡ false = unread in cc
 due_unread (Audit budget) unread given input = let never : true ≡ false = unread in cc
 due_unread (Table name step budget) unread given input = let never : true ≡ false = unread in cc
 due_unread (Inspect report) unread given input = let never : true ≡ false = unread in cc
 due_unread (Generate orders) unread given input = refl
 due_unread Migrate unread given input = let never : true ≡ false = unread in cc
+due_unread Prov unread given input = let never : true ≡ false = unread in cc
+due_unread (ProvDepends path) unread given input = let never : true ≡ false = unread in cc
 
 -- an input that is too long is due to be refused, whichever command reads it
 pub too_long_due : (command : Command) → reads (Some command) ≡ true → (input : List ℕ) → is_too_long input ≡ true
@@ -61,11 +73,14 @@ pub too_long_due : (command : Command) → reads (Some command) ≡ true → (in
 too_long_due (Run budget) reading input long = rw long refl
 too_long_due (Record mode budget) reading input long = rw long refl
 too_long_due (Replay budget) reading input long = rw long refl
+too_long_due (ReplaySeed seed budget) reading input long = rw long refl
 too_long_due (Audit budget) reading input long = rw long refl
 too_long_due (Table name step budget) reading input long = rw long refl
 too_long_due (Inspect report) reading input long = rw long refl
 too_long_due (Generate orders) reading input long = let never : false ≡ true = reading in cc
 too_long_due Migrate reading input long = rw long refl
+too_long_due Prov reading input long = rw long refl
+too_long_due (ProvDepends path) reading input long = rw long refl
 
 -- what a source has is longer than a limit
 pub longer : (left : Option (List ℕ)) (limit : ℕ) (input : List ℕ) → left ≡ Some input → IfSome left (λ bytes. limit < length bytes)
@@ -97,8 +112,12 @@ module _ {Reader Writer : Type 0} (left : Reader → Option (List ℕ)) (read_fa
     recorded = λ mode budget document is told done. let never : Usage ≡ Done = done in cc;
     headline = λ mode n budget w input is told packed enough.
         let never : None ≡ Some (Replay budget) = sym none ∙ is in cc;
+    reseeded = λ n seed budget w input is told packed private enough.
+        let never : None ≡ Some (ReplaySeed seed budget) = sym none ∙ is in cc;
     migrated = λ input is told done. let never : Usage ≡ Done = done in cc;
     depends = λ path input is told done. let never : Usage ≡ Done = done in cc;
+    documented = λ p path input is told document.
+        let never : None ≡ Some (ProvDepends path) = sym none ∙ is in cc;
   }
 
   -- words that are a command, where memory ran out while they were read
@@ -118,8 +137,10 @@ module _ {Reader Writer : Type 0} (left : Reader → Option (List ℕ)) (read_fa
     complete = λ input is done no_read no_write. inr refl;
     recorded = λ mode budget document is told done. let never : NoMemory ≡ Done = done in cc;
     headline = λ mode n budget w input is told packed enough. tt;
+    reseeded = λ n seed budget w input is told packed private enough. tt;
     migrated = λ input is told done. let never : NoMemory ≡ Done = done in cc;
     depends = λ path input is told done. let never : NoMemory ≡ Done = done in cc;
+    documented = λ p path input is told document. (named_same p path, tt);
   }
 
   -- a command that reads nothing
@@ -147,8 +168,12 @@ module _ {Reader Writer : Type 0} (left : Reader → Option (List ℕ)) (read_fa
             let never : false ≡ true = sym none_read ∙ ap reads named in cc;
         headline = λ mode n budget w input named told packed enough.
             let never : false ≡ true = sym none_read ∙ ap reads named in cc;
+        reseeded = λ n seed budget w input named told packed private enough.
+            let never : false ≡ true = sym none_read ∙ ap reads named in cc;
         migrated = λ input named told done. let never : false ≡ true = sym none_read ∙ ap reads named in cc;
         depends = λ path input named told done. let never : false ≡ true = sym none_read ∙ ap reads named in cc;
+        documented = λ p path input named told document.
+            let never : false ≡ true = sym none_read ∙ ap reads named in cc;
       }
 
   -- a command that reads its input, of which the parts are known
@@ -167,8 +192,12 @@ module _ {Reader Writer : Type 0} (left : Reader → Option (List ℕ)) (read_fa
       (not_usage : exit ≢ Usage)
       (replayed : (mode : Mode) (n budget : ℕ) (w : World) (input : List ℕ) → IsPackageOf mode n w input
       → steps_by n [] w ≤ budget → due_replay budget input ≡ due_world n w)
+      (any_seed : (n seed budget : ℕ) (w : World) (input : List ℕ) → IsPackageOf Excluded n w input
+      → private_test (events_within n w) ≡ true → steps_by n [] w ≤ budget
+      → due_replay_seed seed budget input ≡ due_world n w)
       (reported : (path input : List ℕ) → (due_inspect (DependsOn path) input).exit ≡ Done
-      → Depends path input (due_inspect (DependsOn path) input).bytes) where
+      → Depends path input (due_inspect (DependsOn path) input).bytes)
+      (document : DocumentLaw) where
     reads_input : reads (command_of words) ≡ true
     reads_input = ap reads is ∙ reading
 
@@ -195,6 +224,12 @@ module _ {Reader Writer : Type 0} (left : Reader → Option (List ℕ)) (read_fa
           subst (λ (d : Due). Comes d exit (taken sink) (taken sink_after))
           (ap (λ (k : Command). due_of (Some k) input) (some_same same) ∙ replayed mode n budget w input packed enough)
           (due input told);
+      reseeded = λ n seed budget w input named told packed private enough.
+          let same : Some command ≡ Some (ReplaySeed seed budget) = sym is ∙ named in
+          subst (λ (d : Due). Comes d exit (taken sink) (taken sink_after))
+          (ap (λ (k : Command). due_of (Some k) input) (some_same same)
+          ∙ any_seed n seed budget w input packed private enough)
+          (due input told);
       migrated = λ input named told done.
           let same : Some command ≡ Some Migrate = sym is ∙ named in
           migrated input (some_same same) told done;
@@ -203,4 +238,11 @@ module _ {Reader Writer : Type 0} (left : Reader → Option (List ℕ)) (read_fa
           let comes : Comes (due_of (Some command) input) Done (taken sink) (taken sink_after) =
           subst (λ (e : Exit). Comes (due_of (Some command) input) e (taken sink) (taken sink_after)) done (due input told) in
           reported path input (sym (ap (λ (k : Command). (due_of (Some k) input).exit) (some_same same)) ∙ comes.0);
+      documented = λ p path input named told written.
+          let same : Some command ≡ Some (ProvDepends path) = sym is ∙ named in
+          let comes : Comes (numbered_due p path) exit (taken sink) (taken sink_after) =
+          subst (λ (d : Due). Comes d exit (taken sink) (taken sink_after))
+          (ap (λ (k : Command). due_of (Some k) input) (some_same same) ∙ document p path input written)
+          (due input told) in
+          (named_same p path, comes);
     }

@@ -7,7 +7,7 @@ use Rattle.ldv_top.specs.Written.{AppendsPart}
 use Rattle.ldv_top.specs.declared.exit.Exit.{Exit}
 use Rattle.ldv_top.specs.declared.exit.Exit.TheVariants.{Done, Usage, ReadFault, WriteFault, TooLong}
 use Rattle.ldv_top.specs.declared.exit.Exit.TheVariants.{NotWorld, NotEnded, Damaged, Diverged, NoSuch}
-use Rattle.ldv_top.specs.declared.exit.Exit.TheVariants.{NoMemory, PackageTooLong}
+use Rattle.ldv_top.specs.declared.exit.Exit.TheVariants.{NoMemory, PackageTooLong, NotPrivate, NotProv}
 
 -- the input is what the source has, where the command reads
 abbrev pub IsInput : Bool → Option (List ℕ) → List ℕ → Type 0
@@ -27,6 +27,8 @@ Comes d (Damaged kind) old new = d.exit ≡ Damaged kind
 Comes d (Diverged process index) old new = d.exit ≡ Diverged process index
 Comes d NoSuch old new = d.exit ≡ NoSuch
 Comes d PackageTooLong old new = d.exit ≡ PackageTooLong
+Comes d NotPrivate old new = d.exit ≡ NotPrivate
+Comes d NotProv old new = d.exit ≡ NotProv
 
 -- an exit after which nothing is written
 abbrev pub IsQuiet : Exit → Type 0

@@ -9,25 +9,30 @@ use Rattle.run_model.specs.OutcomeText.{outcome_text_of}
 use Rattle.run_model.specs.Package.{package_of, own_world}
 use Rattle.run_model.specs.Core.{Diverged as DivergedAt}
 use Rattle.run_model.specs.LogRun.{log_outcome, log_divergence}
+use Rattle.free_order.specs.OtherSeed.{is_free}
 use Rattle.package_layout.specs.declared.damage.DamageKind.{DamageKind}
 use Rattle.package_layout.specs.Valid.{reading}
 use Rattle.package_layout.specs.Whole.{spelling}
+use Rattle.replay_log.specs.Replays.{with_seed}
 use Rattle.world_json.specs.Reading.{world_reading}
 use Rattle.world_json.specs.declared.fault.WorldFault.{WorldFault}
 use Rattle.ldv_top.specs.declared.response.Response.{Response}
 use Rattle.ldv_top.specs.declared.response.Response.TheVariants as responses
 use Rattle.ldv_top.specs.declared.command.Command.{Command}
-use Rattle.ldv_top.specs.declared.command.Command.TheVariants.{Run, Record, Replay, Audit, Table, Inspect}
-use Rattle.ldv_top.specs.declared.command.Command.TheVariants.{Generate, Migrate}
+use Rattle.ldv_top.specs.declared.command.Command.TheVariants.{Run, Record, Replay, ReplaySeed, Audit, Table}
+use Rattle.ldv_top.specs.declared.command.Command.TheVariants.{Inspect, Generate, Migrate, Prov, ProvDepends}
 use Rattle.ldv_top.specs.declared.exit.Exit.TheVariants.{Usage, TooLong, NotWorld, NotEnded, Damaged}
-use Rattle.ldv_top.specs.declared.exit.Exit.TheVariants.{Diverged, NoSuch, PackageTooLong}
+use Rattle.ldv_top.specs.declared.exit.Exit.TheVariants.{Diverged, NoSuch, PackageTooLong, NotPrivate}
+use Rattle.ldv_top.specs.declared.exit.Exit.TheVariants.{NotProv}
 use Rattle.ldv_top.specs.DueOfAudits.{due_audit}
 use Rattle.ldv_top.specs.DueOfGenerate.{due_generate}
 use Rattle.ldv_top.specs.DueOfMigrations.{due_migrate}
+use Rattle.ldv_top.specs.DueOfProv.{due_prov, due_prov_depends}
 use Rattle.ldv_top.specs.DueOfReports.{due_inspect}
 use Rattle.ldv_top.specs.DueOfTables.{due_table}
 use Rattle.ldv_top.specs.Words.{command_of}
-pub use Rattle.ldv_top.specs.DueParts.{Due, refused, done, due_outcome, due_of_run, due_spelling, is_too_long}
+pub use Rattle.ldv_top.specs.DueParts.{Due, refused, done, due_outcome, due_of_run, due_of_package}
+pub use Rattle.ldv_top.specs.DueParts.{due_spelling, is_too_long}
 
 -- ---- run: the outcome
 
@@ -87,6 +92,14 @@ abbrev pub due_replay : ℕ → List ℕ → Due
 due_replay budget input = if is_too_long input then refused TooLong
     else replayed_reading budget (reading input)
 
+-- under another seed, which only recorded replies of processes that share no written path can be run by
+abbrev pub reseeded_package : ℕ → ℕ → Package → Due
+reseeded_package seed budget p =
+    if is_free p then due_log budget (with_seed seed p) else refused NotPrivate
+
+abbrev pub due_replay_seed : ℕ → ℕ → List ℕ → Due
+due_replay_seed seed budget input = due_of_package (reseeded_package seed budget) input
+
 -- ---- all commands
 
 abbrev pub due_of : Option Command → List ℕ → Due
@@ -94,11 +107,14 @@ due_of None input = refused Usage
 due_of (Some (Run budget)) input = due_run budget input
 due_of (Some (Record mode budget)) input = due_record mode budget input
 due_of (Some (Replay budget)) input = due_replay budget input
+due_of (Some (ReplaySeed seed budget)) input = due_replay_seed seed budget input
 due_of (Some (Audit budget)) input = due_audit budget input
 due_of (Some (Table name step budget)) input = due_table name step budget input
 due_of (Some (Inspect report)) input = due_inspect report input
 due_of (Some (Generate orders)) input = due_generate orders
 due_of (Some Migrate) input = due_migrate input
+due_of (Some Prov) input = due_prov input
+due_of (Some (ProvDepends path)) input = due_prov_depends path input
 
 abbrev pub due : List (List ℕ) → List ℕ → Due
 due words input = due_of (command_of words) input
@@ -113,3 +129,5 @@ response_due (responses.Diverged process index) = refused (Diverged process inde
 response_due (responses.Damaged kind) = refused (Damaged kind)
 response_due responses.NoSuch = refused NoSuch
 response_due responses.PackageTooLong = refused PackageTooLong
+response_due responses.NotPrivate = refused NotPrivate
+response_due responses.NotProv = refused NotProv

@@ -6,18 +6,23 @@ use Rattle.std.specs.Prelude.{◌≡◌, ◌≢◌, ◌⊎◌, ◌↔◌, ◌≤
 use Rattle.std.specs.Io.KnownBytes.{IsAtEnd}
 use Rattle.ldv_io.specs.Causes.{Rose}
 use Rattle.run_model.specs.declared.package.Mode.{Mode}
+use Rattle.run_model.specs.declared.package.Mode.TheVariants.{Excluded}
+use Rattle.run_model.specs.declared.package.Package.{Package}
 use Rattle.run_model.specs.declared.world.World.{World}
-use Rattle.run_model.specs.WorldRun.{steps_by}
+use Rattle.run_model.specs.WorldRun.{events_within, steps_by}
+use Rattle.free_order.specs.Private.{private_test}
 use Rattle.ldv_top.specs.Comes.{IsInput, Comes, IsQuiet}
-use Rattle.ldv_top.specs.declared.command.Command.TheVariants.{Record, Replay, Inspect, Migrate}
+use Rattle.ldv_top.specs.declared.command.Command.TheVariants.{Record, Replay, ReplaySeed, Inspect, Migrate}
+use Rattle.ldv_top.specs.declared.command.Command.TheVariants.{ProvDepends}
 use Rattle.ldv_top.specs.declared.command.Report.TheVariants.{Depends as DependsOn}
 use Rattle.ldv_top.specs.declared.exit.Exit.{Exit}
 use Rattle.ldv_top.specs.declared.exit.Exit.TheVariants.{Done, Usage, ReadFault, WriteFault, NoMemory}
 use Rattle.ldv_top.specs.Due.{Due, due_of, due_record, due_world}
 use Rattle.ldv_top.specs.DueOfMigrations.{due_migrate}
-use Rattle.ldv_top.specs.DueOfReports.{due_inspect}
+use Rattle.ldv_top.specs.DueOfReports.{due_inspect, report_due}
 use Rattle.ldv_top.specs.Headline.{IsPackageOf, Recorded}
 use Rattle.ldv_top.specs.Migrated.{Migrated}
+use Rattle.ldv_top.specs.ProvReported.{IsDocumentOf, named_due, numbered_due}
 use Rattle.ldv_top.specs.Reported.{Depends}
 use Rattle.ldv_top.specs.Words.{command_of, reads}
 
@@ -67,9 +72,21 @@ pub record Ends {Reader Writer : Type 0}
   pub headline : (mode : Mode) (n budget : ℕ) (w : World) (input : List ℕ)
       → command_of words ≡ Some (Replay budget) → left source ≡ Some input → IsPackageOf mode n w input
       → steps_by n [] w ≤ budget → Comes (due_world n w) exit (taken sink) (taken sink_after)
+  -- that of the recorded replies is replayed so under every seed, where no path that one of the world's
+  -- processes changes is named by another
+  pub reseeded : (n seed budget : ℕ) (w : World) (input : List ℕ)
+      → command_of words ≡ Some (ReplaySeed seed budget) → left source ≡ Some input
+      → IsPackageOf Excluded n w input → private_test (events_within n w) ≡ true
+      → steps_by n [] w ≤ budget → Comes (due_world n w) exit (taken sink) (taken sink_after)
   -- what was migrated is the same package in the version that is written
   pub migrated : (input : List ℕ) → command_of words ≡ Some Migrate → left source ≡ Some input → exit ≡ Done
       → Migrated input (due_migrate input).bytes
   -- what a path depends on are the nodes from which a path of the graph leads to it, and no others
   pub depends : (path input : List ℕ) → command_of words ≡ Some (Inspect (DependsOn path))
       → left source ≡ Some input → exit ≡ Done → Depends path input (due_inspect (DependsOn path) input).bytes
+  -- what a package's document says of a path are the nodes that the report on the package names, in the same
+  -- order, with processes by their creation numbers
+  pub documented : (p : Package) (path input : List ℕ) → command_of words ≡ Some (ProvDepends path)
+      → left source ≡ Some input → IsDocumentOf p input
+      → (report_due (DependsOn path) p ≡ named_due p path)
+      × Comes (numbered_due p path) exit (taken sink) (taken sink_after)

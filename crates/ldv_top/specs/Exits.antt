@@ -11,7 +11,7 @@ use Rattle.world_json.specs.declared.fault.WorldFault.TheVariants.{BadScript}
 use Rattle.ldv_top.specs.declared.exit.Exit.{Exit}
 use Rattle.ldv_top.specs.declared.exit.Exit.TheVariants.{Done, Usage, ReadFault, WriteFault, TooLong}
 use Rattle.ldv_top.specs.declared.exit.Exit.TheVariants.{NotWorld, NotEnded, Damaged, Diverged, NoSuch}
-use Rattle.ldv_top.specs.declared.exit.Exit.TheVariants.{NoMemory, PackageTooLong}
+use Rattle.ldv_top.specs.declared.exit.Exit.TheVariants.{NoMemory, PackageTooLong, NotPrivate, NotProv}
 
 abbrev pub status_of : Exit → ℕ
 status_of Done = 0
@@ -26,6 +26,8 @@ status_of (Diverged process index) = 9
 status_of NoSuch = 10
 status_of NoMemory = 11
 status_of PackageTooLong = 12
+status_of NotPrivate = 14
+status_of NotProv = 16
 
 -- ---- the lines, with their LF
 
@@ -60,6 +62,8 @@ fixed_line (Diverged process index) = None
 fixed_line NoSuch = Some (codes "ldv: no such item\n")
 fixed_line NoMemory = Some (codes "ldv: out of memory\n")
 fixed_line PackageTooLong = Some (codes "ldv: package longer than 67108864 bytes\n")
+fixed_line NotPrivate = Some (codes "ldv: package is not private\n")
+fixed_line NotProv = Some (codes "ldv: not a provenance document\n")
 
 abbrev pub numbered : List ℕ → ℕ → List ℕ → List ℕ
 numbered head n tail = head ++ decimal n ++ tail

@@ -3,6 +3,7 @@ pub mod Due
 pub mod DueOfAudits
 pub mod DueOfGenerate
 pub mod DueOfMigrations
+pub mod DueOfProv
 pub mod DueOfReports
 pub mod DueOfTables
 pub mod DueParts
@@ -10,12 +11,14 @@ pub mod Ends
 pub mod Exits
 pub mod Headline
 pub mod Migrated
+pub mod ProvReported
 pub mod Reported
 pub mod WordNumbers
 pub mod WordStops
 pub mod Words
 pub mod WordsOfGenerate
 pub mod WordsOfMigrations
+pub mod WordsOfProv
 pub mod WordsOfReports
 pub mod WordsOfRuns
 pub mod WordsOfTables

@@ -3,10 +3,11 @@ use Rattle.std.specs.Prelude.{ℕ, ◌≤◌, List, [], ◌∷◌, codes, Bool, 
 use Rattle.std.specs.Prelude.{Option, Some, None, option_map}
 use Rattle.ldv_value.specs.Limits.{max_steps, default_steps}
 use Rattle.ldv_top.specs.declared.command.Command.{Command}
-use Rattle.ldv_top.specs.declared.command.Command.TheVariants.{Run, Record, Replay, Audit, Table, Inspect}
-use Rattle.ldv_top.specs.declared.command.Command.TheVariants.{Generate, Migrate}
+use Rattle.ldv_top.specs.declared.command.Command.TheVariants.{Run, Record, Replay, ReplaySeed, Audit, Table}
+use Rattle.ldv_top.specs.declared.command.Command.TheVariants.{Inspect, Generate, Migrate, Prov, ProvDepends}
 use Rattle.ldv_top.specs.WordsOfGenerate.{generate_of}
 use Rattle.ldv_top.specs.WordsOfMigrations.{migrate_of}
+use Rattle.ldv_top.specs.WordsOfProv.{prov_of}
 use Rattle.ldv_top.specs.WordsOfReports.{report_of}
 use Rattle.ldv_top.specs.WordsOfRuns.{run_of}
 use Rattle.ldv_top.specs.WordsOfTables.{table_of}
@@ -21,7 +22,8 @@ command_of (word ∷ words) =
     if bytes_eq word (codes "table") then table_of words
     else (if bytes_eq word (codes "inspect") then inspect_of words
     else (if bytes_eq word (codes "gen") then generate_of words
-    else (if bytes_eq word (codes "migrate") then migrate_of words else run_of word words)))
+    else (if bytes_eq word (codes "migrate") then migrate_of words
+    else (if bytes_eq word (codes "prov") then prov_of words else run_of word words))))
 
 -- whether the command reads its input
 abbrev pub reads : Option Command → Bool
@@ -29,22 +31,28 @@ reads None = false
 reads (Some (Run budget)) = true
 reads (Some (Record mode budget)) = true
 reads (Some (Replay budget)) = true
+reads (Some (ReplaySeed seed budget)) = true
 reads (Some (Audit budget)) = true
 reads (Some (Table name step budget)) = true
 reads (Some (Inspect report)) = true
 reads (Some (Generate orders)) = false
 reads (Some Migrate) = true
+reads (Some Prov) = true
+reads (Some (ProvDepends path)) = true
 
--- the steps that a run of the command may take; `inspect` and `migrate` make no run
+-- the steps that a run of the command may take; `inspect`, `migrate` and `prov` make no run
 abbrev pub budget_of : Command → ℕ
 budget_of (Run budget) = budget
 budget_of (Record mode budget) = budget
 budget_of (Replay budget) = budget
+budget_of (ReplaySeed seed budget) = budget
 budget_of (Audit budget) = budget
 budget_of (Table name step budget) = budget
 budget_of (Inspect report) = 0
 budget_of (Generate orders) = default_steps
 budget_of Migrate = 0
+budget_of Prov = 0
+budget_of (ProvDepends path) = 0
 
 -- the words give a budget that a run can have
 abbrev pub IsBounded : Command → Type 0

@@ -4,8 +4,8 @@ use Rattle.std.specs.Prelude.{option_and_then}
 use Rattle.ldv_value.specs.Limits.{max_steps, default_steps}
 use Rattle.run_model.specs.declared.package.Mode.TheVariants.{Included, Excluded}
 use Rattle.ldv_top.specs.declared.command.Command.{Command}
-use Rattle.ldv_top.specs.declared.command.Command.TheVariants.{Run, Record, Replay, Audit}
-use Rattle.ldv_top.specs.WordNumbers.{positive_within}
+use Rattle.ldv_top.specs.declared.command.Command.TheVariants.{Run, Record, Replay, ReplaySeed, Audit}
+use Rattle.ldv_top.specs.WordNumbers.{number_within, positive_within}
 
 -- a command of one word
 abbrev pub command_named : List ℕ → ℕ → Option Command
@@ -25,11 +25,37 @@ command_flagged word flag budget =
 abbrev pub budget_in : List ℕ → List ℕ → Option ℕ
 budget_in option number = if bytes_eq option (codes "--steps") then positive_within max_steps number else None
 
+-- the largest seed
+abbrev pub max_seed : ℕ
+max_seed = 18446744073709551615
+
+-- a command of a word and a seed
+abbrev pub command_seeded : List ℕ → ℕ → ℕ → Option Command
+command_seeded word budget seed =
+    if bytes_eq word (codes "replay") then Some (ReplaySeed seed budget) else None
+
+-- S of `--seed S`, with the steps that the run may take
+abbrev pub seeded : List ℕ → List ℕ → ℕ → Option Command
+seeded word seed budget = option_and_then (command_seeded word budget) (number_within max_seed seed)
+
+-- `--seed S` before `--steps N`
+abbrev pub seeded_within : List ℕ → List ℕ → List ℕ → ℕ → Option Command
+seeded_within word option seed budget =
+    if bytes_eq option (codes "--seed") then seeded word seed budget else None
+
+-- `--seed S` or `--steps N`
+abbrev pub command_with : List ℕ → List ℕ → List ℕ → Option Command
+command_with word option number =
+    if bytes_eq option (codes "--seed") then seeded word number default_steps
+    else option_and_then (command_named word) (budget_in option number)
+
 -- by the first word and the others
 abbrev pub run_of : List ℕ → List (List ℕ) → Option Command
 run_of word [] = command_named word default_steps
 run_of word (flag ∷ []) = command_flagged word flag default_steps
-run_of word (option ∷ number ∷ []) = option_and_then (command_named word) (budget_in option number)
+run_of word (option ∷ number ∷ []) = command_with word option number
 run_of word (flag ∷ option ∷ number ∷ []) =
     option_and_then (command_flagged word flag) (budget_in option number)
-run_of word (flag ∷ option ∷ number ∷ more ∷ words) = None
+run_of word (option ∷ seed ∷ steps ∷ number ∷ []) =
+    option_and_then (seeded_within word option seed) (budget_in steps number)
+run_of word (option ∷ seed ∷ steps ∷ number ∷ more ∷ words) = None

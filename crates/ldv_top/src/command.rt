@@ -5,17 +5,22 @@ ghost use Rattle.ldv_value.specs.Gives.{Gives};
 ghost use Rattle.ldv_value.specs.Limits.{max_steps};
 ghost use Rattle.ldv_top.specs.WordStops.{Stops};
 ghost use Rattle.ldv_top.specs.Words.{IsBounded, command_of, inspect_of};
-ghost use Rattle.ldv_top.specs.WordsOfRuns.{budget_in, command_flagged, command_named, run_of};
+ghost use Rattle.ldv_top.specs.WordsOfRuns.{budget_in, command_flagged, command_named, command_seeded};
+ghost use Rattle.ldv_top.specs.WordsOfRuns.{command_with, run_of, seeded, seeded_within};
 
 use crate::generating::generate_of;
 use crate::inspecting::report_of;
 use crate::migrating::migrate_of;
-use crate::numbers::positive_within;
+use crate::numbers::{long_within, positive_within};
+use crate::proving::prov_of;
 use crate::tabling::table_of;
 use crate::word_stop::WordStop;
 use ldv_value::{DEFAULT_STEPS, MAX_STEPS, Utf8};
 use run_model::Mode;
 use std::alloc::Global;
+
+// The largest seed.
+const MAX_SEED: u64 = 18_446_744_073_709_551_615;
 
 /// What `inspect` reports of a package.
 #[derive(Drop)]
@@ -41,6 +46,9 @@ pub enum Command {
     Record { mode: Mode, budget: u32 },
     /// `replay`: the input is a package, the output the outcome of the world in it.
     Replay { budget: u32 },
+    /// `replay --seed`: the input is a package of recorded replies, the output the outcome of its run under
+    /// this seed.
+    ReplaySeed { seed: u64, budget: u32 },
     /// `audit`: the input is a package, the output whether it is that of its own world's run.
     Audit { budget: u32 },
     /// `table`: the input is a package, the output a table of the world in it after a step.
@@ -52,6 +60,10 @@ pub enum Command {
     /// `migrate`: the input is a package of either version, the output the same package in the version that
     /// is written.
     Migrate,
+    /// `prov`: the input is a package, the output the provenance document of its graph.
+    Prov,
+    /// `prov depends`: the input is a provenance document, the output what it says that a path depends on.
+    ProvDepends { path: Utf8 },
 }
 
 /// The command that the words are. `Usage` exactly where they are none.
@@ -78,6 +90,8 @@ fn command_of(alloc: Global, word: &str, others: &[String]) -> Result<Command, W
         known(generate_of(others))
     } else if word == "migrate" {
         known(migrate_of(others))
+    } else if word == "prov" {
+        prov_of(alloc, others)
     } else {
         known(run_of(word, others))
     }
@@ -112,11 +126,17 @@ fn run_of(word: &str, others: &[String]) -> Option<Command>
     match others {
         [] => command_named(word, DEFAULT_STEPS),
         [flag] => command_flagged(word, flag.as_str(), DEFAULT_STEPS),
-        [option, number] => command_named(word, budget_in(option.as_str(), number.as_str())?),
+        [option, number] => command_with(word, option.as_str(), number.as_str()),
         [flag, option, number] => command_flagged(
             word,
             flag.as_str(),
             budget_in(option.as_str(), number.as_str())?,
+        ),
+        [option, seed, steps, number] => seeded_within(
+            word,
+            option.as_str(),
+            seed.as_str(),
+            budget_in(steps.as_str(), number.as_str())?,
         ),
         _ => None,
     }
@@ -149,6 +169,51 @@ fn command_flagged(word: &str, flag: &str, budget: u32) -> Option<Command>
     if word == "record" && flag == "--excluded" {
         let mode = Mode::Excluded;
         Some(Command::Record { mode, budget })
+    } else {
+        None
+    }
+}
+
+// With `--seed S` or `--steps N`.
+fn command_with(word: &str, option: &str, number: &str) -> Option<Command>
+    ensures command { result ≡ command_with word.now option.now number.now }
+    ensures bounded { IfSome result (λ command. IsBounded command) }
+{
+    if option == "--seed" {
+        seeded(word, number, DEFAULT_STEPS)
+    } else {
+        command_named(word, budget_in(option, number)?)
+    }
+}
+
+// With `--seed S` before `--steps N`.
+fn seeded_within(word: &str, option: &str, seed: &str, budget: u32) -> Option<Command>
+    requires { budget ≤ max_steps }
+    ensures command { result ≡ seeded_within word.now option.now seed.now budget }
+    ensures bounded { IfSome result (λ command. IsBounded command) }
+{
+    if option == "--seed" {
+        seeded(word, seed, budget)
+    } else {
+        None
+    }
+}
+
+fn seeded(word: &str, seed: &str, budget: u32) -> Option<Command>
+    requires { budget ≤ max_steps }
+    ensures command { result ≡ seeded word.now seed.now budget }
+    ensures bounded { IfSome result (λ command. IsBounded command) }
+{
+    command_seeded(word, budget, long_within(MAX_SEED, seed.as_bytes())?)
+}
+
+fn command_seeded(word: &str, budget: u32, seed: u64) -> Option<Command>
+    requires { budget ≤ max_steps }
+    ensures command { result ≡ command_seeded word.now budget seed }
+    ensures bounded { IfSome result (λ command. IsBounded command) }
+{
+    if word == "replay" {
+        Some(Command::ReplaySeed { seed, budget })
     } else {
         None
     }

@@ -1,11 +1,8 @@
 //! How the program ends.
 
-ghost use Rattle.std.specs.Prelude.{◌≡◌, ℕ, ◌<◌, ◌≤◌, take, length, OnOk, OnErr};
-ghost use Rattle.std.specs.Io.KnownBytes.{Appends};
-ghost use Rattle.ldv_io.specs.Causes.{Rose};
-ghost use Rattle.ldv_top.specs.Exits.{line_of, status_of};
+ghost use Rattle.std.specs.Prelude.{◌≡◌};
+ghost use Rattle.ldv_top.specs.Exits.{status_of};
 
-use ldv_io::{Sink, WriteStop, write_all};
 use package_layout::DamageKind;
 use run_model::ProcName;
 use world_json::WorldFault;
@@ -37,6 +34,10 @@ pub enum Exit {
     NoMemory,
     /// The package would have more than 67,108,864 bytes.
     PackageTooLong,
+    /// The package has rows, or its processes share a path that one of them changes.
+    NotPrivate,
+    /// The input is no provenance document.
+    NotProv,
 }
 
 /// The status with which the program ends.
@@ -59,5 +60,7 @@ pub fn status(exit: &Exit) -> u8
         Exit::NoSuch => 10,
         Exit::NoMemory => 11,
         Exit::PackageTooLong => 12,
+        Exit::NotPrivate => 14,
+        Exit::NotProv => 16,
     }
 }

@@ -148,6 +148,8 @@ fn fixed_message(exit: &Exit) -> Option<&'static [u8]>
         Exit::NoSuch => Some(b"ldv: no such item\n"),
         Exit::NoMemory => Some(b"ldv: out of memory\n"),
         Exit::PackageTooLong => Some(b"ldv: package longer than 67108864 bytes\n"),
+        Exit::NotPrivate => Some(b"ldv: package is not private\n"),
+        Exit::NotProv => Some(b"ldv: not a provenance document\n"),
     }
 }
 

@@ -7,15 +7,42 @@ ghost use Rattle.ldv_top.specs.WordNumbers.{number_within, positive_within, with
 pub(crate) fn number_within(limit: u32, bytes: &[u8]) -> Option<u32>
     ensures { result ≡ number_within limit bytes.now }
 {
-    if bytes == b"0".as_slice() {
-        Some(0)
-    } else {
-        positive_within(limit, bytes)
-    }
+    short(limit, long_within(limit as u64, bytes))
 }
 
 /// A number from 1 to the limit, decimal without sign and leading zeros.
 pub(crate) fn positive_within(limit: u32, bytes: &[u8]) -> Option<u32>
+    ensures number { result ≡ positive_within limit bytes.now }
+    ensures bounded { IfSome result (λ number. number ≤ limit) }
+{
+    short(limit, long_positive(limit as u64, bytes))
+}
+
+// A number that is within the limit.
+fn short(limit: u32, number: Option<u64>) -> Option<u32>
+    requires { IfSome number (λ number. number ≤ limit) }
+    ensures number { result ≡ number }
+    ensures bounded { IfSome result (λ number. number ≤ limit) }
+{
+    match number {
+        Some(number) => Some(number as u32),
+        None => None,
+    }
+}
+
+/// The same of 64 bits.
+pub(crate) fn long_within(limit: u64, bytes: &[u8]) -> Option<u64>
+    ensures number { result ≡ number_within limit bytes.now }
+    ensures bounded { IfSome result (λ number. number ≤ limit) }
+{
+    if bytes == b"0".as_slice() {
+        Some(0)
+    } else {
+        long_positive(limit, bytes)
+    }
+}
+
+fn long_positive(limit: u64, bytes: &[u8]) -> Option<u64>
     ensures number { result ≡ positive_within limit bytes.now }
     ensures bounded { IfSome result (λ number. number ≤ limit) }
 {
@@ -26,27 +53,27 @@ pub(crate) fn positive_within(limit: u32, bytes: &[u8]) -> Option<u32>
     }
 }
 
-fn with_digits(limit: u32, bytes: &[u8]) -> Option<u32>
+fn with_digits(limit: u64, bytes: &[u8]) -> Option<u64>
     ensures number { result ≡ with_digits limit 0 bytes.now }
     ensures bounded { IfSome result (λ number. number ≤ limit) }
 {
-    let mut number: u32 = 0;
+    let mut number: u64 = 0;
     for byte in bytes {
         number = with_digit(limit, number, *byte)?;
     }
     Some(number)
 }
 
-fn with_digit(limit: u32, number: u32, byte: u8) -> Option<u32>
+fn with_digit(limit: u64, number: u64, byte: u8) -> Option<u64>
     ensures number { result ≡ with_digit limit number byte }
     ensures bounded { IfSome result (λ next. next ≤ limit) }
 {
     if byte < b'0' || b'9' < byte {
         return None;
     }
-    let next = number as u64 * 10 + (byte - b'0') as u64;
-    if next <= limit as u64 {
-        Some(next as u32)
+    let next = number as u128 * 10 + (byte - b'0') as u128;
+    if next <= limit as u128 {
+        Some(next as u64)
     } else {
         None
     }

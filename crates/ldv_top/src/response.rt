@@ -34,6 +34,10 @@ pub enum Response {
     NoSuch,
     /// The package would have more than 67,108,864 bytes.
     PackageTooLong,
+    /// The package has rows, or its processes share a path that one of them changes.
+    NotPrivate,
+    /// The input is no provenance document.
+    NotProv,
 }
 
 /// The response to what comes of the run of a world within a budget.

@@ -18,16 +18,20 @@ ghost use Rattle.run_model.specs.declared.package.Mode.{Mode};
 
 use crate::auditing::audit_response;
 use crate::command::{Command, read_words};
+use crate::document_law::document_law;
 use crate::exit::{Exit, status};
 use crate::generating::generate_response;
 use crate::headline::headline_law;
 use crate::inspecting::inspect_response;
 use crate::messages::exit_line;
 use crate::migrating::migrate_response;
+use crate::proving::{prov_depends_response, prov_response};
 use crate::record::record_response;
 use crate::replay::replay_response;
 use crate::report_law::report_law;
+use crate::reseeding::replay_seed_response;
 use crate::response::{Response, run_response};
+use crate::seed_law::seed_law;
 use crate::tabling::table_response;
 use crate::word_stop::WordStop;
 use ldv_io::{ReadStop, Sink, Source, read_all, write_all};
@@ -57,6 +61,8 @@ fn write_response<K: Sink>(sink: &mut K, response: Response) -> Exit
         Response::Damaged(kind) => Exit::Damaged(kind),
         Response::NoSuch => Exit::NoSuch,
         Response::PackageTooLong => Exit::PackageTooLong,
+        Response::NotPrivate => Exit::NotPrivate,
+        Response::NotProv => Exit::NotProv,
     }
 }
 
@@ -75,6 +81,7 @@ fn respond(alloc: Global, command: Command, input: Bytes) -> Result<Response, Al
         Command::Run { budget } => run_response(alloc, budget, input),
         Command::Record { mode, budget } => record_response(alloc, mode, budget, input),
         Command::Replay { budget } => replay_response(alloc, budget, input),
+        Command::ReplaySeed { seed, budget } => replay_seed_response(alloc, seed, budget, input),
         Command::Audit { budget } => audit_response(alloc, budget, &input),
         Command::Table { name, step, budget } => {
             table_response(alloc, name.as_str(), step, budget, input)
@@ -82,6 +89,8 @@ fn respond(alloc: Global, command: Command, input: Bytes) -> Result<Response, Al
         Command::Inspect { report } => inspect_response(alloc, &report, input),
         Command::Generate { orders } => generate_response(alloc, orders),
         Command::Migrate => migrate_response(alloc, input),
+        Command::Prov => prov_response(alloc, input),
+        Command::ProvDepends { path } => prov_depends_response(alloc, path.as_str(), input),
     }
 }
 
@@ -109,6 +118,7 @@ fn reads(command: &Command) -> bool
         Command::Run { budget: _ } => true,
         Command::Record { mode: _, budget: _ } => true,
         Command::Replay { budget: _ } => true,
+        Command::ReplaySeed { seed: _, budget: _ } => true,
         Command::Audit { budget: _ } => true,
         Command::Table {
             name: _,
@@ -118,6 +128,8 @@ fn reads(command: &Command) -> bool
         Command::Inspect { report: _ } => true,
         Command::Generate { orders: _ } => false,
         Command::Migrate => true,
+        Command::Prov => true,
+        Command::ProvDepends { path: _ } => true,
     }
 }
 
@@ -178,6 +190,8 @@ pub fn ldv<S: Source, K: Sink>(
 {
     headline_law();
     report_law();
+    seed_law();
+    document_law();
     match read_words(alloc, words) {
         Ok(command) => {
             if reads(&command) {

@@ -26,6 +26,10 @@ CanReplayLaw = (p : Package) → ValidPackage p → CanReplay p
 abbrev pub without_trace : Package → Package
 without_trace p = record p { tables = []; events = [] }
 
+-- under another seed
+abbrev pub with_seed : ℕ → Package → Package
+with_seed seed p = record p { seed = seed }
+
 -- what it comes to within so many steps: its outcome where it has ended, and where it has diverged
 abbrev pub Comes : ℕ → Package → Option Outcome → Option Diverged → Type 0
 Comes budget p outcome divergence =

@@ -22,5 +22,5 @@ mod replay;
 mod reply_log;
 
 pub use law::can_replay_law;
-pub use replay::{replay_excluded, replay_owned};
+pub use replay::{replay_excluded, replay_owned, replay_seeded};
 pub use reply_log::ReplyLog;

@@ -7,7 +7,7 @@ ghost use Rattle.run_model.specs.LogRun.{log_start};
 ghost use Rattle.run_model.specs.Package.{own_world};
 ghost use Rattle.run_model.specs.Start.{start_script};
 ghost use Rattle.replay_log.specs.Types.{Instr};
-ghost use Rattle.replay_log.specs.Replays.{CanReplay, Replays};
+ghost use Rattle.replay_log.specs.Replays.{CanReplay, Replays, with_seed};
 
 use crate::copies::copy_to_replay;
 use crate::own::own_files;
@@ -74,6 +74,24 @@ pub fn replay_excluded(alloc: Global, package: &Package, budget: u32) -> Result<
 {
     match copy_to_replay(alloc, package) {
         Ok(copy) => replay_owned(alloc, copy, budget),
+        Err(AllocError) => Err(RunStop::NoMemory),
+    }
+}
+
+/// Runs the files of a package over its recorded replies under another seed, as `replay_excluded` does under
+/// the package's own. The package stays; the run uses a copy.
+pub fn replay_seeded(
+    alloc: Global,
+    package: &Package,
+    seed: u64,
+    budget: u32,
+) -> Result<Outcome, RunStop>
+    requires can_replay { CanReplay «package».now }
+    requires bounded { budget ≤ max_steps }
+    ensures { Replays budget (with_seed seed «package».now) result }
+{
+    match copy_to_replay(alloc, package) {
+        Ok(copy) => replay_owned(alloc, Package { seed, ..copy }, budget),
         Err(AllocError) => Err(RunStop::NoMemory),
     }
 }

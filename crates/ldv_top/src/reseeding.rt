@@ -1,0 +1,58 @@
+//! `replay --seed`: from a package to the outcome of its run under another seed.
+
+ghost use Rattle.std.specs.Prelude.{◌≡◌, ◌≤◌, ℕ, length, IfOk};
+ghost use Rattle.ldv_value.specs.Limits.{input_limit, max_steps};
+ghost use Rattle.run_model.specs.declared.package.Package.{Package};
+ghost use Rattle.free_order.specs.OtherSeed.{ReplaysUnder};
+ghost use Rattle.ldv_top.specs.Due.{response_due, reseeded_package, due_replay_seed};
+
+use crate::reading::read_input;
+use crate::response::Response;
+use free_order::{OrderStop, replay_other_seed};
+use ldv_value::Bytes;
+use package_layout::PackageStop;
+use replay_log::can_replay_law;
+use run_model::{Outcome, outcome_text};
+use std::alloc::{AllocError, Global};
+
+// The response to what comes of the run of a package under another seed.
+#[tactic(auto, using(crate::proofs::SeedResponses::seed_ends))]
+fn reseeded_response(
+    alloc: Global,
+    budget: u32,
+    ended: Result<Outcome, OrderStop>,
+) -> Result<Response, AllocError>
+    ensures { (seed : ℕ) (p : Package) → ReplaysUnder seed budget p ended
+        → IfOk result (λ response. response_due response ≡ reseeded_package seed budget p) }
+{
+    match ended {
+        Ok(outcome) => Ok(Response::Written(outcome_text(alloc, &outcome)?)),
+        Err(OrderStop::NotPrivate) => Ok(Response::NotPrivate),
+        Err(OrderStop::NotEnded) => Ok(Response::NotEnded(budget)),
+        Err(OrderStop::Diverged { process, index }) => Ok(Response::Diverged(process, index)),
+        Err(OrderStop::NoMemory) => Err(AllocError),
+    }
+}
+
+/// The response of `replay --seed` to an input. The events of its trace say whether its processes share a
+/// path that one of them changes.
+pub(crate) fn replay_seed_response(
+    alloc: Global,
+    seed: u64,
+    budget: u32,
+    input: Bytes,
+) -> Result<Response, AllocError>
+    requires short { length input ≤ input_limit }
+    requires bounded { budget ≤ max_steps }
+    ensures { IfOk result (λ response. response_due response ≡ due_replay_seed seed budget input) }
+{
+    can_replay_law();
+    match read_input(alloc, input) {
+        Ok(package) => {
+            let ended = replay_other_seed(alloc, &package, seed, budget);
+            reseeded_response(alloc, budget, ended)
+        }
+        Err(PackageStop::Damaged(kind)) => Ok(Response::Damaged(kind)),
+        Err(PackageStop::NoMemory) => Err(AllocError),
+    }
+}

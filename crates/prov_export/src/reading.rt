@@ -1,0 +1,135 @@
+//! The graph of a document.
+
+ghost use Rattle.std.specs.Prelude.{◌≡◌, IfOk, Some, None, bytes_eq};
+ghost use Rattle.ldv_value.specs.Gives.{Gives};
+ghost use Rattle.serde_json.specs.View.{view};
+ghost use Rattle.trace_graph.specs.Graph.{Parts};
+ghost use Rattle.trace_graph.specs.WellFormed.{WellFormed, well_formed};
+ghost use Rattle.prov_export.specs.Document.{prov_text};
+ghost use Rattle.prov_export.specs.Laws.{IsTypedGraph};
+ghost use Rattle.prov_export.specs.ObjectRefs.{seen};
+ghost use Rattle.prov_export.specs.Reading.{json_of, parts_with, parts_in, taken_from, kept_as};
+ghost use Rattle.prov_export.specs.Reading.{prov_reading};
+ghost use Rattle.prov_export.specs.Stopping.{Stops};
+
+use crate::edge_reading::edges_in;
+use crate::node_reading::nodes_in;
+use crate::objects::{ObjectRefs, objects_of};
+use crate::stop::ProvStop;
+use crate::writing::write_prov;
+use serde_json::{Category, Value};
+use std::alloc::{AllocError, Global};
+use std::marker::Model;
+use trace_graph::{Edges, Graph, Nodes, is_well_formed};
+
+/// The nodes and edges that were taken out of a document.
+#[derive(Drop)]
+struct Draft {
+    nodes: Nodes,
+    edges: Edges,
+}
+
+impl Model for Draft {
+    ghost use Rattle.trace_graph.specs.Graph.{Parts};
+
+    ghost Value = { Parts };
+
+    ghost view = { λ a. record { nodes = a.nodes; edges = a.edges } };
+}
+
+// The JSON value of bytes.
+fn read_json(alloc: Global, bytes: &[u8]) -> Result<Value, ProvStop>
+    ensures ok { IfOk result (λ value. json_of bytes.now ≡ Some (view value)) }
+    ensures not_json { result ≡ Err ProvStop.NotProv → json_of bytes.now ≡ None }
+{
+    match Value::from_slice(alloc, bytes) {
+        Ok(value) => Ok(value),
+        Err(error) => match error.classify() {
+            Category::Memory => Err(ProvStop::NoMemory),
+            _ => Err(ProvStop::NotProv),
+        },
+    }
+}
+
+fn draft_with(alloc: Global, objects: &ObjectRefs<'_>) -> Result<Draft, ProvStop>
+    ensures { Gives Stops result (parts_with (seen objects.now)) }
+{
+    let nodes = match nodes_in(alloc, objects) {
+        Ok(nodes) => nodes,
+        Err(stop) => return Err(stop),
+    };
+    match edges_in(alloc, objects) {
+        Ok(edges) => Ok(Draft { nodes, edges }),
+        Err(stop) => Err(stop),
+    }
+}
+
+fn draft_in(alloc: Global, document: &Value) -> Result<Draft, ProvStop>
+    ensures { Gives Stops result (parts_in (view document.now)) }
+{
+    match objects_of(document) {
+        None => Err(ProvStop::NotProv),
+        Some(objects) => draft_with(alloc, &objects),
+    }
+}
+
+// The JSON value is let go with the call.
+fn draft_of(alloc: Global, bytes: &[u8]) -> Result<Draft, ProvStop>
+    ensures { Gives Stops result (taken_from bytes.now) }
+{
+    match read_json(alloc, bytes) {
+        Ok(document) => draft_in(alloc, &document),
+        Err(stop) => Err(stop),
+    }
+}
+
+fn is_text_of(alloc: Global, graph: &Graph, bytes: &[u8]) -> Result<bool, AllocError>
+    ensures { IfOk result (λ same. same ≡ bytes_eq (prov_text graph.now) bytes.now) }
+{
+    let text = write_prov(alloc, graph)?;
+    Ok(text.items() == bytes)
+}
+
+// A well-formed graph, if its document has that text.
+fn kept_written(alloc: Global, bytes: &[u8], graph: Graph) -> Result<Graph, ProvStop>
+    requires { WellFormed graph }
+    ensures { Gives Stops result (kept_as bytes.now graph) }
+{
+    let same = is_text_of(alloc, &graph, bytes)?;
+    if same {
+        Ok(graph)
+    } else {
+        Err(ProvStop::NotProv)
+    }
+}
+
+fn kept(alloc: Global, bytes: &[u8], draft: Draft) -> Result<Graph, ProvStop>
+    ensures { Gives Stops result (kept_as bytes.now draft) }
+{
+    let Draft { nodes, edges } = draft;
+    let formed = is_well_formed(alloc, nodes.items(), edges.items())?;
+    if formed {
+        kept_written(alloc, bytes, Graph::of_parts(nodes, edges))
+    } else {
+        Err(ProvStop::NotProv)
+    }
+}
+
+fn graph_of(alloc: Global, bytes: &[u8]) -> Result<Graph, ProvStop>
+    ensures { Gives Stops result (prov_reading bytes.now) }
+{
+    match draft_of(alloc, bytes) {
+        Ok(draft) => kept(alloc, bytes, draft),
+        Err(stop) => Err(stop),
+    }
+}
+
+/// The graph whose document the bytes are. `NotProv` exactly where they are that of no well-formed graph.
+pub fn read_prov(alloc: Global, bytes: &[u8]) -> Result<Graph, ProvStop>
+    ensures reading { Gives Stops result (prov_reading bytes.now) }
+    ensures ok { IfOk result (λ graph. WellFormed graph × (prov_text graph ≡ bytes.now)) }
+    ensures not_prov { result ≡ Err ProvStop.NotProv → (graph : Parts) → IsTypedGraph graph
+        → WellFormed graph → prov_text graph ≡ bytes.now → ⊥ }
+{
+    graph_of(alloc, bytes)
+}
