@@ -6,8 +6,8 @@
 LDV is the program and FOLDER a place for worlds and outcomes. For each case and each number of rows a world
 is made, with a script that asks the case's statements, and one whose script only ends: what `ldv run` takes
 for it is the load. Beside it a child process loads the same rows into a database of sqlite3 in memory, asks
-the same statements and takes all their rows. A case is refused where the two didn't find as many rows with
-the same sum.
+the same statements and takes all their rows. Foreign keys are on in both. A case is refused where the two
+didn't find as many rows with the same sum, or didn't refuse as many statements.
 
 Seconds are the least and MiB the greatest of some runs. `load` is in `all` for both.
 """
@@ -23,6 +23,7 @@ SIZES = [1000, 10000, 100000, 1000000]
 RUNS = 3
 POINTS = 100000
 INSERTS = 300000
+CHILDLESS = 100000
 NOT_BUILT = 13
 
 
@@ -44,12 +45,28 @@ def row_of_c(i):
     return (i, i * 1299709 % 1000)
 
 
+def row_of_parent(i):
+    return (i, i % 10)
+
+
+def row_of_child(i):
+    return (i, i, i % 10)
+
+
 TABLES = {
     't': (['k', 'g', 'v', 'h'], row_of_t),
     'a': (['id', 'v'], row_of_a),
     'b': (['id', 'w'], row_of_b),
     'c': (['id', 'x'], row_of_c),
+    'p': (['id', 'g'], row_of_parent),
+    'q': (['id', 'parent', 'g'], row_of_child),
 }
+
+# How many rows a table has for each child: half of the parents have no child.
+RATES = {'p': 2}
+
+# A child's column, and the table to whose key it refers.
+FOREIGN = {'q': ('parent', 'p')}
 
 
 # ---- cases: the tables, and statements with how often each is asked and its parameter
@@ -77,17 +94,39 @@ CASES = {
     # each key becomes the one before it. Upwards sqlite3 refuses it, as it tests the keys row by row
     'shift': ('t', once('UPDATE t SET k = k - 1')),
     'delete': ('t', once('DELETE FROM t WHERE g = 3')),
+    # new children, of each parent in its turn
+    'children': ('pq', [('INSERT INTO q VALUES (?, ?, 1)', INSERTS, None)]),
+    # parents that have no child, one by one; keys above the last one find nothing
+    'childless': ('pq', [('DELETE FROM p WHERE id = ?', CHILDLESS, None)]),
+    # a tenth of the parents, of which none has a child, and then each one: that is refused
+    'parents': ('pq', once('DELETE FROM p WHERE g = 3 AND id > {size}')),
+    'orphans': ('pq', once('DELETE FROM p WHERE g = 3')),
+    # a tenth of the children get the next parent
+    'adopt': ('pq', once('UPDATE q SET parent = parent + 1 WHERE g = 3')),
 }
+
+
+def count_of(name, size):
+    return size * RATES.get(name, 1)
 
 
 def rows_of(name, size):
     row = TABLES[name][1]
-    return (row(i) for i in range(1, size + 1))
+    return (row(i) for i in range(1, count_of(name, size) + 1))
 
 
 def first_parameter(statement, size):
-    """The parameter before the first one: 0, or the greatest key."""
+    """The parameter before the first one: 0, or the greatest key of what isn't a parent."""
     return size if statement[2] is None else statement[2]
+
+
+def text_of(statement, size):
+    return statement[0].replace('{size}', str(size))
+
+
+def is_paired(statement):
+    """A second parameter goes round all parents."""
+    return statement[0].count('?') == 2
 
 
 # ---- worlds
@@ -95,20 +134,29 @@ def first_parameter(statement, size):
 def script_of(statements, size):
     lines = []
     for place, statement in enumerate(statements):
-        text, times, _ = statement
+        text, times = text_of(statement, size), statement[1]
         if times == 1:
             lines.append(f'sql q "{text}"')
             continue
         first = first_parameter(statement, size)
-        lines += [f'let i = {first}', f'l{place}:', 'let i = i + 1', f'sql q "{text}" i',
-                  f'if i < {first + times} goto l{place}']
+        lines += [f'let i = {first}', 'let j = 0', f'l{place}:', 'let i = i + 1']
+        if is_paired(statement):
+            lines += ['let j = j + 1', f'if j < {count_of("p", size) + 1} goto m{place}', 'let j = 1',
+                      f'm{place}:', f'sql q "{text}" i j']
+        else:
+            lines.append(f'sql q "{text}" i')
+        lines.append(f'if i < {first + times} goto l{place}')
     return ''.join(line + '\n' for line in lines)
 
 
 def write_table(out, name, size):
     columns = TABLES[name][0]
     kinds = [[column, 'INT NOT NULL' if place == 0 else 'INT'] for place, column in enumerate(columns)]
-    out.write(f'{json.dumps(name)}:{{"columns":{json.dumps(kinds)},"key":["{columns[0]}"],"rows":[')
+    out.write(f'{json.dumps(name)}:{{"columns":{json.dumps(kinds)},"key":["{columns[0]}"],')
+    if name in FOREIGN:
+        column, parent = FOREIGN[name]
+        out.write(f'"foreign":[[["{column}"],"{parent}"]],')
+    out.write('"rows":[')
     for place, row in enumerate(rows_of(name, size)):
         out.write((',[' if place else '[') + ','.join(map(str, row)) + ']')
     out.write(']}')
@@ -123,11 +171,12 @@ def write_world(path, script, tables, size):
         out.write('}}\n')
 
 
-# ---- what was found: how many rows or changed rows, and the sum of all numbers in them
+# ---- what was found: how many rows or changed rows, the sum of all numbers in them, and how many statements
+# were refused
 
 def found_in(path):
     """The same of an outcome."""
-    count = total = 0
+    count = total = refused = 0
     with open(path, 'rb') as lines:
         for line in lines:
             word, _, rest = line.partition(b' ')
@@ -136,8 +185,8 @@ def found_in(path):
             elif word in (b'rows', b'changed'):
                 count += int(rest)
             elif word == b'refused':
-                sys.exit(f'engine: refused: {line!r}')
-    return count, total
+                refused += 1
+    return count, total, refused
 
 
 # ---- runs
@@ -203,39 +252,53 @@ def load(database, tables, size):
         columns = TABLES[name][0]
         kinds = [f'{columns[0]} INTEGER NOT NULL PRIMARY KEY'] + [f'{column} INTEGER'
                                                                   for column in columns[1:]]
+        if name in FOREIGN:
+            column, parent = FOREIGN[name]
+            kinds.append(f'FOREIGN KEY ({column}) REFERENCES {parent}')
         database.execute(f'CREATE TABLE {name} ({", ".join(kinds)})')
         marks = ', '.join('?' * len(columns))
         database.executemany(f'INSERT INTO {name} VALUES ({marks})', rows_of(name, size))
+        if name in FOREIGN:
+            # sqlite3 makes no index of a child by itself
+            database.execute(f'CREATE INDEX {name}_of ON {name} ({FOREIGN[name][0]})')
     database.execute('COMMIT')
 
 
 def ask(database, statement, size):
-    """All rows of a statement that is asked so many times, and how many it changed."""
-    text, times, _ = statement
+    """All rows of a statement that is asked some times, how many it changed, and how often it was refused."""
+    text, times = text_of(statement, size), statement[1]
     first = first_parameter(statement, size)
+    parents = count_of('p', size)
     rows = []
-    changed = 0
+    changed = refused = 0
     for i in range(first + 1, first + times + 1):
-        cursor = database.execute(text, (i,) if times > 1 else ())
+        given = () if times == 1 else (i, (i - first - 1) % parents + 1) if is_paired(statement) else (i,)
+        try:
+            cursor = database.execute(text, given)
+        except sqlite3.IntegrityError:
+            refused += 1
+            continue
         if cursor.description:
             rows += cursor.fetchall()
         else:
             changed += cursor.rowcount
-    return rows, changed
+    return rows, changed, refused
 
 
 def beside(case, size):
     tables, statements = CASES[case]
     # Each statement commits alone.
     database = sqlite3.connect(':memory:', isolation_level=None)
+    database.execute('PRAGMA foreign_keys = ON')
     start = time.monotonic()
     load(database, tables, size)
     loaded = time.monotonic()
     answers = [ask(database, statement, size) for statement in statements]
     asked = time.monotonic()
-    count = sum(len(rows) + changed for rows, changed in answers)
-    total = sum(sum(value for value in row if value is not None) for rows, _ in answers for row in rows)
-    json.dump([loaded - start, asked - loaded, count, total], sys.stdout)
+    count = sum(len(rows) + changed for rows, changed, _ in answers)
+    total = sum(sum(value for value in row if value is not None) for rows, _, _ in answers for row in rows)
+    refused = sum(each for _, _, each in answers)
+    json.dump([loaded - start, asked - loaded, count, total, refused], sys.stdout)
 
 
 # ---- the table
