@@ -2,5 +2,4 @@ pub mod AnswerLaws
 pub mod AskLaws
 pub mod Named
 pub mod NeedLaws
-pub mod RowLists
 pub mod StoreLaws
