@@ -1,5 +1,5 @@
 -- Needs that are sorted, and of those of one row the first, are what they are when put one by one.
-use Rattle.std.proofs.Common.{◌≡◌, ◌∙◌, sym, ap, refl, ℕ, ◌+◌, List, [], ◌∷◌, ◌++◌, length, Bool, true, false, Option, Some, None, inl, inr, arith, append_assoc}
+use Rattle.std.proofs.Common.{◌≡◌, ◌∙◌, sym, ap, refl, ◌+◌, List, [], ◌∷◌, ◌++◌, length, Bool, false, Option, Some, inl, inr, arith, append_assoc}
 use Rattle.std.specs.Prelude.{slice_get, ◌-◌, if◌then◌else◌}
 use Rattle.std.specs.Option.{option_map_or}
 use Rattle.std.specs.Cmp.{IsTotalOrder}
@@ -9,7 +9,7 @@ use Rattle.std.specs.declared.cmp.Ordering.TheVariants.{Less, Equal, Greater}
 use Rattle.std.proofs.lemmas.Bool.{cases_Bool}
 use Rattle.std.proofs.lemmas.Cmp.{on_total, then_total, nat_cmp_total, nat_list_cmp_total}
 use Rattle.std.proofs.lemmas.List.{length-append}
-use Rattle.core_parts.specs.Needing.{member_order, need_order, united, into, united_by, sorted_once, is_last_row, with_other, others_onto, once_each}
+use Rattle.core_parts.specs.Needing.{member_order, need_order, united, into, united_by, sorted_once, is_last_row, others_onto, once_each}
 use Rattle.core_parts.specs.Types.{Member, Need}
 use Rattle.sql_model.specs.Sorting.{put_sorted, sorted_by}
 

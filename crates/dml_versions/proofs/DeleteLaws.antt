@@ -1,21 +1,19 @@
 -- What a DELETE returns and leaves, from the rows that were found.
 use Rattle.std.proofs.Common.{◌≡◌, ℕ, ◌<◌, ◌≤◌, List, [], ◌++◌, map, refl, ap, sym, ◌∙◌, subst, arith, Option, Some, None, Bool, true, false, not, append-nil}
 use Rattle.std.specs.Prelude.{filter, Err}
-use Rattle.std.specs.List.{flat_map, list_all, AllByRecursion}
+use Rattle.std.specs.List.{flat_map, AllByRecursion}
 use Rattle.std.specs.Option.{option_map, option_and_then, option_or}
-use Rattle.ldv_value.proofs.Booleans.{and-parts}
 use Rattle.ldv_value.proofs.Lists.{map-map, all-weaker}
 use Rattle.ldv_value.proofs.Options.{none-some}
-use Rattle.ldv_value.specs.Sorted.{is_strictly_sorted}
 use Rattle.sql_model.proofs.Databases.{sorted_of_database}
 use Rattle.sql_model.proofs.ValidTables.{table-parts}
-use Rattle.sql_model.specs.Changes.{is_matched, matched_in, matched, changed, after_delete, key_clash, KeyClash, with_rows}
+use Rattle.sql_model.specs.Changes.{is_matched, matched_in, matched, after_delete, key_clash, KeyClash, with_rows}
 use Rattle.sql_model.specs.Needs.{NeededRow, updated_unless, updated_in, versions_after, matched_rows, parent_rows, sorted_needs, read_of}
 use Rattle.sql_model.specs.References.{Orphan, first_orphan, first_in, is_changed, is_lost, children, orphans_of}
 use Rattle.sql_model.specs.Refusals.{check_refusal}
 use Rattle.sql_model.specs.Scope.{InScope, table_at, catalog_of, own_scope}
 use Rattle.sql_model.specs.Statements.{target, refusal_of, after_unless}
-use Rattle.sql_model.specs.Tables.{is_valid_table, table_precedes}
+use Rattle.sql_model.specs.Tables.{is_valid_table}
 use Rattle.table_store.specs.Histories.{tables_now, table_now, history_at, rows_now, last_next, changed_at, removed, dropped, dropping, changed_by, AreKeptBefore, history_of_row}
 use Rattle.table_store.specs.Referring.{child_stop, orphan_stop, delete_refusal}
 use Rattle.table_store.specs.RowOrder.{AreInOrder}

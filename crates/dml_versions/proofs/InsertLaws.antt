@@ -19,7 +19,7 @@ use Rattle.sql_model.specs.References.{Missing, Orphan, first_missing, first_orp
 use Rattle.sql_model.specs.Refusals.{check_refusal, row_fits, target_columns}
 use Rattle.sql_model.specs.Scope.{table_at, catalog_of, has_column}
 use Rattle.sql_model.specs.Statements.{target, refusal_of, after_unless}
-use Rattle.sql_model.specs.Tables.{is_valid_table, table_precedes, has_kind, each_value}
+use Rattle.sql_model.specs.Tables.{is_valid_table, has_kind, each_value}
 use Rattle.table_store.specs.Histories.{tables_now, table_now, history_at, last_next, changed_at, inserted as history_inserted, AreKeptBefore}
 use Rattle.table_store.specs.Referring.{parent_stop, child_stop, missing_stop, insert_refusal, with_put, are_apart, parents_in_db}
 use Rattle.table_store.specs.RowOrder.{AreInOrder}

@@ -1,6 +1,6 @@
 -- What references refuse of a change, as the store says it and as the statement does, and the rows that are
 -- needed for them.
-use Rattle.std.proofs.Common.{◌≡◌, ◌==◌, ℕ, ◌+◌, ◌<◌, ◌≤◌, List, [], ◌∷◌, ◌++◌, map, length, refl, ap, sym, ◌∙◌, subst, Option, Some, None, Bool, true, false, inl, inr, ◌⊎◌, cond, arith, append-nil, eq-eqb}
+use Rattle.std.proofs.Common.{◌≡◌, ◌==◌, ℕ, ◌+◌, ◌<◌, ◌≤◌, List, [], ◌∷◌, ◌++◌, map, refl, ap, sym, ◌∙◌, subst, Option, Some, None, Bool, true, false, inl, inr, ◌⊎◌, cond, arith, append-nil, eq-eqb}
 use Rattle.std.specs.Prelude.{filter, find, not, ◌&&◌, ◌||◌, nat_lt, if◌then◌else◌, unwrap_or, IfSome, IsSome}
 use Rattle.std.specs.List.{flat_map, filter_map, cons_option, list_any, list_all, AllByRecursion}
 use Rattle.std.specs.Option.{option_map, option_or, option_and_then}
@@ -8,7 +8,7 @@ use Rattle.std.proofs.lemmas.Bool.{ne_eqb, ltb-true}
 use Rattle.core_parts.specs.Needing.{need_by, sorted_once, united}
 use Rattle.ldv_value.proofs.Booleans.{and-parts, and-from, and-false, or-cases, or-left, or-right, false≢true}
 use Rattle.ldv_value.proofs.Cases.{cases-bool}
-use Rattle.ldv_value.proofs.Lists.{list_any-append, list_all-append, list_all-map, list_all-weaker, found-passes}
+use Rattle.ldv_value.proofs.Lists.{list_any-append, list_all-append, found-passes}
 use Rattle.ldv_value.proofs.Options.{same-some, none-some}
 use Rattle.ldv_value.proofs.SameBytes.{bytes_eq-true, bytes_eq-itself}
 use Rattle.ldv_value.specs.Sorted.{is_strictly_sorted}
@@ -16,7 +16,7 @@ use Rattle.sql_laws.proofs.Orphans.{first_holds}
 use Rattle.sql_laws.proofs.TableNames.{table-trans, more-differs}
 use Rattle.sql_laws.specs.StatementLaw.{has_row}
 use Rattle.sql_model.proofs.SortedLists.{sorted-all, sorted-tail}
-use Rattle.sql_model.specs.Changes.{key_clash, numbered, or_else, stood, with_rows}
+use Rattle.sql_model.specs.Changes.{numbered, or_else, stood, with_rows}
 use Rattle.sql_model.specs.Needs.{needed_by, read_of}
 use Rattle.sql_model.specs.QueryAnswer.{Origin}
 use Rattle.sql_model.specs.References.{reference, has_key, is_lost, Missing, Child, Orphan, orphan_by, orphans_of, other_rows, child_of, children, orphans, first_in, parents_in, parents_by, parents_of}

@@ -1,5 +1,5 @@
 -- What an UPDATE returns and leaves, from the rows that were found.
-use Rattle.std.proofs.Common.{◌≡◌, ◌==◌, ℕ, ◌+◌, ◌<◌, ◌≤◌, List, [], ◌∷◌, ◌++◌, inl, map, length, refl, ap, sym, ◌∙◌, subst, arith, Option, Some, None, Bool, true, false}
+use Rattle.std.proofs.Common.{◌≡◌, ◌==◌, ℕ, ◌+◌, ◌<◌, ◌≤◌, List, [], ◌∷◌, inl, map, length, refl, ap, sym, ◌∙◌, subst, arith, Option, Some, None, Bool, true, false}
 use Rattle.std.specs.Prelude.{filter, zip, Err, if◌then◌else◌, ◌&&◌, is_none, IfSome}
 use Rattle.std.specs.List.{flat_map, list_any, list_all, AllByRecursion}
 use Rattle.std.specs.Option.{option_map, option_or, option_and_then}
@@ -9,17 +9,16 @@ use Rattle.ldv_value.proofs.Booleans.{and-parts, and-from}
 use Rattle.ldv_value.proofs.Lists.{map-map, list_all-map, list_all-filter, list_all-weaker, list_any-map, list_any-false, all-weaker}
 use Rattle.ldv_value.proofs.Options.{option_or-none}
 use Rattle.ldv_value.proofs.SameBytes.{bytes_eq-itself}
-use Rattle.ldv_value.specs.Sorted.{is_strictly_sorted}
 use Rattle.sql_laws.proofs.NewRows.{all_first, updated_kinds, updated_length}
 use Rattle.sql_model.proofs.Databases.{sorted_of_database}
 use Rattle.sql_model.proofs.ValidTables.{table-parts, kinds-fits}
 use Rattle.sql_model.specs.Changes.{is_matched, matched_in, matched, changed, after_update, updated_row, updated_values, with_rows, has_null, new_rows, lacks_value, key_clash}
-use Rattle.sql_model.specs.Needs.{updated_unless, updated_in, updated_origin, versions_after, is_row_of, matched_rows, parent_rows, sorted_needs, read_of}
+use Rattle.sql_model.specs.Needs.{updated_unless, updated_in, updated_origin, versions_after, is_row_of}
 use Rattle.sql_model.specs.References.{Missing, Orphan, first_missing, first_orphan, first_in, is_changed, is_lost, children, orphans_of, parents_needed, parents_of, tables_after}
 use Rattle.sql_model.specs.Refusals.{check_refusal, set_fits}
 use Rattle.sql_model.specs.Scope.{InScope, same_text, table_at, catalog_of, own_scope}
-use Rattle.sql_model.specs.Statements.{target, refusal_of, after_unless}
-use Rattle.sql_model.specs.Tables.{is_valid_table, table_precedes, has_kind, fits, each_value, is_row}
+use Rattle.sql_model.specs.Statements.{refusal_of, after_unless}
+use Rattle.sql_model.specs.Tables.{is_valid_table, has_kind, fits, each_value, is_row}
 use Rattle.table_store.specs.Histories.{tables_now, table_now, history_at, rows_now, last_next, changed_at, replaced, rewritten, AreKeptBefore, history_of_row}
 use Rattle.table_store.specs.Referring.{parent_stop, child_stop, missing_stop, orphan_stop, is_of, replace_refusal, with_put, are_apart, parents_in_db, CanBePut}
 use Rattle.table_store.specs.RowOrder.{AreInOrder}

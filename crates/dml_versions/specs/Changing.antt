@@ -11,7 +11,7 @@ use Rattle.table_store.specs.declared.stop.StoreStop.TheVariants as stop
 use Rattle.dml_versions.specs.Finding.{scope_in, test_in, row_of, found_from}
 use Rattle.dml_versions.specs.Holding.{IsHeld}
 use Rattle.dml_versions.specs.Needing.{made_found, made_new, with_key_rows, with_child_row, IsRowThere}
-use Rattle.dml_versions.specs.Types.{Checked, Expr, Member, Need, Reply, Changed, Refused, SqlRefusal}
+use Rattle.dml_versions.specs.Types.{Checked, Expr, Need, Reply, Changed, Refused, SqlRefusal}
 use Rattle.dml_versions.specs.Types.{NotNull, KeyTaken, Full, NoParent, HasChild}
 use Rattle.dml_versions.specs.Types.{Statement, TheQuery, TheInsert, TheUpdate, TheDelete, Insert, Update}
 use Rattle.dml_versions.specs.Types.{Table, TableRow}

@@ -1,10 +1,10 @@
 -- The tables of some names with their parents are the fewest that have the tables of the names, and of each
 -- its parents.
-use Rattle.std.proofs.Common.{◌≡◌, ◌∙◌, sym, ap, refl, ℕ, zero, suc, List, [], ◌∷◌, ◌++◌, Bool, true, false, ◌⊎◌, inl, inr, append-nil}
-use Rattle.std.specs.Prelude.{map, filter, not, ◌||◌}
+use Rattle.std.proofs.Common.{◌≡◌, ◌∙◌, sym, ap, refl, ℕ, zero, suc, List, [], ◌∷◌, Bool, true, inl, inr, append-nil}
+use Rattle.std.specs.Prelude.{map, filter, not}
 use Rattle.std.specs.List.{list_any}
 use Rattle.std.proofs.lemmas.Bool.{cases_Bool}
-use Rattle.ldv_value.proofs.Booleans.{or-cases, or-left, or-right}
+use Rattle.ldv_value.proofs.Booleans.{or-cases}
 use Rattle.ldv_value.proofs.Lists.{list_any-append}
 use Rattle.ldv_value.proofs.SameBytes.{bytes_eq-true}
 use Rattle.sql_laws.proofs.ParentTables.{Among, Refers}

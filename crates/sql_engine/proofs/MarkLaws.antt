@@ -1,6 +1,6 @@
 -- Tables that are marked one after another are those that a statement asks.
-use Rattle.std.proofs.Common.{◌≡◌, ◌∙◌, sym, ap, refl, subst, ℕ, zero, suc, ◌<◌, ◌≤◌, List, [], ◌∷◌, ◌++◌, length, Bool, true, false, ◌⊎◌, inl, inr, arith, append-nil}
-use Rattle.std.specs.Prelude.{map, filter, not, ◌||◌, zip, Option, Some, None, if◌then◌else◌, slice_get, slice_set, slice_index_or}
+use Rattle.std.proofs.Common.{◌≡◌, ◌∙◌, sym, ap, refl, subst, ℕ, zero, suc, ◌<◌, ◌≤◌, List, [], ◌∷◌, length, Bool, true, false, inl, inr, arith, append-nil}
+use Rattle.std.specs.Prelude.{map, filter, not, zip, Option, Some, None, if◌then◌else◌, slice_get, slice_set, slice_index_or}
 use Rattle.std.specs.Cmp.{both_ways}
 use Rattle.std.specs.List.{list_any, position}
 use Rattle.std.specs.Option.{option_map, option_map_or}
@@ -10,14 +10,14 @@ use Rattle.ldv_value.proofs.Cases.{cases-bool}
 use Rattle.ldv_value.proofs.Lists.{list_any-append, length-map}
 use Rattle.ldv_value.proofs.Options.{same-some}
 use Rattle.ldv_value.proofs.SameBytes.{bytes_eq-true, bytes_eq-itself}
-use Rattle.sql_laws.proofs.ParentTables.{Among, Refers, parents_taken, taken_soon}
+use Rattle.sql_laws.proofs.ParentTables.{Among, parents_taken, taken_soon}
 use Rattle.sql_engine.proofs.LeastTables.{close-least}
-use Rattle.sql_engine.specs.Listing.{is_in, is_text, names_table, names_first, tables_asked}
+use Rattle.sql_engine.specs.Listing.{is_in, is_text, names_table, names_first}
 use Rattle.sql_engine.specs.Taking.{is_taken, is_waiting, is_done, raised, first_mark, raised_at, with_name, with_unless, with_more, with_reads, with_parents_of, foreigns_at, finished, AreDistinct, AllSound, AllTaken, name_taken, refers_to, AllClosed, IsTaken, AreMarks}
 use Rattle.sql_engine.specs.Types.{Catalog, Need, Schema, Statement}
 use Rattle.sql_engine.specs.declared.tables.Mark.{Mark}
 use Rattle.sql_engine.specs.declared.tables.Mark.TheVariants.{Left, Taken, Done}
-use Rattle.sql_model.specs.ForeignKeys.{Named, close, with_parents}
+use Rattle.sql_model.specs.ForeignKeys.{Named, with_parents}
 use Rattle.sql_model.specs.Refusals.{tables_of}
 use Rattle.sql_model.specs.Scope.{same_text}
 use Rattle.sql_model.specs.declared.table.Foreign.{Foreign}

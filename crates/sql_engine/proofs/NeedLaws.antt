@@ -1,5 +1,5 @@
 -- The rows that are listed for two sets are the needed rows of the lineages for which the sets stand.
-use Rattle.std.proofs.Common.{◌≡◌, ◌∙◌, sym, ap, subst, refl, ℕ, zero, suc, ◌<◌, List, [], ◌∷◌, ◌++◌, map, length, Bool, true, false, Option, Some, None, is_some, ◌&&◌, ◌||◌, inl, inr, T, cond, arith}
+use Rattle.std.proofs.Common.{◌≡◌, ◌∙◌, sym, ap, refl, ℕ, suc, List, [], ◌∷◌, ◌++◌, map, length, Bool, true, false, Some, None, is_some, ◌&&◌, ◌||◌, inl, inr, T, cond, arith}
 use Rattle.std.specs.Prelude.{nat_lt, if◌then◌else◌}
 use Rattle.std.specs.List.{list_any, AllByRecursion}
 use Rattle.std.specs.List.Sorted.{IsStrictlySortedBy}

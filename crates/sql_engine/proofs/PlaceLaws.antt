@@ -1,5 +1,5 @@
 -- Names that are kept in place.
-use Rattle.std.proofs.Common.{◌≡◌, ◌∙◌, sym, ap, refl, ℕ, zero, suc, ◌+◌, ◌<◌, ◌≤◌, List, [], ◌∷◌, length, Bool, true, false, take, drop, arith}
+use Rattle.std.proofs.Common.{◌≡◌, ◌∙◌, ap, refl, ℕ, zero, suc, ◌+◌, ◌<◌, ◌≤◌, List, [], ◌∷◌, length, Bool, true, false, take, drop, arith}
 use Rattle.std.specs.Prelude.{filter, map, slice_index_or}
 use Rattle.std.specs.List.{SwappedAt}
 use Rattle.std.proofs.lemmas.List.{take_all}

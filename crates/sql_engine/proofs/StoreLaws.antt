@@ -1,5 +1,5 @@
 -- The tables and versions of a store as a statement sees them.
-use Rattle.std.proofs.Common.{◌≡◌, ◌∙◌, sym, ap, subst, refl, ℕ, List, [], ◌∷◌, map, Bool, true, false, Option, Some, None, is_some, inl, inr}
+use Rattle.std.proofs.Common.{◌≡◌, ◌∙◌, sym, ap, refl, ℕ, List, [], ◌∷◌, map, Bool, true, false, Option, Some, None, inl, inr}
 use Rattle.std.specs.Prelude.{find, ◌-◌, ◌||◌, if◌then◌else◌}
 use Rattle.std.specs.List.{list_any, list_all, flat_map, AllByRecursion}
 use Rattle.std.specs.List.Sorted.{IsStrictlySortedBy}
@@ -12,7 +12,6 @@ use Rattle.ldv_value.proofs.Booleans.{and-parts, or-right}
 use Rattle.ldv_value.proofs.SameBytes.{bytes_eq-true, bytes_eq-itself}
 use Rattle.query_eval.proofs.StoredLaws.{names-sorted}
 use Rattle.query_eval.specs.Stored.{table_names, version_in, TellVersions}
-use Rattle.row_version.specs.History.{current, version}
 use Rattle.sql_engine.proofs.NeedLaws.{AreNamedIn}
 use Rattle.sql_engine.specs.Answering.{hidden_lineage}
 use Rattle.sql_engine.specs.Types.{Query, StoreHistory, Table}
@@ -25,9 +24,9 @@ use Rattle.sql_engine.specs.Taking.{AreDistinct}
 use Rattle.sql_model.specs.Needs.{sums_up}
 use Rattle.sql_model.specs.QueryAnswer.{Origin, answer, cut, lineage_of, rejected}
 use Rattle.sql_model.specs.Scope.{same_text, is_table, table_at, rows_of}
-use Rattle.sql_model.specs.Tables.{is_database, is_valid_table, table_precedes}
+use Rattle.sql_model.specs.Tables.{is_database, table_precedes}
 use Rattle.ldv_value.specs.Sorted.{is_strictly_sorted}
-use Rattle.table_store.specs.Histories.{RowHistory, TableHistory, history_at, history_of_row, tables_now, version_now}
+use Rattle.table_store.specs.Histories.{TableHistory, history_at, history_of_row, tables_now}
 use Rattle.sql_model.specs.declared.table.TableRow.{TableRow}
 
 -- ---- versions

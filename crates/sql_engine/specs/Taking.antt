@@ -1,6 +1,6 @@
 -- The tables that a statement asks, marked one after another.
 use Rattle.std.specs.Prelude.{◌≡◌, ◌≤◌, ℕ, zero, suc, List, [], ◌∷◌, map, filter, take, drop, length, Bool}
-use Rattle.std.specs.Prelude.{true, false, Option, Some, None, if◌then◌else◌, slice_get, slice_set}
+use Rattle.std.specs.Prelude.{true, false, if◌then◌else◌, slice_get, slice_set}
 use Rattle.std.specs.List.{list_any, position}
 use Rattle.std.specs.Option.{option_map_or}
 use Rattle.sql_engine.specs.Listing.{is_in, is_text, names_table}

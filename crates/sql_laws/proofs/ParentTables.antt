@@ -1,8 +1,8 @@
 -- The tables of some names with their parents: the same where other tables were left out, and the parents of
 -- all of them are among them.
 use Rattle.std.proofs.Common.{◌≡◌, ℕ, zero, suc, ◌+◌, ◌<◌, ◌≤◌, List, [], ◌∷◌, ◌++◌, length, refl, sym, ap, ◌∙◌, subst, Bool, true, false, ◌⊎◌, inl, inr, arith, append-nil}
-use Rattle.std.specs.Prelude.{Option, Some, None, map, filter, find, zip, not, ◌&&◌, ◌||◌}
-use Rattle.std.specs.List.{flat_map, list_any, list_all}
+use Rattle.std.specs.Prelude.{Some, map, filter, zip, not, ◌||◌}
+use Rattle.std.specs.List.{list_any, list_all}
 use Rattle.std.proofs.lemmas.Bool.{cases_Bool, not_from_false}
 use Rattle.ldv_value.proofs.Booleans.{and-parts, and-from, or-left, or-right, or-cases, true≢false}
 use Rattle.ldv_value.proofs.Lists.{filter-filter, list_all-append, list_all-map, list_any-append, list_all-weaker, found-passes}
@@ -11,7 +11,7 @@ use Rattle.ldv_value.proofs.SameBytes.{bytes_eq-true, bytes_eq-itself}
 use Rattle.sql_model.specs.ForeignKeys.{Named, name_of, is_among, parent_names, close, with_parents}
 use Rattle.sql_model.specs.Scope.{same_text, is_table, table_at, is_schema, catalog_of}
 use Rattle.sql_laws.specs.StatementLaw.{KeepTables, table_stays}
-use Rattle.sql_laws.specs.Types.{Foreign, Schema, Table}
+use Rattle.sql_laws.specs.Types.{Foreign, Table}
 use Rattle.sql_laws.proofs.QuerySorting.{filter_all}
 
 abbrev names_in : List Named → List (List ℕ)

@@ -13,7 +13,7 @@ use Rattle.dml_versions.proofs.InsertLaws.{insert-shape, insert-fits, insert-fin
 use Rattle.dml_versions.proofs.KeptLaws.{told-change, told-over, told-needs, same-own, refused-over, refused-told}
 use Rattle.dml_versions.proofs.TableLaws.{table-now, history-some}
 use Rattle.dml_versions.specs.Changing.{IsChange, IsStoreAfter, IsChildThere, inserted_change, refused_change}
-use Rattle.dml_versions.specs.Types.{Need, Statement, TheInsert, Table, StoreHistory}
+use Rattle.dml_versions.specs.Types.{Statement, TheInsert, Table, StoreHistory}
 use Rattle.dml_versions.specs.Versions.{versions_now}
 use Rattle.dml_versions.proofs.inserting.insert.Goals as goal
 

@@ -1,8 +1,5 @@
-use Rattle.std.proofs.Common.{◌≡◌, ap, sym, ◌∙◌, subst, List, [], Option, Some, None, inr, absurd}
-use Rattle.std.specs.Prelude.{IfSome, IsSome}
-use Rattle.std.specs.Option.{option_map}
-use Rattle.ldv_value.proofs.Options.{same-some, none-some}
-use Rattle.sql_model.specs.Changes.{numbered}
+use Rattle.std.proofs.Common.{sym, subst, List, []}
+use Rattle.std.specs.Prelude.{IfSome}
 use Rattle.sql_model.specs.Scope.{table_at}
 use Rattle.table_store.specs.Histories.{tables_now}
 use Rattle.table_store.specs.Referring.{CanBePut}

@@ -1,4 +1,3 @@
-use Rattle.std.proofs.Common.{◌≡◌}
 use Rattle.dml_versions.specs.Types.{C}
 use Rattle.dml_versions.proofs.needs.child_need.Goals as goal
 

@@ -1,4 +1,4 @@
-use Rattle.std.proofs.Common.{◌≡◌, ap, sym, ◌∙◌, subst, List, ℕ, true}
+use Rattle.std.proofs.Common.{◌≡◌, sym, subst, List, ℕ, true}
 use Rattle.std.specs.Prelude.{IsSome, IfSome}
 use Rattle.sql_model.specs.Scope.{table_at}
 use Rattle.table_store.specs.Histories.{tables_now}

@@ -1,8 +1,7 @@
-use Rattle.std.proofs.Common.{◌≡◌, ap, sym, ◌∙◌, List, ℕ, Option, Some, None}
+use Rattle.std.proofs.Common.{ap, sym, ◌∙◌, List, ℕ}
 use Rattle.std.specs.Option.{option_map}
-use Rattle.table_store.specs.Histories.{history_at, last_next}
+use Rattle.table_store.specs.Histories.{history_at}
 use Rattle.dml_versions.proofs.ReferLaws.{none-held, held-version}
-use Rattle.dml_versions.specs.Types.{TableHistory}
 use Rattle.dml_versions.proofs.needs.version_in.Goals as goal
 
 pub returns-in-None : goal.returns-in-None

@@ -1,7 +1,7 @@
-use Rattle.std.proofs.Common.{◌≡◌, ◌∙◌, [], ap, refl, subst, sym, List, ℕ, Option, None, Err}
+use Rattle.std.proofs.Common.{◌≡◌, ◌∙◌, ap, subst, sym, Option, None, Err}
 use Rattle.sql_engine.proofs.AskLaws.{syntax_done}
 use Rattle.sql_engine.specs.Asking.{IsDone, refused, done_of}
-use Rattle.sql_engine.specs.Types.{Statement, Syntax}
+use Rattle.sql_engine.specs.Types.{Statement}
 use Rattle.sql_engine.specs.declared.done.Done.{Done}
 use Rattle.sql_model.specs.Texts.{statement_of}
 use Rattle.sql_engine.proofs.asking.asked.Goals as goal

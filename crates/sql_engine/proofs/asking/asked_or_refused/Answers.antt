@@ -1,4 +1,4 @@
-use Rattle.std.proofs.Common.{◌≡◌, ap, refl, subst, sym, Some}
+use Rattle.std.proofs.Common.{refl, subst, sym}
 use Rattle.std.proofs.lemmas.Result.{IfOk-weaker}
 use Rattle.dml_versions.specs.declared.change.Change.{Change}
 use Rattle.sql_engine.proofs.AskLaws.{checked_over, refused_over}

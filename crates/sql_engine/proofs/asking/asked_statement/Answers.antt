@@ -1,5 +1,4 @@
 use Rattle.std.proofs.Common.{◌≡◌, ◌∙◌, ap, subst, sym, List, ℕ, Some, length}
-use Rattle.std.specs.Prelude.{IsTrue}
 use Rattle.sql_engine.proofs.AskLaws.{outcome_done, paired, same_catalog}
 use Rattle.sql_engine.proofs.StoreLaws.{distinct_names}
 use Rattle.sql_engine.specs.Asking.{IsDone}
