@@ -259,7 +259,10 @@ impl Store {
     {
         match self.table(table) {
             None => unreachable!(),
-            Some(own) => parents_of(self, own, rows.items()),
+            Some(own) => {
+                let members = parents_of(self, own, rows.items())?;
+                Ok(members)
+            }
         }
     }
 
@@ -356,11 +359,8 @@ impl Store {
             None => unreachable!(),
             Some(place) => {
                 let later = self.later_of_delete(table, numbers.items())?;
-                if let Some(stop) = later {
-                    return Err(stop);
-                }
-                match delete_in(&mut self.tables, place, numbers, time) {
-                    Err(_refused) => Err(StoreStop::NoMemory),
+                match delete_in(&mut self.tables, place, numbers, later, time) {
+                    Err(stop) => Err(stop),
                     Ok(()) => {
                         self.time = time;
                         Ok(())
@@ -531,20 +531,22 @@ fn delete_in(
     tables: &mut Vec<TableStore>,
     place: usize,
     numbers: &Numbers,
+    later: Option<StoreStop>,
     time: u32,
-) -> Result<(), AllocError>
+) -> Result<(), StoreStop>
     requires within { place < length tables.old.items }
     requires later { last_since (slice_index_or tables.old.items place no_table).nexts < time }
     requires sorted { are_sorted_numbers numbers.now ≡ true }
     requires stand { all_stand numbers.now (table_now (slice_index_or tables.old.items place no_table))
         ≡ true }
+    ensures stop { StopsAs later result }
     ensures ok { OnOk result (tables.new.items
         ≡ slice_set tables.old.items place
         (removed time numbers.now (slice_index_or tables.old.items place no_table))) }
     ensures err { OnErr result (tables.new.items ≡ tables.old.items) }
 {
     let held = &mut tables[place];
-    held.delete_all(numbers, time)
+    held.delete_all(numbers, later, time)
 }
 
 fn stores_of(alloc: Global, tables: Tables) -> Result<Vec<TableStore>, AllocError>
