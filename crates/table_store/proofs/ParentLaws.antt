@@ -1,9 +1,9 @@
 -- The parent rows of given rows: what is looked up is what the rows refer to, where no two rows have one key.
 use Rattle.std.proofs.Common.{◌≡◌, ◌==◌, ℕ, zero, suc, ◌+◌, ◌<◌, List, [], ◌∷◌, ◌++◌, map, length, get_or, take, refl, sym, ap, subst, ◌∙◌, Bool, true, false, cond, not, ◌&&◌, ◌⊎◌, inl, inr, arith, Option, Some, None, is_some}
-use Rattle.std.specs.Prelude.{filter, find, if◌then◌else◌, nat_lt, unwrap_or}
+use Rattle.std.specs.Prelude.{IfSome, filter, find, if◌then◌else◌, nat_lt, unwrap_or}
 use Rattle.std.specs.BTreeMap.{BTreeMap, IsEmpty, Updates, is_at}
 use Rattle.std.specs.Map.{lookup}
-use Rattle.std.specs.List.{cons_option, filter_map, flat_map, list_any, list_all}
+use Rattle.std.specs.List.{AllByRecursion, cons_option, filter_map, flat_map, list_any, list_all}
 use Rattle.std.specs.Option.{option_map, option_map_or, option_or, option_and_then, option_to_list}
 use Rattle.std.proofs.lemmas.Bool.{cases_Bool, lt-ltb, eqb-true, ne_eqb}
 use Rattle.std.proofs.lemmas.Grind.{flat_map-append}
@@ -28,7 +28,7 @@ use Rattle.sql_model.specs.Tables.{AreWellFormed, are_keys_unique}
 use Rattle.table_store.specs.Afterwards.{is_keyed}
 use Rattle.table_store.specs.Histories.{RowHistory, StoreHistory, TableHistory, history_at, history_of_row, is_history, is_of_number, last_next, no_history, row_now, rows_now, slot_of_row, table_now, tables_now, version_now}
 use Rattle.table_store.specs.ParentRows.{if_stands, last_given, member_at, member_now, member_of, number_in, number_of_key, number_put, parent_by, parent_in, parent_number, parents_in_row, unless_given}
-use Rattle.table_store.specs.Referring.{CanBePut, are_apart, origin_now, parents_in_db, parents_now, version_at, with_put}
+use Rattle.table_store.specs.Referring.{CanBePut, IsAtVersion, are_apart, origin_now, parents_in_db, parents_now, version_at, with_put}
 use Rattle.table_store.specs.RowOrder.{AreInOrder}
 use Rattle.table_store.specs.Stops.{are_sorted_numbers, are_sorted_rows, has_number, is_among, replaced_by, values_of, with_changed}
 use Rattle.table_store.specs.Types.{Foreign, Member, RowKey, Table, TableRow, Value}
@@ -37,7 +37,7 @@ use Rattle.table_store.proofs.FormedLaws.{or_none}
 use Rattle.table_store.proofs.IndexLaws.{no_slot_has, row_in_slot}
 use Rattle.table_store.proofs.NowLaws.{now_at}
 use Rattle.table_store.proofs.PutLaws.{AmongRows, TakesPlace, any_same, find_none, found_some, kept_row, put_found, put_in, takes_place}
-use Rattle.table_store.proofs.RefusalLaws.{keyed_parent, unique_found}
+use Rattle.table_store.proofs.RefusalLaws.{keyed_parent, own_history, unique_found}
 use Rattle.table_store.proofs.StandingRows.{only-one}
 use Rattle.table_store.proofs.TableLaws.{slot_here_is, version_here, version_none}
 
@@ -409,6 +409,22 @@ module _ (store : StoreHistory) (name : List ℕ) (h : TableHistory) (next : ℕ
   member_is None = refl
   member_is (Some n) = by_version n (version_now (history_of_row n h.slots)) refl
 
+  -- what is found has the version of now
+  abbrev at_now : Option Member → Type 0
+  at_now member = IfSome member (IsAtVersion store)
+
+  at_version : (n : ℕ) (o : Option ℕ) → version_now (history_of_row n h.slots) ≡ o → at_now (option_map (its_member h.name n) o)
+  at_version n None is = tt
+  at_version n (Some v) is =
+      ap (option_and_then (λ (one : TableHistory). version_now (history_of_row n one.slots))) (own_history name store h there) ∙ is
+
+  of_number : (number : Option ℕ) → at_now (member_of h number)
+  of_number None = tt
+  of_number (Some n) = at_version n (version_now (history_of_row n h.slots)) refl
+
+  pub member_version : (number : Option ℕ) (member : Option Member) → member ≡ member_of h number → at_now member
+  member_version number member is = subst (λ (o : Option Member). at_now o) (sym is) (of_number number)
+
 -- ---- one foreign key of a row
 
 module _ (store : StoreHistory) (given : List Value → Option ℕ) (ns own : List ℕ) (values : List Value) (f : Foreign) where
@@ -455,6 +471,18 @@ flat_more {X = X} {Y = Y} f xs i x within is =
     ∙ sym (flat_map-append f (take i xs) (x ∷ []))
     ∙ ap (λ (y : X). flat_map f (take i xs ++ y ∷ [])) is
     ∙ ap (flat_map f) (sym (take_more xs i x within))
+
+pub options_more : {X Y : Type 0} (f : X → Option Y) (xs : List X) (i : ℕ) (x : X) → i < length xs → x ≡ get_or xs i x
+    → filter_map f (take i xs) ++ option_to_list (f x) ≡ filter_map f (take (i + 1) xs)
+options_more {Y = Y} f xs i x within is =
+    ap (λ (l : List Y). l ++ option_to_list (f x)) (sym (flat_options f (take i xs)))
+    ∙ flat_more (λ y. option_to_list (f y)) xs i x within is
+    ∙ flat_options f (take (i + 1) xs)
+
+pub all_pushed : {X : Type 0} (P : X → Type 0) (xs : List X) (o : Option X) → AllByRecursion P xs → IfSome o P → AllByRecursion P (xs ++ option_to_list o)
+all_pushed P [] None all one = tt
+all_pushed P [] (Some x) all one = (one, tt)
+all_pushed P (y ∷ xs) o all one = (all.0, all_pushed P xs o all.1 one)
 
 -- ---- all parents of given rows
 

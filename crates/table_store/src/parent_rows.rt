@@ -1,14 +1,14 @@
 //! The parent rows of given rows, as they would be once these were put.
 
-ghost use Rattle.std.specs.Prelude.{◌≡◌, ◌++◌, ◌<◌, List, Some, IfOk, OnOk, length, true};
-ghost use Rattle.std.specs.List.{flat_map, list_all};
+ghost use Rattle.std.specs.Prelude.{◌≡◌, ◌++◌, ◌<◌, List, Some, IfOk, IfSome, OnOk, length, true};
+ghost use Rattle.std.specs.List.{AllByRecursion, flat_map, list_all};
 ghost use Rattle.sql_model.specs.Scope.{table_at};
 ghost use Rattle.table_store.specs.Afterwards.{is_keyed};
 ghost use Rattle.table_store.specs.Histories.{history_at, table_now, tables_now};
 ghost use Rattle.table_store.specs.ParentRows.{last_given, member_at, member_of, number_in, number_of_key};
 ghost use Rattle.table_store.specs.ParentRows.{number_put, parent_by, parent_in, parent_number};
 ghost use Rattle.table_store.specs.ParentRows.{parents_in_row, unless_given};
-ghost use Rattle.table_store.specs.Referring.{are_apart, parents_now, CanBePut};
+ghost use Rattle.table_store.specs.Referring.{are_apart, parents_now, CanBePut, IsAtVersion};
 ghost use Rattle.table_store.specs.Stops.{are_sorted_numbers};
 ghost use Rattle.table_store.specs.Types.{Value};
 
@@ -31,7 +31,8 @@ pub(crate) fn parents_of(
 ) -> Result<Members, AllocError>
     requires there { history_at own.now.name store.now ≡ Some own.now }
     requires put { CanBePut rows.now (table_now own.now) }
-    ensures { IfOk result (λ members. are_apart rows.now (table_now own.now) ≡ true
+    ensures versions { IfOk result (λ members. AllByRecursion (IsAtVersion store.now) members) }
+    ensures parents { IfOk result (λ members. are_apart rows.now (table_now own.now) ≡ true
         → members ≡ parents_now store.now rows.now (table_now own.now)) }
 {
     let alloc = own.allocator();
@@ -70,7 +71,8 @@ fn parents_by_rows(
 ) -> Result<Members, AllocError>
     requires sorted { are_sorted_numbers numbers.now ≡ true }
     requires keyed { list_all (is_keyed (tables_now store.now)) own.now.schema.foreign ≡ true }
-    ensures { IfOk result (λ members. members ≡ flat_map (λ row. parents_in_row store.now
+    ensures versions { IfOk result (λ members. AllByRecursion (IsAtVersion store.now) members) }
+    ensures parents { IfOk result (λ members. members ≡ flat_map (λ row. parents_in_row store.now
         (number_in given.now) numbers.now own.now.name own.now.schema.foreign row.values) rows.now) }
 {
     let mut members = Listed::new(alloc);
@@ -92,7 +94,9 @@ fn add_parents(
 ) -> Result<(), AllocError>
     requires sorted { are_sorted_numbers numbers.now ≡ true }
     requires keyed { list_all (is_keyed (tables_now store.now)) own.now.schema.foreign ≡ true }
-    ensures { OnOk result (members.new ≡ members.old ++ parents_in_row store.now (number_in given.now)
+    ensures versions { OnOk result (AllByRecursion (IsAtVersion store.now) members.old
+        → AllByRecursion (IsAtVersion store.now) members.new) }
+    ensures parents { OnOk result (members.new ≡ members.old ++ parents_in_row store.now (number_in given.now)
         numbers.now own.now.name own.now.schema.foreign values.now) }
 {
     add_by_each(
@@ -120,7 +124,9 @@ fn add_by_each(
 ) -> Result<(), AllocError>
     requires sorted { are_sorted_numbers numbers.now ≡ true }
     requires keyed { list_all (is_keyed (tables_now store.now)) foreigns.now ≡ true }
-    ensures { OnOk result (members.new ≡ members.old ++ parents_in_row store.now (number_in given.now)
+    ensures versions { OnOk result (AllByRecursion (IsAtVersion store.now) members.old
+        → AllByRecursion (IsAtVersion store.now) members.new) }
+    ensures parents { OnOk result (members.new ≡ members.old ++ parents_in_row store.now (number_in given.now)
         numbers.now own.now foreigns.now values.now) }
 {
     for foreign in foreigns.items() {
@@ -142,7 +148,8 @@ fn parent_by(
 ) -> Result<Option<Member>, AllocError>
     requires sorted { are_sorted_numbers numbers.now ≡ true }
     requires keyed { is_keyed (tables_now store.now) foreign.now ≡ true }
-    ensures { IfOk result (λ member. member ≡ parent_by store.now (number_in given.now) numbers.now own.now
+    ensures version { IfOk result (λ member. IfSome member (IsAtVersion store.now)) }
+    ensures parent { IfOk result (λ member. member ≡ parent_by store.now (number_in given.now) numbers.now own.now
         values.now foreign.now) }
 {
     if refers_to_none(foreign, values) {
@@ -163,7 +170,8 @@ fn parent_of_key(
 ) -> Result<Option<Member>, AllocError>
     requires sorted { are_sorted_numbers numbers.now ≡ true }
     requires keyed { is_keyed (tables_now store.now) foreign.now ≡ true }
-    ensures { IfOk result (λ member. member ≡ parent_in store.now (number_in given.now) numbers.now own.now
+    ensures version { IfOk result (λ member. IfSome member (IsAtVersion store.now)) }
+    ensures parent { IfOk result (λ member. member ≡ parent_in store.now (number_in given.now) numbers.now own.now
         foreign.now (table_at foreign.now.parent (tables_now store.now)) (Some key.now.values)) }
 {
     match store.table(foreign.parent.as_str()) {

@@ -3,7 +3,7 @@
 ghost use Rattle.std.specs.Prelude.{◌≡◌, ◌==◌, ℕ, ◌+◌, ◌*◌, ◌/◌, ◌<◌, ◌≤◌, Bool, true, false, List, [], ◌∷◌};
 ghost use Rattle.std.specs.Prelude.{◌++◌, Option, Some, None, find, OnOk, OnErr, IfOk, IsOk, IsSome, IfSome};
 ghost use Rattle.std.specs.Prelude.{length, map, slice_get, slice_index_or, slice_set};
-ghost use Rattle.std.specs.List.{list_all};
+ghost use Rattle.std.specs.List.{AllByRecursion, list_all};
 ghost use Rattle.std.specs.Option.{option_map, option_map_or, option_and_then, option_or};
 ghost use Rattle.lanes.specs.Sets.{member};
 ghost use Rattle.row_version.specs.History.{current};
@@ -22,7 +22,7 @@ ghost use Rattle.table_store.specs.Stops.{is_among, with_inserted, with_replaced
 ghost use Rattle.sql_model.specs.Changes.{numbered};
 ghost use Rattle.table_store.specs.Referring.{are_apart, insert_refusal, replace_refusal, delete_refusal};
 ghost use Rattle.table_store.specs.Referring.{parents_now};
-ghost use Rattle.table_store.specs.Referring.{CanBePut, is_of, missing_stop, orphan_stop};
+ghost use Rattle.table_store.specs.Referring.{CanBePut, IsAtVersion, is_of, missing_stop, orphan_stop};
 ghost use Rattle.table_store.specs.StoreView.{started, no_table, are_sorted};
 ghost use Rattle.table_store.specs.TableView.{begun};
 ghost use Rattle.table_store.specs.Types.{Null, Value};
@@ -250,11 +250,12 @@ impl Store {
     /// `rows` refers, and that stand: row by row, and of each by the foreign keys in their order. A row to
     /// which several refer is there several times. The table is there, `rows` stand in it, sorted by number,
     /// or are numbered from the number of its next row on. Where two rows would have one key, nothing is
-    /// said.
+    /// said of which rows these are.
     pub fn parents_of(&self, table: &str, rows: &TableRows) -> Result<Members, AllocError>
         requires there { IsSome (table_at table.now (tables_now self.now)) }
         requires put { IfSome (table_at table.now (tables_now self.now)) (CanBePut rows.now) }
-        ensures { IfOk result (λ members. IfSome (table_at table.now (tables_now self.now))
+        ensures versions { IfOk result (λ members. AllByRecursion (IsAtVersion self.now) members) }
+        ensures parents { IfOk result (λ members. IfSome (table_at table.now (tables_now self.now))
             (λ own. are_apart rows.now own ≡ true → members ≡ parents_now self.now rows.now own)) }
     {
         match self.table(table) {

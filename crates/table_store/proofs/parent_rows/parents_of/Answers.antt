@@ -20,8 +20,8 @@ parents_by_rows-requires-clause-keyed c =
     let store = c.args.store.now in
     keyed_all (tables_now store) c.tell_formed.ensures own.name (table_now own) (now_at own.name store own (sym c.requires.there))
 
-pub returns : goal.returns
-returns c = λ apart.
+pub returns-clause-parents : goal.returns-clause-parents
+returns-clause-parents c = λ apart.
     let own = c.args.own.now in
     let store = c.args.store.now in
     let rows : List TableRow = c.args.rows.now in
@@ -29,7 +29,7 @@ returns c = λ apart.
     let is : c.as_slice.result.now ≡ numbers rows = c.as_slice.ensures.value ∙ c.in_ok-numbers.ensures in
     let given : (key : List Value) → number_in c.in_ok-given.given key ≡ last_given own.schema.key rows key =
     λ key. c.in_ok-given.ensures key ∙ ap (λ (s : Schema). last_given s.key rows key) c.schema.ensures in
-    c.in_ok-members.ensures
+    c.in_ok-members.ensures.parents
     ∙ (λ j. flat_map (λ (row : TableRow). parents_in_row store (λ key. given key j) (is j) own.name own.schema.foreign row.values) rows)
     ∙ parents_are store own c.requires.there c.tell_formed.ensures rows sorted apart
     (keyed_all (tables_now store) c.tell_formed.ensures own.name (table_now own) (now_at own.name store own (sym c.requires.there)))

@@ -19,10 +19,10 @@ parents_of-requires-clause-put c =
     subst (λ (rows : List TableRow). CanBePut rows (table_now own)) (sym c.items.ensures)
     (given_now (CanBePut c.args.rows.now) c.args.table.now c.args.self.now own c.in-Some.ensures.table c.requires.put)
 
-pub returns-in_ok-members-in-Some : goal.returns-in_ok-members-in-Some
-returns-in_ok-members-in-Some c =
+pub returns-in_ok-members-in-Some-clause-parents : goal.returns-in_ok-members-in-Some-clause-parents
+returns-in_ok-members-in-Some-clause-parents c =
     let own = c.in-Some.own.now in
     let store = c.args.self.now in
     let members = c.in_ok-members-in-Some.members in
     subst (λ (o : Option Table). IfSome o (λ t. are_apart c.args.rows.now t ≡ true → members ≡ parents_now store c.args.rows.now t)) (sym (now_at c.args.table.now store own c.in-Some.ensures.table))
-    (subst (λ (rows : List TableRow). are_apart rows (table_now own) ≡ true → members ≡ parents_now store rows (table_now own)) c.items.ensures c.in_ok-members-in-Some.ensures)
+    (subst (λ (rows : List TableRow). are_apart rows (table_now own) ≡ true → members ≡ parents_now store rows (table_now own)) c.items.ensures c.in_ok-members-in-Some.ensures.parents)
