@@ -477,25 +477,25 @@ zip_long (n ∷ ns) (s ∷ ss) = omega (arith, zip_long ns ss)
 -- ---- marks of a statement
 
 module _ (first : List (List ℕ)) (catalog : Catalog) (paired : length catalog.names ≡ length catalog.schemas) where
-  abbrev names : List (List ℕ)
-  names = catalog.names
+  abbrev all_names : List (List ℕ)
+  all_names = catalog.names
 
-  abbrev tables : List Named
-  tables = zip catalog.names catalog.schemas
+  abbrev all_tables : List Named
+  all_tables = zip catalog.names catalog.schemas
 
-  abbrev test : List ℕ → Bool
-  test = is_in (with_parents first catalog)
+  abbrev asked_by : List ℕ → Bool
+  asked_by = is_in (with_parents first catalog)
 
-  few : length tables < suc (length names)
-  few = omega (arith, zip_long names catalog.schemas)
+  few : length all_tables < suc (length all_names)
+  few = omega (arith, zip_long all_names catalog.schemas)
 
-  parents_of : (ns : List (List ℕ)) (ss : List Schema) → ((t : Named) → Among t (zip ns ss) → Among t tables) → AllParents test names ns ss
+  parents_of : (ns : List (List ℕ)) (ss : List Schema) → ((t : Named) → Among t (zip ns ss) → Among t all_tables) → AllParents asked_by all_names ns ss
   parents_of [] ss within = tt
   parents_of (n ∷ ns) [] within = tt
   parents_of (n ∷ ns) (s ∷ ss) within = (
     λ passes name refers there.
-        let parent = in_zip name names catalog.schemas paired there in
-        parents_taken (suc (length names)) first tables few (n, s) (name, parent.0) (within (n, s) (inl refl)) parent.1
+        let parent = in_zip name all_names catalog.schemas paired there in
+        parents_taken (suc (length all_names)) first all_tables few (n, s) (name, parent.0) (within (n, s) (inl refl)) parent.1
         (ap (list_any (same_text name)) (append-nil (parents_in s.foreign)) ∙ refers) passes,
     parents_of ns ss (λ t among. within t (inr among)),
   )
@@ -507,19 +507,19 @@ module _ (first : List (List ℕ)) (catalog : Catalog) (paired : length catalog.
       let foreigns : List Foreign = foreigns_at catalog place in
       let set : List Mark = slice_set marks place Done in
       let end : List Mark = finished catalog place marks in
-      let raises = parents_raise names foreigns set in
-      let long : length set ≡ length names = set_long marks place ∙ is.long in
+      let raises = parents_raise all_names foreigns set in
+      let long : length set ≡ length all_names = set_long marks place ∙ is.long in
       record {
         long = raises.long ∙ long;
-        sound = parents_sound names test foreigns set
-            (parents_at test names names catalog.schemas marks place paired (parents_of names catalog.schemas (λ t among. among)) is.sound waits)
-            (set_sound test names marks place waits is.sound);
-        named = parents_all names (is_in first) foreigns set (set_all (is_in first) names marks place is.named);
-        closed = closed_done (IsTaken names end) catalog.schemas set end (sym raises.dones)
-            (closed_set (IsTaken names end) catalog.schemas marks place
-            (λ name refers there. parents_there names foreigns set long name refers there)
-            (closed_weaker (IsTaken names marks) (IsTaken names end)
-            (λ name was there. raises.keeps name (set_keeps names marks place name (was there))) catalog.schemas marks is.closed));
+        sound = parents_sound all_names asked_by foreigns set
+            (parents_at asked_by all_names all_names catalog.schemas marks place paired (parents_of all_names catalog.schemas (λ t among. among)) is.sound waits)
+            (set_sound asked_by all_names marks place waits is.sound);
+        named = parents_all all_names (is_in first) foreigns set (set_all (is_in first) all_names marks place is.named);
+        closed = closed_done (IsTaken all_names end) catalog.schemas set end (sym raises.dones)
+            (closed_set (IsTaken all_names end) catalog.schemas marks place
+            (λ name refers there. parents_there all_names foreigns set long name refers there)
+            (closed_weaker (IsTaken all_names marks) (IsTaken all_names end)
+            (λ name was there. raises.keeps name (set_keeps all_names marks place name (was there))) catalog.schemas marks is.closed));
       }
 
 -- how many aren't done
@@ -670,35 +670,35 @@ module _ (s : Statement) where
 -- ---- where no table waits
 
 module _ (names : List (List ℕ)) (marks : List Mark) where
-  abbrev by : List ℕ → Bool
-  by = name_taken names marks
+  abbrev at_name : List ℕ → Bool
+  at_name = name_taken names marks
 
-  named_pairs : (first : List (List ℕ)) (ns : List (List ℕ)) (ss : List Schema) (ms : List Mark) → map by ns ≡ map is_taken ms
-      → AllTaken (is_in first) ns ms → (t : Named) → Among t (zip ns ss) → is_in first t.0 ≡ true → by t.0 ≡ true
+  named_pairs : (first : List (List ℕ)) (ns : List (List ℕ)) (ss : List Schema) (ms : List Mark) → map at_name ns ≡ map is_taken ms
+      → AllTaken (is_in first) ns ms → (t : Named) → Among t (zip ns ss) → is_in first t.0 ≡ true → at_name t.0 ≡ true
   named_pairs first [] ss ms same all t here is = absurd here
   named_pairs first (n ∷ ns) [] ms same all t here is = absurd here
   named_pairs first (n ∷ ns) (s ∷ ss) [] same all t here is = cc
   named_pairs first (n ∷ ns) (s ∷ ss) (m ∷ ms) same all t (inl eq) is =
-      let one : by n ≡ is_taken m = cc in
+      let one : at_name n ≡ is_taken m = cc in
       let name : t.0 ≡ n = ap (λ (u : Named). u.0) eq in
-      ap by name ∙ one ∙ all.0 (ap (is_in first) (sym name) ∙ is)
+      ap at_name name ∙ one ∙ all.0 (ap (is_in first) (sym name) ∙ is)
   named_pairs first (n ∷ ns) (s ∷ ss) (m ∷ ms) same all t (inr more) is =
-      let rest : map by ns ≡ map is_taken ms = cc in
+      let rest : map at_name ns ≡ map is_taken ms = cc in
       named_pairs first ns ss ms rest all.1 t more is
 
-  closed_pairs : (ns : List (List ℕ)) (ss : List Schema) (ms : List Mark) → map by ns ≡ map is_taken ms
+  closed_pairs : (ns : List (List ℕ)) (ss : List Schema) (ms : List Mark) → map at_name ns ≡ map is_taken ms
       → AllClosed (IsTaken names marks) ss ms → list_any is_waiting ms ≡ false
-      → (t : Named) → Among t (zip ns ss) → by t.0 ≡ true → (name : List ℕ) → refers_to t.1 name ≡ true → is_in names name ≡ true → by name ≡ true
+      → (t : Named) → Among t (zip ns ss) → at_name t.0 ≡ true → (name : List ℕ) → refers_to t.1 name ≡ true → is_in names name ≡ true → at_name name ≡ true
   closed_pairs [] ss ms same all none t here is name refers there = absurd here
   closed_pairs (n ∷ ns) [] ms same all none t here is name refers there = absurd here
   closed_pairs (n ∷ ns) (s ∷ ss) [] same all none t here is name refers there = cc
   closed_pairs (n ∷ ns) (s ∷ ss) (m ∷ ms) same all none t (inl eq) is name refers there =
-      let one : by n ≡ is_taken m = cc in
+      let one : at_name n ≡ is_taken m = cc in
       let open = or-parts (is_waiting m) (list_any is_waiting ms) none in
-      let own : is_taken m ≡ true = sym one ∙ ap by (sym (ap (λ (u : Named). u.0) eq)) ∙ is in
+      let own : is_taken m ≡ true = sym one ∙ ap at_name (sym (ap (λ (u : Named). u.0) eq)) ∙ is in
       all.0 (taken_done m open.0 own) name (ap (λ (u : Named). refers_to u.1 name) (sym eq) ∙ refers) there
   closed_pairs (n ∷ ns) (s ∷ ss) (m ∷ ms) same all none t (inr more) is name refers there =
-      let rest : map by ns ≡ map is_taken ms = cc in
+      let rest : map at_name ns ≡ map is_taken ms = cc in
       let open = or-parts (is_waiting m) (list_any is_waiting ms) none in
       closed_pairs ns ss ms rest all.1 open.1 t more is name refers there
 

@@ -8,5 +8,5 @@ returns-then-not-taken-clause-kept c = λ test all is mark.
 
 pub returns-clause-kept : goal.returns-clause-kept
 returns-clause-kept c = λ test all is mark.
-    stays-in-place test all c.args.items.items c.args.kept c.args.place is c.requires.within c.swap.new.self c.swap.ensures.by_index
+    stays-in-place test all c.args.items.items c.args.kept c.args.place is c.requires.within c.swap.new.self.items c.swap.ensures.by_index
     (mark ∙ c.if-not-taken.false)
