@@ -247,10 +247,10 @@ row-there name number (t ∷ ts) sorted is = elim (cases-bool (is_table name t))
   | inl hit ↦
       elim (or-cases (has_row name number t) (list_any (has_row name number) ts) is) [
         | inl here ↦ record {
-            table = t;
-            found = ap (λ (b : Bool). cond b (Some t) (find (is_table name) ts)) hit;
-            has = (and-parts (is_table name t) (list_any (λ (row : TableRow). row.number == number) t.rows) here).1;
-          }
+          table = t;
+          found = ap (λ (b : Bool). cond b (Some t) (find (is_table name) ts)) hit;
+          has = (and-parts (is_table name t) (list_any (λ (row : TableRow). row.number == number) t.rows) here).1;
+        }
         | inr later ↦ absurd (false≢true (sym (row_after name number t hit ts (sorted-all table_precedes table-trans t ts sorted)) ∙ later))
       ]
   | inr miss ↦
@@ -380,12 +380,12 @@ module _ (name : List ℕ) (f g : Table → Table) (f_named : (t : Table) → (f
           let parent : u.name ≡ foreign.parent = bytes_eq-true u.name foreign.parent (found-passes (is_table foreign.parent) db u is) in
           let same : u ≡ t = same-some u t (sym is ∙ ap (λ (n : List ℕ). table_at n db) (sym parent ∙ own) ∙ found) in
           rw hit (
-            (λ j. map (λ (row : TableRow). record { table = foreign.parent; row = row.number })
-                (filter (λ row. has_key (f (same j)).schema.key key row && stood u row) (f (same j)).rows))
-            ∙ (λ j. map (λ (row : TableRow). record { table = foreign.parent; row = row.number })
-                (filter (λ row. has_key (schema j).key key row && stood u row) (rows j)))
-            ∙ (λ j. map (λ (row : TableRow). record { table = foreign.parent; row = row.number })
-                (filter (λ row. has_key (g (sym same j)).schema.key key row && stood u row) (g (sym same j)).rows))
+          (λ j. map (λ (row : TableRow). record { table = foreign.parent; row = row.number })
+          (filter (λ row. has_key (f (same j)).schema.key key row && stood u row) (f (same j)).rows))
+          ∙ (λ j. map (λ (row : TableRow). record { table = foreign.parent; row = row.number })
+          (filter (λ row. has_key (schema j).key key row && stood u row) (rows j)))
+          ∙ (λ j. map (λ (row : TableRow). record { table = foreign.parent; row = row.number })
+          (filter (λ row. has_key (g (sym same j)).schema.key key row && stood u row) (g (sym same j)).rows))
           )
       | inr miss ↦ rw miss refl
     ]

@@ -527,8 +527,8 @@ pub undone-fewer : (marks : List Mark) (place : ℕ) → waits_at marks place �
     → length (filter not (map is_done (slice_set marks place Done))) < length (filter not (map is_done marks))
 undone-fewer [] place waits = cc
 undone-fewer (m ∷ ms) zero waits =
-    let open : is_done m ≡ false = waiting m waits in
-    rw open (omega arith)
+    let undone : is_done m ≡ false = waiting m waits in
+    rw undone (omega arith)
   where
     waiting : (mark : Mark) → is_waiting mark ≡ true → is_done mark ≡ false
     waiting Left is = refl
@@ -620,11 +620,11 @@ module _ (s : Statement) where
   none_done : (P : List ℕ → Type 0) (names : List (List ℕ)) (schemas : List Schema) → AllClosed P schemas (map (first_mark s) names)
   none_done P names [] = tt
   none_done P [] (sc ∷ ss) = tt
-  none_done P (n ∷ ns) (sc ∷ ss) = (λ done name refers. absurd (false≢true (sym (open (names_table s n)) ∙ done)), none_done P ns ss)
+  none_done P (n ∷ ns) (sc ∷ ss) = (λ done name refers. absurd (false≢true (sym (undone (names_table s n)) ∙ done)), none_done P ns ss)
     where
-      open : (b : Bool) → is_done (if b then Taken else Left) ≡ false
-      open true = refl
-      open false = refl
+      undone : (b : Bool) → is_done (if b then Taken else Left) ≡ false
+      undone true = refl
+      undone false = refl
 
   module _ (reads : List Need) (catalog : Catalog) (paired : length catalog.names ≡ length catalog.schemas) (distinct : AreDistinct catalog.names) where
     abbrev start : List Mark
@@ -694,13 +694,13 @@ module _ (names : List (List ℕ)) (marks : List Mark) where
   closed_pairs (n ∷ ns) (s ∷ ss) [] same all none t here is name refers there = cc
   closed_pairs (n ∷ ns) (s ∷ ss) (m ∷ ms) same all none t (inl eq) is name refers there =
       let one : at_name n ≡ is_taken m = cc in
-      let open = or-parts (is_waiting m) (list_any is_waiting ms) none in
+      let undone = or-parts (is_waiting m) (list_any is_waiting ms) none in
       let own : is_taken m ≡ true = sym one ∙ ap at_name (sym (ap (λ (u : Named). u.0) eq)) ∙ is in
-      all.0 (taken_done m open.0 own) name (ap (λ (u : Named). refers_to u.1 name) (sym eq) ∙ refers) there
+      all.0 (taken_done m undone.0 own) name (ap (λ (u : Named). refers_to u.1 name) (sym eq) ∙ refers) there
   closed_pairs (n ∷ ns) (s ∷ ss) (m ∷ ms) same all none t (inr more) is name refers there =
       let rest : map at_name ns ≡ map is_taken ms = cc in
-      let open = or-parts (is_waiting m) (list_any is_waiting ms) none in
-      closed_pairs ns ss ms rest all.1 open.1 t more is name refers there
+      let undone = or-parts (is_waiting m) (list_any is_waiting ms) none in
+      closed_pairs ns ss ms rest all.1 undone.1 t more is name refers there
 
 -- the tables that are taken are those of the names with their parents
 same_marks : (test by : List ℕ → Bool) (names : List (List ℕ)) (marks : List Mark) → map by names ≡ map is_taken marks

@@ -176,10 +176,7 @@ pub(crate) fn asked(
 {
     match parse(alloc, text, params) {
         Ok(statement) => asked_statement(alloc, &statement, store, time, keep),
-        Err(ParseStop::Syntax) => Ok(done_of(
-            refused(alloc, SqlRefusal::Syntax),
-            List::new(alloc),
-        )),
+        Err(ParseStop::Syntax) => Ok(done_of(refused(alloc, SqlRefusal::Syntax), List::new(alloc))),
         Err(ParseStop::NoMemory) => Err(AllocError),
     }
 }

@@ -21,7 +21,10 @@ use std::alloc::{AllocError, Global};
 fn core_names(core: &Core, name: &Utf8) -> bool
     ensures { result ≡ list_any (λ item. is_text name.now item.table) core.now.from }
 {
-    core.from.items().iter().any(|item| name.is_same(&item.table))
+    core.from
+        .items()
+        .iter()
+        .any(|item| name.is_same(&item.table))
 }
 
 // Whether a query has a table among the sources of its cores.
@@ -109,11 +112,7 @@ pub(crate) fn prepare(
     })
 }
 
-fn first_marks(
-    alloc: Global,
-    names: &Names,
-    statement: &Statement,
-) -> Result<Vec<Mark>, AllocError>
+fn first_marks(alloc: Global, names: &Names, statement: &Statement) -> Result<Vec<Mark>, AllocError>
     ensures { IfOk result (λ marks. marks.items ≡ map (first_mark statement.now) names.now) }
 {
     let mut marks = Vec::with_capacity(alloc, names.len())?;
