@@ -242,7 +242,7 @@ fn tell_typed(foreigns: &Foreigns)
     ensures { AllByRecursion TypedForeign foreigns.now }
 {
     for foreign in foreigns.items() {
-        let _name = foreign.parent.as_str();
+        let _name = foreign.parent.as_str().as_bytes();
     }
 }
 
