@@ -5,8 +5,8 @@ use Rattle.std.specs.List.{list_all, list_any, AllByRecursion}
 use Rattle.std.specs.Str.{IsUtf8}
 use Rattle.std.proofs.lemmas.Bool.{cases_Bool, leb-true, ltb-true, lt-ltb, eq-eqb}
 use Rattle.std.proofs.lemmas.Bool.Decides.{nat_tests}
-use Rattle.ldv_value.proofs.Booleans.{and-parts, or-right, and-from}
-use Rattle.ldv_value.proofs.SameBytes.{bytes_eq-true}
+use Rattle.ldv_value.proofs.Booleans.{and-parts, or-left, or-right, and-from}
+use Rattle.ldv_value.proofs.SameBytes.{bytes_eq-true, bytes_eq-itself}
 use Rattle.ldv_value.proofs.Lists.{found-passes, all-weaker, all-tested, tested-all, sorted-under}
 use Rattle.std.proofs.lemmas.List.{length-map}
 use Rattle.ldv_value.specs.declared.value.Value.{Value}
@@ -178,8 +178,29 @@ module _ (names : List (List ℕ)) (asked : ℕ) (db : SqlDatabase) (good : Good
           all-weaker (λ (row : TableRow). row.number < t.next) (λ (row : TableRow). IsThere name row.number)
           (λ row below. (name_there name t found, omega (arith, below, valid.next))) t.rows valid.below
 
+  -- of every table
+  each_there : (ts : List Table) → list_all is_valid_table ts ≡ true
+      → ((name : List ℕ) → is_name_of (map table_name ts) name ≡ true → is_name_of names name ≡ true)
+      → AllByRecursion (λ (t : Table). AllByRecursion (λ (row : TableRow). IsThere t.name row.number) t.rows) ts
+  each_there [] valid among = tt
+  each_there (t ∷ ts) valid among =
+      let both = and-parts (is_valid_table t) (list_all is_valid_table ts) valid in
+      let parts : ValidTable t = table_parts t both.0 in
+      let named : is_name_of names t.name ≡ true =
+      among t.name (or-left (same_text t.name t.name) (is_name_of (map table_name ts) t.name) (bytes_eq-itself t.name)) in (
+        all-weaker (λ (row : TableRow). row.number < t.next) (λ (row : TableRow). IsThere t.name row.number)
+        (λ row below. (named, omega (arith, below, parts.next))) t.rows parts.below,
+        each_there ts both.1 (λ name more. among name (or-right (same_text t.name name) (is_name_of (map table_name ts) name) more)),
+      )
+
+  all_there : AllByRecursion (λ (t : Table). AllByRecursion (λ (row : TableRow). IsThere t.name row.number) t.rows) db.tables
+  all_there =
+      let both = and-parts (list_all is_valid_table db.tables) (rises table_precedes db.tables)
+      (tables_of_database db.tables (database_of db.tables good.valid)) in
+      each_there db.tables both.0 (λ name there. ap (λ (ns : List (List ℕ)). is_name_of ns name) (sym good.same_names) ∙ there)
+
   needs_there : (statement : Option Statement) → AllByRecursion (λ n. IsThere n.table n.row) (need_of statement db.tables)
-  needs_there statement = needs_good IsThere db.tables rows_there statement
+  needs_there statement = needs_good IsThere db.tables rows_there all_there statement
 
   -- ---- the rows that are made
 

@@ -365,11 +365,18 @@ module _ (table : List ℕ) (row : ℕ) where
       rows_apart (same_text t.name table) t.rows
       (not-true (same_text t.name table && list_any (λ (r : TableRow). r.number == row) t.rows) lacking)
 
+  each_apart : (ts : List Table) → list_all lacks ts ≡ true
+      → AllByRecursion (λ (t : Table). AllByRecursion (λ (r : TableRow). is_it t.name r.number ≡ false) t.rows) ts
+  each_apart [] all = tt
+  each_apart (t ∷ ts) all =
+      let both = and-parts (lacks t) (list_all lacks ts) all in
+      (table_apart t both.0, each_apart ts both.1)
+
   -- a row that isn't there isn't needed
   pub unneeded : (statement : Option Statement) (db : List Table) → list_all lacks db ≡ true → is_needed (need_of statement db) ≡ false
   unneeded statement db all =
       none_of (λ n. is_it n.table n.row) (need_of statement db)
-      (needs_good (λ name number. is_it name number ≡ false) db apart statement)
+      (needs_good (λ name number. is_it name number ≡ false) db apart (each_apart db all) statement)
     where
       apart : (name : List ℕ) → AllByRecursion (λ (r : TableRow). is_it name r.number ≡ false) (rows_of (table_at name db))
       apart name = by (table_at name db) refl

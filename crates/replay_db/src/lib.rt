@@ -27,7 +27,7 @@
 //! `audit` says whether the bytes of a package are those of the package of its own world's run, in their own
 //! version, and where they differ first (`specs/Auditing.antt`). `audit_law` says that those of every
 //! recorded package are, that a package is found sound exactly where its bytes are those that are due, and
-//! that a valid one is so in both versions or in none.
+//! that a valid one is so in each version that has all of it, or in none.
 //!
 //! `Recorder` is a database whose replies are those of the database in it, and it keeps each question with
 //! its reply (`specs/KeptReplies.antt` of `run_laws`). `kept_law` there says that a run over it is the run

@@ -28,7 +28,7 @@ use Rattle.run_laws.proofs.LogRuns.{Follows, Left, run_follows, grows_more, log_
 use Rattle.run_laws.proofs.ProcessNames.{Grows, Named}
 use Rattle.run_laws.proofs.QuietSteps.{entries_in}
 use Rattle.run_laws.proofs.RunSteps.{steps_most, no_more}
-use Rattle.run_laws.proofs.SliceLaws.{own_files, slice_keeps}
+use Rattle.run_laws.proofs.SliceLaws.{own_files, slice_keeps, slice_parents}
 use Rattle.run_laws.proofs.WorldLaws.{interleaving_law}
 
 -- ---- tables have a reply to every question
@@ -109,7 +109,7 @@ module _ (n : ℕ) (picks : List ℕ) (w : World) (script : List Instr) (is : st
   packed = package_by Excluded n picks w
 
   pub same : SameRun n picks slice w script
-  same = interleaving_law n picks w slice script is valid (slice_cut all, slice_keeps all w.tables, refl)
+  same = interleaving_law n picks w slice script is valid (slice_cut all, slice_keeps all w.tables, slice_parents n picks w valid, refl)
 
   files_are : (own_world packed).files ≡ slice.files
   files_are = own_files all w.files

@@ -11,14 +11,14 @@ use Rattle.sql_model.specs.Tables.{tables_test}
 use Rattle.sql_laws.specs.StatementLaw.{KeepsParents}
 use Rattle.sql_laws.proofs.CutDatabases.{cut_parents_law}
 use Rattle.run_laws.specs.Types.{File, Table, TableRow, Event, Instr, PackedFile, PackedTable, World}
-use Rattle.run_model.specs.Between.{HasParents, slice_of, kept_file, cut_files, cut_table, cut_tables, KeepsFile, KeepsNeeded, cut_to, is_row_needed, slice_cut}
+use Rattle.run_model.specs.Between.{HasParents, kept_file, cut_files, cut_table, cut_tables, cut_world, KeepsFile, KeepsNeeded, cut_to, is_row_needed, slice_cut}
 use Rattle.run_model.specs.Package.{own_file, own_row, own_table}
 use Rattle.run_model.specs.Slice.{FileNeed, Whole, Present, file_need, packed_as, files_needed, first_reason, rows_needed, is_table_needed, packed_table, tables_needed}
 use Rattle.run_model.specs.Events.{events, start_events}
 use Rattle.run_model.specs.SqlDatabase.{sql_base}
 use Rattle.run_model.specs.Start.{start_script, start_state}
 use Rattle.run_model.specs.ValidPackage.{packed_catalog}
-use Rattle.run_model.specs.WorldRun.{events_in, events_within}
+use Rattle.run_model.specs.WorldRun.{events_in, events_by, events_within}
 use Rattle.run_laws.specs.Laws.{SliceLaw, OwnLaw}
 use Rattle.run_laws.proofs.NeededParents.{BringsAll, run_brings}
 use Rattle.run_laws.proofs.RunSame.{database_of}
@@ -44,19 +44,25 @@ start_brings : (child parent : List ℕ) (word : Option (List ℕ)) (es : List E
 start_brings child parent None es rest = rest
 start_brings child parent (Some path) es rest = rest
 
-needed_in : (n : ℕ) (w : World) → tables_test w.tables ≡ true → (o : Option (List Instr))
-    → KeepsParents (is_table_needed (events_in n [] w o)) w.tables
-needed_in n w valid None child parent refer never = never
-needed_in n w valid (Some script) child parent refer needed =
-    let later : List Event = events sql_base n 1 [] (start_state w script) in
-    start_brings child parent (slice_get w.start 0) later (run_brings child parent n 1 [] (start_state w script) valid refer) needed
+needed_in : (n : ℕ) (picks : List ℕ) (w : World) → tables_test w.tables ≡ true → (o : Option (List Instr))
+    → KeepsParents (is_table_needed (events_in n picks w o)) w.tables
+needed_in n picks w valid None child parent refer never = never
+needed_in n picks w valid (Some script) child parent refer needed =
+    let later : List Event = events sql_base n 1 picks (start_state w script) in
+    let brings : BringsAll child parent later = run_brings child parent n 1 picks (start_state w script) valid refer in
+    start_brings child parent (slice_get w.start 0) later brings needed
+
+-- so they are in what is left
+pub slice_parents : (n : ℕ) (picks : List ℕ) (w : World) → tables_test w.tables ≡ true
+    → HasParents (cut_world (slice_cut (events_by n picks w)) w)
+slice_parents n picks w valid =
+    let all : List Event = events_by n picks w in
+    cut_parents_law (is_table_needed all) (is_row_needed all) w.tables (database_of w.tables valid) (needed_in n picks w valid (start_script w))
 
 pub slice_law : SliceLaw
 slice_law n w valid =
     let all : List Event = events_within n w in
-    let parents : HasParents (slice_of n w) =
-    cut_parents_law (is_table_needed all) (is_row_needed all) w.tables (database_of w.tables valid) (needed_in n w valid (start_script w)) in
-    (slice_cut all, slice_keeps all w.tables, parents, refl)
+    (slice_cut all, slice_keeps all w.tables, slice_parents n [] w valid, refl)
 
 -- ---- the own world of what is packed
 
@@ -106,4 +112,4 @@ pub packed_parents : (n : ℕ) (w : World) → tables_test w.tables ≡ true
 packed_parents n w valid =
     let all : List Event = events_within n w in
     let packed : List PackedTable = tables_needed all w.tables in
-    ap have_parents (sym (own_catalog packed) ∙ ap catalog_of (own_tables all w.tables)) ∙ (slice_law n w valid).2
+    ap have_parents (sym (own_catalog packed) ∙ ap catalog_of (own_tables all w.tables)) ∙ slice_parents n [] w valid

@@ -65,9 +65,9 @@ put_other n other (m ∷ ms) none = elim (cases_Bool (is_lineage m)) [
       let rest : lineage ms ≡ [] = rw miss at none in
       elim (cases_Bool (is_same_row n m)) [
         | inl same ↦ rw (same, other) rest
-        | inr differ ↦ elim (cases_Bool (is_earlier_row n m)) [
-          | inl earlier ↦ rw (differ, earlier, other, miss) rest
-          | inr later ↦ rw (differ, later, miss) (put_other n other ms rest)
+        | inr unlike ↦ elim (cases_Bool (is_earlier_row n m)) [
+          | inl earlier ↦ rw (unlike, earlier, other, miss) rest
+          | inr later ↦ rw (unlike, later, miss) (put_other n other ms rest)
         ]
       ]
 ]
@@ -94,15 +94,15 @@ module _ (m : NeededRow) (here : is_lineage m ≡ true) where
         let all : AllByRecursion (Above m) (lineage ns) = rw miss at above in
         elim (cases_Bool (is_same_row m n)) [
           | inl same ↦ rw (same, here, miss) refl
-          | inr differ ↦ elim (cases_Bool (is_earlier_row m n)) [
-            | inl earlier ↦ rw (differ, earlier, here, miss) refl
-            | inr later ↦ rw (differ, later, miss) (put_lineage ns all)
+          | inr unlike ↦ elim (cases_Bool (is_earlier_row m n)) [
+            | inl earlier ↦ rw (unlike, earlier, here, miss) refl
+            | inr later ↦ rw (unlike, later, miss) (put_lineage ns all)
           ]
         ]
   ]
 
 below_number : (m n : ℕ) → nat_lt m n ≡ true → is_lt (nat_cmp m n) ≡ true
-below_number m n below = grind (arith, nat_tests)
+below_number m n below = rw below refl
 
 module _ (t : Table) where
   one_above : (row other : TableRow) → row_precedes row other ≡ true → Above (matched_row t row) (matched_row t other)

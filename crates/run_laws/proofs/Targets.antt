@@ -1,21 +1,20 @@
 -- The table that a statement changes, in a database and in the same without what was cut.
 use Rattle.std.proofs.Common.{◌≡◌, ℕ, List, [], ◌∷◌, refl, sym, ap, ◌∙◌, Bool, true, inl, inr}
-use Rattle.std.specs.Prelude.{Option, Some, None, option_map, map, filter, zip, length, not, ◌++◌}
+use Rattle.std.specs.Prelude.{Option, Some, None, option_map, map, filter, ◌++◌}
 use Rattle.std.specs.List.{list_any, list_all}
 use Rattle.std.proofs.lemmas.Bool.{cases_Bool, and_parts}
 use Rattle.sql_model.specs.declared.statement.Statement.TheVariants.{Query as TheQuery, Insert as TheInsert, Update as TheUpdate, Delete as TheDelete}
-use Rattle.sql_model.specs.ForeignKeys.{Named, name_of, is_among, parent_names, close, with_parents}
+use Rattle.sql_model.specs.ForeignKeys.{have_parents}
 use Rattle.sql_model.specs.Needs.{NeededRow, need_of, first_names, asked_names, is_asked, table_name, asked_tables}
 use Rattle.sql_model.specs.Refusals.{tables_of}
 use Rattle.sql_model.specs.Scope.{same_text, is_table, table_at, catalog_of}
 use Rattle.sql_model.specs.Statements.{target}
 use Rattle.ldv_value.specs.Sorted.{is_strictly_sorted}
-use Rattle.ldv_value.proofs.Booleans.{or-left, or-right}
-use Rattle.ldv_value.proofs.Lists.{list_any-append}
+use Rattle.ldv_value.proofs.Booleans.{or-left}
 use Rattle.ldv_value.proofs.SameBytes.{bytes_eq-true, bytes_eq-itself}
 use Rattle.sql_model.specs.Tables.{is_valid_table, table_precedes, are_tables, is_database}
-use Rattle.sql_model.specs.ForeignKeys.{have_parents}
 use Rattle.sql_laws.specs.StatementLaw.{KeepsAsked}
+use Rattle.sql_laws.proofs.ParentTables.{named_taken}
 use Rattle.run_laws.specs.Types.{Statement, Table}
 use Rattle.run_model.specs.Between.{Cut, cut_table, cut_tables}
 
@@ -97,40 +96,6 @@ module _ (cut : Cut) (name : List ℕ) where
 
 -- ---- a table that a statement names is asked
 
-module _ (name : List ℕ) (names : List (List ℕ)) (among : list_any (same_text name) names ≡ true) where
-  abbrev named_in : List Table → List Named
-  named_in db = zip (map (λ (t : Table). t.name) db) (map (λ (t : Table). t.schema) db)
-
-  taken : (db : List Table) (t : Table) → table_at name db ≡ Some t
-      → list_any (same_text name) (map name_of (filter (is_among names) (named_in db))) ≡ true
-  taken [] t is = absurd cc
-  taken (u ∷ us) t is = elim (cases_Bool (is_table name u)) [
-    | inl hit ↦
-        let same : u.name ≡ name = bytes_eq-true u.name name hit in
-        let here : list_any (same_text u.name) names ≡ true = ap (λ (n : List ℕ). list_any (same_text n) names) same ∙ among in
-        rw here
-        (or-left (same_text name u.name) (list_any (same_text name) (map name_of (filter (is_among names) (named_in us))))
-        (ap (same_text name) same ∙ bytes_eq-itself name))
-    | inr miss ↦
-        let later : list_any (same_text name) (map name_of (filter (is_among names) (named_in us))) ≡ true = taken us t (rw miss at is) in
-        elim (cases_Bool (list_any (same_text u.name) names)) [
-          | inl here ↦
-              rw here
-              (or-right (same_text name u.name) (list_any (same_text name) (map name_of (filter (is_among names) (named_in us)))) later)
-          | inr other ↦ rw other later
-        ]
-  ]
-
-  -- with its parents, and theirs
-  with_first : (db : List Table) (t : Table) → table_at name db ≡ Some t
-      → list_any (same_text name) (with_parents names (catalog_of db)) ≡ true
-  with_first db t is =
-      let now : List Named = filter (is_among names) (named_in db) in
-      let more : List (List ℕ) =
-      close (length (map (λ (u : Table). u.name) db)) (parent_names now) (filter (λ named. not (is_among names named)) (named_in db)) in
-      list_any-append (same_text name) (map name_of now) more
-      ∙ or-left (list_any (same_text name) (map name_of now)) (list_any (same_text name) more) (taken db t is)
-
 -- the one that it changes comes first
 first_asked : (s : Statement) (name : List ℕ) (db : List Table) → tables_of s ≡ name ∷ [] → (t : Table) → table_at name db ≡ Some t
     → list_any (same_text name) (asked_names s db) ≡ true
@@ -139,7 +104,7 @@ first_asked s name db only t is =
     let among : list_any (same_text name) (first_names s db) ≡ true =
     ap (λ (l : List (List ℕ)). list_any (same_text name) (l ++ needed)) only
     ∙ or-left (same_text name name) (list_any (same_text name) needed) (bytes_eq-itself name) in
-    with_first name (first_names s db) among db t is
+    named_taken (first_names s db) db name t is among
 
 -- the table that a statement changes, where the tables that it asks stay
 pub target_cut : (cut : Cut) (s : Statement) (db : List Table) → KeepsAsked cut.table (asked_tables (Some s) db)
