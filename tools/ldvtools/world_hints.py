@@ -39,10 +39,15 @@ def scale_advised(column: Column) -> Tuple[int, bool]:
     short = [decimals_of(cell, PLAIN) or 0 for cell in numbers
              if len(decimal_text(cell, PLAIN).replace(".", "").strip("-0")) < MANY_DIGITS]
     scale = min(needed if len(short) == len(numbers) else min(needed, max(short + [1])), MAX_SCALE)
-    most = max((abs(number) for number in numbers), default=0)
+    most = largest(column)
     while scale and most * 10 ** scale > MAX_INT:
         scale -= 1
     return scale, needed > scale
+
+
+def largest(column: Column) -> float:
+    """The largest number of a column without its sign."""
+    return max((abs(cell) for cell in column.cells if isinstance(cell, (int, float))), default=0)
 
 
 # ---- dates and clock times
@@ -309,7 +314,9 @@ def number_advice(table: Table, column: Column, value: Cell) -> str:
                 f"for this "
                 "column alone")
     found = written([value])
-    words = form_words(name, found.form) if found else []
-    if found and found.scale and column.scale is None:
+    # What the options say already isn't said again.
+    words = [word for word in form_words(name, found.form) if word not in form_words(name, column.form)
+             ] if found else []
+    if found and (column.scale or 0) < found.scale <= MAX_SCALE:
         words.append(f"--scale {name}={found.scale}")
     return f"; {' '.join(words)} takes it" if words else ""

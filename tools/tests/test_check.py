@@ -121,6 +121,11 @@ class Hints(InFolder):
                 ("INSERT INTO t SELECT * FROM u", 1, "takes VALUES"),
                 ("DELETE FROM t; DELETE FROM u", 1, "an instruction of its own"),
                 ("SELECT k FROM t ORDER BY t.k", 1, "name it with AS"),
+                ("SELECT g FROM t GROUP BY g ORDER BY SUM(v)", 1, "with AS, as SUM(x) AS y, and write ORDER "
+                                                                  "BY y"),
+                ("SELECT g FROM t GROUP BY g ORDER BY g, count(*) DESC", 1, "as COUNT(x) AS y, and write "
+                                                                            "ORDER"),
+                ("SELECT g FROM t GROUP BY MAX(v)", 1, "and GROUP BY columns: name the item with AS"),
                 ("SELECT k FROM t LIMIT 1 UNION SELECT k FROM u", 1, "at the end of the whole query"),
                 ("CREATE TABLE x (a INT)", 1, "tables come with the world"),
                 ("SELECT * FROM tt", 2, "did you mean t?"),
@@ -178,7 +183,7 @@ class Hints(InFolder):
                 self.assertEqual(status, 1 if said else 0, condition)
                 self.assertIn(said.encode(), out)
             status, out, err = tool(world, "--csv", self.put("t.csv", "g\nb\n"), "--ask", text)
-            self.assertEqual((status, "world.py: warning: main line 1: " in err), (0, bool(said)))
+            self.assertEqual((status, "world.py: warning: --ask 1: " in err), (0, bool(said)))
             self.assertIn(said, err)
         path = self.put("w.json", given % "UPDATE t SET g = NULL")
         self.assertEqual(tool(check, path)[:2], (0, b""))
@@ -257,7 +262,7 @@ child line 1: bad: 'prin' is no instruction; perhaps print v v*
         path = self.put("o", "outcome 1 0\nprocess 0 240 2 1\n1\n\nrefused 4\n")
         status, out, _ = tool(check, "--outcome", path, world_path)
         self.assertEqual((status, out.decode()), (1, """\
-process 0 step 1, statement 1: refused with code 4: k is INT, and a text doesn't fit
+statement 0: process 0 at step 1: refused with code 4: k is INT, and a text doesn't fit
     INSERT INTO t VALUES (?)
                           ^
     with x
@@ -272,8 +277,20 @@ process 0: line 3 of its script is misuse: a wrong kind of value, or a name that
         words = ["--csv", path]
         status, out, err = tool(world, *words, "--ask", "SELECT x FROM t")
         self.assertEqual(status, 0)
-        self.assertIn("world.py: warning: main line 1: the statement will be refused with code 3", err)
+        self.assertIn("world.py: warning: --ask 1: the statement will be refused with code 3", err)
         self.refused("this is an inner join", *words, "--ask", "SELECT t.k FROM t LEFT JOIN t u ON t.k = u.k")
+        for join in ("s LEFT JOIN", "AS s RIGHT JOIN", "s FULL OUTER JOIN", "s left outer\n join", "s CROSS "
+                                                                                                   "JOIN",
+                     "s NATURAL JOIN", "s NATURAL LEFT JOIN", "LEFT OUTER JOIN"):
+            text = f"SELECT s.k FROM t {join} t a ON a.k = s.k"
+            self.refused("the statement will be refused with code 1: ", *words, "--ask", text)
+            self.refused("the statement will be refused with code 1: ", *words, "--script",
+                         self.put("m", 'sql q "' + text.replace("\n", "\\n") + '"\n'))
+        self.refused("an outer join is left out; the rows without a partner are found by a script", *words,
+                     "--ask", "SELECT s.k FROM t s LEFT JOIN t a ON a.k = s.k")
+        # A word that only looks like one of these, and a text that isn't a join, are warnings.
+        for text in ("SELECT s.k FROM t s leftmost JOIN t a ON 1 = 1", "SELECT k FROM t s LEFT"):
+            self.assertEqual(tool(world, *words, "--ask", text)[0], 0)
         script = self.put("m", 'sql q "SELECT 1 FROM t CROSS JOIN t u ON 1 = 1"\n')
         self.refused("this is an inner join", *words, "--script", script)
         self.assertEqual(tool(world, *words, "--script", script, "--no-check", "-q")[0], 0)
