@@ -1,10 +1,11 @@
 """check.py: bad lines and refused statements, against the program's answers in the cases."""
 import glob
+import hashlib
 import json
 import os
 import re
 
-from ldvtools import check, outcome, world
+from ldvtools import check, diff, outcome, package, world
 from ldvtools.errors import Malformed
 from ldvtools.outcomes import read_outcome
 from ldvtools.packages import read_package
@@ -13,7 +14,7 @@ from ldvtools.scripts import FORMS, BadLine, read_script
 from ldvtools.sql_check import UNKNOWN, judge
 from ldvtools.worlds import read_world, world_of_package
 
-from .support import ASK, ROOT, InFolder, read, tool
+from .support import ASK, EXAMPLES, ROOT, InFolder, read, tool
 
 SCHEMAS = {"t": [("k", "INT NOT NULL"), ("g", "TEXT"), ("v", "INT")],
            "u": [("k", "INT"), ("w", "TEXT NOT NULL")]}
@@ -270,6 +271,34 @@ process 0: line 3 of its script is misuse: a wrong kind of value, or a name that
 """))
         shown = tool(outcome, "--world", world_path, path)[1].decode()
         self.assertIn("  > INSERT INTO t VALUES (?)\n  > with x\n", shown)
+
+    def test_numbers(self):
+        """A statement has one number in all tools, from 0, as `inspect` and `diverged` count."""
+        from .test_page import orders
+        data = orders()
+        document = world_of_package(read_package(data))
+        path = self.put("p", data)
+        status, made, _ = tool(package, "--world", path)
+        lines = tool(check, "--outcome", f"{EXAMPLES}/orders.outcome", self.put("w.json", made))[1].decode()
+        found = re.findall(r"(?m)^(statement (\d+): process (\S+) at step \d+): refused", lines)
+        # The second of the three statements, by hand: an order with a number that is taken.
+        self.assertEqual(found, [("statement 1: process 0 at step 14", "1", "0")])
+        shown = tool(package, "--statement", "1", path)[1].decode()
+        self.assertTrue(shown.startswith("statement 1: process 0 at step 14, tables orders\n"), shown)
+        questions = questions_of(document.world, read_outcome(read(f"{EXAMPLES}/orders.outcome")))
+        self.assertEqual([(each.statement, each.process, each.place) for each in questions],
+                         [(0, "0", 0), (1, "0", 1), (2, "0.0", 0)])
+        body = orders(2)[:-32]
+        # The last one that is recorded, after those of the script and of the statement before it.
+        at = body.rindex(b"INSERT INTO orders VALUES (?")
+        other = body[:at] + b"i" + body[at + 1:]
+        out = tool(diff, self.put("e.package", orders(2)),
+                   self.put("o.package", other + hashlib.sha256(other).digest()))[1].decode()
+        self.assertEqual(re.findall(r"(?m)^(process \S+ statement \d+) is another one", out),
+                         ["process 0 statement 1"])
+        for name in ("docs/PACKAGES.md", "docs/TUTORIAL.md", "docs/ldv.1"):
+            self.assertIn("statements from 0" if name != "docs/PACKAGES.md" else "are counted, from 0 too",
+                          " ".join(read(os.path.join(ROOT, name)).decode().split()), name)
 
     def test_world_maker(self):
         """world.py warns of what it makes, and refuses a join that would mean another one."""
