@@ -170,8 +170,9 @@ CONTROL = re.compile("[\x80-\x9f]")
 
 def hints_of_controls(path: str, text: str, encoding: str) -> Iterator[str]:
     """That a file has control characters that nobody types: another encoding has signs in their place."""
-    found = CONTROL.search(text) if not text.isascii() else None
-    if found is None or codecs.lookup(encoding).name != "iso8859-1":
+    is_latin = not text.isascii() and codecs.lookup(encoding).name == "iso8859-1"
+    found = CONTROL.search(text) if is_latin else None
+    if found is None:
         return
     try:
         sign = found[0].encode("latin-1").decode("cp1252")

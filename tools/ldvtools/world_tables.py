@@ -108,7 +108,7 @@ def fitting(table: Table, column: Column, value: Cell, is_given: bool, settings:
 
 def fill_column(table: Table, column: Column, is_given: bool, settings: Settings) -> None:
     """Brings the cells of a column to its kind."""
-    if is_filled(column) or is_scaled(column):
+    if is_filled(column) or is_scaled(column) or is_filled_by_texts(table, column, is_given, settings):
         return
     for row, value in enumerate(column.cells):
         try:
@@ -116,6 +116,19 @@ def fill_column(table: Table, column: Column, is_given: bool, settings: Settings
         except Unfit as fault:
             advice = number_advice(table, column, value)
             raise Refused(f"{table.at(row, column)}: {fault}{advice}") from None
+
+
+def is_filled_by_texts(table: Table, column: Column, is_given: bool, settings: Settings) -> bool:
+    """Whether all cells were texts that fit, and are brought to the kind of the column: each text once, since
+    dates and prices come many times."""
+    if set(map(type, column.cells)) - {str, type(None)}:
+        return False
+    try:
+        found = {text: fitting(table, column, text, is_given, settings) for text in set(column.cells)}
+    except Unfit:
+        return False
+    column.cells = list(map(found.__getitem__, column.cells))
+    return True
 
 
 def is_filled(column: Column) -> bool:
