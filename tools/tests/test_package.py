@@ -13,7 +13,7 @@ from ldvtools.packages import read_any, read_package
 from ldvtools.trace import graph_of
 
 from . import version2
-from .support import InFolder, read, tool
+from .support import ROOT, InFolder, read, tool
 from .test_check import cases
 
 
@@ -235,6 +235,29 @@ it made 1 version of rows of t
         self.assertIn(b"it needed no row", tool(package, "--statement", "0", given=data)[1])
         self.assertEqual(tool(package, "--statement", "2", given=data),
                          (1, b"", "package.py: there is no statement 2; the run asked 2, counted from 0\n"))
+
+    def test_given_away(self):
+        """A package of recorded replies has no row, and names each row that a statement needed, in 9 bytes.
+        The documents say so where they say what it has, with a way around."""
+        def spelled(*rows):
+            trace = [packages.started(), packages.asked(0, tables=["t"], reads=[packages.group("t", *rows)]),
+                     packages.ended()]
+            return packages.encode(packages.package(mode=2, logs=[packages.log([0], packages.entry())],
+                                                    trace=trace))
+        one, two = spelled(packages.read(7)), spelled(packages.read(7), packages.read(12, 1, "H"))
+        self.assertEqual(len(two) - len(one), 9)
+        self.assertEqual(read_package(two).tables, [])
+        out = tool(package, "--statement", "0", given=two)[1].decode()
+        self.assertIn("    7 |       0 | L\n   12 |       1 | H\n", out)
+        for name, said in (("README.md", "9 bytes for each row that a statement needed"),
+                           ("examples/README.md", "its trace names the numbers of the rows that each question"),
+                           ("SECURITY.md", "**and the numbers of the rows that each statement needed**"),
+                           ("docs/TUTORIAL.md", "Its trace names the numbers of the rows that each statement"),
+                           ("docs/ldv.1", "names the numbers of the rows that each statement needed")):
+            text = " ".join(read(os.path.join(ROOT, name)).decode().split())
+            self.assertIn(said, text, name)
+            if not name.endswith(".1"):
+                self.assertIn("--shuffle", text, name)
 
     def test_byte(self):
         """What stands at a byte that another package has otherwise, section by section."""
