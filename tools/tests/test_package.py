@@ -240,19 +240,19 @@ it made 1 version of rows of t
         """A package of recorded replies has no row, and names each row that a statement needed, in 9 bytes.
         The documents say so where they say what it has, with a way around."""
         def spelled(*rows):
-            trace = [packages.started(), packages.asked(0, tables=["t"], reads=[packages.group("t", *rows)]),
-                     packages.ended()]
-            return packages.encode(packages.package(mode=2, logs=[packages.log([0], packages.entry())],
-                                                    trace=trace))
+            asked = packages.asked(0, tables=["t"], reads=[packages.group("t", *rows)])
+            trace = [packages.started(), asked, packages.ended()]
+            log = packages.log([0], packages.entry())
+            return packages.encode(packages.package(mode=2, logs=[log], trace=trace))
         one, two = spelled(packages.read(7)), spelled(packages.read(7), packages.read(12, 1, "H"))
         self.assertEqual(len(two) - len(one), 9)
         self.assertEqual(read_package(two).tables, [])
         out = tool(package, "--statement", "0", given=two)[1].decode()
         self.assertIn("    7 |       0 | L\n   12 |       1 | H\n", out)
         for name, said in (("README.md", "9 bytes for each row that a statement needed"),
-                           ("examples/README.md", "its trace names the numbers of the rows that each question"),
+                           ("examples/README.md", "its trace names the numbers of the rows that each"),
                            ("SECURITY.md", "**and the numbers of the rows that each statement needed**"),
-                           ("docs/TUTORIAL.md", "Its trace names the numbers of the rows that each statement"),
+                           ("docs/TUTORIAL.md", "Its trace names the numbers of the rows that each"),
                            ("docs/ldv.1", "names the numbers of the rows that each statement needed")):
             text = " ".join(read(os.path.join(ROOT, name)).decode().split())
             self.assertIn(said, text, name)
