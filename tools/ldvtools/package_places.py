@@ -22,67 +22,54 @@ class Finder(Reader):
         self.event_found: Optional[Tuple[int, Event]] = None
         self.events = 0
 
-    def note(self, start: int, told: Callable[[], str]) -> None:
-        """Notes what was read from a place up to here, where the byte is in it."""
+    def noted(self, start: int, part: T, told: Callable[[T], str]) -> T:
+        """A part that was read from a place up to here, noted where the byte is in it."""
         if start <= self.at < self.place:
-            self.found.append(told())
+            self.found.append(told(part))
+        return part
 
     def section(self, name: str, read: Callable[[], T], since: Optional[int] = None) -> T:
         start = self.place if since is None else since
-        found = super().section(name, read, since)
-        self.note(start, lambda: f"section {name}")
-        return found
+        return self.noted(start, super().section(name, read, since), lambda _: f"section {name}")
 
     def file(self) -> Tuple[str, Optional[bytes]]:
-        start, file = self.place, super().file()
-        self.note(start, lambda: f"file {escaped(file[0])}")
-        return file
+        return self.noted(self.place, super().file(), lambda file: f"file {escaped(file[0])}")
 
     def column(self) -> Tuple[str, str]:
-        start, column = self.place, super().column()
-        self.note(start, lambda: f"column {' '.join(column)}")
-        return column
+        return self.noted(self.place, super().column(), lambda column: f"column {' '.join(column)}")
 
     def table(self, has_reasons: bool = True) -> PackedTable:
-        start, table = self.place, super().table(has_reasons)
-        self.note(start, lambda: f"table {table.name}")
-        return table
+        return self.noted(self.place, super().table(has_reasons), lambda table: f"table {table.name}")
 
     def row(self, width: int, has_reasons: bool) -> PackedRow:
-        start, row = self.place, super().row(width, has_reasons)
-        why = f", statement {row.statement}, rule {row.rule}" if has_reasons else ""
-        self.note(start, lambda: f"row {row.number}{why}: {' | '.join(map(cell, row.values))}")
-        return row
+        def told(row: PackedRow) -> str:
+            why = f", statement {row.statement}, rule {row.rule}" if has_reasons else ""
+            return f"row {row.number}{why}: {' | '.join(map(cell, row.values))}"
+        return self.noted(self.place, super().row(width, has_reasons), told)
 
     def log(self) -> Log:
-        start, log = self.place, super().log()
-        self.note(start, lambda: f"log of process {log.process}")
-        return log
+        return self.noted(self.place, super().log(), lambda log: f"log of process {log.process}")
 
     def entry(self) -> Entry:
-        start, entry = self.place, super().entry()
-        self.note(start, lambda: f"statement {escaped(entry.text)}")
-        return entry
+        return self.noted(self.place, super().entry(), lambda entry: f"statement {escaped(entry.text)}")
 
     def needs(self) -> Tuple[str, List[Need]]:
-        start, group = self.place, super().needs()
-        self.note(start, lambda: f"rows of {group[0]} that it needed")
-        return group
+        return self.noted(self.place, super().needs(), lambda group: f"rows of {group[0]} that it needed")
 
     def need(self) -> Need:
-        start, need = self.place, super().need()
-        self.note(start, lambda: f"row {need.row}, version {need.version}, rule {need.rule}")
-        return need
+        return self.noted(self.place, super().need(),
+                          lambda need: f"row {need.row}, version {need.version}, rule {need.rule}")
 
     def makes(self) -> Tuple[str, List[Made]]:
-        start, group = self.place, super().makes()
-        self.note(start, lambda: f"versions of rows of {group[0]} that it made")
-        return group
+        return self.noted(self.place, super().makes(),
+                          lambda group: f"versions of rows of {group[0]} that it made")
 
     def made(self) -> Made:
-        start, made = self.place, super().made()
-        self.note(start, lambda: f"row {made.row}, version {made.version}")
-        return made
+        return self.noted(self.place, super().made(), lambda made: f"row {made.row}, version {made.version}")
+
+    def trace(self) -> List[Run]:
+        self.events = 0
+        return super().trace()
 
     def run(self) -> Run:
         start, place = self.place, self.events

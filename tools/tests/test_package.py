@@ -297,6 +297,11 @@ it made 1 version of rows of t
             self.assertEqual(lines(data, 0), ["section magic, mode"])
             self.assertEqual(lines(data, len(data) - 33)[:1], ["section trace"])
             self.assertEqual(lines(data, len(data) - 32), ["the digest of all bytes before"])
+        joined = version2.joined(read_package(spelled()), read_package(spelled(seed=7)))
+        self.assertEqual(lines(joined, joined.index(b"seen")), ["section files", "file seen"])
+        self.assertEqual(lines(joined, joined.index(b"main", len(joined) // 2))[0], "section run 2")
+        self.assertEqual(lines(joined, len(joined) - 33)[:2],
+                         ["section run 2", "event 3, counted from 0: 4 0 ended 0"])
         for at in (-1, len(data)):
             self.assertEqual(tool(package, f"--byte={at}", given=data),
                              (1, b"", f"package.py: there is no byte {at}; the package has {len(data)}, "
