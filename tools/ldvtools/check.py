@@ -70,7 +70,7 @@ class Finding(NamedTuple):
         """The part of the statement that is meant, with a mark below it."""
         if not self.statement:
             return []
-        start = max(0, self.at - WIDTH // 2)
+        start = max(0, self.at - WIDTH // 2) if len(self.statement) > WIDTH else 0
         shown = self.statement[start:start + WIDTH].translate({9: " ", 10: " ", 13: " "})
         return ["    " + escaped(shown), "    " + " " * (self.at - start) + "^"]
 
