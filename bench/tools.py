@@ -8,8 +8,8 @@ with the day first, clock times with one digit and prices with a unit, and all a
 same file is read without a word about it, so that each column is looked at for what it may be. Seconds are
 those of a processor, the least of three runs.
 
-A call of ./ldv for a world that ends at once stands beside one of the program: the median of 200 calls each,
-in turn, by the clock, in milliseconds.
+A call of ./ldv for a world that ends at once stands beside one of the program: of 200 calls each, in turn, the
+least by the clock and the median of a processor, in milliseconds.
 
 SIZES has other numbers of rows, CALLS another number of calls, RUNS another number of runs. The second part
 is left out where the program of this checkout isn't built.
@@ -25,7 +25,7 @@ HERE = os.path.dirname(os.path.abspath(__file__))
 TOP = os.path.dirname(HERE)
 SIZES = [int(size) for size in os.environ.get("SIZES", "10000 100000 1000000").split()]
 CALLS = int(os.environ.get("CALLS", "200"))
-WORLD = b'{"start":["main"],"files":{"main":"exit 0"}}'
+WORLD = '{"start":["main"],"files":{"main":"exit 0"}}'
 STATIONS = ("Bergen", "Bod\u00f8", "Geilo", "Narvik", "Oslo", "R\u00f8ros", "Troms\u00f8", "Vard\u00f8")
 
 
@@ -69,28 +69,41 @@ def worlds(folder):
             print(f"{name:<10} {size:>9} {os.path.getsize(path):>11} {seconds:>9} {memory:>9}", flush=True)
 
 
-def one_call(words):
-    begin = time.perf_counter()
-    subprocess.run(words, input=WORLD, stdout=subprocess.DEVNULL, check=True)
-    return (time.perf_counter() - begin) * 1000
+def one_call(words, path):
+    """The milliseconds of a call: by the clock, and of a processor."""
+    with open(path, "rb") as world:
+        begin = time.perf_counter()
+        child = subprocess.Popen(words, stdin=world, stdout=subprocess.DEVNULL)
+        _, status, usage = os.wait4(child.pid, 0)
+        end = time.perf_counter()
+    child.returncode = os.waitstatus_to_exitcode(status)
+    if child.returncode != 0:
+        sys.exit(f"tools.py: {words[0]} ended with {child.returncode}")
+    return (end - begin) * 1000, (usage.ru_utime + usage.ru_stime) * 1000
 
 
-def calls():
+def calls(folder):
     program, script = os.path.join(TOP, "crates", "ldv", "out", "ldv"), os.path.join(TOP, "ldv")
     if not os.access(program, os.X_OK):
         print(f"{program} isn't there, so no call of ./ldv is measured")
         return
-    one_call([script, "run"])
-    pairs = [(one_call([program, "run"]), one_call([script, "run"])) for _ in range(CALLS)]
-    own, whole = (statistics.median(times) for times in zip(*pairs))
-    print(f"\n{'call':<10} {'ms':>9}\n{'program':<10} {own:>9.2f}\n{'./ldv':<10} {whole:>9.2f}\n"
-          f"{'added':<10} {whole - own:>9.2f}")
+    path = os.path.join(folder, "world.json")
+    with open(path, "w", encoding="utf-8") as file:
+        file.write(WORLD)
+    one_call([script, "run"], path)
+    pairs = [(one_call([program, "run"], path), one_call([script, "run"], path)) for _ in range(CALLS)]
+    own, whole = ((min(clock for clock, _ in times), statistics.median(used for _, used in times))
+                  for times in zip(*pairs))
+    added = tuple(both - one for both, one in zip(whole, own))
+    print(f"\n{'call':<10} {'least ms':>9} {'cpu ms':>9}")
+    for name, (clock, used) in (("program", own), ("./ldv", whole), ("added", added)):
+        print(f"{name:<10} {clock:>9.2f} {used:>9.2f}")
 
 
 def main():
     with tempfile.TemporaryDirectory() as folder:
         worlds(folder)
-    calls()
+        calls(folder)
 
 
 if __name__ == "__main__":
