@@ -8,8 +8,8 @@ with the day first, clock times with one digit and prices with a unit, and all a
 same file is read without a word about it, so that each column is looked at for what it may be. Seconds are
 those of a processor, the least of three runs.
 
-A call of ./ldv for a world that ends at once stands beside one of the program: of 200 calls each, in turn, the
-least by the clock and the median of a processor, in milliseconds.
+A call of ./ldv for a world that ends at once stands beside one of the program: of 200 calls each, in turn,
+the least by the clock and the median of a processor, in milliseconds.
 
 SIZES has other numbers of rows, CALLS another number of calls, RUNS another number of runs. The second part
 is left out where the program of this checkout isn't built.
