@@ -303,6 +303,22 @@ class Program(InFolder):
         self.assertEqual(read(f"{self.folder}/customers.csv"), b"ldv_row,ldv_statement,ldv_rule,id,name\r\n"
                          b"0,2,L,1,Ada\r\n1,2,H,2,Bo\r\n2,2,H,3,Cy\r\n")
 
+    def test_unsound(self):
+        """Where a package was changed, `audit` names the byte, and package.py what stands there."""
+        whole = ldv(["record"], read(f"{EXAMPLES}/orders.json"))[1]
+        self.assertEqual(ldv(["audit"], whole), (0, b"sound\n", b""))
+        # The rule of the one row that the second INSERT needed: K becomes L.
+        self.assertEqual(whole[1355], 3)
+        for place, value, said in ((1355, 1, "row 0, version 0, rule L"), (1354, 1, "row 0, version 1, rule "
+                                                                                    "K")):
+            body = whole[:place] + bytes([value]) + whole[place + 1:-32]
+            changed = body + hashlib.sha256(body).digest()
+            self.assertEqual(ldv(["audit"], changed), (0, f"unsound {place}\n".encode(), b""))
+            out = tool(package, "--byte", str(place), given=changed)[1].decode()
+            self.assertEqual(out.split("\n")[1:-1], [
+                "section trace", "event 5, counted from 0: 14 0 asked 1 tables 1 reads 1 made 0",
+                "rows of orders that it needed", said])
+
     def test_manual_page(self):
         """The examples of the manual page, in their order."""
         check_page.folder_with(support.PROGRAM, self.folder)
