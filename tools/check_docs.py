@@ -18,7 +18,8 @@ ROOT is the top of a checkout, by default that of this script. Checked are
   `crates/ldv_top/specs/Due.antt` or `ldv_top/specs/Due.antt`;
 - the tables of docs/DEFINITIONS.md: that each name is defined in the file of its row;
 - the manual page docs/ldv.1: that it has the commands of docs/COMMANDS.md, and its statuses with their
-  messages.
+  messages;
+- that CHANGELOG.md, README.md, the manual page and tools/pyproject.toml have one version.
 
 It prints a line for each difference, and ends with status 1 where there is one.
 """
@@ -35,6 +36,8 @@ README = 'README.md'
 DEFINITIONS = 'docs/DEFINITIONS.md'
 COMMANDS = 'docs/COMMANDS.md'
 MANUAL = 'docs/ldv.1'
+CHANGELOG = 'CHANGELOG.md'
+PROJECT = 'tools/pyproject.toml'
 FOLDERS = ('crates', 'docs', 'tools', 'examples', 'bench', '.ci')
 LINK = re.compile(r'\[[^\]\n]*\]\(([^)\s]+)\)')
 CODE = re.compile(r'`([^`\n]+)`')
@@ -374,6 +377,29 @@ def check_manual(root: str, differ: Differences) -> None:
                 differ.add(MANUAL, there[name], f'{COMMANDS} has no {what} {shown}')
 
 
+# ---- the version
+
+# Where each file has it.
+VERSION = {
+    CHANGELOG: re.compile(r'^## (\d+\.\d+\.\d+)$', re.M),
+    README: re.compile(r'\bversion (\d+\.\d+\.\d+)\b'),
+    MANUAL: re.compile(r'^Version (\d+\.\d+\.\d+)\.$', re.M),
+    PROJECT: re.compile(r'^version = "(\d+\.\d+\.\d+)"$', re.M),
+}
+
+
+def check_version(root: str, differ: Differences) -> None:
+    """The first version that each file names is the one at the head of the changelog."""
+    found = {name: form.search(read(root, name)) for name, form in VERSION.items()}
+    due = found[CHANGELOG]
+    for name, version in found.items():
+        if due is None or version is None:
+            differ.add(name, 1, 'there is no version')
+        elif version[1] != due[1]:
+            differ.add(name, read(root, name)[:version.start()].count('\n') + 1,
+                       f'version {version[1]}, and {due[1]} in {CHANGELOG}')
+
+
 def main(words: List[str]) -> int:
     root = words[0] if words else os.path.dirname(os.path.dirname(os.path.abspath(__file__)))
     differ = Differences()
@@ -383,6 +409,7 @@ def main(words: List[str]) -> int:
         check_paths(root, document, differ)
     check_definitions(root, differ)
     check_manual(root, differ)
+    check_version(root, differ)
     return 1 if differ.count else 0
 
 

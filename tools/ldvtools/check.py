@@ -10,7 +10,8 @@ For a bad line it says which rule of docs/SCRIPTS.md it breaks. For a statement 
 doesn't fit. It looks at the start script and at those that a script starts by a path that is written in it;
 where one starts a script by a path that it computes, at all files whose name ends with .ldv or .script too. A
 statement whose text is computed is judged with --outcome only, and so is one that rests on what a parameter
-is. A comparison with NULL isn't refused and is never true: that is said too.
+is. A comparison with NULL isn't refused and is never true: that is said too. With --outcome statements are
+numbered over the whole run, from 0, as `inspect` of `ldv` numbers them.
 
 Statuses: 0 nothing found; 1 something found, or the input is no world document; 2 wrong words.
 """
@@ -18,10 +19,11 @@ from __future__ import annotations
 
 import argparse
 import collections
+import re
 import sys
 from typing import Dict, Iterator, List, Mapping, NamedTuple, Optional, Sequence, Set, Tuple
 
-from .errors import Misused, command, words_of
+from .errors import Misused, Refused, command, words_of
 from .language import MISUSES
 from .outcome import read_input
 from .outcomes import read_outcome
@@ -37,8 +39,9 @@ WIDTH = 70
 
 
 class Finding(NamedTuple):
-    """Something wrong. `code` is 0 for a bad line; `is_trap` says that it will run and
-    mean something else."""
+    """Something wrong. `code` is 0 for a bad line; `is_trap` says that it will run and mean something else,
+    and `is_join` that a join of another dialect is refused. `where` says in place of the line where it
+    stands."""
 
     path: str
     line: int
@@ -47,18 +50,27 @@ class Finding(NamedTuple):
     is_trap: bool = False
     statement: str = ""
     at: int = 0
+    is_join: bool = False
+    where: str = ""
 
     @property
     def text(self) -> str:
         what = ("bad: " if self.code == 0 else f"the statement will be refused with code {self.code}: ")
         begin = "" if self.is_trap or self.code < 0 else what
-        return f"{escaped(self.path)} line {self.line}: {begin}{self.cause}"
+        return f"{self.where or f'{escaped(self.path)} line {self.line}'}: {begin}{self.cause}"
+
+    def placed(self, path: str, places: Sequence[str]) -> Finding:
+        """The same, where it stands in what a script was made of."""
+        return self._replace(where=places[self.line - 1]) if self.path == path and places else self
+
+    def lines(self) -> List[str]:
+        return [self.text, *self.excerpt()]
 
     def excerpt(self) -> List[str]:
         """The part of the statement that is meant, with a mark below it."""
         if not self.statement:
             return []
-        start = max(0, self.at - WIDTH // 2)
+        start = max(0, self.at - WIDTH // 2) if len(self.statement) > WIDTH else 0
         shown = self.statement[start:start + WIDTH].translate({9: " ", 10: " ", 13: " "})
         return ["    " + escaped(shown), "    " + " " * (self.at - start) + "^"]
 
@@ -116,8 +128,26 @@ def statement_findings(path: str, script: Script, schemas: Optional[Schemas]) ->
                 yield Finding(path, each.line, -1, cause, False, text, at)
 
 
+# A join of another dialect, at the word that can't be read.
+OTHER_JOIN = re.compile(r"(?:left|right|full|outer|cross|natural)\b(?:\s+(?:left|right|full|outer|inner)\b)*"
+                        r"\s+join\b", re.IGNORECASE)
+
+
 def refused(path: str, line: int, refusal: Refusal, text: str) -> Finding:
-    return Finding(path, line, refusal.code, refusal.cause, False, text, refusal.at)
+    is_join = refusal.code == 1 and OTHER_JOIN.match(text, refusal.at) is not None
+    return Finding(path, line, refusal.code, refusal.cause, False, text, refusal.at, is_join)
+
+
+def check_joins(found: Sequence[Finding]) -> None:
+    """Refuses what looks like another join: it would mean something else, or can't be read."""
+    for finding in found:
+        if finding.is_trap or finding.is_join:
+            raise Refused(finding.text)
+
+
+def warning_lines(found: Sequence[Finding]) -> List[str]:
+    """Findings as warnings, each with the statement."""
+    return ["\n".join([f"warning: {finding.text}", *finding.excerpt()]) for finding in found]
 
 
 def width_findings(path: str, script: Script, schemas: Optional[Schemas]) -> Iterator[Finding]:
@@ -208,8 +238,8 @@ def run_lines(world: World, schemas: Optional[Schemas], outcome_data: bytes) -> 
     for question in machine.questions:
         if question.reply is not None and question.reply.kind == "refused":
             cause, at = cause_of(question, schemas)
-            lines.append(f"process {question.process} step {question.step}, statement {question.place + 1}: "
-                         f"{cause}")
+            lines.append(f"statement {question.statement}: process {question.process} at step "
+                         f"{question.step}: {cause}")
             lines += Finding("", 0, 1, "", False, question.text, at).excerpt()
             if question.params:
                 lines.append("    with " + ", ".join(cell(value) for value in question.params))
@@ -225,8 +255,7 @@ def run_lines(world: World, schemas: Optional[Schemas], outcome_data: bytes) -> 
 # ---- the command
 
 def given_words(words: Optional[Sequence[str]]) -> argparse.Namespace:
-    parser = words_of("check.py", __doc__)
-    parser.add_argument("world", nargs="?", help="the world document (default: standard input)")
+    parser = words_of("check.py", __doc__, "world", "the world document")
     parser.add_argument("--outcome", metavar="FILE",
                         help="the outcome of its run: says why statements were refused")
     parser.add_argument("--statement", metavar="TEXT", help="judge this statement, and no script")
@@ -234,7 +263,7 @@ def given_words(words: Optional[Sequence[str]]) -> argparse.Namespace:
 
 
 def finding_lines(findings: Sequence[Finding]) -> List[str]:
-    return [line for finding in findings for line in [finding.text, *finding.excerpt()]]
+    return [line for finding in findings for line in finding.lines()]
 
 
 def statement_lines(text: str, schemas: Optional[Schemas]) -> List[str]:

@@ -8,7 +8,8 @@
 A line begins with - where it is of the first alone, and with + where it is of the second alone. Replies are
 compared by process and number. Rows of a reply that are the same in another order are said to be so. Of
 packages the rows of a table are compared by their numbers, and statements by what they needed; of recorded
-replies, by text, parameters and reply.
+replies, by text, parameters and reply. Statements are counted from 0 within their process, as in `diverged`
+of `ldv`, replies from 1, as in outcome.py. Of two traces the first event that differs is shown.
 
 Statuses: 0 no difference; 1 a difference; 2 wrong words, or the two can't be read or compared.
 """
@@ -17,6 +18,7 @@ from __future__ import annotations
 import argparse
 import collections
 import difflib
+import itertools
 import sys
 from typing import Dict, Iterator, List, Optional, Sequence, Tuple
 
@@ -24,7 +26,8 @@ from .errors import Malformed, Misused, Refused, said, words_of
 from .language import ASKED
 from .outcome import Asked, asked_in, read_input, write_out
 from .outcomes import Outcome, read_outcome
-from .packages import Asked as AskedEvent, Package, PackedTable, read_package
+from .packages import Asked as AskedEvent, Event, Package, PackedTable, Run, read_package
+from .trace import event_line
 from .values import Reply, Row, cell, escaped, plain_count, reply_title
 from .worlds import read_world
 
@@ -129,9 +132,17 @@ def replies_differences(name: str, before: List[Reply], after: List[Reply], aske
 
 # ---- packages
 
+def shape(table: PackedTable) -> List[str]:
+    """The columns of a table, its key, its foreign keys and the number of its next row, as texts."""
+    foreign = [f"({', '.join(each.columns)}) refers to {each.parent}" for each in table.foreign]
+    return [", ".join(f"{name} {kind}" for name, kind in table.columns), ", ".join(table.key) or "none",
+            ", ".join(foreign) or "none", str(table.next)]
+
+
 def table_differences(before: PackedTable, after: PackedTable, limit: int) -> Iterator[str]:
-    if before[1:5] != after[1:5]:
-        yield f"table {before.name}: other columns, keys or next row"
+    for what, one, other in zip(("columns", "key", "foreign keys", "next row"), shape(before), shape(after)):
+        if one != other:
+            yield f"table {before.name}: {what} {one}, and {other}"
     left, right = ({row.number: row.values for row in table.rows} for table in (before, after))
     lines = []
     for number in sorted({*left, *right}):
@@ -163,7 +174,7 @@ def need_lines(asked: AskedEvent) -> List[str]:
 def statement_differences(before: Package, after: Package, limit: int) -> Iterator[str]:
     left, right = asked_of(before), asked_of(after)
     for key in [*left, *(key for key in right if key not in left)]:
-        title = f"process {key[0]} statement {key[1] + 1}"
+        title = f"process {key[0]} statement {key[1]}"
         if key not in right or key not in left:
             yield f"{'-' if key in left else '+'} {title}"
             continue
@@ -178,7 +189,7 @@ def log_differences(before: Package, after: Package, limit: int) -> Iterator[str
     left, right = ({log.process: log.entries for log in package.logs} for package in (before, after))
     for name in [name for name in left if name in right]:
         for place, (one, other) in enumerate(zip(left[name], right[name])):
-            title = f"process {name} statement {place + 1}"
+            title = f"process {name} statement {place}"
             if one[:2] != other[:2]:
                 yield f"{title} is another one"
                 for sign, each in (("-", one), ("+", other)):
@@ -201,8 +212,44 @@ def package_differences(before: Package, after: Package, limit: int) -> Iterator
             yield f"{'-' if name in left else '+'} table {name}"
     yield from statement_differences(before, after, limit)
     yield from log_differences(before, after, limit)
-    if list(before.runs) != list(after.runs) and before.version == after.version:
-        yield f"the traces differ: {plain_count(before.event_count(), 'event')}, and {after.event_count()}"
+    if before.version == after.version:
+        yield from trace_differences(before, after)
+
+
+def trace_differences(before: Package, after: Package) -> Iterator[str]:
+    """The first event that is another one, of each trace."""
+    found = first_difference(before.runs, after.runs)
+    if found is None:
+        return
+    yield (f"the traces differ: {plain_count(before.event_count(), 'event')}, and {after.event_count()}; "
+           f"first at event {found[0]}, counted from 0")
+    for sign, event, package in zip("-+", found[1:], (before, after)):
+        if event is not None:
+            yield f"  {sign} {event_line(event, package.process_names())}"
+
+
+def first_difference(before: Sequence[Run],
+                     after: Sequence[Run]) -> Optional[Tuple[int, Optional[Event], Optional[Event]]]:
+    """The first place at which two traces have other events, and these. A short run may stand for millions of
+    events, which aren't made here."""
+    place = 0
+    for number, (one, other) in enumerate(itertools.zip_longest(before, after)):
+        if one == other:
+            place += one.times
+            continue
+        alike = 0
+        if one and other and one.first == other.first:
+            alike = min(one.times, other.times) if one.stride == other.stride else 1
+        return place + alike, event_at(before, number, alike), event_at(after, number, alike)
+    return None
+
+
+def event_at(runs: Sequence[Run], number: int, place: int) -> Optional[Event]:
+    """The event at a place of a run, or the first one after the run; None behind the last one."""
+    if number < len(runs) and place < runs[number].times:
+        first = runs[number].first
+        return first._replace(step=first.step + place * runs[number].stride)
+    return runs[number + 1].first if number + 1 < len(runs) else None
 
 
 # ---- the command

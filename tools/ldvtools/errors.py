@@ -49,7 +49,11 @@ def command(name: str, work: Callable[[Optional[Sequence[str]]], int],
     return 1
 
 
-def words_of(name: str, told: Optional[str]) -> argparse.ArgumentParser:
-    """What reads the words of a command. Its --help shows `told` as it stands."""
-    return argparse.ArgumentParser(prog=name, description=told,
-                                   formatter_class=argparse.RawDescriptionHelpFormatter)
+def words_of(name: str, told: Optional[str], given: str = "", what: str = "") -> argparse.ArgumentParser:
+    """What reads the words of a command. Its --help shows `told` as it stands. `given` names the file that it
+    reads, where it reads one or else standard input, and `what` says what that is."""
+    parser = argparse.ArgumentParser(prog=name, description=told,
+                                     formatter_class=argparse.RawDescriptionHelpFormatter)
+    if given:
+        parser.add_argument(given, nargs="?", help=f"{what}; standard input where it isn't given")
+    return parser

@@ -175,8 +175,7 @@ def seed_count(text: str) -> int:
 
 
 def given_words(words: Optional[Sequence[str]]) -> argparse.Namespace:
-    parser = words_of("orders.py", __doc__)
-    parser.add_argument("package", nargs="?", help="the package; standard input where it isn't given")
+    parser = words_of("orders.py", __doc__, "package", "the package")
     parser.add_argument("--ldv", metavar="PROGRAM",
                         help="replay it under other seeds by this program, such as ./ldv")
     parser.add_argument("--seeds", metavar="N", type=seed_count, default=None,

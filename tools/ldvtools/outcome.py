@@ -2,7 +2,7 @@
 
     ./ldv run < world.json | tools/outcome.py --world world.json
     ./ldv run < world.json > world.outcome;  tools/outcome.py world.outcome
-    tools/outcome.py --csv world.outcome                  one section for each reply
+    tools/outcome.py --csv world.outcome                  one section for each reply, each with a header line
     tools/outcome.py --csv --reply 2 world.outcome        the second reply only
     tools/outcome.py --folder replies world.outcome       a file for each reply: replies/0-1.csv and so on
     tools/outcome.py --printed world.outcome              what process 0 printed, as it is, and nothing else
@@ -12,6 +12,10 @@
 docs/FORMATS.md has the format. Replies are counted from 1 within their process. An outcome has no statements
 and no names of columns. With --world or --package, of which it is the outcome, each reply has its statement
 and its columns' names; else columns are counted.
+
+In CSV the first line has the columns' names, or their places where these aren't known. A change is a column
+`changed` with the number of changed rows. A refused statement has no data: --reply K of it ends with status
+1, and --folder makes no file of it.
 
 In a table numbers stand right and texts left. A text stands in quotes where it would look like something
 else: where it is empty, NULL or a number, has blanks at an end, or has characters that don't show. In CSV
@@ -24,8 +28,8 @@ NULL is an empty field (or what --null says) and the empty text is "".
 At the end it says how many statements were refused and how many processes ended by misuse, where there are
 such; with --csv, --folder, --printed and --file it does so on standard error.
 
-Statuses: 0 shown; 1 the input is no outcome, a file can't be read or written, or, with --strict, a statement
-was refused or a process ended by misuse; 2 wrong words.
+Statuses: 0 shown; 1 the input is no outcome, a file can't be read or written, the statement of --reply was
+refused, or, with --strict, any statement was refused or a process ended by misuse; 2 wrong words.
 """
 from __future__ import annotations
 
@@ -36,7 +40,7 @@ import sys
 from typing import Dict, List, Optional, Sequence, Set, Tuple
 
 from .errors import Misused, Refused, command, words_of
-from .language import KEYED_REFUSALS, MISUSES
+from .language import MISUSES
 from .outcomes import Outcome, read_outcome
 from .packages import read_package
 from .rerun import Question, questions_of
@@ -180,14 +184,13 @@ def content_of(outcome: Outcome, path: str) -> bytes:
 
 # ---- CSV
 
-def csv_text(reply: Reply, null: str, names: Optional[List[str]] = None) -> str:
-    """The rows of a reply as CSV; one that has no rows as one line that says what it is."""
-    if reply.kind == "rows":
-        return (csv_line(names, null) if names else "") + "".join(csv_line(row, null) for row in reply.rows)
-    if reply.kind == "changed":
-        return csv_line(["changed", reply.changed], null)
-    key: Row = [reply.table, *reply.key] if reply.code in KEYED_REFUSALS else []
-    return csv_line(["refused", reply.code, *key], null)
+def csv_text(reply: Reply, null: str, names: Sequence[str] = ()) -> str:
+    """A reply as CSV with a header line. A refused statement has no data."""
+    if reply.kind == "refused":
+        return ""
+    rows: List[Row] = reply.rows if reply.kind == "rows" else [[reply.changed]]
+    heads = heads_of(names, max(map(len, rows), default=0)) if reply.kind == "rows" else ["changed"]
+    return "".join(csv_line(row, null) for row in ([heads] if heads else []) + rows)
 
 
 def csv_sections(outcome: Outcome, null: str, asked: Optional[Asked]) -> str:
@@ -197,7 +200,7 @@ def csv_sections(outcome: Outcome, null: str, asked: Optional[Asked]) -> str:
             found = (asked or {}).get((process.name, number))
             title = f"# process {process.name} reply {number + 1}: {reply_title(reply)}\n"
             title += "".join(f"# {line}\n" for line in text_lines(found[0].text)) if found else ""
-            parts.append(title + csv_text(reply, null, found and found[1]))
+            parts.append(title + csv_text(reply, null, found[1] if found else ()))
     return "\n".join(parts)
 
 
@@ -216,16 +219,18 @@ def write_folder(outcome: Outcome, folder: str, null: str, asked: Optional[Asked
         for number, reply in enumerate(process.replies):
             path = os.path.join(folder, f"{process.name}-{number + 1}.csv")
             found = (asked or {}).get((process.name, number))
+            if reply.kind == "refused":
+                print(f"no {path}: {reply_title(reply)}")
+                continue
             with open(path, "w", encoding="utf-8", newline="") as file:
-                file.write(csv_text(reply, null, found and found[1]))
+                file.write(csv_text(reply, null, found[1] if found else ()))
             print(f"{path}: {reply_title(reply)}")
 
 
 # ---- the command line
 
 def read_words(given: Optional[Sequence[str]]) -> argparse.Namespace:
-    parser = words_of("outcome.py", __doc__)
-    parser.add_argument("outcome", nargs="?", help="the outcome (default: standard input)")
+    parser = words_of("outcome.py", __doc__, "outcome", "the outcome")
     parser.add_argument("--csv", action="store_true", help="the replies as CSV")
     parser.add_argument("--reply", type=int, metavar="K", help="with --csv: only the reply K")
     parser.add_argument("--process", metavar="NAME", help="with --reply or --printed: of which (default 0)")
@@ -305,7 +310,10 @@ def show(outcome: Outcome, asked: Optional[Asked], words: argparse.Namespace) ->
         write_bytes(content_of(outcome, words.file))
     elif words.reply is not None:
         found = (asked or {}).get((name, words.reply - 1))
-        write_out(csv_text(chosen_reply(outcome, name, words.reply), words.null, found and found[1]))
+        reply = chosen_reply(outcome, name, words.reply)
+        if reply.kind == "refused":
+            raise Refused(f"process {name} reply {words.reply}: {reply_title(reply)}")
+        write_out(csv_text(reply, words.null, found[1] if found else ()))
     elif words.csv:
         write_out(csv_sections(outcome, words.null, asked))
     else:

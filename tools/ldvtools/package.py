@@ -13,6 +13,8 @@
                                                           others of each row, its number, the statement that
                                                           needed it first, and the rule why
     tools/package.py --sizes world.package                how many bytes each section has
+    tools/package.py --byte 812 world.package             what stands at this byte, from 0: where `audit` says
+                                                          `unsound 812`, what isn't as its own run has it
     tools/package.py --run 2 ..                           of a joined package, the second of its runs
 
 docs/FORMATS.md has the format. Both versions, both kinds and joined packages are read. The digest is
@@ -31,11 +33,12 @@ import sqlite3
 import sys
 from typing import Dict, Iterator, List, Optional, Sequence, Tuple, Union
 
-from .check import findings_of
+from .check import check_joins, findings_of, warning_lines
 from .documents import as_json, document, row_lines, table_json, write_file
 from .errors import Refused, command, words_of
 from .language import RULE_TEXTS
 from .outcome import read_input, write_out
+from .package_places import byte_lines
 from .packages import Asked, Joined, Package, PackedTable, read_any, read_package
 from .scripts_of_statements import script_of
 from .values import Row, Value, cell, counted, csv_line, escaped, reply_title, table_lines
@@ -251,13 +254,12 @@ def has_parents(table: PackedTable, package: Package) -> bool:
     return True
 
 
-def warnings_of(package: Package, files: Dict[str, bytes]) -> List[str]:
-    """What is wrong with statements over the packed tables. A join that would mean another one is refused."""
-    found = findings_of(files, "main", {table.name: table.columns for table in package.tables})
-    for finding in found:
-        if finding.is_trap:
-            raise Refused(finding.text)
-    return [f"warning: {finding.text}" for finding in found]
+def warnings_of(package: Package, files: Dict[str, bytes], places: Sequence[str]) -> List[str]:
+    """What is wrong with statements over the packed tables. A join of another dialect is refused."""
+    schemas = {table.name: table.columns for table in package.tables}
+    found = [finding.placed("main", places) for finding in findings_of(files, "main", schemas)]
+    check_joins(found)
+    return warning_lines(found)
 
 
 def world_of(package: Package, asks: Sequence[str]) -> Tuple[bytes, List[str]]:
@@ -275,9 +277,10 @@ def world_of(package: Package, asks: Sequence[str]) -> Tuple[bytes, List[str]]:
         rows = row_lines((as_json(row.values)[1:-1] for row in table.rows), len(table.rows))
         tables.append((table.name, table_json(table.columns, table.key, rows, table.next, foreign)))
     if asks:
-        files = {"main": script_of([(text, f"--ask {place}") for place, text in enumerate(asks, 1)])}
+        made = script_of([(text, f"--ask {place}") for place, text in enumerate(asks, 1)], {})
+        files = {"main": made.data}
         notes.append("counts and sums are over these packed rows alone")
-        return document(["main"], 0, files, tables), notes + warnings_of(package, files)
+        return document(["main"], 0, files, tables), notes + warnings_of(package, files, made.places)
     return document(package.start, package.seed, {path: content or b"" for path, content in package.files},
                     tables), notes
 
@@ -285,8 +288,7 @@ def world_of(package: Package, asks: Sequence[str]) -> Tuple[bytes, List[str]]:
 # ---- the command
 
 def given_words(words: Optional[Sequence[str]]) -> argparse.Namespace:
-    parser = words_of("package.py", __doc__)
-    parser.add_argument("package", nargs="?", help="the package; standard input where it isn't given")
+    parser = words_of("package.py", __doc__, "package", "the package")
     what = parser.add_mutually_exclusive_group()
     what.add_argument("--csv", metavar="FOLDER", help="a CSV file for each table")
     what.add_argument("--sqlite", metavar="FILE", help="a new SQLite database of the tables")
@@ -296,6 +298,7 @@ def given_words(words: Optional[Sequence[str]]) -> argparse.Namespace:
                       help="the rows that the statement N needed, from 0")
     what.add_argument("--world", action="store_true", help="a world document of its files and rows")
     what.add_argument("--sizes", action="store_true", help="how many bytes each section has")
+    what.add_argument("--byte", metavar="N", type=int, help="what stands at the byte N, from 0")
     parser.add_argument("--ask", metavar="STATEMENT", action="append", default=[],
                         help="with --world: a statement for its script, which asks these only")
     parser.add_argument("-o", "--output", metavar="FILE",
@@ -340,6 +343,9 @@ def work(words: Optional[Sequence[str]]) -> int:
     data = read_input(given.package)
     if given.sizes:
         write_out("".join(line + "\n" for line in size_lines(read_any(data))))
+        return 0
+    if given.byte is not None:
+        write_out("".join(line + "\n" for line in byte_lines(data, given.byte)))
         return 0
     asks_part = (given.csv or given.sqlite or given.files or given.file or given.statement is not None
                  or given.world)

@@ -332,9 +332,14 @@ class Reader:
     # ---- the trace
 
     def asked(self) -> Asked:
-        return Asked(self.number(4), self.list(2, self.text),
-                     self.list(2, lambda: (self.text(), self.list(4, self.need))),
-                     self.list(2, lambda: (self.text(), self.list(4, self.made))))
+        return Asked(self.number(4), self.list(2, self.text), self.list(2, self.needs),
+                     self.list(2, self.makes))
+
+    def needs(self) -> Tuple[str, List[Need]]:
+        return self.text(), self.list(4, self.need)
+
+    def makes(self) -> Tuple[str, List[Made]]:
+        return self.text(), self.list(4, self.made)
 
     def need(self) -> Need:
         row, version, rule = self.unpack(ROW)
@@ -408,15 +413,16 @@ class Reader:
         self.sizes["digest"] = DIGEST_LENGTH
 
 
-def read_any(data: bytes) -> Union[Package, Joined]:
-    """The package or joined package that bytes spell; Malformed where they spell none."""
+def read_any(data: bytes, reads: Callable[[bytes, int], Reader] = Reader) -> Union[Package, Joined]:
+    """The package or joined package that bytes spell; Malformed where they spell none. `reads` makes the
+    reader of these bytes without their digest, and of their version."""
     magic = data[:MAGIC_LENGTH]
     if magic not in VERSIONS and magic != JOINED:
         raise Malformed("it doesn't begin with LDVPACK1, LDVPACK2 or LDVJOIN1")
     digest = data[-DIGEST_LENGTH:]
     if len(data) < MAGIC_LENGTH + DIGEST_LENGTH or hashlib.sha256(data[:-DIGEST_LENGTH]).digest() != digest:
         raise Malformed("its digest is another one")
-    reader = Reader(data[:-DIGEST_LENGTH], VERSIONS.get(magic, 2))
+    reader = reads(data[:-DIGEST_LENGTH], VERSIONS.get(magic, 2))
     found: Union[Package, Joined] = reader.joined() if magic == JOINED else reader.package()
     reader.end()
     return found._replace(digest=digest.hex())

@@ -94,8 +94,7 @@ def asked_program(program: str, data: bytes, package: Package, run: Optional[int
 # ---- the command
 
 def given_words(words: Optional[Sequence[str]]) -> argparse.Namespace:
-    parser = words_of("page.py", __doc__)
-    parser.add_argument("package", nargs="?", help="the package; standard input where it isn't given")
+    parser = words_of("page.py", __doc__, "package", "the package")
     parser.add_argument("--replayed", metavar="OUTCOME", help="the outcome of its replay")
     parser.add_argument("--ldv", metavar="PROGRAM", help="replay and audit it by this program, such as ./ldv")
     parser.add_argument("--steps", metavar="N", type=int, help="with --ldv: the budget of the replay")

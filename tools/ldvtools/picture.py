@@ -231,6 +231,24 @@ def write_svg(text: str, path: str, program: str) -> None:
         file.write(done.stdout)
 
 
+def add_image_words(parser: argparse.ArgumentParser, begin: str = "") -> None:
+    """The words of a command that writes a graph. `begin` says with which other word they go."""
+    parser.add_argument("--svg", metavar="FILE", help=f"{begin}write an image to this file, and no graph")
+    parser.add_argument("--dot", metavar="PROGRAM", default="dot",
+                        help="the program that makes it (default dot)")
+    parser.add_argument("--limit", type=int, metavar="N", default=LIMIT,
+                        help=f"of arrows of a picture (default {LIMIT})")
+
+
+def write_graph(text: str, given: argparse.Namespace) -> int:
+    """Writes a graph, or the image of it where --svg was given. Gives the status of the command."""
+    if given.svg:
+        write_svg(text, given.svg, given.dot)
+    else:
+        write_out(text)
+    return 0
+
+
 # ---- the command
 
 def drawn(trace_text: str, rows_text: Optional[str], depends_text: Optional[str], limit: int) -> str:
@@ -249,27 +267,17 @@ def read(path: Optional[str]) -> str:
 
 
 def given_words(words: Optional[Sequence[str]]) -> argparse.Namespace:
-    parser = words_of("picture.py", __doc__)
-    parser.add_argument("trace", nargs="?",
-                        help="what `inspect trace` wrote; standard input where it isn't given")
+    parser = words_of("picture.py", __doc__, "trace", "what `inspect trace` wrote")
     parser.add_argument("--rows", metavar="FILE", help="what `inspect rows` wrote")
     parser.add_argument("--depends", metavar="FILE", help="what `inspect depends PATH` wrote")
-    parser.add_argument("--svg", metavar="FILE", help="write an image to this file, and no graph")
-    parser.add_argument("--dot", metavar="PROGRAM", default="dot",
-                        help="the program that makes it (default dot)")
-    parser.add_argument("--limit", type=int, metavar="N", default=LIMIT, help=f"of arrows (default {LIMIT})")
+    add_image_words(parser)
     return parser.parse_args(words)
 
 
 def work(words: Optional[Sequence[str]]) -> int:
     given = given_words(words)
     rows, depends = (read(path) if path else None for path in (given.rows, given.depends))
-    text = drawn(read(given.trace), rows, depends, given.limit)
-    if given.svg:
-        write_svg(text, given.svg, given.dot)
-    else:
-        write_out(text)
-    return 0
+    return write_graph(drawn(read(given.trace), rows, depends, given.limit), given)
 
 
 def main(words: Optional[Sequence[str]] = None) -> int:

@@ -34,7 +34,7 @@ from typing import Dict, List, Optional, Sequence, Tuple
 from .errors import Misused, Refused, command, words_of
 from .outcome import read_input, write_out
 from .packages import read_package
-from .picture import LIMIT, quoted, write_svg
+from .picture import add_image_words, quoted, write_graph
 from .provenance import GROUP, Edge, Node, Provenance, Relation, read_provenance
 from .trace import LAST_TIME, latest_times
 
@@ -167,21 +167,14 @@ def dot_text(provenance: Provenance, names: Names, path: str, limit: int) -> str
 # ---- the command
 
 def given_words(words: Optional[Sequence[str]]) -> argparse.Namespace:
-    parser = words_of("prov.py", __doc__)
-    parser.add_argument("document", nargs="?",
-                        help="what `prov` wrote; standard input where it isn't given")
-    form = parser.add_mutually_exclusive_group()
-    form.add_argument("--provn", action="store_true", help="write PROV-N in place of PROV-JSON")
-    form.add_argument("--ancestry", metavar="PATH", help="draw what the path came from")
+    parser = words_of("prov.py", __doc__, "document", "what `prov` wrote")
     parser.add_argument("--names", metavar="PACKAGE", help="name processes as the package's trace does")
     parser.add_argument("--namespace", metavar="IRI", default=NAMESPACE,
                         help=f"of nodes and edges (default {NAMESPACE})")
-    parser.add_argument("--svg", metavar="FILE",
-                        help="with --ancestry: write an image to this file, and no graph")
-    parser.add_argument("--dot", metavar="PROGRAM", default="dot",
-                        help="the program that makes it (default dot)")
-    parser.add_argument("--limit", type=int, metavar="N", default=LIMIT,
-                        help=f"of arrows of a picture (default {LIMIT})")
+    form = parser.add_mutually_exclusive_group()
+    form.add_argument("--provn", action="store_true", help="write PROV-N in place of PROV-JSON")
+    form.add_argument("--ancestry", metavar="PATH", help="draw what the path came from")
+    add_image_words(parser, "with --ancestry: ")
     return parser.parse_args(words)
 
 
@@ -196,12 +189,7 @@ def work(words: Optional[Sequence[str]]) -> int:
     if given.ancestry is None:
         write_out((prov_n if given.provn else prov_json)(provenance, names, given.namespace))
         return 0
-    text = dot_text(provenance, names, given.ancestry, given.limit)
-    if given.svg:
-        write_svg(text, given.svg, given.dot)
-    else:
-        write_out(text)
-    return 0
+    return write_graph(dot_text(provenance, names, given.ancestry, given.limit), given)
 
 
 def main(words: Optional[Sequence[str]] = None) -> int:

@@ -395,9 +395,8 @@ def answers_of(replies: Mapping[str, Sequence[Reply]]) -> Callable[[str, int, st
     def answer(process: str, place: int, text: str, params: Row) -> Reply:
         found = replies.get(process, ())
         if place >= len(found):
-            raise Malformed(f"process {process} asks a statement {place + 1}, and the outcome has "
-                            f"{len(found)} replies: "
-                            "it isn't of this world")
+            raise Malformed(f"process {process} asks more statements than the {len(found)} to which the "
+                            "outcome has replies: it isn't of this world")
         return found[place]
     return answer
 

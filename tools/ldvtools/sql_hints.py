@@ -147,6 +147,9 @@ def word_hint(token: HasText, before: HasText, after: HasText) -> str:
         return "each statement is an instruction of its own"
     if word in ("union", "order", "limit") or before.text == "limit":
         return "ORDER BY and LIMIT stand once, at the end of the whole query"
+    if word in AGGREGATE_WORDS and before.text in ("by", ","):
+        return ("ORDER BY takes the name or the place of an answer column, and GROUP BY columns: name the "
+                f"item with AS, as {word.upper()}(x) AS y, and write ORDER BY y")
     if (word in AGGREGATE_WORDS and before.kind == "word" and before.text not in RESERVED
             or word in RESERVED and before.text in ("as", "from", "join", ",", ".", "(")):
         return f"{word} is a reserved word, and no name"

@@ -8,7 +8,8 @@ import heapq
 from typing import Dict, Iterator, List, Optional, Tuple
 
 from .language import ACTS, ASKED, ENDED, SPAWNED, STARTED, WAITED
-from .packages import Asked, Package, Run
+from .packages import Asked, Event, Package, Run
+from .values import escaped
 
 LAST_TIME = 10_000_000
 # ("path", PATH), ("process", NAME), ("row", TABLE, ROW, VERSION), ("ask", S) or ("reply", S).
@@ -121,6 +122,25 @@ def add_asked(graph: Graph, asked: Asked, process: int, step: int) -> None:
             graph.edge(ask, version, step, step)
             if each.version > 0:
                 graph.edge(graph.node("row", table, each.row, each.version - 1), version, step, step)
+
+
+def event_line(event: Event, names: List[str]) -> str:
+    """An event as `inspect trace` has it."""
+    act = ACTS[event.act]
+    parts = [str(event.step), names[event.process], act.name]
+    if act.has_flag:
+        parts.append("found" if event.found else "absent")
+    if act.has_path:
+        parts.append(escaped(event.path))
+    if event.act == WAITED:
+        parts.append(names[event.number])
+    if event.act == ENDED:
+        parts.append(str(event.number))
+    if event.asked is not None:
+        asked = event.asked
+        reads, made = sum(len(rows) for _, rows in asked.reads), sum(len(rows) for _, rows in asked.made)
+        parts += [str(asked.statement), f"tables {len(asked.tables)} reads {reads} made {made}"]
+    return " ".join(parts)
 
 
 def lives(package: Package) -> Iterator[Tuple[str, str, int, int, Optional[int]]]:

@@ -15,9 +15,13 @@ number of tenths, cents and so on, and a date is best a text such as 2019-01-31,
 does; --date makes such texts. A column that looks like numbers or dates and is neither is said, with the
 options that carry it. A byte order mark says the encoding of a file.
 
---delimiter, --encoding, --decimal, --thousands and --null hold for all CSV files, or for the one whose table
-is named: --delimiter 'plots=;'. The last three may name a column too: --null plots.height=NA.
+--delimiter, --encoding, --quotes, --decimal, --thousands and --null hold for all CSV files, or for the one
+whose table is named: --delimiter 'plots=;'. The last three may name a column too: --null plots.height=NA.
 --tsv, --skip-blank, --round, --lower and --tidy hold for all files.
+
+A plain table of tabs, as cut and awk mean it, has neither quotes nor escapes: --delimiter tab --quotes none.
+--tsv is for what databases write, with \\n and \\t as escapes. A cell that has a line feed and a delimiter in
+it, by quotes or by escapes, is said: several cells may have become one.
 
 --tidy makes a name of each header and of each file's name: letters become small ASCII letters without their
 marks (ä a, ß ss, æ ae, ø o), what stands between letters and digits one _, and none stands at an end. A text
@@ -26,7 +30,10 @@ count_). A name that is there already in its table has _ and its place from 1 be
 column 5, becomes count__5.
 
 Scripts and statements are looked at as `tools/check.py` does. What they have wrong is a warning, and the
-world is made; a join that would mean another one, such as LEFT JOIN, is refused.
+world is made; a join of another dialect, such as LEFT JOIN, is refused. A statement asks for values as they
+are carried: 2024-02-01 and 09:05, and 1250 for 12.50 at --scale 2. A date, a clock time, a word for NULL or a
+number with its unit that stands there as in the file is a warning, with what to write instead. Beside a
+column of --scale it is said what a number means, unless it is written as a product: 20 * 10.
 
 TABLE and COLUMN in an option are names in the world; OLD is a name in the file or database.
 
@@ -41,19 +48,23 @@ import random
 import sys
 from typing import Dict, Iterator, List, NamedTuple, Optional, Sequence, Tuple
 
-from .check import findings_of
+from .check import check_joins, findings_of, warning_lines
 from .documents import document, table_json, write_file
 from .errors import Misused, Refused, command, words_of
 from .language import MAX_FILE, MAX_FILES, MAX_PATH, MAX_START_WORDS, MAX_TABLES, MAX_TEXT
 from .progress import Progress
-from .scripts_of_statements import script_of
+from .scripts_of_statements import Made, script_of
 from .sql_check import Schemas
+from .world_carried import carried_findings
 from .world_columns import Table
 from .world_csv import named_file, read_csv, read_file
 from .world_foreign import settle_foreign
 from .world_settings import Settings
 from .world_sqlite import note_types, read_database
 from .world_tables import rows_json, settle
+
+# The path of the script that asks the statements of --sql and --ask.
+MAIN = "main"
 
 
 # ---- what a world has
@@ -142,12 +153,20 @@ def statement_texts(words: argparse.Namespace) -> List[Tuple[str, str]]:
     return texts
 
 
-def world_files(words: argparse.Namespace) -> Dict[str, bytes]:
+def renamed_columns(tables: Sequence[Table]) -> Dict[str, str]:
+    """The names of columns that have another one where they were read, by that."""
+    return {column.old: column.name for table in tables for column in table.columns
+            if column.old != column.name}
+
+
+def made_script(words: argparse.Namespace, tables: Sequence[Table]) -> Made:
+    """The script of --sql and --ask; one of no lines where there is another start script."""
+    return script_of(statement_texts(words), renamed_columns(tables)) if not words.script else Made(b"", [])
+
+
+def world_files(words: argparse.Namespace, made: Made) -> Dict[str, bytes]:
     """The files of the world by path, the start script first."""
-    if not words.script:
-        files = {"main": script_of(statement_texts(words))}
-    else:
-        files = {}  # the start script is the first one
+    files = {} if words.script else {MAIN: made.data}
     for word in ([words.script] if words.script else []) + words.file:
         name, path = named_file(word)
         name = name or os.path.basename(path)
@@ -248,6 +267,8 @@ def read_words(given: Optional[Sequence[str]]) -> argparse.Namespace:
     parser.add_argument("--tidy", action="store_true",
                         help="what isn't a name is made one, as said above: 'Birth year' birth_year")
     many("--delimiter", "[TABLE=]CHARACTER", "of CSV files: one character, or tab (default ,)")
+    many("--quotes", "[TABLE=]none", "in CSV files \" is a sign as any other, and a cell ends with its line, "
+         "as cut and awk have it (default double, as in CSV)")
     parser.add_argument("--tsv", action="store_true",
                         help="the CSV files are as COPY of PostgreSQL and --batch of MySQL write "
                         "them: tabs between cells, no quotes, \\t, \\n and \\\\ as escapes, \\N for NULL")
@@ -277,13 +298,20 @@ def schemas_of(tables: Sequence[Table]) -> Schemas:
     return {table.name: [(column.name, column.full_kind()) for column in table.columns] for table in tables}
 
 
-def check_scripts(files: Dict[str, bytes], tables: Sequence[Table]) -> List[str]:
-    """What would go wrong in the scripts. What looks like something else to a reader is refused."""
-    found = findings_of(files, next(iter(files)), schemas_of(tables))
-    for finding in found:
-        if finding.is_trap:
-            raise Refused(finding.text)
-    return [f"warning: {finding.text}" for finding in found]
+def check_scripts(files: Dict[str, bytes], tables: Sequence[Table], places: Sequence[str],
+                  hints: List[str]) -> List[str]:
+    """What would go wrong in the scripts. What looks like something else to a reader is refused. What numbers
+    mean beside columns of decimals is a hint."""
+    start = next(iter(files))
+    found = [finding.placed(MAIN, places) for finding in findings_of(files, start, schemas_of(tables))]
+    check_joins(found)
+    for finding, is_meaning in carried_findings(files, start, tables):
+        finding = finding.placed(MAIN, places)
+        if is_meaning:
+            hints.append(finding.text)
+        else:
+            found.append(finding)
+    return warning_lines(found)
 
 
 class World(NamedTuple):
@@ -302,9 +330,10 @@ def made_world(words: argparse.Namespace) -> World:
     notes: List[str] = []
     hints: List[str] = []
     tables = world_tables(words, notes, hints, progress)
-    files = world_files(words)
+    made = made_script(words, tables)
+    files = world_files(words, made)
     start = start_words(files, words)
-    warnings = [] if words.no_check else check_scripts(files, tables)
+    warnings = [] if words.no_check else check_scripts(files, tables, made.places, hints)
     data = document(start, words.seed, files, list(map(table_of, tables)))
     return World(data, notes, warnings, hints, [summary(table) for table in tables])
 

@@ -2,9 +2,10 @@
 from __future__ import annotations
 
 import datetime
+import functools
 import re
 from decimal import ROUND_HALF_EVEN, Context, Decimal
-from typing import Optional
+from typing import Optional, Pattern
 
 from .errors import Unfit
 from .language import MAX_INT, MAX_TEXT, MIN_INT
@@ -18,6 +19,7 @@ MAX_SCALE = 18
 # Signs that are written for a minus.
 OTHER_MINUSES = "\u2212\u2013\u2010\u2011\ufe63\uff0d"
 MINUSES = str.maketrans(dict.fromkeys(OTHER_MINUSES, "-"))
+OTHER_MINUS = re.compile(f"[{OTHER_MINUSES}]")
 # Blanks that don't break a line, which stand for a blank between thousands or before a unit.
 OTHER_BLANKS = "\u00a0\u202f\u2009"
 TIME = re.compile(r"([0-9]{1,2}):([0-9]{2})(:[0-9]{2}(?:\.[0-9]+)?)?(?: ?([AaPp])\.?[Mm]\.?)?\Z")
@@ -44,7 +46,7 @@ def has_no_equal(value: Cell) -> bool:
 
 def plain_number(text: str, form: Form) -> str:
     """A number as -1234.5, as far as a text is one in a form; else some text that is no number."""
-    if not text.isascii():
+    if not text.isascii() and OTHER_MINUS.search(text):
         text = text.translate(MINUSES)
     if form.unit:
         text = without_unit(text, form.unit)
@@ -68,10 +70,14 @@ def without_thousands(text: str, form: Form) -> str:
     if form.thousands == " ":
         for blank in OTHER_BLANKS:
             text = text.replace(blank, " ")
+    return text.replace(form.thousands, "" if grouped(form).match(text) else "x")
+
+
+@functools.lru_cache(maxsize=None)
+def grouped(form: Form) -> Pattern[str]:
+    """Numbers in a form that has signs between thousands, in groups of three."""
     between, decimal = re.escape(form.thousands), re.escape(form.decimal)
-    if re.fullmatch(rf"[+-]?[0-9]{{1,3}}(?:{between}[0-9]{{3}})+(?:{decimal}[0-9]*)?", text):
-        return text.replace(form.thousands, "")
-    return text.replace(form.thousands, "x")
+    return re.compile(rf"[+-]?[0-9]{{1,3}}(?:{between}[0-9]{{3}})+(?:{decimal}[0-9]*)?\Z")
 
 
 def whole_number(value: Cell, form: Form = PLAIN) -> int:
@@ -114,7 +120,9 @@ def scaled_number(value: Cell, scale: int, form: Form, rounds: bool) -> int:
 
 
 def within(text: str, value: Cell, scale: int) -> int:
-    """The whole number that a text is. A message about it has the value as it was read."""
+    """The whole number that a text of a sign and digits is. A message has the value as it was read."""
+    if len(text) <= MAX_SCALE:
+        return int(text)
     try:
         return whole_number(text)
     except Unfit:

@@ -1,7 +1,7 @@
 """Tables and columns that are being read."""
 from __future__ import annotations
 
-from typing import Any, Callable, List, NamedTuple, Optional, Sequence, Tuple
+from typing import Any, Callable, List, NamedTuple, Optional, Sequence, Set, Tuple
 
 # A cell as it was read: NULL, a number, a text, or what has no equal in a world.
 Cell = Any
@@ -36,6 +36,8 @@ class Column:
         self.scale: Optional[int] = None
         self.date: Optional[str] = None
         self.form = PLAIN
+        # The words of its cells that became NULL.
+        self.nulls: Set[str] = set()
         self.default: Any = None
         self.cells: List[Cell] = []
         # The cells of an INT column as the document has them, where they were read so.

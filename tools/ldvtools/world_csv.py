@@ -7,7 +7,7 @@ import io
 import itertools
 import os
 import re
-from typing import Any, List, Optional, Sequence, Tuple
+from typing import Any, Iterator, List, Optional, Sequence, Tuple
 
 from .errors import Misused, Refused
 from .progress import Progress
@@ -45,8 +45,9 @@ def read_csv(word: str, settings: Settings, hints: List[str], progress: Progress
     given, path = named_file(word)
     name = given or os.path.splitext(os.path.basename(path))[0]
     name = settings.new_name(name, tidy_name(name) if settings.tidy and not given else name)
-    lines = lines_of(name, path, settings)
+    lines = lines_of(name, path, settings, hints)
     header, cells = columns_of(lines, progress)
+    hints += hints_of_quotes(lines, header, cells)
     count = len(cells[0]) if cells else 0
     kept: Sequence[int] = range(count)
     blank = blank_places(cells)
@@ -64,16 +65,17 @@ def read_csv(word: str, settings: Settings, hints: List[str], progress: Progress
                  row_name=lambda row: f"{path} line {lines.of(kept[row] + 1)} (row {row} of {name})")
 
 
-def lines_of(name: str, path: str, settings: Settings) -> Lines:
+def lines_of(name: str, path: str, settings: Settings, hints: List[str]) -> Lines:
     """The lines of the file of a table. Excel may say before the header what stands between cells."""
     delimiter = settings.of_table("--delimiter", name, ",")
     delimiter = "\t" if delimiter == "tab" or settings.is_tsv else delimiter
-    text = text_of(path, settings.of_table("--encoding", name, "utf-8"))
+    has_quotes = settings.of_table("--quotes", name, "double") == "double" and not settings.is_tsv
+    text = text_of(path, settings.of_table("--encoding", name, "utf-8"), hints)
     said = re.match(r"sep=(.)\r?\n", text)
     if said:
         # An empty line in its place leaves the numbers of the others.
         delimiter, text = said[1], "\n" + text[said.end():]
-    return Lines(path, text, delimiter, settings.is_tsv)
+    return Lines(path, text, delimiter, settings.is_tsv, has_quotes)
 
 
 def check_header(lines: Lines, header: Sequence[str], cells: Sequence[str]) -> None:
@@ -101,7 +103,35 @@ def hint_of_blank(lines: Lines, blank: Sequence[int]) -> str:
             "leaves it out")
 
 
-def text_of(path: str, encoding: str) -> str:
+def hints_of_quotes(lines: Lines, header: Sequence[str], columns: Sequence[List[str]]) -> Iterator[str]:
+    """That quotes or escapes may have joined what are several cells, or are signs as any other."""
+    what = ("where \\ is a sign as any other" if lines.is_tsv
+            else "where \" is a sign as any other")
+    how = f"{what}, --delimiter tab --quotes none reads the file" if lines.delimiter == "\t" else (
+        f"{what}, --quotes none reads the file")
+    joined = joined_cells(lines, columns) if lines.has_joined else []
+    if joined:
+        place, column = joined[0]
+        rest = f" and {len(joined) - 1} more" if len(joined) > 1 else ""
+        sign = "tab" if lines.delimiter == "\t" else f"'{lines.delimiter}'"
+        yield (f"{lines.path} line {lines.of(place + 1)}{rest}: the cell of {header[column]} has a line feed "
+               f"and a {sign} in it; {how}")
+    elif lines.delimiter == "\t" and lines.has_quotes and (found := QUOTED.search(lines.text)):
+        yield (f"{lines.path} line {lines.text.count(chr(10), 0, found.start(1)) + 1}: the quotes around "
+               f"a cell are taken off; {how}")
+
+
+# A cell of tabs that begins with a quote.
+QUOTED = re.compile('(?:^|\t)(")', re.MULTILINE)
+
+
+def joined_cells(lines: Lines, columns: Sequence[List[str]]) -> List[Tuple[int, int]]:
+    """The places of cells that have a line feed and a delimiter in them, row by row."""
+    return sorted((row, place) for place, column in enumerate(columns) for row, cell in enumerate(column)
+                  if "\n" in cell and lines.delimiter in cell)
+
+
+def text_of(path: str, encoding: str, hints: List[str]) -> str:
     """The text of a CSV file, whose byte order mark says more than the encoding that is given."""
     data = read_file(path)
     for start, what in OTHERS:
@@ -114,26 +144,57 @@ def text_of(path: str, encoding: str) -> str:
             # Some encodings have half surrogate pairs, which UTF-8 hasn't.
             text.encode()
     except UnicodeDecodeError as fault:
-        raise Refused(f"{path}: byte {fault.start} isn't {encoding}; give --encoding, such as cp1252 (of "
-                      "Windows) "
-                      "or latin-1") from None
+        raise Refused(f"{path}: byte {fault.start} isn't {encoding}; give --encoding, such as "
+                      f"{likely_encoding(data)}") from None
     except UnicodeError as fault:
         raise Refused(f"{path} isn't {encoding}: {fault}") from None
     except LookupError:
         raise Misused(f"--encoding {encoding}: there is no such encoding") from None
+    hints += hints_of_controls(path, text, encoding)
     return text.lstrip("\ufeff") if text[:1] == "\ufeff" else text
+
+
+def likely_encoding(data: bytes) -> str:
+    """What may be the encoding of a file that isn't UTF-8. The one of Windows has signs in place of control
+    characters, and five bytes have no meaning there."""
+    try:
+        data.decode("cp1252")
+    except UnicodeDecodeError:
+        return "latin-1"
+    return "cp1252 (of Windows)"
+
+
+# Control characters that Latin-1 has where Windows has signs such as €.
+CONTROL = re.compile("[\x80-\x9f]")
+
+
+def hints_of_controls(path: str, text: str, encoding: str) -> Iterator[str]:
+    """That a file has control characters that nobody types: another encoding has signs in their place."""
+    is_latin = not text.isascii() and codecs.lookup(encoding).name == "iso8859-1"
+    found = CONTROL.search(text) if is_latin else None
+    if found is None:
+        return
+    try:
+        sign = found[0].encode("latin-1").decode("cp1252")
+    except UnicodeDecodeError:
+        return
+    yield (f"{path} line {text.count(chr(10), 0, found.start()) + 1}: in {encoding} it has a control "
+           f"character, which is {sign} by --encoding cp1252 (of Windows)")
 
 
 class Lines:
     """The line on which each record begins, counted only where a message wants it."""
 
-    def __init__(self, path: str, text: str, delimiter: str, is_tsv: bool) -> None:
+    def __init__(self, path: str, text: str, delimiter: str, is_tsv: bool, has_quotes: bool) -> None:
         self.path, self.text, self.delimiter, self.is_tsv = path, text, delimiter, is_tsv
+        self.has_quotes = has_quotes
+        # Whether a cell may have a line feed in it: known when the records were read.
+        self.has_joined = False
         self.found: List[int] = []
 
     def reader(self) -> Any:
         csv.field_size_limit(2**31 - 1)
-        quoting = csv.QUOTE_NONE if self.is_tsv else csv.QUOTE_MINIMAL
+        quoting = csv.QUOTE_MINIMAL if self.has_quotes else csv.QUOTE_NONE
         return csv.reader(io.StringIO(self.text, newline=""), delimiter=self.delimiter, quoting=quoting,
                           strict=True)
 
@@ -150,7 +211,8 @@ class Lines:
                     self.found.append(line)
                 line = reader.line_num + 1
         except csv.Error as fault:
-            raise Refused(f"{self.path} line {line}: {fault}") from None
+            how = "; where \" is a sign as any other, --quotes none reads the file" if self.has_quotes else ""
+            raise Refused(f"{self.path} line {line}: {fault}{how}") from None
 
 
 def columns_of(lines: Lines, progress: Progress) -> Tuple[List[str], List[List[str]]]:
@@ -158,10 +220,13 @@ def columns_of(lines: Lines, progress: Progress) -> Tuple[List[str], List[List[s
     reader = lines.reader()
     header: List[str] = []
     columns: List[List[str]] = []
+    read = 0
     try:
         header = next((record for record in reader if record), [])
         columns = [[] for _ in header]
+        before = reader.line_num
         while chunk := list(itertools.islice(reader, MANY)):
+            read += len(chunk)
             if set(map(len, chunk)) - {len(header)}:
                 chunk = [record for record in chunk if record]
                 if set(map(len, chunk)) - {len(header)}:
@@ -175,6 +240,7 @@ def columns_of(lines: Lines, progress: Progress) -> Tuple[List[str], List[List[s
         raise Refused(f"{lines.path} is empty; its first line has to name the columns")
     if len(header) == 1:
         check_header(lines, header, columns[0])
+    lines.has_joined = reader.line_num - before > read or lines.is_tsv and "\\n" in lines.text
     if lines.is_tsv and "\\" in lines.text:
         return ([unescaped(cell) for cell in header],
                 [[unescaped(cell) for cell in column] for column in columns])

@@ -1,6 +1,7 @@
 """What is said of a column that looks like something else than it becomes, and what to do about it."""
 from __future__ import annotations
 
+import collections
 import itertools
 import re
 import shlex
@@ -39,10 +40,15 @@ def scale_advised(column: Column) -> Tuple[int, bool]:
     short = [decimals_of(cell, PLAIN) or 0 for cell in numbers
              if len(decimal_text(cell, PLAIN).replace(".", "").strip("-0")) < MANY_DIGITS]
     scale = min(needed if len(short) == len(numbers) else min(needed, max(short + [1])), MAX_SCALE)
-    most = max((abs(number) for number in numbers), default=0)
+    most = largest(column)
     while scale and most * 10 ** scale > MAX_INT:
         scale -= 1
     return scale, needed > scale
+
+
+def largest(column: Column) -> float:
+    """The largest number of a column without its sign."""
+    return max((abs(cell) for cell in column.cells if isinstance(cell, (int, float))), default=0)
 
 
 # ---- dates and clock times
@@ -59,18 +65,23 @@ def hint_of_dates(table: Table, column: Column, cells: Sequence[str]) -> Optiona
     """That a column looks like dates or clock times that don't compare as these do."""
     sample, name = cells[:SAMPLE], table.full_name(column)
     if are_most([cell for cell in sample if TIME.match(cell)], sample):
-        return hint_of_times(name, cells)
+        return hint_of_times(name, sample, distinct(cells))
     months = [cell for cell in sample if MONTH.match(cell)]
     if are_most(months, sample):
         return f"{looks_like_dates(name, months[0])}; write them from the year down first, as 2019-01-31"
     found = dates_in(sample)
     if not are_most(found, sample) or all(map(is_from_year, found)) and have_lengths_of(cells, sample):
         return None
-    dates = dates_in(cells)
+    dates = dates_in(distinct(cells))
     if not are_most([match for match in found if len(match[1]) == 4], sample):
         return hint_of_days(name, dates)
     odd = next((match[0] for match in dates if not is_from_year(match)), None)
     return None if odd is None else f"{looks_like_dates(name, odd)}; {date_words(name, odd, ['ymd'])}"
+
+
+def distinct(cells: Sequence[str]) -> List[str]:
+    """The texts of some cells, each once, in the order in which they come up."""
+    return list(dict.fromkeys(cells))
 
 
 def dates_in(cells: Sequence[str]) -> List[Match[str]]:
@@ -117,8 +128,7 @@ def date_words(name: str, cell: str, forms: Sequence[str]) -> str:
                          for form in forms)
 
 
-def hint_of_times(name: str, cells: Sequence[str]) -> Optional[str]:
-    sample = cells[:SAMPLE]
+def hint_of_times(name: str, sample: Sequence[str], cells: Sequence[str]) -> Optional[str]:
     if all(padded_time(cell) == cell for cell in sample) and have_lengths_of(cells, sample):
         return None
     times = [cell for cell in cells if TIME.match(cell)]
@@ -277,16 +287,20 @@ DIGIT = re.compile("[0-9]")
 
 
 def hint_of_decimals(table: Table, column: Column) -> Optional[str]:
-    there = [(row, cell) for row, cell in enumerate(column.cells) if cell is not None]
-    decimals = [decimals_of(cell, PLAIN) for _, cell in there]
-    numbers = [each for each in decimals if each is not None]
-    if not are_most(numbers, [cell for _, cell in there]):
+    # Measurements have few values, each many times.
+    times = collections.Counter(column.cells)
+    count = sum(times.values()) - times.pop(None, 0)
+    decimals = {cell: decimals_of(cell, PLAIN) for cell in times}
+    numbers = [each for each in decimals.values() if each is not None]
+    are_numbers = sum(times[cell] for cell, each in decimals.items() if each is not None)
+    if 2 * are_numbers <= count:
         return None
-    row, first = next((row, cell) for row, cell in there if not is_canonical(cell))
+    row, first = next((row, cell) for row, cell in enumerate(column.cells)
+                      if cell is not None and not is_canonical(cell))
     scale, name = max(numbers, default=0), table.full_name(column)
     how = "--null, --kind or --scale say otherwise"
-    if len(numbers) == len(there) and 0 < scale <= MAX_SCALE:
-        found = written([cell for _, cell in there])
+    if are_numbers == count and 0 < scale <= MAX_SCALE:
+        found = written(list(times))
         how = carrying_words(name, found or Written(PLAIN, scale, False, False, []))
     return f"{name} is TEXT, since {table.row_name(row)} has {shown(first)}; {how}"
 
@@ -309,7 +323,9 @@ def number_advice(table: Table, column: Column, value: Cell) -> str:
                 f"for this "
                 "column alone")
     found = written([value])
-    words = form_words(name, found.form) if found else []
-    if found and found.scale and column.scale is None:
+    # What the options say already isn't said again.
+    words = [word for word in form_words(name, found.form) if word not in form_words(name, column.form)
+             ] if found else []
+    if found and (column.scale or 0) < found.scale <= MAX_SCALE:
         words.append(f"--scale {name}={found.scale}")
     return f"; {' '.join(words)} takes it" if words else ""

@@ -13,8 +13,8 @@ from .language import KINDS, MAX_NAME, RESERVED
 OF_NAMES = ("--key", "--kind", "--scale", "--empty", "--rename", "--unit", "--date", "--foreign")
 OF_COLUMNS = ("--kind", "--scale", "--empty", "--unit", "--date")
 # Options that hold for all CSV files, or for what is named before an `=`.
-BROAD = ("--delimiter", "--encoding", "--decimal", "--thousands", "--null")
-OF_TABLES = ("--delimiter", "--encoding")
+BROAD = ("--delimiter", "--encoding", "--quotes", "--decimal", "--thousands", "--null")
+OF_TABLES = ("--delimiter", "--encoding", "--quotes")
 DATE_FORMS = ("dmy", "mdy", "ymd", "time")
 # What letters become that aren't an ASCII letter with a mark.
 LETTERS = str.maketrans({"ß": "ss", "æ": "ae", "Æ": "ae", "ø": "o", "Ø": "o"})
@@ -181,6 +181,8 @@ def check_broad(option: str, name: str, value: str) -> None:
                       f"{name.partition('.')[0]}={value}")
     if option == "--delimiter" and value != "tab" and (len(value) != 1 or value in '"\r\n'):
         raise Misused("--delimiter is one character, or tab")
+    if option == "--quotes" and value not in ("none", "double"):
+        raise Misused(f"--quotes {value}: give none, or double for the quotes of CSV")
     if option == "--decimal" and (len(value) != 1 or value.isalnum() or value in "+-"):
         raise Misused("--decimal is one character, such as ,")
     if option == "--thousands" and (len(value) != 1 or value.isalnum() or value in "+-"):

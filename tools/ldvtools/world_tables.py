@@ -15,7 +15,7 @@ from .language import MAX_COLUMNS, MAX_INT, MAX_NAME, MAX_ROWS, MAX_TEXT, MIN_IN
 from .world_cells import (MAX_SCALE, comparable, has_no_equal, scaled_number, shown, text_value,
                           whole_number)
 from .world_columns import NO_VALUE, Cell, Column, Form, Table
-from .world_hints import hint_of_dates, hint_of_text, number_advice, scale_advised
+from .world_hints import hint_of_dates, hint_of_text, largest, number_advice, scale_advised
 from .world_settings import Settings, fold, tidy_names
 
 # Written in C where that is built.
@@ -108,7 +108,7 @@ def fitting(table: Table, column: Column, value: Cell, is_given: bool, settings:
 
 def fill_column(table: Table, column: Column, is_given: bool, settings: Settings) -> None:
     """Brings the cells of a column to its kind."""
-    if is_filled(column) or is_scaled(column):
+    if is_filled(column) or is_scaled(column) or is_filled_by_texts(table, column, is_given, settings):
         return
     for row, value in enumerate(column.cells):
         try:
@@ -116,6 +116,19 @@ def fill_column(table: Table, column: Column, is_given: bool, settings: Settings
         except Unfit as fault:
             advice = number_advice(table, column, value)
             raise Refused(f"{table.at(row, column)}: {fault}{advice}") from None
+
+
+def is_filled_by_texts(table: Table, column: Column, is_given: bool, settings: Settings) -> bool:
+    """Whether all cells were texts that fit, and are brought to the kind of the column: each text once, since
+    dates and prices come many times."""
+    if set(map(type, column.cells)) - {str, type(None)}:
+        return False
+    try:
+        found = {text: fitting(table, column, text, is_given, settings) for text in set(column.cells)}
+    except Unfit:
+        return False
+    column.cells = list(map(found.__getitem__, column.cells))
+    return True
 
 
 def is_filled(column: Column) -> bool:
@@ -234,7 +247,8 @@ def settle_kind(table: Table, column: Column, settings: Settings) -> bool:
     nulls = settings.nulls_of(table.name, column.name)
     if table.from_text:
         words = nulls | (set() if is_text else {""}) | ({NO_VALUE} if settings.is_tsv else set())
-        if any(word in column.cells for word in words):
+        column.nulls = {word for word in words if word in column.cells}
+        if column.nulls:
             column.cells = [None if cell in words else cell for cell in column.cells]
     return kind is not None or bool(column.form.unit)
 
@@ -258,13 +272,21 @@ def check_scales(tables: Sequence[Table], settings: Settings) -> None:
     if not needed:
         return
     table, row, column, value = needed[0]
-    scales = [(each.full_name(other), *scale_advised(other)) for each, _, other, _ in needed]
+    begin = f"{table.at(row, column)}: {shown(value)} has no equal here"
+    # A number of 20 digits is outside 64 bits at each scale.
+    outside = [each.full_name(other) for each, _, other, _ in needed if largest(other) > MAX_INT]
+    scales = [(each.full_name(other), *scale_advised(other)) for each, _, other, _ in needed
+              if each.full_name(other) not in outside]
     words = " ".join(f"--scale {name}={scale}" for name, scale, _ in scales)
     are_rounded = any(is_rounded for _, _, is_rounded in scales)
     words, how = (words + " --round", ", rounded") if are_rounded else (words, "")
-    raise Refused(f"{table.at(row, column)}: {shown(value)} has no equal here; {words} carries "
-                  f"all of them as whole numbers{how}, --leave-out {table.full_name(column)} leaves the "
-                  "column out")
+    if outside:
+        left = " ".join(f"--leave-out {name}" for name in outside)
+        rest = f"; {words} carries the others as whole numbers{how}" if words else ""
+        raise Refused(f"{begin}; {', '.join(outside)}: numbers outside 64 bits, which no --scale carries: "
+                      f"{left}{rest}")
+    raise Refused(f"{begin}; {words} carries all of them as whole numbers{how}, --leave-out "
+                  f"{table.full_name(column)} leaves the column out")
 
 
 def first_float(column: Column) -> Iterator[Tuple[int, float]]:

@@ -277,6 +277,15 @@ class HostileInputs(InFolder):
         self.assertIn("something else", told(new, migrate=(8, b"", b"ldv: damaged: form\n")))
         self.assertIn("replay", told(new, replay=(0, b"y", b"")))
 
+    def test_tools(self):
+        """The bench of the tools makes its files and its worlds."""
+        done = subprocess.run(["bench/tools.py"], cwd=ROOT, stdout=subprocess.PIPE, stderr=subprocess.PIPE,
+                              check=False, env={**os.environ, "SIZES": "20", "RUNS": "1", "CALLS": "1"})
+        self.assertEqual((done.returncode, done.stderr), (0, b""))
+        rows = [line.split() for line in done.stdout.decode().split("\n")]
+        self.assertEqual([row[:2] for row in rows[:4]],
+                         [["file", "rows"], ["plain", "20"], ["excel", "20"], ["guessed", "20"]])
+
     def test_scripts(self):
         """The scripts of both benches find their folder, and say where the program isn't there."""
         program = os.path.join(self.folder, "none")

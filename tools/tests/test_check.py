@@ -1,10 +1,11 @@
 """check.py: bad lines and refused statements, against the program's answers in the cases."""
 import glob
+import hashlib
 import json
 import os
 import re
 
-from ldvtools import check, outcome, world
+from ldvtools import check, diff, outcome, package, world
 from ldvtools.errors import Malformed
 from ldvtools.outcomes import read_outcome
 from ldvtools.packages import read_package
@@ -13,7 +14,7 @@ from ldvtools.scripts import FORMS, BadLine, read_script
 from ldvtools.sql_check import UNKNOWN, judge
 from ldvtools.worlds import read_world, world_of_package
 
-from .support import ASK, ROOT, InFolder, read, tool
+from .support import ASK, EXAMPLES, ROOT, InFolder, read, tool
 
 SCHEMAS = {"t": [("k", "INT NOT NULL"), ("g", "TEXT"), ("v", "INT")],
            "u": [("k", "INT"), ("w", "TEXT NOT NULL")]}
@@ -121,6 +122,11 @@ class Hints(InFolder):
                 ("INSERT INTO t SELECT * FROM u", 1, "takes VALUES"),
                 ("DELETE FROM t; DELETE FROM u", 1, "an instruction of its own"),
                 ("SELECT k FROM t ORDER BY t.k", 1, "name it with AS"),
+                ("SELECT g FROM t GROUP BY g ORDER BY SUM(v)", 1, "with AS, as SUM(x) AS y, and write ORDER "
+                                                                  "BY y"),
+                ("SELECT g FROM t GROUP BY g ORDER BY g, count(*) DESC", 1, "as COUNT(x) AS y, and write "
+                                                                            "ORDER"),
+                ("SELECT g FROM t GROUP BY MAX(v)", 1, "and GROUP BY columns: name the item with AS"),
                 ("SELECT k FROM t LIMIT 1 UNION SELECT k FROM u", 1, "at the end of the whole query"),
                 ("CREATE TABLE x (a INT)", 1, "tables come with the world"),
                 ("SELECT * FROM tt", 2, "did you mean t?"),
@@ -178,7 +184,7 @@ class Hints(InFolder):
                 self.assertEqual(status, 1 if said else 0, condition)
                 self.assertIn(said.encode(), out)
             status, out, err = tool(world, "--csv", self.put("t.csv", "g\nb\n"), "--ask", text)
-            self.assertEqual((status, "world.py: warning: main line 1: " in err), (0, bool(said)))
+            self.assertEqual((status, "world.py: warning: --ask 1: " in err), (0, bool(said)))
             self.assertIn(said, err)
         path = self.put("w.json", given % "UPDATE t SET g = NULL")
         self.assertEqual(tool(check, path)[:2], (0, b""))
@@ -257,7 +263,7 @@ child line 1: bad: 'prin' is no instruction; perhaps print v v*
         path = self.put("o", "outcome 1 0\nprocess 0 240 2 1\n1\n\nrefused 4\n")
         status, out, _ = tool(check, "--outcome", path, world_path)
         self.assertEqual((status, out.decode()), (1, """\
-process 0 step 1, statement 1: refused with code 4: k is INT, and a text doesn't fit
+statement 0: process 0 at step 1: refused with code 4: k is INT, and a text doesn't fit
     INSERT INTO t VALUES (?)
                           ^
     with x
@@ -266,14 +272,54 @@ process 0: line 3 of its script is misuse: a wrong kind of value, or a name that
         shown = tool(outcome, "--world", world_path, path)[1].decode()
         self.assertIn("  > INSERT INTO t VALUES (?)\n  > with x\n", shown)
 
+    def test_numbers(self):
+        """A statement has one number in all tools, from 0, as `inspect` and `diverged` count."""
+        from .test_page import orders
+        data = orders()
+        document = world_of_package(read_package(data))
+        path = self.put("p", data)
+        status, made, _ = tool(package, "--world", path)
+        lines = tool(check, "--outcome", f"{EXAMPLES}/orders.outcome", self.put("w.json", made))[1].decode()
+        found = re.findall(r"(?m)^(statement (\d+): process (\S+) at step \d+): refused", lines)
+        # The second of the three statements, by hand: an order with a number that is taken.
+        self.assertEqual(found, [("statement 1: process 0 at step 14", "1", "0")])
+        shown = tool(package, "--statement", "1", path)[1].decode()
+        self.assertTrue(shown.startswith("statement 1: process 0 at step 14, tables orders\n"), shown)
+        questions = questions_of(document.world, read_outcome(read(f"{EXAMPLES}/orders.outcome")))
+        self.assertEqual([(each.statement, each.process, each.place) for each in questions],
+                         [(0, "0", 0), (1, "0", 1), (2, "0.0", 0)])
+        body = orders(2)[:-32]
+        # The last one that is recorded, after those of the script and of the statement before it.
+        at = body.rindex(b"INSERT INTO orders VALUES (?")
+        other = body[:at] + b"i" + body[at + 1:]
+        out = tool(diff, self.put("e.package", orders(2)),
+                   self.put("o.package", other + hashlib.sha256(other).digest()))[1].decode()
+        self.assertEqual(re.findall(r"(?m)^(process \S+ statement \d+) is another one", out),
+                         ["process 0 statement 1"])
+        for name in ("docs/PACKAGES.md", "docs/TUTORIAL.md", "docs/ldv.1"):
+            self.assertIn("statements from 0" if name != "docs/PACKAGES.md" else "are counted, from 0 too",
+                          " ".join(read(os.path.join(ROOT, name)).decode().split()), name)
+
     def test_world_maker(self):
         """world.py warns of what it makes, and refuses a join that would mean another one."""
         path = self.put("t.csv", "k,g\n1,a\n")
         words = ["--csv", path]
         status, out, err = tool(world, *words, "--ask", "SELECT x FROM t")
         self.assertEqual(status, 0)
-        self.assertIn("world.py: warning: main line 1: the statement will be refused with code 3", err)
+        self.assertIn("world.py: warning: --ask 1: the statement will be refused with code 3", err)
         self.refused("this is an inner join", *words, "--ask", "SELECT t.k FROM t LEFT JOIN t u ON t.k = u.k")
+        for join in ("s LEFT JOIN", "AS s RIGHT JOIN", "s FULL OUTER JOIN", "s left outer\n join", "s CROSS "
+                                                                                                   "JOIN",
+                     "s NATURAL JOIN", "s NATURAL LEFT JOIN", "LEFT OUTER JOIN"):
+            text = f"SELECT s.k FROM t {join} t a ON a.k = s.k"
+            self.refused("the statement will be refused with code 1: ", *words, "--ask", text)
+            self.refused("the statement will be refused with code 1: ", *words, "--script",
+                         self.put("m", 'sql q "' + text.replace("\n", "\\n") + '"\n'))
+        self.refused("an outer join is left out; the rows without a partner are found by a script", *words,
+                     "--ask", "SELECT s.k FROM t s LEFT JOIN t a ON a.k = s.k")
+        # A word that only looks like one of these, and a text that isn't a join, are warnings.
+        for text in ("SELECT s.k FROM t s leftmost JOIN t a ON 1 = 1", "SELECT k FROM t s LEFT"):
+            self.assertEqual(tool(world, *words, "--ask", text)[0], 0)
         script = self.put("m", 'sql q "SELECT 1 FROM t CROSS JOIN t u ON 1 = 1"\n')
         self.refused("this is an inner join", *words, "--script", script)
         self.assertEqual(tool(world, *words, "--script", script, "--no-check", "-q")[0], 0)

@@ -60,12 +60,48 @@ class Differences(InFolder):
                 (dict(files=[packages.file("main", "exit 1")]), b"file main: 6 bytes, and 6 bytes\n"),
                 (dict(tables=[packages.table("t", columns, next=5, rows=[packages.row(0, 2)])]),
                  b"table t: 2 packed rows, and 1\n  - row 0: 1\n  + row 0: 2\n  - row 2: 3\n"),
+                (dict(tables=[packages.table("t", columns, next=6,
+                                             rows=[packages.row(0, 1), packages.row(2, 3)])]),
+                 b"table t: next row 5, and 6\n"),
+                (dict(tables=[packages.table("t", [*columns, packages.column("g", "TEXT")], key=[0], next=5,
+                                             rows=[packages.row(0, 1, "a"), packages.row(2, 3, "a")])]),
+                 b"table t: columns k INT NOT NULL, and k INT NOT NULL, g TEXT\ntable t: key none, and k\n"),
                 (dict(tables=[]), b"- table t\n"),
                 (dict(trace=[packages.started(), packages.asked(0, tables=["t"]), packages.ended()]),
-                 b"process 0 statement 1: needs 1 row, and 0\n  - t 0 version 0 rule L\n")):
+                 b"process 0 statement 0: needs 1 row, and 0\n  - t 0 version 0 rule L\n")):
             status, out, err = self.compared(before, packages.encode(packages.package(**{**base, **change})))
             self.assertEqual((status, err), (1, ""))
             self.assertIn(said, out)
+
+    def test_traces(self):
+        """The first event that differs is shown, as `inspect trace` has it; also one that one trace lacks."""
+        found = packages.act("tested", "f", step=1, found=1)
+        for trace, other, said in (
+                ([packages.started(), found, packages.ended(2)],
+                 [packages.started(), packages.act("tested", "f", step=1, found=0), packages.ended(2)],
+                 "the traces differ: 3 events, and 3; first at event 1, counted from 0\n"
+                 "  - 1 0 tested found f\n  + 1 0 tested absent f\n"),
+                ([packages.started(), found, packages.ended(2)], [packages.started(), packages.ended(2)],
+                 "the traces differ: 3 events, and 2; first at event 1, counted from 0\n"
+                 "  - 1 0 tested found f\n  + 2 0 ended 0\n"),
+                ([packages.started(), found], [packages.started()],
+                 "the traces differ: 2 events, and 1; first at event 1, counted from 0\n"
+                 "  - 1 0 tested found f\n"),
+                ([packages.started(), packages.spawned(1), packages.waited(1, 2), packages.ended(3)],
+                 [packages.started(), packages.spawned(1), packages.waited(1, 3), packages.ended(3)],
+                 "first at event 2, counted from 0\n  - 2 0 waited 0.0\n  + 3 0 waited 0.0\n")):
+            status, out, err = self.compared(*(packages.encode(packages.package(steps=3, trace=each))
+                                               for each in (trace, other)))
+            self.assertEqual((status, err), (1, ""))
+            self.assertIn(said, out.decode())
+        # Of runs that stand for many events only the place is worked out.
+        found = packages.act("wrote", "f", step=1)
+        whole, part = (packages.encode(packages.package(version=2, steps=9_000_001, runs=[
+            packages.run(packages.started()), packages.run(packages.act("opened write", "f")),
+            packages.run(found, count, 2)], trace=[])) for count in (4_000_000, 4_000_001))
+        self.assertIn("the traces differ: 4000002 events, and 4000003; first at event 4000002, counted from "
+                      "0\n"
+                      "  + 8000001 0 wrote f\n", self.compared(whole, part)[1].decode())
 
     def test_logs(self):
         def spelled(*entries):
@@ -75,8 +111,8 @@ class Differences(InFolder):
         before = spelled(packages.entry("SELECT 1", [1], dict(changed=1)))
         status, out, _ = self.compared(before, spelled(packages.entry("SELECT 2", [1], dict(changed=2))))
         self.assertEqual(out.decode(),
-                         "process 0 statement 1 is another one\n  - SELECT 1 with 1\n  + SELECT 2 with 1\n"
-                                       "process 0 statement 1: 1 row changed, and 2 rows changed\n")
+                         "process 0 statement 0 is another one\n  - SELECT 1 with 1\n  + SELECT 2 with 1\n"
+                                       "process 0 statement 0: 1 row changed, and 2 rows changed\n")
 
     def test_misuse(self):
         self.assertEqual(self.compared(BEFORE, packages.encode(packages.package()))[0], 2)

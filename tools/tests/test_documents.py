@@ -196,6 +196,33 @@ class Documents(InFolder):
                                              "docs/HERE.md:1: there is no docs/none\n")
 
 
+    def test_versions(self):
+        """The files that name the version name one."""
+        os.makedirs(os.path.join(self.folder, "docs"))
+        os.makedirs(os.path.join(self.folder, "tools"))
+        texts = {
+            check_docs.CHANGELOG: "# Changes\n\nText.\n\n## 1.2.0\n\n## 1.1.3\n",
+            check_docs.README: "# a\n\nThis is version 1.2.0.\n",
+            check_docs.MANUAL: ".Dt LDV 1\n.Sh HISTORY\nVersion 1.2.0.\n",
+            check_docs.PROJECT: '[project]\nversion = "1.2.0"\n',
+        }
+        for name, text in texts.items():
+            self.put(name, text)
+        self.assertEqual(self.versions(), "")
+        self.put(check_docs.README, "# a\n\nThis is version 1.1.3.\n")
+        self.put(check_docs.PROJECT, "[project]\n")
+        self.assertEqual(self.versions(), "README.md:3: version 1.1.3, and 1.2.0 in CHANGELOG.md\n"
+                                          "tools/pyproject.toml:1: there is no version\n")
+        self.put(check_docs.CHANGELOG, "# Changes\n\n## 1.1.3\n")
+        self.assertEqual(self.versions(), "docs/ldv.1:3: version 1.2.0, and 1.1.3 in CHANGELOG.md\n"
+                                          "tools/pyproject.toml:1: there is no version\n")
+
+    def versions(self):
+        with contextlib.redirect_stdout(io.StringIO()) as printed:
+            check_docs.check_version(self.folder, check_docs.Differences())
+        return printed.getvalue()
+
+
 class Layout(InFolder):
     """A small tree of crates: `low`, and `high` over it, which uses a library too."""
 

@@ -157,6 +157,17 @@ class Examples(InFolder):
         rest = text.encode()[len(head.group().encode()) + int(head.group(1)) + 1:].decode()
         return re.split(r"(?m)^(?=rows |refused )", rest)[1:]
 
+    def test_tutorial_notes(self):
+        """What world.py says of the tutorial's database is what the page shows, line by line."""
+        path = os.path.join(self.folder, "library.db")
+        make_database(path, read(TUTORIAL + "/library.sql").decode())
+        err = tool(world, "--sqlite", path, *LIBRARY)[2].replace(ROOT + os.sep, "")
+        said = [line for line in err.split("\n") if line and " rows; " not in line]
+        self.assertEqual(sum(line.startswith("world.py: note: ") for line in said), 6)
+        page = read(os.path.join(ROOT, "docs/TUTORIAL.md")).decode()
+        block = page.partition("What it has and a world hasn't is noted by name:\n\n")[2].partition("\n\n")[0]
+        self.assertEqual([line[4:] for line in block.split("\n")], said)
+
     def test_tutorial(self):
         """The tutorial's worlds give what SQLite gives for the same questions."""
         path = os.path.join(self.folder, "library.db")

@@ -101,6 +101,14 @@ class Numbers(Forms):
                          "--scale", "t.a=1")
         self.csv_refused("'1.5' is no whole number, and the column is INT; --scale t.a=1 takes it",
                          "a\n1.5\n", "--kind", "t.a=INT")
+        # What the options say already isn't advised again.
+        words = ["--delimiter", ";", "--decimal", "t.a=,", "--scale", "t.a=1"]
+        self.csv_refused("'0,75' has more than the 1 decimal of --scale; --round rounds; --scale t.a=2 "
+                         "takes it\n",
+                         self.column(["1,5", "0,75"]), *words)
+        self.csv_refused("'1,5 kg' is no decimal number such as -1,25; --unit t.a=kg takes it\n",
+                         self.column(["1,5", "1,5 kg"]), *words)
+        self.csv_refused("'1.5' is no decimal number such as -1,25\n", self.column(["1,5", "1.5"]), *words)
         self.assertEqual(self.words_said(["1", "-", "3"], "--kind t.a=INT --null t.a=-"), [1, None, 3])
         self.assertEqual(self.words_said(["1,5", "NA", "3"], "--decimal t.a=, --scale t.a=1 --null t.a=NA"),
                          [15, None, 30])

@@ -65,20 +65,36 @@ file bb was removed
             self.assertIn(shown, out.decode())
 
     def test_csv(self):
-        rows = b'"a\nb",7\n"",\n'
-        sections = (b"# process 0 reply 1: 1 row changed\nchanged,1\n\n"
+        rows = b'1,2\n"a\nb",7\n"",\n'
+        sections = (b"# process 0 reply 1: 1 row changed\nchanged\n1\n\n"
                     b"# process 0 reply 2: refused with code 6: two rows would have one key "
-                    b"(table orders, key -10, NULL)\nrefused,6,orders,-10,\n\n"
+                    b"(table orders, key -10, NULL)\n\n"
                     b"# process 0.1 reply 1: 2 rows\n" + rows)
         self.assertEqual(tool(outcome, "--csv", given=FAMILY), (0, sections, ENDS))
         words = ["--csv", "--process", "0.1", "--reply"]
         self.assertEqual(tool(outcome, *words, "1", given=FAMILY), (0, rows, ENDS))
         status, out, _ = tool(outcome, *words, "1", "--null", "NULL", given=FAMILY)
-        self.assertEqual((status, out), (0, b'"a\nb",7\n"",NULL\n'))
+        self.assertEqual((status, out), (0, b'1,2\n"a\nb",7\n"",NULL\n'))
         self.assertEqual(tool(outcome, *words, "2", given=FAMILY)[0], 1)
-        self.assertEqual(tool(outcome, "--folder", self.folder, self.put("o", FAMILY))[0], 0)
+        status, out, err = tool(outcome, "--folder", self.folder, self.put("o", FAMILY))
+        self.assertEqual((status, err), (0, ENDS))
         self.assertEqual(read(os.path.join(self.folder, "0.1-1.csv")), rows)
-        self.assertEqual(sorted(os.listdir(self.folder)), ["0-1.csv", "0-2.csv", "0.1-1.csv", "o"])
+        self.assertEqual(sorted(os.listdir(self.folder)), ["0-1.csv", "0.1-1.csv", "o"])
+        self.assertIn(f"no {self.folder}/0-2.csv: refused with code 6".encode(), out)
+
+    def test_no_data(self):
+        """A refused statement is no data: no file and no line is made of it. A change is a column."""
+        refused = ("outcome.py: process 0 reply 2: refused with code 6: two rows would have one key (table "
+                   "orders, "
+                   "key -10, NULL)\n")
+        self.assertEqual(tool(outcome, "--csv", "--reply", "2", given=FAMILY), (1, b"", refused))
+        self.assertEqual(tool(outcome, "--csv", "--reply", "1", given=FAMILY), (0, b"changed\n1\n", ENDS))
+        given = b"outcome 1 0\nprocess 0 0 0 1\n\nrows 0\n"
+        self.assertEqual(tool(outcome, "--csv", "--reply", "1", given=given), (0, b"", ""))
+        path = self.put("w", json.dumps({"start": ["m"], "files": {"m": 'sql q "SELECT k, 1 FROM t"\n'},
+                                         "tables": {"t": {"columns": [["k", "INT"]]}}}))
+        self.assertEqual(tool(outcome, "--csv", "--reply", "1", "--world", path, given=given),
+                         (0, b"k,2\n", ""))
 
     def test_malformed(self):
         for old, new, message in (
@@ -167,7 +183,7 @@ file bb was removed
                                    "0.000000000000000300", "-0.000000000000012345", "9.223372036854775807"])):
             status, out, err = tool(outcome, "--csv", "--reply", "1", "--scale", f"1={scale}", given=given)
             self.assertEqual((status, err), (0, ""))
-            self.assertEqual(out.decode(), "".join(f"{text},7\n" for text in shown) + ",7\n")
+            self.assertEqual(out.decode(), "1,2\n" + "".join(f"{text},7\n" for text in shown) + ",7\n")
         table = tool(outcome, "--scale", "1=2", "--scale", "2=1", given=given)[1].decode()
         self.assertIn("\n                 -123.45 | \"7\"\n", table)
         self.assertIn("\n    NULL                 | 0.7\n", table)

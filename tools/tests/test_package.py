@@ -13,7 +13,7 @@ from ldvtools.packages import read_any, read_package
 from ldvtools.trace import graph_of
 
 from . import version2
-from .support import InFolder, read, tool
+from .support import ROOT, InFolder, read, tool
 from .test_check import cases
 
 
@@ -236,6 +236,83 @@ it made 1 version of rows of t
         self.assertEqual(tool(package, "--statement", "2", given=data),
                          (1, b"", "package.py: there is no statement 2; the run asked 2, counted from 0\n"))
 
+    def test_given_away(self):
+        """A package of recorded replies has no row, and names each row that a statement needed, in 9 bytes.
+        The documents say so where they say what it has, with a way around."""
+        def spelled(*rows):
+            asked = packages.asked(0, tables=["t"], reads=[packages.group("t", *rows)])
+            trace = [packages.started(), asked, packages.ended()]
+            log = packages.log([0], packages.entry())
+            return packages.encode(packages.package(mode=2, logs=[log], trace=trace))
+        one, two = spelled(packages.read(7)), spelled(packages.read(7), packages.read(12, 1, "H"))
+        self.assertEqual(len(two) - len(one), 9)
+        self.assertEqual(read_package(two).tables, [])
+        out = tool(package, "--statement", "0", given=two)[1].decode()
+        self.assertIn("    7 |       0 | L\n   12 |       1 | H\n", out)
+        for name, said in (("README.md", "9 bytes for each row that a statement needed"),
+                           ("examples/README.md", "its trace names the numbers of the rows that each"),
+                           ("SECURITY.md", "**and the numbers of the rows that each statement needed**"),
+                           ("docs/TUTORIAL.md", "Its trace names the numbers of the rows that each"),
+                           ("docs/ldv.1", "names the numbers of the rows that each statement needed")):
+            text = " ".join(read(os.path.join(ROOT, name)).decode().split())
+            self.assertIn(said, text, name)
+            if not name.endswith(".1"):
+                self.assertIn("--shuffle", text, name)
+
+    def test_byte(self):
+        """What stands at a byte that another package has otherwise, section by section."""
+        def spelled(rule="L", value="b", read=0, made=2, version=2, **parts):
+            tables = [packages.table("t", [packages.column("k"), packages.column("g", "TEXT")], next=5,
+                                     rows=[packages.row(0, 1, "a"), packages.row(2, 3, value, rule=rule)])]
+            trace = [packages.started(), packages.asked(0), packages.asked(
+                1, 3, tables=["t"], reads=[packages.group("t", packages.read(2, 0), packages.read(3, read))],
+                made=[packages.group("t", packages.made(made))]), packages.ended(4)]
+            given = dict(version=version, steps=4, tables=tables, trace=trace,
+                         files=[packages.file("main", "x"), packages.file("seen")])
+            return packages.encode(packages.package(**{**given, **parts}))
+
+        def lines(data, at):
+            status, out, err = tool(package, "--byte", str(at), given=data)
+            self.assertEqual((status, err), (0, ""))
+            first, *rest = out.decode().split("\n")[:-1]
+            self.assertEqual(first, f"byte {at} of {len(data)}: {data[at]:02x}")
+            return rest
+
+        event = "event 2, counted from 0: 3 0 asked 1 tables 1 reads 2 made 1"
+        for version in (1, 2):
+            data = spelled(version=version)
+            for change, said in (
+                    (dict(rule="H"), ["section tables", "table t", "row 2, statement 0, rule L: 3 | b"]),
+                    (dict(value="c"), ["section tables", "table t", "row 2, statement 0, rule L: 3 | b"]),
+                    (dict(read=1), ["section trace", event, "rows of t that it needed",
+                                    "row 3, version 0, rule L"]),
+                    (dict(made=3), ["section trace", event, "versions of rows of t that it made",
+                                    "row 2, version 1"]),
+                    (dict(seed=5), ["section seed, steps"]),
+                    (dict(files=[packages.file("main", "y"), packages.file("seen")]),
+                     ["section files", "file main"])):
+                other = spelled(version=version, **change)
+                at = next(place for place, pair in enumerate(zip(data, other)) if pair[0] != pair[1])
+                self.assertEqual(lines(data, at), said)
+            self.assertEqual(lines(data, 0), ["section magic, mode"])
+            self.assertEqual(lines(data, len(data) - 33)[:1], ["section trace"])
+            self.assertEqual(lines(data, len(data) - 32), ["the digest of all bytes before"])
+        joined = version2.joined(read_package(spelled()), read_package(spelled(seed=7)))
+        self.assertEqual(lines(joined, joined.index(b"seen")), ["section files", "file seen"])
+        self.assertEqual(lines(joined, joined.index(b"main", len(joined) // 2))[0], "section run 2")
+        self.assertEqual(lines(joined, len(joined) - 33)[:2],
+                         ["section run 2", "event 3, counted from 0: 4 0 ended 0"])
+        for at in (-1, len(data)):
+            self.assertEqual(tool(package, f"--byte={at}", given=data),
+                             (1, b"", f"package.py: there is no byte {at}; the package has {len(data)}, "
+                                      "counted "
+                                      "from 0\n"))
+        log = packages.log([0], packages.entry("SELECT 1", [1]))
+        trace = [packages.started(), packages.asked(0), packages.ended()]
+        logged = packages.encode(packages.package(mode=2, logs=[log], trace=trace))
+        self.assertEqual(lines(logged, logged.index(b"SELECT")),
+                         ["section logs", "log of process 0", "statement SELECT 1"])
+
     def test_files(self):
         """Files go into a new folder, and none leads out of it."""
         files = [packages.file("a/b", b"\xff"), packages.file("main", "x"), packages.file("seen")]
@@ -288,7 +365,8 @@ it made 1 version of rows of t
                            ("SELECT k FROM t WHERE g = 1", "will be refused with code 4")):
             status, out, err = tool(package, "--world", "--ask", text, self.path)
             self.assertEqual((status, json.loads(out)["start"]), (0, ["main"]))
-            self.assertIn("package.py: warning: main line 1: the statement " + said, err)
+            self.assertIn("package.py: warning: --ask 1: the statement " + said, err)
+            self.assertIn(f"\n    {text}\n    ", err)
         status, out, err = tool(package, "--world", "--ask", "SELECT 1 FROM t LEFT JOIN t AS u ON 1 = 1",
                                 self.path)
         self.assertEqual((status, out), (1, b""))

@@ -12,7 +12,7 @@ from ldvtools.packages import read_any, read_package
 from ldvtools.trace import graph_of
 
 from . import chromium, version2
-from .support import EXAMPLES, InFolder, read, tool
+from .support import EXAMPLES, ROOT, InFolder, read, tool
 
 HOSTILE = "</script><img src=x onerror=alert(1)><!--'\"&amp;"
 
@@ -119,6 +119,20 @@ class Pages(PageMaker):
         self.put("fake", "#!/bin/sh\ncat > /dev/null\necho 'ldv: damaged: form' >&2; exit 8\n")
         status, _, err = tool(page, os.path.join(self.folder, "p.package"), "--ldv", program)
         self.assertEqual((status, err), (1, f"page.py: {program} replay ends with 8: ldv: damaged: form\n"))
+
+    def test_not_audited(self):
+        """Without a program a page is made of what the bytes say, also where rows are out of order, which
+        `replay` refuses. It says that nobody audited it, and so do the documents."""
+        table = packages.table("t", [packages.column("k")], rows=[packages.row(2, 1), packages.row(0, 2)])
+        trace = [packages.started(), packages.asked(0), packages.ended()]
+        data = packages.encode(packages.package(tables=[table], trace=trace))
+        path = self.made(data)
+        shown = self.data_of(path)
+        self.assertEqual((shown["verdict"], [row[0] for row in shown["tables"][0]["rows"]]), (None, [2, 0]))
+        self.assertIn(b'if (!D.verdict) return el("span", {class: "badge"}, "not audited");', read(path))
+        for name in ("docs/PACKAGES.md", "SECURITY.md"):
+            text = " ".join(read(os.path.join(ROOT, name)).decode().split())
+            self.assertIn("says that it wasn't audited", text, name)
 
     def test_refused(self):
         path = self.put("p", orders())

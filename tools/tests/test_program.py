@@ -36,7 +36,7 @@ cat > crates/ldv/out/ldv <<'END'
 #!/bin/sh
 case $1 in
     run) cat > /dev/null; echo 'ldv: not a world: not json' >&2; exit 6 ;;
-    version) cat ../ldv.version 2>/dev/null; echo built ;;
+    migrate) cat ../ldv.version 2>/dev/null; echo built ;;
     *) echo 'ldv: usage' >&2; exit 2 ;;
 esac
 END
@@ -81,6 +81,23 @@ class Script(InFolder):
     def builds(self):
         return len(read(self.env["RT_CALLS"]).split()) if os.path.exists(self.env["RT_CALLS"]) else 0
 
+    def test_words_first(self):
+        """Words that are no command are refused before anything is built, and those of COMMANDS aren't."""
+        for words in ([], ["help"], ["--help"], ["walk", "world.json"], ["run", "world.json"], ["inspect"],
+                      ["inspect", "all"], ["gen"], ["record", "-x", "-y", "-z", "1"]):
+            self.assertEqual(self.run_script(*words), (2, b"", "ldv: usage\n"), words)
+            self.assertEqual(self.on_terminal(*words).partition("\n")[0], "ldv: usage", words)
+        self.assertEqual(self.builds(), 0)
+        table = read(os.path.join(ROOT, check_docs.COMMANDS)).decode().partition("There are no")[0]
+        commands = [each.split() for each in re.findall(r"(?m)^\| `([^`|]*)` \| ", table)]
+        self.assertGreaterEqual(len(commands), 15)
+        self.put("bin/rt", "#!/bin/sh\necho x >> \"$RT_CALLS\"\nexit 1\n")
+        for words in commands:
+            self.assertEqual(self.run_script(*words)[0], 126, words)
+            if words[0] in ("run", "record", "replay", "audit", "table"):
+                self.assertEqual(self.run_script(*words, "--steps", "9")[0], 126, words)
+        self.assertGreaterEqual(self.builds(), len(commands))
+
     def test_ended_build(self):
         """A build that is ended from outside leaves nothing but its logs."""
         self.put("bin/rt", "#!/bin/sh\nkill -TERM $PPID\n")
@@ -92,46 +109,46 @@ class Script(InFolder):
     def test_built_once(self):
         """A source that is changed is built, and one that has the same content again isn't;
         nor is one of no matter."""
-        status, out, err = self.run_script("version")
+        status, out, err = self.run_script("migrate")
         self.assertEqual((status, out, self.builds()), (0, b"built\n", 1), err)
         self.assertIn("ldv: proving the program first: 1 crates", err)
-        self.assertEqual(self.run_script("version"), (0, b"built\n", ""))
+        self.assertEqual(self.run_script("migrate"), (0, b"built\n", ""))
         self.assertEqual(self.run_script("run")[0], 6)
         self.put("checkout/crates/ldv/src/main.rt", "one\n")
         self.put("checkout/crates/other/src/lib.rt", "two\n")
-        self.assertEqual((self.run_script("version"), self.builds()), ((0, b"built\n", ""), 1))
+        self.assertEqual((self.run_script("migrate"), self.builds()), ((0, b"built\n", ""), 1))
         self.put("checkout/crates/ldv/src/main.rt", "two\n")
-        self.run_script("version")
+        self.run_script("migrate")
         self.assertEqual(self.builds(), 2)
         self.put("checkout/crates/ldv/src/more.rt", "")
-        self.run_script("version")
+        self.run_script("migrate")
         self.assertEqual(self.builds(), 3)
         os.remove(os.path.join(self.root, "crates/ldv/src/more.rt"))
-        self.run_script("version")
+        self.run_script("migrate")
         self.assertEqual(self.builds(), 4)
         # Another proof makes no other program, and definitions do.
         self.put_folder("checkout/crates/ldv/proofs/step")
         self.put("checkout/crates/ldv/proofs/step/Answers.antt", "")
-        self.assertEqual((self.run_script("version"), self.builds()), ((0, b"built\n", ""), 4))
+        self.assertEqual((self.run_script("migrate"), self.builds()), ((0, b"built\n", ""), 4))
         self.put_folder("checkout/crates/ldv/specs")
         self.put("checkout/crates/ldv/specs/Lib.antt", "")
-        self.run_script("version")
+        self.run_script("migrate")
         self.assertEqual(self.builds(), 5)
         self.put("checkout/crates/ldv/proofs/step/Answers.antt", "another")
-        self.assertEqual((self.run_script("version"), self.builds()), ((0, b"built\n", ""), 5))
+        self.assertEqual((self.run_script("migrate"), self.builds()), ((0, b"built\n", ""), 5))
         self.assertEqual(os.listdir(self.env["TMPDIR"]), [])
 
     def test_other_program(self):
         """A program that something else put in its place isn't taken for the one of these sources."""
-        self.run_script("version")
+        self.run_script("migrate")
         program = self.put("checkout/crates/ldv/out/ldv", "#!/bin/sh\necho other\n")
         for _ in range(2):
-            self.assertEqual(self.run_script("version"), (0, b"built\n", ""))
+            self.assertEqual(self.run_script("migrate"), (0, b"built\n", ""))
         shutil.rmtree(self.env["XDG_CACHE_HOME"])
         os.remove(program)
         self.put("checkout/crates/ldv/out/ldv", "#!/bin/sh\necho other\n")
         os.chmod(program, 0o755)
-        self.assertEqual((self.run_script("version")[1], self.builds()), (b"built\n", 2))
+        self.assertEqual((self.run_script("migrate")[1], self.builds()), (b"built\n", 2))
 
     def test_changed_meanwhile(self):
         """A source that is changed during the build is built by the next call."""
@@ -140,13 +157,13 @@ class Script(InFolder):
                                 f"{self.folder}/changed\n"
                  "echo '1 passed, 0 failed'\n")
         for builds in (1, 2, 2):
-            self.run_script("version")
+            self.run_script("migrate")
             self.assertEqual(self.builds(), builds)
 
     def test_copies(self):
         """A copy of a built checkout has its program, and so has one that was only cloned,
         by another name or link too."""
-        self.run_script("version")
+        self.run_script("migrate")
         copy = shutil.copytree(self.root, os.path.join(self.folder, "copy"))
         clone = shutil.copytree(self.root, os.path.join(self.folder, "clone"),
                                 ignore=shutil.ignore_patterns("out"))
@@ -154,26 +171,26 @@ class Script(InFolder):
         os.symlink("copy/ldv", link)
         for root in (copy, clone):
             for _ in range(2):
-                self.assertEqual((self.run_script("version", root=root), self.builds()),
+                self.assertEqual((self.run_script("migrate", root=root), self.builds()),
                                  ((0, b"built\n", ""), 1))
-        done = subprocess.run(["./link", "version"], cwd=self.folder, env=self.env, stdout=subprocess.PIPE,
+        done = subprocess.run(["./link", "migrate"], cwd=self.folder, env=self.env, stdout=subprocess.PIPE,
                               check=False)
         self.assertEqual((done.returncode, done.stdout, self.builds()), (0, b"built\n", 1))
-        self.assertEqual(self.run_script("version", root="copy", cwd=self.folder), (0, b"built\n", ""))
+        self.assertEqual(self.run_script("migrate", root="copy", cwd=self.folder), (0, b"built\n", ""))
         self.assertEqual(len(os.listdir(os.path.join(self.env["XDG_CACHE_HOME"], "ldv"))), 1)
 
     def test_read_only(self):
         """Where nothing can be written this is said before anything else."""
         out = os.path.join(self.root, "crates/ldv/out")
         self.put("checkout/crates/ldv/out", "in the way")
-        status, _, err = self.run_script("version")
+        status, _, err = self.run_script("migrate")
         self.assertEqual((status, err.count("\n"), self.builds()), (126, 1, 0))
         self.assertIn(f"{out} can't be written", err)
 
     def test_no_rt(self):
         os.remove(os.path.join(self.folder, "bin/rt"))
         self.env["PATH"] = os.path.join(self.folder, "bin") + ":/usr/bin:/bin"
-        status, _, err = self.run_script("version")
+        status, _, err = self.run_script("migrate")
         self.assertEqual((status, err), (
             127, "ldv: the program must be proved and compiled first, and there is no rt to do it\n"))
 
@@ -197,7 +214,7 @@ class Script(InFolder):
 
     def test_terminal(self):
         """On a terminal wrong words get a second line, and a file's name another one."""
-        self.run_script("version")
+        self.run_script("migrate")
         self.assertEqual(self.on_terminal("walk"), "ldv: usage\nldv: the words are in the manual page: "
                                                    f"man -l {self.root}/docs/ldv.1\n")
         self.put("world.json", "")
@@ -208,7 +225,7 @@ class Script(InFolder):
 
     def test_terminal_words(self):
         """The second line has the commands of the manual page, which are those of COMMANDS."""
-        self.run_script("version")
+        self.run_script("migrate")
         os.makedirs(os.path.join(self.root, "docs"))
         shutil.copy(os.path.join(ROOT, check_docs.MANUAL), os.path.join(self.root, "docs"))
         table = read(os.path.join(ROOT, check_docs.COMMANDS)).decode().partition("\n\n")[2]
@@ -224,7 +241,7 @@ class Script(InFolder):
 
     def test_terminal_input(self):
         """Where the input would come from the terminal, this is said."""
-        self.run_script("version")
+        self.run_script("migrate")
         said = "ldv: the input is read from this terminal; of a file: ldv run < world.json\n"
         shown = self.on_terminal("run", is_input=True)
         self.assertIn(said, shown.replace("\x04", "").replace("^D\x08\x08", ""))
@@ -286,6 +303,22 @@ class Program(InFolder):
         self.assertEqual(read(f"{self.folder}/customers.csv"), b"ldv_row,ldv_statement,ldv_rule,id,name\r\n"
                          b"0,2,L,1,Ada\r\n1,2,H,2,Bo\r\n2,2,H,3,Cy\r\n")
 
+    def test_unsound(self):
+        """Where a package was changed, `audit` names the byte, and package.py what stands there."""
+        whole = ldv(["record"], read(f"{EXAMPLES}/orders.json"))[1]
+        self.assertEqual(ldv(["audit"], whole), (0, b"sound\n", b""))
+        # The rule of the one row that the second INSERT needed: K becomes L.
+        self.assertEqual(whole[1355], 3)
+        for place, value, said in ((1355, 1, "row 0, version 0, rule L"), (1354, 1, "row 0, version 1, rule "
+                                                                                    "K")):
+            body = whole[:place] + bytes([value]) + whole[place + 1:-32]
+            changed = body + hashlib.sha256(body).digest()
+            self.assertEqual(ldv(["audit"], changed), (0, f"unsound {place}\n".encode(), b""))
+            out = tool(package, "--byte", str(place), given=changed)[1].decode()
+            self.assertEqual(out.split("\n")[1:-1], [
+                "section trace", "event 5, counted from 0: 14 0 asked 1 tables 1 reads 1 made 0",
+                "rows of orders that it needed", said])
+
     def test_manual_page(self):
         """The examples of the manual page, in their order."""
         check_page.folder_with(support.PROGRAM, self.folder)
@@ -340,7 +373,7 @@ class Program(InFolder):
         self.check_run(document, b"outcome 1 0\nprocess 0 0 0 2\n\nrows 2\nrow 2\nint 1\nnull\n"
                                  b"row 2\nint -3\ntext 2\nBo\nrefused 3\n")
         shown = tool(outcome, "--csv", "--reply", "1", given=ldv(["run"], document)[1])
-        self.assertEqual(shown, (0, b"1,\n-3,Bo\n", "outcome.py: 1 of 2 statements was refused\n"))
+        self.assertEqual(shown, (0, b"1,2\n1,\n-3,Bo\n", "outcome.py: 1 of 2 statements was refused\n"))
 
     def test_limits(self):
         """What world.py lets through at its limits is a world, and reserved words aren't names."""

@@ -86,7 +86,9 @@ class CsvFiles(InFolder):
                          'give --rename "t.#2=NAME"', "a,\n1,2\n")
         for encoding in ("utf-16", "utf-32"):
             self.assertEqual(self.table("a\nø\n".encode(encoding))["rows"], [["ø"]])
-        self.csv_refused("give --encoding, such as cp1252", b"a\n\x80\n")
+        self.csv_refused("give --encoding, such as cp1252 (of Windows)\n", b"a\n\x80\n")
+        # This byte has no meaning in cp1252.
+        self.csv_refused("give --encoding, such as latin-1\n", b"a\n\x81\n")
         self.assertEqual(self.table(b"a\n\x80\n", "--encoding", "cp1252")["rows"], [["€"]])
         self.csv_refused("is no CSV file, but a workbook", b"PK\x03\x04...")
         self.csv_refused("is no CSV file, but an SQLite database: give --sqlite", b"SQLite format 3\0...")
@@ -103,6 +105,55 @@ class CsvFiles(InFolder):
         table = self.table("Size, cm\n1\n", "--delimiter", ";", "--tidy")
         self.assertEqual((table["columns"], table["rows"]), ([["size_cm", "INT"]], [[1]]))
         self.assertEqual(self.table('"a, b"\n"1, 2"\n', "--tidy")["rows"], [["1, 2"]])
+
+    def test_plain_tabs(self):
+        """Tables of tabs without quotes and escapes, as cut and awk have them, and what is said where quotes
+        or escapes join cells."""
+        text = 'k\tx\n1\tx\n2\t"y\n3\tz\n4\tw"\n5\tv\n'
+        plain = ["--delimiter", "tab", "--quotes", "none"]
+        self.assertEqual(self.table(text, *plain)["rows"],
+                         [[1, "x"], [2, '"y'], [3, "z"], [4, 'w"'], [5, "v"]])
+        self.assertEqual(self.table('k\tx\n1\t"odd"\n2\tC:\\temp\\new\n3\t\n', *plain)["rows"],
+                         [[1, '"odd"'], [2, "C:\\temp\\new"], [3, None]])
+        path = self.put("t.csv", text)
+        quotes = 'where " is a sign as any other, --delimiter tab --quotes none reads the file\n'
+        status, out, err = tool(world, "--csv", path, "--delimiter", "tab", *ASK)
+        self.assertEqual(json.loads(out)["tables"]["t"]["rows"], [[1, "x"], [2, "y\n3\tz\n4\tw"], [5, "v"]])
+        self.assertIn(f"world.py: {path} line 3: the cell of x has a line feed and a tab in it; "
+                      f"{quotes}", err)
+        err = tool(world, "--csv", self.put("t.csv", 'k\tx\n1\ty\n2\t"odd"\n'), "--delimiter", "tab", *ASK)[2]
+        self.assertIn(f"t.csv line 3: the quotes around a cell are taken off; {quotes}", err)
+        err = tool(world, "--csv", self.put("t.csv", "k\tx\n1\ty\n2\tC:\\temp\\new\n"), "--tsv", *ASK)[2]
+        self.assertIn("t.csv line 3: the cell of x has a line feed and a tab in it; where \\ is a sign as "
+                      "any "
+                      "other, --delimiter tab --quotes none reads the file\n", err)
+        err = tool(world, "--csv", self.put("t.csv", 'k,x\n1,"a\nb, c"\n2,"d\n,"\n3,"e\nf"\n'), *ASK)[2]
+        self.assertIn("t.csv line 2 and 1 more: the cell of x has a line feed and a ',' in it; where \" is a "
+                      "sign as any other, --quotes none reads the file\n", err)
+        for content in ('k,x\n1,"a\nb"\n', 'k,x\n1,"a, b"\n', "k,x\n\n1,a\n\n"):
+            self.assertNotIn("line feed", tool(world, "--csv", self.put("t.csv", content), *ASK)[2])
+        self.csv_refused('t.csv line 3: unexpected end of data; where " is a sign as any other, --quotes '
+                         'none',
+                         'k,x\n1,a\n2,"b\n')
+        self.csv_refused("--quotes no: give none, or double", "k\n1\n", "--quotes", "no", status=2)
+        self.csv_refused("--quotes t.k=none: it is of a whole file; give t=none", "k\n1\n", "--quotes",
+                         "t.k=none", status=2)
+        words = ["--csv", self.put("u.csv", 'a\n"b"\n'), "--csv", self.put("v.csv", 'a\n"b"\n'), *ASK,
+                 "--quotes", "v=none", "--no-check"]
+        tables = json.loads(tool(world, *words)[1])["tables"]
+        self.assertEqual([tables[name]["rows"] for name in "uv"], [[["b"]], [['"b"']]])
+
+    def test_latin(self):
+        """By Latin-1 a file of Windows gets control characters in place of its signs, which is said."""
+        data = "k;price\n1;5\n2;7 €\n".encode("cp1252")
+        words = ["--delimiter", ";", *ASK]
+        err = tool(world, "--csv", self.put("t.csv", data), "--encoding", "latin-1", *words)[2]
+        self.assertIn("t.csv line 3: in latin-1 it has a control character, which is € by --encoding cp1252 "
+                      "(of "
+                      "Windows)\n", err)
+        for encoding, text in (("cp1252", "7 €"), ("latin-1", "7 £"), ("utf-8", "7 €"), ("cp1252", "7 ä")):
+            path = self.put("t.csv", f"k;price\n1;5\n2;{text}\n".encode(encoding))
+            self.assertNotIn("control", tool(world, "--csv", path, "--encoding", encoding, *words)[2])
 
     def test_dumps(self):
         """Tables as COPY of PostgreSQL and --batch of MySQL write them."""
@@ -282,6 +333,40 @@ class ScriptsAndFiles(InFolder):
         for text in ("SELECT '\udcff' FROM t", "-- \udcff\nSELECT a FROM t"):
             self.refused("--ask 2, ", "--ask", "SELECT a FROM t", "--ask", text)
 
+    def test_where(self):
+        """What is wrong is said where it stands in the file of statements, and not in the script that is
+        made, with the statement."""
+        table = self.put("t.csv", "k;Größe (cm);Öffnet\n1;2;9\n")
+        text = "-- all\nSELECT k FROM t;\n\n-- the mean\nSELECT AVG(k)\nFROM t;\nSELECT h FROM t;\n"
+        words = ["--csv", table, "--delimiter", ";", "--tidy"]
+        status, _, err = tool(world, *words, "--sql", self.put("m.sql", text), "--ask", "SELECT g FROM t",
+                              "--ask", "SELECT k\nFROM u")
+        self.assertEqual(status, 0, err)
+        path = os.path.join(self.folder, "m.sql")
+        self.assertIn(f"world.py: warning: {path} line 5: the statement will be refused with code 1: '(' "
+                      "can't",
+                      err)
+        self.assertIn("\n    SELECT AVG(k) FROM t\n              ^\n", err)
+        for where in (f"{path} line 7", "--ask 1", "--ask 2 line 1"):
+            self.assertIn(f"world.py: warning: {where}: the statement will be refused with code", err)
+        self.assertNotIn("main", err)
+        self.refused(f"{path} line 1: LEFT before JOIN", *words, "--sql",
+                     self.put("m.sql", "SELECT t.k FROM t LEFT JOIN t u ON t.k = u.k"))
+        script = self.put("s.ldv", 'print 1\nsql q "SELECT h FROM t"\n')
+        self.assertIn("warning: s.ldv line 2: the statement", tool(world, *words, "--script", script)[2])
+
+    def test_renamed(self):
+        """A name of the file that can't stand in a statement is said with the one of the world."""
+        table = self.put("t.csv", "k;Größe (cm);Öffnet\n1;2;9\n")
+        words = ["--csv", table, "--delimiter", ";", "--tidy"]
+        no_meaning = "has no meaning in this dialect (docs/SQL.md); "
+        for text, said in (("SELECT k, Öffnet FROM t", "'Ö' {}in this world 'Öffnet' is called offnet"),
+                           ("SELECT k,größe FROM t", "'ö' {}in this world 'Größe (cm)' is called grosse_cm"),
+                           ("SELECT k, nähe FROM t", "'ä' has no meaning in this dialect (docs/SQL.md)\n")):
+            self.refused(said.format(no_meaning), *words, "--ask", text)
+        self.refused("in this world 'Öffnet' is called open", "--csv", table, "--delimiter", ";", "--lower",
+                     "--rename", "t.#2=size", "--rename", "t.#3=open", "--ask", "SELECT Öffnet FROM t")
+
     def test_many_statements(self):
         """Lines are counted for a message only: many statements take no time that grows with their square."""
         with mock.patch("ldvtools.scripts_of_statements.line_at", side_effect=AssertionError):
@@ -290,9 +375,8 @@ class ScriptsAndFiles(InFolder):
     def test_help(self):
         """What holds for all CSV files is said, and what holds for one."""
         text = tool(world, "--help")[1].decode()
-        self.assertIn("--delimiter, --encoding, --decimal, --thousands and --null hold for all CSV "
-                      "files, or for the "
-                      "one whose table\nis named", text)
+        self.assertIn("--delimiter, --encoding, --quotes, --decimal, --thousands and --null hold for all CSV "
+                      "files, or for the one\nwhose table is named", text)
         self.assertIn("--tsv, --skip-blank, --round, --lower and --tidy hold for all files.", text)
 
     def test_files(self):
@@ -489,9 +573,18 @@ class Databases(InFolder):
                               ("(0.1 + 0.2), (1.25)", "--scale r.a=2 --round carries"),
                               ("(1.0 / 3)", "--scale r.a=1 --round carries"),
                               ("(1e15), (1e-5)", "--scale r.a=3 --round carries"),
-                              ("(1e300), (0.5)", "--scale r.a=0 --round carries"),
+                              ("(1e300), (0.5)", "r.a: numbers outside 64 bits, which no --scale carries: "
+                               "--leave-out r.a\n"),
                               ("(12.5), (NULL)", "--scale r.a=1 carries all of them as whole numbers, --l")):
             self.refused(words, *advice(values))
+        words = self.database("CREATE TABLE m (r REAL, i REAL, k INT); INSERT INTO m VALUES (1e20, 0.5, 1), "
+                              "(0.25, 1.5, 2);")
+        self.refused("row 0 of m, column r: the REAL value 1e+20 has no equal here; m.r: numbers outside 64 "
+                     "bits, "
+                     "which no --scale carries: --leave-out m.r; --scale m.i=1 carries the others as whole "
+                     "numbers\n", *words)
+        status, out, err = tool(world, *words, "--leave-out", "m.r", "--scale", "m.i=1")
+        self.assertEqual(json.loads(out)["tables"]["m"]["rows"], [[5, 1], [15, 2]], err)
         self.refused("the REAL value 1e+300 is outside 64 bits at --scale 0", *advice("(1e300), (0.5)"),
                      "--scale", "r.a=0", "--round")
         status, out, err = tool(world, *advice("(0.1 + 0.2), (7)"), "--scale", "r.a=1", "--round")

@@ -1,8 +1,8 @@
-//! Tests of what neither a proof nor a case of bytes shows: tables through time, sizes, streams that fail,
-//! and calls that no command makes.
+//! Tests of what neither a proof nor a case of bytes shows: which rows each row of an answer comes from,
+//! tables through time, sizes, streams that fail, and calls that no command makes.
 //!
-//! It has the tests of all that runs: changes, worlds, packages and the program. `library_tests` has those of
-//! the libraries below. Neither has any code but tests, so that no library is proved twice for its
+//! It has the tests of all that runs: queries, changes, worlds, packages and the program. `library_tests` has
+//! those of the libraries below. Neither has any code but tests, so that no library is proved twice for its
 //! tests; they are two so that the gate runs them side by side. What bytes can show belongs into the cases of
 //! `conformance`.
 //!
@@ -11,6 +11,8 @@
 //! worked out by hand.
 #![tactic(auto)]
 
+#[cfg(test)]
+mod answered;
 #[cfg(test)]
 mod asked;
 #[cfg(test)]
@@ -24,7 +26,11 @@ mod graphs;
 #[cfg(test)]
 mod limits;
 #[cfg(test)]
+mod lineages;
+#[cfg(test)]
 mod long_packages;
+#[cfg(test)]
+mod needs;
 #[cfg(test)]
 mod recorded;
 #[cfg(test)]
@@ -35,6 +41,8 @@ mod rows;
 mod schemas;
 #[cfg(test)]
 mod session;
+#[cfg(test)]
+mod shown;
 #[cfg(test)]
 mod sizes;
 #[cfg(test)]

@@ -53,16 +53,21 @@ const NOT_JSON: Want = (6, "ldv: not a world: not json\n");
 
 const NO_MAGIC: Want = (8, "ldv: damaged: magic\n");
 
+const NO_DOCUMENT: Want = (16, "ldv: not a provenance document\n");
+
 #[test]
 fn reads_no_longer_input(rt: HostRuntime) -> Result<(), Fail> {
     for command in [
         "run",
         "record",
         "replay",
+        "replay --seed 1",
         "audit",
         "table t 0",
         "inspect rows",
         "migrate",
+        "prov",
+        "prov depends f",
     ] {
         expect_blank(&rt, rt.alloc(), command, 67_108_865, TOO_LONG)?;
     }
@@ -73,6 +78,7 @@ fn reads_no_longer_input(rt: HostRuntime) -> Result<(), Fail> {
 fn reads_inputs_at_the_limit(rt: HostRuntime) -> Result<(), Fail> {
     expect_blank(&rt, rt.alloc(), "run", 67_108_864, NOT_JSON)?;
     expect_blank(&rt, rt.alloc(), "replay", 67_108_864, NO_MAGIC)?;
+    expect_blank(&rt, rt.alloc(), "prov depends f", 67_108_864, NO_DOCUMENT)?;
     Ok(())
 }
 

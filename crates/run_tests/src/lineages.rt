@@ -1,0 +1,343 @@
+//! Which rows of t each row of an answer comes from, and which are behind none. Bytes show them together
+//! alone, as what the statement needed. All was worked out by hand.
+
+use crate::answered::{Answered, answer_to};
+use crate::asked::{Case, ask_all, session_of_t};
+use crate::shown::shown;
+use crate::stored::store_of_t;
+use ldv_value::Utf8;
+use run_model::NullTracer;
+use std::alloc::{AllocError, Global};
+use std::process::Abort;
+use std::test::Fail;
+use table_store::Store;
+
+// A query and its answer, as a text.
+type Want = (&'static str, &'static str);
+
+fn shown_if(alloc: Global, found: Option<Answered>) -> Result<Utf8, AllocError> {
+    match found {
+        None => Utf8::of(alloc, "no answer"),
+        Some(answered) => shown(alloc, &answered),
+    }
+}
+
+fn answer_text(alloc: Global, query: &str, store: &Store, keep: bool) -> Result<Utf8, AllocError> {
+    shown_if(alloc, answer_to(alloc, query, store, keep)?)
+}
+
+fn expect_answer(
+    rt: &impl Abort,
+    alloc: Global,
+    store: &Store,
+    keep: bool,
+    want: Want,
+) -> Result<(), AllocError> {
+    let (query, want) = want;
+    let text = answer_text(alloc, query, store, keep)?;
+    assert_eq!(rt; text.as_str(), want, "answer to {query}");
+    Ok(())
+}
+
+fn expect_answers(
+    rt: &impl Abort,
+    alloc: Global,
+    store: &Store,
+    keep: bool,
+    wants: &[Want],
+) -> Result<(), AllocError> {
+    for want in wants {
+        expect_answer(rt, alloc, store, keep, *want)?;
+    }
+    Ok(())
+}
+
+// Expects answers over the table t with the rows 0 to 4.
+fn expect_over_t(rt: &impl Abort, alloc: Global, wants: &[Want]) -> Result<(), AllocError> {
+    let store = store_of_t(rt, alloc)?;
+    expect_answers(rt, alloc, &store, true, wants)
+}
+
+// ---- rows of one source and of several
+
+fn scans() -> [Want; 4] {
+    [
+        (
+            "SELECT v, k FROM t",
+            "10 1 from 0; 20 2 from 1; 5 3 from 2; NULL 4 from 3; 10 5 from 4",
+        ),
+        (
+            "SELECT g FROM t WHERE v > 5",
+            "'a' from 0; 'a' from 1; 'c' from 4",
+        ),
+        ("SELECT v FROM t WHERE k = 4", "NULL from 3"),
+        ("SELECT k FROM t WHERE v > 100", ""),
+    ]
+}
+
+#[test]
+fn rows_come_from_themselves(rt: HostRuntime) -> Result<(), Fail> {
+    expect_over_t(&rt, rt.alloc(), &scans())?;
+    Ok(())
+}
+
+const JOIN: &str = "SELECT x.g, y.k FROM t x JOIN t y ON x.v = y.v";
+
+fn joins() -> [Want; 4] {
+    [
+        (
+            JOIN,
+            "'a' 1 from 0; 'a' 5 from 0 4; 'a' 2 from 1; 'b' 3 from 2; 'c' 1 from 0 4; 'c' 5 from 4",
+        ),
+        (
+            "SELECT x.k, y.k FROM t x, t y WHERE x.k < 3 AND y.k = x.k + 1",
+            "1 2 from 0 1; 2 3 from 1 2",
+        ),
+        (
+            "SELECT x.k, y.k FROM t x JOIN t y ON y.k = 3 AND x.v = 10",
+            "1 3 from 0 2; 5 3 from 2 4",
+        ),
+        (
+            "SELECT x.k, y.k, z.k FROM t x JOIN t y ON x.v = y.v JOIN t z ON y.g = z.g AND z.k <> y.k",
+            "1 1 2 from 0 1; 2 2 1 from 0 1; 3 3 4 from 2 3; 5 1 2 from 0 1 4",
+        ),
+    ]
+}
+
+#[test]
+fn joined_rows_come_from_one_of_each_source(rt: HostRuntime) -> Result<(), Fail> {
+    expect_over_t(&rt, rt.alloc(), &joins())?;
+    Ok(())
+}
+
+fn values_of_joins() -> [Want; 1] {
+    [(
+        JOIN,
+        "'a' 1 from; 'a' 5 from; 'a' 2 from; 'b' 3 from; 'c' 1 from; 'c' 5 from",
+    )]
+}
+
+#[test]
+fn rows_have_the_same_values_without_lineage(rt: HostRuntime) -> Result<(), Fail> {
+    let store = store_of_t(&rt, rt.alloc())?;
+    expect_answers(&rt, rt.alloc(), &store, false, &values_of_joins())?;
+    Ok(())
+}
+
+// ---- merged rows
+
+fn merged() -> [Want; 4] {
+    [
+        (
+            "SELECT DISTINCT x.g FROM t x JOIN t y ON x.v = y.v",
+            "'a' from 0 1 4; 'b' from 2; 'c' from 0 4",
+        ),
+        (
+            "SELECT DISTINCT v FROM t",
+            "10 from 0 4; 20 from 1; 5 from 2; NULL from 3",
+        ),
+        (
+            "SELECT v FROM t WHERE g = 'a' UNION SELECT v FROM t WHERE k = 5",
+            "10 from 0 4; 20 from 1",
+        ),
+        (
+            "SELECT v FROM t UNION SELECT k FROM t",
+            "10 from 0 4; 20 from 1; 5 from 2 4; NULL from 3; 1 from 0; 2 from 1; 3 from 2; 4 from 3",
+        ),
+    ]
+}
+
+#[test]
+fn merged_rows_come_from_all(rt: HostRuntime) -> Result<(), Fail> {
+    expect_over_t(&rt, rt.alloc(), &merged())?;
+    Ok(())
+}
+
+// UNION ALL merges nothing, and each UNION merges what is before it.
+fn united() -> [Want; 3] {
+    [
+        (
+            "SELECT v FROM t WHERE g = 'a' UNION ALL SELECT v FROM t WHERE k = 5",
+            "10 from 0; 20 from 1; 10 from 4",
+        ),
+        (
+            "SELECT g FROM t WHERE k=1 UNION ALL SELECT g FROM t WHERE k=2 UNION SELECT g FROM t WHERE k=5",
+            "'a' from 0 1; 'c' from 4",
+        ),
+        (
+            "SELECT g FROM t WHERE k=1 UNION SELECT g FROM t WHERE k=2 UNION ALL SELECT g FROM t WHERE k=1",
+            "'a' from 0 1; 'a' from 0",
+        ),
+    ]
+}
+
+#[test]
+fn united_rows_come_from_those_before(rt: HostRuntime) -> Result<(), Fail> {
+    expect_over_t(&rt, rt.alloc(), &united())?;
+    Ok(())
+}
+
+// ---- groups
+
+fn groups() -> [Want; 3] {
+    [
+        (
+            "SELECT x.g, SUM(y.v) FROM t x JOIN t y ON x.v = y.v GROUP BY x.g",
+            "'a' 40 from 0 1 4; 'b' 5 from 2; 'c' 20 from 0 4",
+        ),
+        ("SELECT COUNT(*), SUM(v) FROM t WHERE k > 9", "0 NULL from"),
+        ("SELECT MIN(v) FROM t", "5 from 0 1 2 3 4"),
+    ]
+}
+
+#[test]
+fn groups_come_from_all_their_rows(rt: HostRuntime) -> Result<(), Fail> {
+    expect_over_t(&rt, rt.alloc(), &groups())?;
+    Ok(())
+}
+
+fn rejected() -> [Want; 4] {
+    [
+        (
+            "SELECT g FROM t GROUP BY g HAVING COUNT(*) < 2",
+            "'c' from 4; rejected 0 1 2 3",
+        ),
+        (
+            "SELECT g FROM t GROUP BY g HAVING SUM(v) > 5",
+            "'a' from 0 1; 'c' from 4; rejected 2 3",
+        ),
+        (
+            "SELECT MAX(k) FROM t WHERE g = 'a' HAVING MIN(v) < 0",
+            "rejected 0 1",
+        ),
+        (
+            "SELECT k, g FROM t WHERE k = 1 UNION SELECT COUNT(v), MAX(g) FROM t HAVING COUNT(*) > 9",
+            "1 'a' from 0; rejected 0 1 2 3 4",
+        ),
+    ]
+}
+
+#[test]
+fn rejected_groups_are_told_apart(rt: HostRuntime) -> Result<(), Fail> {
+    expect_over_t(&rt, rt.alloc(), &rejected())?;
+    Ok(())
+}
+
+// ---- cut rows
+
+fn cut() -> [Want; 4] {
+    [
+        (
+            "SELECT v, k FROM t ORDER BY v DESC LIMIT 2",
+            "20 2 from 1; 10 1 from 0; cut 2 3 4",
+        ),
+        (
+            "SELECT DISTINCT v FROM t ORDER BY v LIMIT 2",
+            "NULL from 3; 5 from 2; cut 0 1 4",
+        ),
+        (
+            "SELECT v FROM t UNION SELECT k FROM t LIMIT 1",
+            "10 from 0 4; cut 0 1 2 3 4",
+        ),
+        ("SELECT v FROM t LIMIT 0", "cut 0 1 2 3 4"),
+    ]
+}
+
+#[test]
+fn cut_rows_are_told_apart(rt: HostRuntime) -> Result<(), Fail> {
+    expect_over_t(&rt, rt.alloc(), &cut())?;
+    Ok(())
+}
+
+// ---- after changes
+
+fn changes() -> [Case; 3] {
+    [
+        ("UPDATE t SET v = v + 1 WHERE k = 1", "changed 1"),
+        ("DELETE FROM t WHERE k = 2", "changed 1"),
+        ("INSERT INTO t VALUES (9, 'n', 1)", "changed 1"),
+    ]
+}
+
+fn after_changes() -> [Want; 3] {
+    [
+        (
+            "SELECT v, k FROM t",
+            "11 1 from 0; 5 3 from 2; NULL 4 from 3; 10 5 from 4; 1 9 from 5",
+        ),
+        (
+            "SELECT x.k, y.k FROM t x JOIN t y ON x.g = y.g AND x.g = 'a'",
+            "1 1 from 0",
+        ),
+        (
+            "SELECT DISTINCT g FROM t WHERE k > 3",
+            "'b' from 3; 'c' from 4; 'n' from 5",
+        ),
+    ]
+}
+
+#[test]
+fn rows_keep_their_numbers_after_changes(rt: HostRuntime) -> Result<(), Fail> {
+    let mut tracer = NullTracer;
+    let session = session_of_t(&rt, rt.alloc())?;
+    let session = ask_all(&rt, rt.alloc(), session, &changes(), &mut tracer)?;
+    expect_answers(&rt, rt.alloc(), session.store(), true, &after_changes())?;
+    Ok(())
+}
+
+// ---- answers that are nearly right
+
+fn expect_other(
+    rt: &impl Abort,
+    alloc: Global,
+    store: &Store,
+    wrong: Want,
+) -> Result<(), AllocError> {
+    let (query, wrong) = wrong;
+    let text = answer_text(alloc, query, store, true)?;
+    assert!(rt; text.as_str() != wrong, "answer to {query}");
+    Ok(())
+}
+
+fn expect_others(rt: &impl Abort, alloc: Global, wrongs: &[Want]) -> Result<(), AllocError> {
+    let store = store_of_t(rt, alloc)?;
+    for wrong in wrongs {
+        expect_other(rt, alloc, &store, *wrong)?;
+    }
+    Ok(())
+}
+
+// Of merged rows the first alone, a row of one source alone, a row too many, no rejected group, cut rows as
+// kept ones, another order, no row of a table.
+fn wrongs() -> [Want; 7] {
+    [
+        (
+            "SELECT DISTINCT v FROM t",
+            "10 from 0; 20 from 1; 5 from 2; NULL from 3",
+        ),
+        (
+            "SELECT x.k, y.k FROM t x JOIN t y ON y.k = 3 AND x.v = 10",
+            "1 3 from 0; 5 3 from 4",
+        ),
+        ("SELECT v FROM t WHERE k = 4", "NULL from 2 3"),
+        (
+            "SELECT g FROM t GROUP BY g HAVING COUNT(*) < 2",
+            "'c' from 4",
+        ),
+        (
+            "SELECT v FROM t ORDER BY v LIMIT 1",
+            "NULL from 3; 5 from 2; 10 from 0; 10 from 4; 20 from 1",
+        ),
+        (
+            "SELECT g FROM t WHERE v > 5",
+            "'a' from 1; 'a' from 0; 'c' from 4",
+        ),
+        ("SELECT v FROM t WHERE k = 5", "10 from"),
+    ]
+}
+
+#[test]
+fn nearly_right_answers_differ(rt: HostRuntime) -> Result<(), Fail> {
+    expect_others(&rt, rt.alloc(), &wrongs())?;
+    Ok(())
+}

@@ -1,0 +1,281 @@
+"""Constants of statements that meet a column which a world carries in another form than it was read in.
+
+A price of 12.50 is carried as 1250, 1.2.2024 as 2024-02-01 and 9:05 as 09:05. Where a statement compares such
+a column with 20, 1.2.2024 or 9:05, it runs and answers another question. What is written in another form is a
+warning; of a number that meets a column of decimals it is said what it means, since 20 may be meant as 2.0.
+"""
+from __future__ import annotations
+
+import itertools
+import re
+from typing import Dict, Iterator, List, Mapping, NamedTuple, Optional, Sequence, Tuple, Union
+
+from .check import Finding, operands_known, scripts_of, text_of
+from .errors import Unfit
+from .language import MAX_INT
+from .scripts import Instruction, Operand
+from .sql import Expr, Insert, NoReading, Query, Source, Statement, Update, parse_statement
+from .sql_check import shown
+from .values import Scaled, Value
+from .world_cells import DATE, TIME, padded_date, padded_time, scaled_number, whole_number
+from .world_columns import Column, Table
+
+SAMPLE = 1000
+# The beginnings of texts as --date carries them: a year, a month, a day, an hour and so on.
+CLOCK = r"[0-9]{2}(?::[0-9]{2}(?::[0-9]{2}(?:\.[0-9]+)?)?)?"
+CARRIED_TIME = re.compile(CLOCK + r"\Z")
+CARRIED_DATE = re.compile(rf"[0-9]{{4}}(?:-[0-9]{{2}}(?:-[0-9]{{2}}(?:[ T]{CLOCK})?)?)?\Z")
+Columns = Mapping[str, Mapping[str, Column]]
+
+
+class Meeting(NamedTuple):
+    """A constant that meets a column: its place in the statement, what is said of it, and whether that is
+    only what a number means."""
+
+    at: int
+    cause: str
+    is_meaning: bool
+
+
+class Carrier(NamedTuple):
+    """What the value of an expression is carried as: like a column, and times 10 ** `scale`."""
+
+    name: str
+    column: Column
+    scale: int
+
+
+class Unwritten:
+    """In place of a value that isn't written in a statement."""
+
+
+UNWRITTEN = Unwritten()
+Written = Union[Value, Unwritten]
+
+
+# ---- what is said of a constant
+
+def times(scale: int) -> str:
+    return f"carried times {10 ** scale}" if scale else "carried as it is"
+
+
+def said_of_number(carrier: Carrier, number: int) -> Optional[str]:
+    """What a number means beside a column of decimals. 0 is 0 at each scale."""
+    if not carrier.column.scale or not number:
+        return None
+    means = f"{carrier.name} is {times(carrier.scale)}, so {number} means {Scaled(number, carrier.scale)}"
+    meant = number * 10 ** carrier.scale
+    return means if abs(meant) > MAX_INT else f"{means}; {number} itself is written {meant}"
+
+
+def said_of_text(carrier: Carrier, text: str) -> Optional[str]:
+    """What to write in place of a text that isn't in the form of its column."""
+    column, name = carrier.column, carrier.name
+    if column.kind == "INT":
+        number = number_of_text(column, text)
+        return None if number is None else f"{name} is {times(carrier.scale)}: '{text}' is written {number}"
+    date = column.date or own_date(column)
+    if date is None or is_as_carried(date, text):
+        return None
+    found = padded_time(text.strip()) if date == "time" else padded_day(column.date, text.strip())
+    like = "09:05" if date == "time" else "2019-01-31"
+    if found is None and column.date is None and not (TIME.match(text) or DATE.match(text)):
+        return None
+    what = f"'{text}' is written '{found}'" if found else f"'{text}' isn't, and compares as a text"
+    return f"{name} has texts such as {like}: {what}"
+
+
+def number_of_text(column: Column, text: str) -> Optional[int]:
+    """The number that a cell with this text would be."""
+    try:
+        if column.scale is not None:
+            return scaled_number(text, column.scale, column.form, False)
+        return whole_number(text, column.form)
+    except Unfit:
+        return None
+
+
+def own_date(column: Column) -> Optional[str]:
+    """Whether the texts of a column are dates or clock times in the form of --date, without that option."""
+    sample = list(itertools.islice((cell for cell in column.cells if isinstance(cell, str)), SAMPLE))
+    for date in ("time", "ymd"):
+        if sample and all(len(cell) > 4 and is_as_carried(date, cell) for cell in sample):
+            return date
+    return None
+
+
+def is_as_carried(date: str, text: str) -> bool:
+    """Whether a text is a date or a clock time as --date carries it, or the beginning of one."""
+    return (CARRIED_TIME if date == "time" else CARRIED_DATE).match(text) is not None
+
+
+def padded_day(date: Optional[str], text: str) -> Optional[str]:
+    """A date as it is carried. Where nothing says which part is the day, points stand in dates that have the
+    day first."""
+    return padded_date(text, date or ("dmy" if "." in text else "ymd"))
+
+
+# ---- expressions
+
+def written(expr: Expr, parameters: Sequence[Written]) -> Written:
+    """The value of a constant, with its minus, or of a parameter that is known. What is computed, such as
+    20 * 10, isn't one."""
+    if expr.form == "constant":
+        return expr.value
+    if expr.form == "parameter":
+        return parameters[int(expr.word)] if int(expr.word) < len(parameters) else UNWRITTEN
+    if expr.form == "negate":
+        value = written(expr.parts[0], parameters)
+        return -value if isinstance(value, int) else UNWRITTEN
+    return UNWRITTEN
+
+
+class Scope:
+    """The columns of some sources, and what meets them in expressions."""
+
+    def __init__(self, sources: Sequence[Source], columns: Columns, parameters: Sequence[Written]) -> None:
+        self.sources = [(source.name, columns.get(source.table, {})) for source in sources]
+        self.parameters = parameters
+        self.found: List[Meeting] = []
+
+    def column(self, expr: Expr) -> Optional[Column]:
+        there = [columns[expr.word] for name, columns in self.sources
+                 if expr.source in ("", name) and expr.word in columns]
+        return there[0] if len(there) == 1 else None
+
+    def look(self, expr: Expr) -> Optional[Carrier]:
+        """Looks for meetings in an expression. Gives what its value is carried as."""
+        if expr.form == "column":
+            column = self.column(expr)
+            return Carrier(shown(expr), column, column.scale or 0) if column else None
+        carriers = [self.look(part) for part in expr.parts]
+        if expr.form == "aggregate":
+            return carriers[0] if carriers and expr.word != "count" else None
+        if expr.form == "negate":
+            return carriers[0]
+        if expr.form == "arithmetic" and expr.word == "*":
+            return product(*carriers) or self.raised(expr, carriers)
+        if expr.form in ("arithmetic", "compare"):
+            self.meet_both(expr, carriers)
+            return next(filter(None, carriers), None) if expr.form == "arithmetic" else None
+        return None
+
+    def meet_both(self, expr: Expr, carriers: Sequence[Optional[Carrier]]) -> None:
+        left, right = carriers
+        if left and right:
+            self.meet_scales(expr.at, left, right)
+        for carrier, other in ((left, expr.parts[1]), (right, expr.parts[0])):
+            if carrier:
+                self.meet(carrier, other, expr.word if expr.form == "compare" else "")
+
+    def raised(self, expr: Expr, carriers: Sequence[Optional[Carrier]]) -> Optional[Carrier]:
+        """What is carried times a number more often: `price * 10`, where 10 is written."""
+        for carrier, other in zip(carriers, reversed(expr.parts)):
+            value = written(other, self.parameters)
+            if carrier is None or not isinstance(value, int):
+                continue
+            zeros = len(str(value)) - 1
+            if value == 10 ** zeros and zeros:
+                return Carrier(f"{carrier.name} * {value}", carrier.column, carrier.scale + zeros)
+        return next(filter(None, carriers), None)
+
+    def meet_scales(self, at: int, left: Carrier, right: Carrier) -> None:
+        """Of two columns that are carried times other numbers."""
+        if left.scale == right.scale or {left.column.kind, right.column.kind} != {"INT"}:
+            return
+        less, more = sorted((left, right), key=lambda carrier: carrier.scale)
+        by = 10 ** (more.scale - less.scale)
+        self.add(at, f"{more.name} is {times(more.scale)}, and {less.name} {times(less.scale)}: write "
+                     f"{less.name} * {by}", False)
+
+    def meet(self, carrier: Carrier, other: Expr, compare: str) -> None:
+        """What is said where a column meets another expression, by a comparison or by none."""
+        value = written(other, self.parameters)
+        if isinstance(value, int):
+            self.add(other.at, said_of_number(carrier, value), True)
+        elif isinstance(value, str) and compare and value in carrier.column.nulls:
+            test = "IS NOT NULL" if compare == "<>" else "IS NULL"
+            what = f"'{value}'" if value else "an empty cell"
+            self.add(other.at, f"{what} of {carrier.name} is NULL here, and no comparison with NULL is true; "
+                               f"write {carrier.name} {test}", False)
+        elif isinstance(value, str):
+            self.add(other.at, said_of_text(carrier, value), False)
+
+    def add(self, at: int, cause: Optional[str], is_meaning: bool) -> None:
+        if cause is not None and cause not in [each.cause for each in self.found]:
+            self.found.append(Meeting(at, cause, is_meaning))
+
+
+def product(left: Optional[Carrier], right: Optional[Carrier]) -> Optional[Carrier]:
+    """What a product of two columns is carried as: times both numbers."""
+    if left is None or right is None:
+        return None
+    more = left if left.scale >= right.scale else right
+    name = more.name if not min(left.scale, right.scale) else f"{left.name} * {right.name}"
+    return Carrier(name, more.column, left.scale + right.scale)
+
+
+# ---- statements
+
+def meetings_of(text: str, parameters: Sequence[Written], columns: Columns) -> List[Meeting]:
+    """The meetings of a statement, in the order in which they stand. One without a reading has none."""
+    try:
+        statement = parse_statement(text).statement
+    except NoReading:
+        return []
+    found: List[Meeting] = []
+    for scope in scopes_of(statement, columns, parameters):
+        found += [each for each in scope.found if each.cause not in [one.cause for one in found]]
+    return sorted(found)
+
+
+def scopes_of(statement: Statement, columns: Columns, parameters: Sequence[Written]) -> Iterator[Scope]:
+    if isinstance(statement, Query):
+        for core in statement.cores:
+            scope = Scope(core.sources, columns, parameters)
+            items = [item.expr for item in core.items or []]
+            for expr in [*items, *core.picks, *([core.having] if core.having else [])]:
+                scope.look(expr)
+            yield scope
+        return
+    scope = Scope([statement.table], columns, parameters)
+    for name, expr in taken(statement, columns):
+        column = columns.get(statement.table.table, {}).get(name)
+        scope.look(expr)
+        if column is not None:
+            scope.meet(Carrier(name, column, column.scale or 0), expr, "")
+    if not isinstance(statement, Insert) and statement.pick is not None:
+        scope.look(statement.pick)
+    yield scope
+
+
+def taken(statement: Statement, columns: Columns) -> Iterator[Tuple[str, Expr]]:
+    """The columns that a change gives values to, each with such a value."""
+    if isinstance(statement, Insert):
+        there = list(columns.get(statement.table.table, {}))
+        names = there if statement.columns is None else [name for name, _ in statement.columns]
+        for row in statement.rows:
+            yield from zip(names, row)
+    elif isinstance(statement, Update):
+        yield from ((name, expr) for name, _, expr in statement.sets)
+
+
+# ---- scripts
+
+def parameters_of(each: Instruction, known: Mapping[str, Operand]) -> List[Written]:
+    given = [known.get(operand.name) if operand.name else operand for operand in each.operands[1:]]
+    return [operand.value if operand else UNWRITTEN for operand in given]
+
+
+def carried_findings(files: Mapping[str, bytes], start: str,
+                     tables: Sequence[Table]) -> Iterator[Tuple[Finding, bool]]:
+    """What meets carried columns in the statements that are written in scripts, and whether it is only what a
+    number means."""
+    columns: Dict[str, Dict[str, Column]] = {
+        table.name: {column.name: column for column in table.columns} for table in tables}
+    for path, script, _ in scripts_of(files, start):
+        known = operands_known(script) if script else {}
+        for each in script.instructions if script else []:
+            text = text_of(each.operands[0], known) if each.word == "sql" else None
+            for found in meetings_of(text, parameters_of(each, known), columns) if text else []:
+                yield Finding(path, each.line, -1, found.cause, False, text or "", found.at), found.is_meaning
