@@ -17,7 +17,6 @@ use Rattle.reach.specs.Found.{Times, placed, is_open, open_source, with_source, 
 use Rattle.reach.specs.Search.{AreLatest}
 use Rattle.trace_graph.specs.Building.{node_of}
 use Rattle.trace_graph.specs.declared.key.NodeKey.{NodeKey}
-use Rattle.reach.proofs.KeyLaws.{key_cmp, key_put}
 use Rattle.reach.proofs.Members.{in_nil, in_all, from_all, in_filter_map, from_filter_map}
 use Rattle.reach.proofs.PathLaws.{open_leads, leads_open}
 

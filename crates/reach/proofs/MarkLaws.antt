@@ -41,8 +41,8 @@ mark_stays latest marks edge place within there = by (is_open latest edge)
 -- an open edge leaves its mark
 mark_put : (latest : Times) (marks : Marks) (edge : Edge) (place : ℕ) → place < length marks → is_open latest edge ≡ true → edge.source ≡ place
     → is_marked (with_mark latest marks edge) place ≡ true
-mark_put latest marks edge place within open source =
-    ap (λ (b : Bool). is_marked (if b then set marks edge.source true else marks) place) open
+mark_put latest marks edge place within opened source =
+    ap (λ (b : Bool). is_marked (if b then set marks edge.source true else marks) place) opened
     ∙ subst (λ (p : ℕ). is_marked (set marks p true) place ≡ true) (sym source) (get_or-set_same marks place true false within)
 
 -- ---- all marks
@@ -59,13 +59,13 @@ mark_from latest marks edge place there = by (is_open latest edge) refl there
   where
     put : (edge.source ≡ place) ⊎ (edge.source ≡ place → ⊥) → is_open latest edge ≡ true → is_marked (set marks edge.source true) place ≡ true
         → (is_marked marks place ≡ true) ⊎ ((is_open latest edge ≡ true) × (edge.source ≡ place))
-    put (inl same) open is = inr (open, same)
-    put (inr other) open is = inl (sym (get_or-set_other marks edge.source place true false (λ same. other (sym same))) ∙ is)
+    put (inl same) opened is = inr (opened, same)
+    put (inr other) opened is = inl (sym (get_or-set_other marks edge.source place true false (λ same. other (sym same))) ∙ is)
 
     by : (b : Bool) → is_open latest edge ≡ b → is_marked (if b then set marks edge.source true else marks) place ≡ true
         → (is_marked marks place ≡ true) ⊎ ((is_open latest edge ≡ true) × (edge.source ≡ place))
-    by true open is = put (cases_eq edge.source place) open is
-    by false open is = inl is
+    by true opened is = put (cases_eq edge.source place) opened is
+    by false opened is = inl is
 
 marked_from : (latest : Times) (marks : Marks) (edges : List Edge) (place : ℕ) → is_marked (fold (with_mark latest) marks edges) place ≡ true
     → (is_marked marks place ≡ true) ⊎ OpenFrom latest edges place
@@ -74,7 +74,7 @@ marked_from latest marks (e ∷ es) place there = by (marked_from latest (with_m
   where
     one : (is_marked marks place ≡ true) ⊎ ((is_open latest e ≡ true) × (e.source ≡ place)) → (is_marked marks place ≡ true) ⊎ OpenFrom latest (e ∷ es) place
     one (inl before) = inl before
-    one (inr open) = inr (e, in_head e es, open.0, open.1)
+    one (inr opened) = inr (e, in_head e es, opened.0, opened.1)
 
     by : (is_marked (with_mark latest marks e) place ≡ true) ⊎ OpenFrom latest es place → (is_marked marks place ≡ true) ⊎ OpenFrom latest (e ∷ es) place
     by (inl first) = one (mark_from latest marks e place first)
@@ -83,19 +83,19 @@ marked_from latest marks (e ∷ es) place there = by (marked_from latest (with_m
 marked_to : (latest : Times) (marks : Marks) (edges : List Edge) (place : ℕ) → place < length marks
     → (is_marked marks place ≡ true) ⊎ OpenFrom latest edges place → is_marked (fold (with_mark latest) marks edges) place ≡ true
 marked_to latest marks [] place within (inl there) = there
-marked_to latest marks [] place within (inr open) = in_nil open.0 open.1
+marked_to latest marks [] place within (inr opened) = in_nil opened.0 opened.1
 marked_to latest marks (e ∷ es) place within (inl there) =
     marked_to latest (with_mark latest marks e) es place (subst (λ (n : ℕ). place < n) (sym (mark_length latest marks e)) within)
     (inl (mark_stays latest marks e place within there))
-marked_to latest marks (e ∷ es) place within (inr open) = by (in_cons e es open.0 open.1)
+marked_to latest marks (e ∷ es) place within (inr opened) =
+    by (marked_to latest (with_mark latest marks e) es place (subst (λ (n : ℕ). place < n) (sym (mark_length latest marks e)) within))
+    (in_cons e es opened.0 opened.1)
   where
-    inside : place < length (with_mark latest marks e)
-    inside = subst (λ (n : ℕ). place < n) (sym (mark_length latest marks e)) within
-
-    by : (e ≡ open.0) ⊎ Contains es open.0 → is_marked (fold (with_mark latest) marks (e ∷ es)) place ≡ true
-    by (inl same) = marked_to latest (with_mark latest marks e) es place inside
-        (inl (mark_put latest marks e place within (ap (is_open latest) same ∙ open.2) (ap (λ (x : Edge). x.source) same ∙ open.3)))
-    by (inr rest) = marked_to latest (with_mark latest marks e) es place inside (inr (open.0, rest, open.2, open.3))
+    by : ((is_marked (with_mark latest marks e) place ≡ true) ⊎ OpenFrom latest es place → is_marked (fold (with_mark latest) marks (e ∷ es)) place ≡ true)
+        → (e ≡ opened.0) ⊎ Contains es opened.0 → is_marked (fold (with_mark latest) marks (e ∷ es)) place ≡ true
+    by more (inl same) =
+        more (inl (mark_put latest marks e place within (ap (is_open latest) same ∙ opened.2) (ap (λ (x : Edge). x.source) same ∙ opened.3)))
+    by more (inr rest) = more (inr (opened.0, rest, opened.2, opened.3))
 
 pub open_from_mark : (count : ℕ) (latest : Times) (edges : List Edge) (place : ℕ) → place < count → is_marked (marks_of count latest edges) place ≡ true
     → OpenFrom latest edges place
@@ -103,12 +103,12 @@ open_from_mark count latest edges place within there = by (marked_from latest (r
   where
     by : (is_marked (replicate count false) place ≡ true) ⊎ OpenFrom latest edges place → OpenFrom latest edges place
     by (inl first) = absurd (false≢true (sym (get_or-replicate count place false false within) ∙ first))
-    by (inr open) = open
+    by (inr opened) = opened
 
 pub mark_from_open : (count : ℕ) (latest : Times) (edges : List Edge) (place : ℕ) → place < count → OpenFrom latest edges place
     → is_marked (marks_of count latest edges) place ≡ true
-mark_from_open count latest edges place within open =
-    marked_to latest (replicate count false) edges place (subst (λ (n : ℕ). place < n) (sym (length-replicate count false)) within) (inr open)
+mark_from_open count latest edges place within opened =
+    marked_to latest (replicate count false) edges place (subst (λ (n : ℕ). place < n) (sym (length-replicate count false)) within) (inr opened)
 
 -- ---- marked nodes
 
@@ -146,29 +146,29 @@ pub place_of_marked : (nodes : List Node) (marks : Marks) (count : ℕ) (n : Nod
     → (p : ℕ) × (p < count) × (marked_at nodes marks p ≡ Some n)
 place_of_marked nodes marks zero n at = in_nil n at
 place_of_marked nodes marks (suc count) n at =
-    by (Contains-append_cases (marked_below nodes marks count) (option_to_list (marked_at nodes marks count)) n at)
+    by (place_of_marked nodes marks count n)
+    (Contains-append_cases (marked_below nodes marks count) (option_to_list (marked_at nodes marks count)) n at)
   where
-    by : Contains (marked_below nodes marks count) n ⊎ Contains (option_to_list (marked_at nodes marks count)) n
+    by : (Contains (marked_below nodes marks count) n → (p : ℕ) × (p < count) × (marked_at nodes marks p ≡ Some n))
+        → Contains (marked_below nodes marks count) n ⊎ Contains (option_to_list (marked_at nodes marks count)) n
         → (p : ℕ) × (p < suc count) × (marked_at nodes marks p ≡ Some n)
-    by (inl before) =
-        let found = place_of_marked nodes marks count n before in
+    by more (inl before) =
+        let found = more before in
         let below : found.0 < suc count = omega (arith, found.1) in
         (found.0, below, found.2)
-    by (inr last) = (count, omega arith, in_list (marked_at nodes marks count) n last)
+    by more (inr last) = (count, omega arith, in_list (marked_at nodes marks count) n last)
 
 pub marked_of_place : (nodes : List Node) (marks : Marks) (count : ℕ) (p : ℕ) (n : Node) → p < count → marked_at nodes marks p ≡ Some n
     → Contains (marked_below nodes marks count) n
 marked_of_place nodes marks zero p n within is = absurd (omega (arith, within))
-marked_of_place nodes marks (suc count) p n within is = by (cases_eq p count)
+marked_of_place nodes marks (suc count) p n within is = by (λ below. marked_of_place nodes marks count p n below is) (cases_eq p count)
   where
-    rest : List Node
-    rest = option_to_list (marked_at nodes marks count)
-
-    by : (p ≡ count) ⊎ (p ≡ count → ⊥) → Contains (marked_below nodes marks count ++ rest) n
-    by (inl same) =
+    by : (p < count → Contains (marked_below nodes marks count) n) → (p ≡ count) ⊎ (p ≡ count → ⊥)
+        → Contains (marked_below nodes marks count ++ option_to_list (marked_at nodes marks count)) n
+    by more (inl same) =
         let there : marked_at nodes marks count ≡ Some n = subst (λ (q : ℕ). marked_at nodes marks q ≡ Some n) same is in
-        Contains-append_right (marked_below nodes marks count) rest n
+        Contains-append_right (marked_below nodes marks count) (option_to_list (marked_at nodes marks count)) n
         (subst (λ (o : Option Node). Contains (option_to_list o) n) (sym there) (in_head n []))
-    by (inr other) =
+    by more (inr other) =
         let below : p < count = omega (arith, within, other) in
-        Contains-append_left (marked_below nodes marks count) rest n (marked_of_place nodes marks count p n below is)
+        Contains-append_left (marked_below nodes marks count) (option_to_list (marked_at nodes marks count)) n (more below)

@@ -58,12 +58,13 @@ named_in (x ∷ xs) k at = elim (in_cons x xs k at) [
 
 key_named : (ks : List NodeKey) (n : Node) → Contains (map node_of ks) n → (k : NodeKey) × Contains ks k × (node_of k ≡ n)
 key_named [] n at = in_nil n at
-key_named (x ∷ xs) n at = by (in_cons (node_of x) (map node_of xs) n at)
+key_named (x ∷ xs) n at = by (key_named xs n) (in_cons (node_of x) (map node_of xs) n at)
   where
-    by : (node_of x ≡ n) ⊎ Contains (map node_of xs) n → (k : NodeKey) × Contains (x ∷ xs) k × (node_of k ≡ n)
-    by (inl same) = (x, in_head x xs, same)
-    by (inr rest) =
-        let found = key_named xs n rest in
+    by : (Contains (map node_of xs) n → (k : NodeKey) × Contains xs k × (node_of k ≡ n)) → (node_of x ≡ n) ⊎ Contains (map node_of xs) n
+        → (k : NodeKey) × Contains (x ∷ xs) k × (node_of k ≡ n)
+    by more (inl same) = (x, in_head x xs, same)
+    by more (inr rest) =
+        let found = more rest in
         (found.0, in_tail x xs found.0 found.1, found.2)
 
 module _ (keys sorted once : List NodeKey) (moved : IsPermutation keys sorted) (ordered : IsSorted key_cmp sorted)

@@ -91,12 +91,12 @@ module _ (nodes : List Node) (edges : List Edge) (latest : Times) where
   marked_open n at =
       let found = place_of_marked nodes marks (length nodes) n at in
       let parts = at_mark found.0 n found.2 in
-      let open = open_from_mark (length nodes) latest edges found.0 found.1 parts.0 in
-      let e : Edge = open.0 in
-      let there : slice_get nodes e.source ≡ Some n = subst (λ (p : ℕ). slice_get nodes p ≡ Some n) (sym open.3) parts.1 in
-      let source : open_source nodes latest e ≡ Some n = ap (λ (b : Bool). if b then slice_get nodes e.source else None) open.2 ∙ there in
+      let opened = open_from_mark (length nodes) latest edges found.0 found.1 parts.0 in
+      let e : Edge = opened.0 in
+      let there : slice_get nodes e.source ≡ Some n = subst (λ (p : ℕ). slice_get nodes p ≡ Some n) (sym opened.3) parts.1 in
+      let source : open_source nodes latest e ≡ Some n = ap (λ (b : Bool). if b then slice_get nodes e.source else None) opened.2 ∙ there in
       in_all node_exact [] (filter_map (open_source nodes latest) edges) n
-      (inr (in_filter_map (open_source nodes latest) edges e n open.1 source))
+      (inr (in_filter_map (open_source nodes latest) edges e n opened.1 source))
 
   open_marked : (n : Node) → Contains (open_sources graph latest) n → Contains marked n
   open_marked n at = by (from_all node_exact [] (filter_map (open_source nodes latest) edges) n at)

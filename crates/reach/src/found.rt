@@ -63,7 +63,7 @@ fn marked_keys<'a>(
 // Keys in the order of the report, each once.
 fn sorted_once(keys: Keys<'_>) -> Result<Keys<'_>, AllocError>
     ensures sorted { IfOk result (λ sorted. IsStrictlySortedBy node_cmp (map node_of sorted.items)) }
-    ensures nodes { IfOk result (λ sorted. SameNodes (map node_of keys.items) (map node_of sorted.items)) }
+    ensures nodes { IfOk result (λ sorted. SameNodes (map node_of keys.entry.items) (map node_of sorted.items)) }
 {
     let mut sorted = keys;
     sorted.sort()?;
