@@ -17,7 +17,6 @@ use Rattle.reach.specs.Found.{Times, placed, is_open, open_source, with_source, 
 use Rattle.reach.specs.Search.{AreLatest}
 use Rattle.trace_graph.specs.Building.{node_of}
 use Rattle.trace_graph.specs.declared.key.NodeKey.{NodeKey}
-use Rattle.reach.proofs.KeyLaws.{key_cmp, key_put}
 use Rattle.reach.proofs.Members.{in_nil, in_all, from_all, in_filter_map, from_filter_map}
 use Rattle.reach.proofs.PathLaws.{open_leads, leads_open}
 
@@ -37,23 +36,6 @@ node_exact (Row a) (Row b) is = ap Row (version_exact a b is)
 node_exact (Ask a) (Ask b) is = ap Ask (exact_unsigned a b is)
 node_exact (Reply a) (Reply b) is = ap Reply (exact_unsigned a b is)
 node_exact a b is = cc
-
--- ---- one edge more
-
-pub source_more : (acc : List Node) (o : Option Node) (f : Edge → Option Node) (e : Edge) (es : List Edge) → f e ≡ o
-    → fold placed acc (filter_map f (e ∷ es)) ≡ fold placed (with_source acc o) (filter_map f es)
-source_more acc None f e es is = ap (λ (o : Option Node). fold placed acc (cons_option o (filter_map f es))) is
-source_more acc (Some node) f e es is = ap (λ (o : Option Node). fold placed acc (cons_option o (filter_map f es))) is
-
--- the key of the source of an open edge is put in
-pub source_put : (old new : List NodeKey) (k : NodeKey) (nodes : List Node) (latest : Times) (edge : Edge) (node : Node)
-    → edge.source < length nodes → node ≡ get_or nodes edge.source node → node_of k ≡ node → is_open latest edge ≡ true
-    → new ≡ insert_key key_cmp old k → map node_of new ≡ with_source (map node_of old) (open_source nodes latest edge)
-source_put old new k nodes latest edge node within at named is put =
-    let there : open_source nodes latest edge ≡ Some node =
-    ap (λ (b : Bool). if b then slice_get nodes edge.source else None) is ∙ slice_get_read nodes (length nodes) edge.source node refl within at in
-    ap (map node_of) put ∙ key_put old k ∙ ap (placed (map node_of old)) named
-    ∙ sym (ap (with_source (map node_of old)) there)
 
 -- a graph is made of its nodes and edges
 pub in_graph : (graph : Parts) (nodes : List Node) (edges : List Edge) → nodes ≡ graph.nodes → edges ≡ graph.edges

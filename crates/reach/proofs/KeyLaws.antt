@@ -44,21 +44,6 @@ key_ordered (keys.Reply a) (keys.Row b r v) = refl
 key_ordered (keys.Reply a) (keys.Ask b) = refl
 key_ordered (keys.Reply a) (keys.Reply b) = refl
 
--- a key that is inserted
-pub key_put : (ks : List NodeKey) (k : NodeKey) → map node_of (insert_key key_cmp ks k) ≡ placed (map node_of ks) (node_of k)
-key_put [] k = refl
-key_put (x ∷ xs) k = by (key_put xs k) (key_cmp k x) (key_ordered k x)
-  where
-    by : map node_of (insert_key key_cmp xs k) ≡ placed (map node_of xs) (node_of k) → (o : Ordering) → o ≡ node_cmp (node_of k) (node_of x)
-        → map node_of (match_ordering o (k ∷ x ∷ xs) (x ∷ xs) (x ∷ insert_key key_cmp xs k))
-        ≡ match_ordering (node_cmp (node_of k) (node_of x)) (node_of k ∷ node_of x ∷ map node_of xs) (node_of x ∷ map node_of xs)
-        (node_of x ∷ placed (map node_of xs) (node_of k))
-    by rest Less is = ap (λ (o : Ordering). match_ordering o (node_of k ∷ node_of x ∷ map node_of xs) (node_of x ∷ map node_of xs) (node_of x ∷ placed (map node_of xs) (node_of k))) is
-    by rest Equal is = ap (λ (o : Ordering). match_ordering o (node_of k ∷ node_of x ∷ map node_of xs) (node_of x ∷ map node_of xs) (node_of x ∷ placed (map node_of xs) (node_of k))) is
-    by rest Greater is =
-        ap (λ (l : List Node). node_of x ∷ l) rest
-        ∙ ap (λ (o : Ordering). match_ordering o (node_of k ∷ node_of x ∷ map node_of xs) (node_of x ∷ map node_of xs) (node_of x ∷ placed (map node_of xs) (node_of k))) is
-
 -- sorted keys name sorted nodes
 above : (k : NodeKey) (ks : List NodeKey) → AllByRecursion (λ y. key_cmp k y ≡ Less) ks → AllByRecursion (λ y. node_cmp (node_of k) y ≡ Less) (map node_of ks)
 above k [] all = tt

@@ -7,6 +7,9 @@ pub mod WorkLaws
 pub mod TurnLaws
 pub mod KeyLaws
 pub mod FoundLaws
+pub mod MarkLaws
+pub mod OnceLaws
+pub mod SortedLaws
 pub mod PassLaws
 pub mod SameLaws
 pub mod OrderLaws

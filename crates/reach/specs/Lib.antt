@@ -2,6 +2,7 @@ pub mod Types
 pub mod Order
 pub mod Reach
 pub mod Found
+pub mod Marks
 pub mod Incoming
 pub mod Search
 pub mod ReachLaws

@@ -1,48 +1,77 @@
 //! The nodes that are found.
 
-ghost use Rattle.std.specs.Prelude.{◌≡◌, ◌<◌, length, map, IfOk, OnOk, IsTrue};
+ghost use Rattle.std.specs.Prelude.{◌≡◌, ◌<◌, ◌++◌, length, map, option_to_list, IfOk, OnOk, IsTrue};
 ghost use Rattle.std.specs.List.Sorted.{IsStrictlySortedBy};
 ghost use Rattle.trace_graph.specs.Graph.{Parts, are_between};
 ghost use Rattle.trace_graph.specs.Building.{node_of};
 ghost use Rattle.reach.specs.Order.{node_cmp};
-ghost use Rattle.reach.specs.Found.{is_open, open_sources, open_source, with_source};
+ghost use Rattle.reach.specs.Found.{open_sources};
+ghost use Rattle.reach.specs.Marks.{is_marked, marked_at, marked_below, SameNodes};
 
-use crate::latest::{reaches, time_at};
+use crate::marks::open_marks;
 use std::alloc::{AllocError, Global};
-use std::collections::BTreeSet;
-use trace_graph::{Edge, Node, NodeKey, Nodes, key_of, node_at};
+use trace_graph::{Edge, Node, NodeKey, Nodes, key_of, nodes_of};
 
-/// Nodes, in the order of the report.
-type Keys<'a> = BTreeSet<NodeKey<'a>>;
+/// Keys of nodes, in any order.
+type Keys<'a> = Vec<NodeKey<'a>>;
 
-// Whether what an edge brings to its target still gets to the node in time.
-fn is_open(latest: &[Option<u32>], edge: &Edge) -> bool
-    requires { edge.now.target < length latest.now }
-    ensures { result ≡ is_open latest.now edge.now }
+#[tactic(auto, using(crate::proofs::MarkLaws::mark_read))]
+fn is_marked(marks: &[bool], place: usize) -> bool
+    requires { place < length marks.now }
+    ensures { result ≡ is_marked marks.now place }
 {
-    edge.first <= edge.last && reaches(edge.first, time_at(latest, edge.target))
+    marks[place]
 }
 
-// Adds the node that an edge comes from, if the edge is open.
-fn add_source<'a>(
+// Adds the node at a place, if it is marked.
+fn add_marked<'a>(
     keys: &mut Keys<'a>,
     nodes: &'a [Node],
-    latest: &[Option<u32>],
-    edge: &Edge,
+    marks: &[bool],
+    place: usize,
 ) -> Result<(), AllocError>
-    requires source { edge.now.source < length nodes.now }
-    requires target { edge.now.target < length latest.now }
-    ensures { OnOk result (map node_of keys.new.keys
-        ≡ with_source (map node_of keys.old.keys) (open_source nodes.now latest.now edge.now)) }
+    requires nodes { place < length nodes.now }
+    requires marks { place < length marks.now }
+    ensures { OnOk result (map node_of keys.new.items
+        ≡ map node_of keys.old.items ++ option_to_list (marked_at nodes.now marks.now place)) }
 {
-    if !is_open(latest, edge) {
+    if !is_marked(marks, place) {
         return Ok(());
     }
-    keys.insert(key_of(&nodes[edge.source]))?;
+    keys.push(key_of(&nodes[place]))?;
     Ok(())
 }
 
-// The nodes that open edges come from.
+// The marked nodes, in the order of their places.
+#[tactic(auto, using(crate::proofs::MarkLaws::marked_more))]
+fn marked_keys<'a>(
+    alloc: Global,
+    nodes: &'a [Node],
+    marks: &[bool],
+) -> Result<Keys<'a>, AllocError>
+    requires { length marks.now ≡ length nodes.now }
+    ensures { IfOk result (λ keys. map node_of keys.items
+        ≡ marked_below nodes.now marks.now (length nodes.now)) }
+{
+    let mut keys = Keys::new(alloc);
+    for place in 0..nodes.len() {
+        add_marked(&mut keys, nodes, marks, place)?;
+    }
+    Ok(keys)
+}
+
+// Keys in the order of the report, each once.
+fn sorted_once(keys: Keys<'_>) -> Result<Keys<'_>, AllocError>
+    ensures sorted { IfOk result (λ sorted. IsStrictlySortedBy node_cmp (map node_of sorted.items)) }
+    ensures nodes { IfOk result (λ sorted. SameNodes (map node_of keys.entry.items) (map node_of sorted.items)) }
+{
+    let mut sorted = keys;
+    sorted.sort()?;
+    sorted.dedup();
+    Ok(sorted)
+}
+
+// The keys of the nodes that open edges come from, in the order of the report, each once.
 fn open_keys<'a>(
     alloc: Global,
     nodes: &'a [Node],
@@ -51,35 +80,14 @@ fn open_keys<'a>(
 ) -> Result<Keys<'a>, AllocError>
     requires between { IsTrue (are_between (length nodes.now) edges.now) }
     requires latest { length latest.now ≡ length nodes.now }
-    ensures { IfOk result (λ keys. map node_of keys.keys
+    ensures keys { IfOk result (λ keys. map node_of keys.items
         ≡ open_sources (record { nodes = nodes.now; edges = edges.now }) latest.now) }
+    ensures sorted { IfOk result (λ keys. IsStrictlySortedBy node_cmp (map node_of keys.items)) }
 {
-    let mut keys = Keys::new(alloc);
-    for edge in edges {
-        add_source(&mut keys, nodes, latest, edge)?;
-    }
-    Ok(keys)
-}
-
-// How many keys there are. Their nodes are in the order of the report.
-#[tactic(auto, using(crate::proofs::KeyLaws::keys_sorted))]
-fn count(keys: &Keys<'_>) -> usize
-    ensures count { result ≡ length keys.now.keys }
-    ensures sorted { IsStrictlySortedBy node_cmp (map node_of keys.now.keys) }
-{
-    keys.len()
-}
-
-// The nodes of keys, with texts of their own.
-fn nodes_of(alloc: Global, keys: &Keys<'_>) -> Result<Nodes, AllocError>
-    ensures nodes { IfOk result (λ nodes. nodes ≡ map node_of keys.now.keys) }
-    ensures sorted { OnOk result (IsStrictlySortedBy node_cmp (map node_of keys.now.keys)) }
-{
-    let mut nodes = Nodes::with_capacity(alloc, count(keys))?;
-    for key in keys {
-        nodes.push(node_at(alloc, key)?)?;
-    }
-    Ok(nodes)
+    let marks = open_marks(alloc, nodes.len(), edges, latest)?;
+    let keys = marked_keys(alloc, nodes, &marks)?;
+    let sorted = sorted_once(keys)?;
+    Ok(sorted)
 }
 
 /// The nodes that open edges come from, in the order of the report, each once.
@@ -96,6 +104,6 @@ pub(crate) fn found(
     ensures sorted { IfOk result (IsStrictlySortedBy node_cmp) }
 {
     let keys = open_keys(alloc, nodes, edges, latest)?;
-    let nodes = nodes_of(alloc, &keys)?;
+    let nodes = nodes_of(alloc, keys.as_slice())?;
     Ok(nodes)
 }

@@ -21,6 +21,7 @@ mod found;
 mod incoming;
 mod latest;
 mod law;
+mod marks;
 mod search;
 mod sources;
 

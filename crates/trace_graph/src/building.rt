@@ -19,14 +19,15 @@ pub(crate) struct Building<'a> {
 }
 
 impl<'a> Building<'a> {
-    // No node and no edge. It takes no memory.
-    fn new(alloc: Global) -> Building<'a>
-        ensures { parts_of result ≡ no_parts }
+    // No node and no edge, with room for so many.
+    fn with_room(alloc: Global, room: Room) -> Result<Building<'a>, AllocError>
+        ensures { IfOk result (λ building. parts_of building ≡ no_parts) }
     {
-        Building {
-            keys: NodeKeys::new(alloc),
-            spans: Spans::new(alloc),
-        }
+        let Room { nodes, edges } = room;
+        Ok(Building {
+            keys: NodeKeys::with_capacity(alloc, nodes)?,
+            spans: Spans::with_capacity(alloc, edges)?,
+        })
     }
 
     /// Links one node to another at a time.
@@ -44,6 +45,51 @@ impl<'a> Building<'a> {
         let to = number(&mut self.keys, target)?;
         add_time(&mut self.spans, from, to, time)
     }
+}
+
+// How many nodes and edges there may be: tables that grow take a sixth of the time.
+#[derive(Clone, Copy)]
+struct Room {
+    nodes: usize,
+    edges: usize,
+}
+
+impl Room {
+    // With that for an act that takes more than a few. Rows that are read may have been read before, so they
+    // take no room for nodes.
+    fn with_act(self, act: &Act) -> Room {
+        match act {
+            Act::Asked {
+                statement: _,
+                tables: _,
+                reads,
+                made,
+            } => self.with_statement(reads.len(), made.len()),
+            _ => self,
+        }
+    }
+
+    // A statement and its reply; an edge to each of them and one from the reply; one from each row that was
+    // read, one to each version made, and one from what that was made of.
+    fn with_statement(self, reads: usize, made: usize) -> Room {
+        let changes = made.saturating_mul(2);
+        Room {
+            nodes: self.nodes.saturating_add(made).saturating_add(2),
+            edges: self
+                .edges
+                .saturating_add(reads)
+                .saturating_add(changes)
+                .saturating_add(3),
+        }
+    }
+}
+
+fn room_of(events: &[Event]) -> Room {
+    let mut room = Room { nodes: 0, edges: 0 };
+    for event in events {
+        room = room.with_act(&event.act);
+    }
+    room
 }
 
 // The number of processes that were made, after an act.
@@ -80,7 +126,7 @@ pub(crate) fn build<'a>(alloc: Global, events: &'a [Event]) -> Result<Building<'
     requires { IsTrue (made_fits 1 events.now) }
     ensures { IfOk result (λ building. parts_of building ≡ with_events no_parts 1 events.now) }
 {
-    let mut building = Building::new(alloc);
+    let mut building = Building::with_room(alloc, room_of(events))?;
     let mut made = 1;
     for event in events {
         building.link_event(made, event)?;

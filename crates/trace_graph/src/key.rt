@@ -76,8 +76,8 @@ pub(crate) fn number<'a>(keys: &mut NodeKeys<'a>, key: NodeKey<'a>) -> Result<us
     Ok(place)
 }
 
-/// The node of a key, with texts of its own.
-pub fn node_at(alloc: Global, key: &NodeKey<'_>) -> Result<Node, AllocError>
+// The node of a key, with texts of its own.
+fn node_at(alloc: Global, key: &NodeKey<'_>) -> Result<Node, AllocError>
     ensures { IfOk result (λ node. node ≡ node_of key.now) }
 {
     match key {
@@ -93,8 +93,8 @@ pub fn node_at(alloc: Global, key: &NodeKey<'_>) -> Result<Node, AllocError>
     }
 }
 
-/// The nodes of keys, in their order.
-pub(crate) fn nodes_of(alloc: Global, keys: &[NodeKey<'_>]) -> Result<Nodes, AllocError>
+/// The nodes of keys, in their order, with texts of their own.
+pub fn nodes_of(alloc: Global, keys: &[NodeKey<'_>]) -> Result<Nodes, AllocError>
     ensures { IfOk result (λ nodes. nodes ≡ map node_of keys.now) }
 {
     let mut nodes = Nodes::with_capacity(alloc, keys.len())?;

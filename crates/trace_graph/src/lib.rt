@@ -9,7 +9,7 @@
 //!   first seen, and one edge for each pair of nodes, with the first and the last of its times;
 //! - `nodes` and `edges` lend these lists; each edge is between places of nodes;
 //! - `place` is where a node is in the list of nodes;
-//! - `NodeKey` is a node without a copy of its texts, `key_of` and `node_at` lead from one to the other
+//! - `NodeKey` is a node without a copy of its texts, `key_of` and `nodes_of` lead from one to the other
 //!   (`node_of` of `specs/Building.antt`);
 //! - `graph_law`: which nodes and edges a graph has, said of the links that it was made of
 //!   (`specs/GraphLaws.antt`), and which row versions, said of the events (`specs/VersionLaws.antt`);
@@ -33,7 +33,7 @@ mod well_formed;
 
 pub use edge::{Edge, Edges};
 pub use graph::Graph;
-pub use key::{NodeKey, key_of, node_at};
+pub use key::{NodeKey, key_of, nodes_of};
 pub use law::{graph_law, well_formed_law};
 pub use node::{Node, Nodes};
 pub use well_formed::is_well_formed;
