@@ -1,22 +1,19 @@
 -- The nodes that open edges come from are those from which a path leads to the node.
-use Rattle.std.proofs.Common.{◌≡◌, ◌∙◌, sym, ap, subst, refl, inl, inr, ◌⊎◌, ℕ, ◌<◌, Bool, true, false}
-use Rattle.std.proofs.Common.{List, [], ◌∷◌, length, get_or, map, Option, Some, None}
-use Rattle.std.specs.Prelude.{◌↔◌, Contains, fold, slice_get, if◌then◌else◌}
-use Rattle.std.specs.List.{filter_map, cons_option}
+use Rattle.std.proofs.Common.{◌≡◌, ◌∙◌, sym, ap, subst, refl, inl, inr, ◌⊎◌, ℕ, Bool, true, false}
+use Rattle.std.proofs.Common.{List, [], Some, None}
+use Rattle.std.specs.Prelude.{◌↔◌, Contains, slice_get, if◌then◌else◌}
+use Rattle.std.specs.List.{filter_map}
 use Rattle.std.specs.List.Sorted.{IsStrictlySortedBy}
 use Rattle.std.specs.Ordering.{nat_cmp, ordering_then}
 use Rattle.std.specs.Cmp.Lexicographic.{slice_cmp}
-use Rattle.std.specs.BTreeSet.{insert_key}
 use Rattle.std.proofs.lemmas.Map.Lookups.{CmpEqualImpliesEq, exact_unsigned, exact_bytes, exact_pairs}
-use Rattle.std.proofs.lemmas.Option.{none-some, slice_get_read}
+use Rattle.std.proofs.lemmas.Option.{none-some}
 use Rattle.trace_graph.specs.Graph.{Parts}
 use Rattle.reach.specs.Types.{Node, Path, Process, Row, Ask, Reply, Edge}
 use Rattle.reach.specs.Order.{version_cmp, node_cmp}
 use Rattle.reach.specs.Reach.{IsSource, AreSources}
-use Rattle.reach.specs.Found.{Times, placed, is_open, open_source, with_source, open_sources}
+use Rattle.reach.specs.Found.{Times, is_open, open_source, open_sources}
 use Rattle.reach.specs.Search.{AreLatest}
-use Rattle.trace_graph.specs.Building.{node_of}
-use Rattle.trace_graph.specs.declared.key.NodeKey.{NodeKey}
 use Rattle.reach.proofs.Members.{in_nil, in_all, from_all, in_filter_map, from_filter_map}
 use Rattle.reach.proofs.PathLaws.{open_leads, leads_open}
 

@@ -1,15 +1,11 @@
 -- Keys are in the order of the nodes that they name.
-use Rattle.std.proofs.Common.{◌≡◌, ◌∙◌, sym, ap, refl, List, [], ◌∷◌, map}
+use Rattle.std.proofs.Common.{◌≡◌, ◌∙◌, sym, refl, List, [], ◌∷◌, map}
 use Rattle.std.specs.List.{AllByRecursion}
 use Rattle.std.specs.List.Sorted.{IsStrictlySortedBy}
-use Rattle.std.specs.Ordering.{match_ordering}
-use Rattle.std.specs.BTreeSet.{insert_key}
 use Rattle.std.specs.declared.cmp.Ordering.{Ordering}
-use Rattle.std.specs.declared.cmp.Ordering.TheVariants.{Less, Equal, Greater}
-use Rattle.reach.specs.Types.{Node}
+use Rattle.std.specs.declared.cmp.Ordering.TheVariants.{Less}
 use Rattle.reach.specs.Order.{node_cmp}
 use Rattle.trace_graph.specs.Building.{node_of}
-use Rattle.reach.specs.Found.{placed}
 use Rattle.trace_graph.specs.declared.key.NodeKey.{NodeKey}
 use Rattle.trace_graph.specs.declared.key.NodeKey.TheVariants as keys
 use Rattle.trace_graph.specs.contracts.key.NodeKeyOrd.TheImpl as key_order

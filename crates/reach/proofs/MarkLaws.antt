@@ -5,13 +5,13 @@ use Rattle.std.specs.Prelude.{Contains, fold, replicate, slice_get, option_to_li
 use Rattle.std.proofs.lemmas.Bool.{false≢true, cases_eq}
 use Rattle.std.proofs.lemmas.List.Elements.{Contains-append_left, Contains-append_right, Contains-append_cases}
 use Rattle.std.proofs.lemmas.List.{append-nil, map-append, get_or-set_same, get_or-set_other, get_or_default, get_or-replicate, length-set, length-replicate}
-use Rattle.std.proofs.lemmas.Option.{none-some, slice_get_read, slice_get_within}
+use Rattle.std.proofs.lemmas.Option.{slice_get_read}
 use Rattle.reach.specs.Types.{Node, Edge}
-use Rattle.reach.specs.Found.{Times, is_open, open_source}
+use Rattle.reach.specs.Found.{Times, is_open}
 use Rattle.reach.specs.Marks.{Marks, with_mark, marks_of, is_marked, marked_at, marked_below}
 use Rattle.trace_graph.specs.Building.{node_of}
 use Rattle.trace_graph.specs.declared.key.NodeKey.{NodeKey}
-use Rattle.reach.proofs.Members.{in_nil, in_head, in_tail, in_cons, in_same}
+use Rattle.reach.proofs.Members.{in_nil, in_head, in_tail, in_cons}
 
 pub mark_read : (marks : Marks) (place : ℕ) (b : Bool) → place < length marks → b ≡ get_or marks place b → b ≡ is_marked marks place
 mark_read marks place b within is = is ∙ get_or_default marks place b false within

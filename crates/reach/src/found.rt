@@ -44,11 +44,7 @@ fn add_marked<'a>(
 
 // The marked nodes, in the order of their places.
 #[tactic(auto, using(crate::proofs::MarkLaws::marked_more))]
-fn marked_keys<'a>(
-    alloc: Global,
-    nodes: &'a [Node],
-    marks: &[bool],
-) -> Result<Keys<'a>, AllocError>
+fn marked_keys<'a>(alloc: Global, nodes: &'a [Node], marks: &[bool]) -> Result<Keys<'a>, AllocError>
     requires { length marks.now ≡ length nodes.now }
     ensures { IfOk result (λ keys. map node_of keys.items
         ≡ marked_below nodes.now marks.now (length nodes.now)) }
@@ -63,7 +59,8 @@ fn marked_keys<'a>(
 // Keys in the order of the report, each once.
 fn sorted_once(keys: Keys<'_>) -> Result<Keys<'_>, AllocError>
     ensures sorted { IfOk result (λ sorted. IsStrictlySortedBy node_cmp (map node_of sorted.items)) }
-    ensures nodes { IfOk result (λ sorted. SameNodes (map node_of keys.entry.items) (map node_of sorted.items)) }
+    ensures nodes { IfOk result (λ sorted. SameNodes (map node_of keys.entry.items)
+        (map node_of sorted.items)) }
 {
     let mut sorted = keys;
     sorted.sort()?;

@@ -1,6 +1,6 @@
 -- Nodes repeat where their keys do, and edges where their places do.
-use Rattle.std.proofs.Common.{◌≡◌, ◌∙◌, sym, ap, refl, ℕ, Bool, true, false, not, List, map, Bor}
-use Rattle.std.specs.Prelude.{◌&&◌, ◌==◌}
+use Rattle.std.proofs.Common.{◌≡◌, ◌∙◌, sym, ap, refl, ℕ, List, map, Bor}
+use Rattle.std.specs.Prelude.{◌&&◌}
 use Rattle.std.specs.Cmp.{unsigned_tied}
 use Rattle.std.specs.Cmp.Lexicographic.{slice_cmp}
 use Rattle.std.specs.Ordering.{nat_cmp, ordering_then, is_eq, eq_by_cmp}

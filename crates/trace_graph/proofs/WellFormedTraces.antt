@@ -1,15 +1,13 @@
 -- The graph of a valid trace is well formed.
-use Rattle.std.proofs.Common.{◌≡◌, ◌∙◌, sym, ap, refl, arith, ℕ, ◌-◌, ◌≤◌, Bool, true, false, not, cond, ◌||◌, List, [], ◌∷◌, ◌++◌, map, length, Option, Some, None, IsTrue}
-use Rattle.std.specs.Prelude.{◌&&◌, ◌==◌, min, max, fold, nat_le, nat_lt, bytes_eq, option_map}
+use Rattle.std.proofs.Common.{◌≡◌, ◌∙◌, ap, refl, arith, ℕ, ◌≤◌, Bool, true, false, not, cond, ◌||◌, List, [], ◌∷◌, ◌++◌, map, length, Option, Some, None, IsTrue}
+use Rattle.std.specs.Prelude.{◌&&◌, ◌==◌, min, max, fold, nat_le, nat_lt, option_map}
 use Rattle.std.specs.List.{filter, flat_map, filter_map, cons_option, list_any, list_all, AllByRecursion}
 use Rattle.std.proofs.lemmas.Bool.{le-leb, leb-true, eqb-true}
 use Rattle.std.proofs.lemmas.Slice.Eq.{bytes_eq-Decides}
 use Rattle.ldv_value.proofs.Booleans.{and-first, and-second, and-from, or-from, false≢true}
 use Rattle.ldv_value.specs.Limits.{max_steps, max_processes}
 use Rattle.ldv_value.specs.Names.{path_test}
-use Rattle.ldv_value.specs.Sorted.{is_strictly_sorted, text_precedes}
 use Rattle.sql_model.specs.Keys.{repeats}
-use Rattle.sql_model.specs.MemberOrder.{member_precedes, need_precedes}
 use Rattle.sql_model.specs.SqlNames.{sql_name_test}
 use Rattle.run_model.specs.declared.event.Act.TheVariants as acts
 use Rattle.run_model.specs.ValidTrace.{Progress, progress_after, act_rule, event_rule, made_after, follows, at_start}
@@ -17,8 +15,8 @@ use Rattle.run_model.specs.ValidTrace.{starts, starts_on, trace_test, named_rule
 use Rattle.trace_graph.specs.Types.{Member, Need, Act, Event, Node, Row, Edge}
 use Rattle.trace_graph.specs.Links.{Link, link, read_link, made_link, version_before, at_version, change_link}
 use Rattle.trace_graph.specs.Links.{act_links, event_links, links_after, links_of}
-use Rattle.trace_graph.specs.Graph.{same_node, same_ends, distinct, ends, nodes_of, place_in, times_of, edge_of, graph_by, graph_of, are_between}
-use Rattle.trace_graph.specs.WellFormed.{node_rule, same_places, times_rule, well_formed, WellFormed, WellFormedLaw, EndLaw}
+use Rattle.trace_graph.specs.Graph.{same_node, same_ends, distinct, ends, nodes_of, place_in, times_of, edge_of, graph_by, are_between}
+use Rattle.trace_graph.specs.WellFormed.{node_rule, same_places, times_rule, WellFormed, WellFormedLaw, EndLaw}
 use Rattle.trace_graph.proofs.Distinct.{AllApart, distinct_apart, all_distinct}
 use Rattle.trace_graph.proofs.NodeLaws.{node_laws}
 use Rattle.trace_graph.proofs.PlaceLaws.{same_place}

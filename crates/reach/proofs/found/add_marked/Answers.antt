@@ -1,6 +1,6 @@
 use Rattle.std.proofs.Common.{◌≡◌, true, rules}
 use Rattle.reach.specs.Marks.{is_marked}
-use Rattle.reach.proofs.MarkLaws.{marked_put, marked_none}
+use Rattle.reach.proofs.MarkLaws.{marked_put}
 use Rattle.reach.proofs.found.add_marked.Goals as goal
 
 pub returns : goal.returns

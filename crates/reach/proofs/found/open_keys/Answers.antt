@@ -1,4 +1,4 @@
-use Rattle.std.proofs.Common.{◌≡◌, ◌∙◌, ap, length, map, rules, List}
+use Rattle.std.proofs.Common.{◌≡◌, ◌∙◌, ap, length, map, List}
 use Rattle.trace_graph.specs.Building.{node_of}
 use Rattle.reach.specs.Types.{Node, Edge}
 use Rattle.reach.specs.Found.{Times}
