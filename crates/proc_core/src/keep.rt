@@ -1,7 +1,7 @@
 //! Steps that ask nothing.
 
 ghost use Rattle.std.specs.Prelude.{◌≡◌, ◌+◌, ◌<◌, ◌^◌, length, Some, map, slice_get, slice_set};
-ghost use Rattle.std.specs.Prelude.{ℕ, IfOk, OnOk, OnSome};
+ghost use Rattle.std.specs.Prelude.{ℕ, OnOk, OnSome};
 ghost use Rattle.std.specs.Option.{option_map};
 ghost use Rattle.run_model.specs.Core.{Core};
 ghost use Rattle.run_model.specs.Events.{event_at};
@@ -215,49 +215,32 @@ fn keep_by<T: Tracer>(
 
 /// The next step of a process, which asks nothing and makes no process.
 pub(crate) fn keep<T: Tracer>(
-    machine: Machine,
+    machine: &mut Machine,
     who: Who,
     tracer: &mut T,
-) -> Result<Machine, AllocError>
-    requires kept { IsKept (next_slotted machine.codes (slice_get machine.processes.items who.number)) }
-    ensures core { IfOk result (λ after. (c : Core) → IsCore machine c
-        → IsCore after (quiet who.number c).core) }
-    ensures told { IfOk result (λ after. (c : Core) → IsCore machine c
+) -> Result<(), AllocError>
+    requires kept { IsKept (next_slotted machine.old.codes
+        (slice_get machine.old.processes.items who.number)) }
+    ensures core { OnOk result ((c : Core) → IsCore machine.old c
+        → IsCore machine.new (quiet who.number c).core) }
+    ensures told { OnOk result ((c : Core) → IsCore machine.old c
         → Told T.KEEPS (T.events tracer.old) (T.events tracer.new) (map (event_at who.step who.number)
         (quiet who.number c).acts)) }
-    ensures grows { IfOk result (λ after. Grows machine who.number after) }
-    ensures counted { IfOk result (λ after. (n : ℕ) → CountsBelow n machine → CountsBelow n after) }
+    ensures grows { OnOk result (Grows machine.old who.number machine.new) }
+    ensures counted { OnOk result ((n : ℕ) → CountsBelow n machine.old → CountsBelow n machine.new) }
 {
     let past = who.number >= machine.processes.len();
     if past {
-        return Ok(machine);
+        return Ok(());
     }
-    let Machine {
-        alloc,
-        codes,
-        mut processes,
-        mut tree,
-        seed,
-        last,
-        x,
-        asked,
-        ready,
-        parents,
-        runners,
-    } = machine;
-    let instr = next_of(&codes, &processes, who.number);
-    keep_by(alloc, instr, who, &mut processes, &mut tree, tracer)?;
-    Ok(Machine {
-        alloc,
-        codes,
-        processes,
-        tree,
-        seed,
-        last,
-        x,
-        asked,
-        ready,
-        parents,
-        runners,
-    })
+    let instr = next_of(&machine.codes, &machine.processes, who.number);
+    keep_by(
+        machine.alloc,
+        instr,
+        who,
+        &mut machine.processes,
+        &mut machine.tree,
+        tracer,
+    )?;
+    Ok(())
 }

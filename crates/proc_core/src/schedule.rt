@@ -129,39 +129,15 @@ pub(crate) fn choose(machine: &Machine) -> u32
     pick(&machine.ready, machine.seed, machine.last, x)
 }
 
-/// The machine in which a process was chosen.
-pub(crate) fn schedule(machine: Machine, number: u32) -> Machine
-    ensures core { (c : Core) → IsCore machine c → IsCore result (scheduled number c) }
-    ensures ready { result.ready ≡ machine.ready }
-    ensures parents { result.parents ≡ machine.parents }
-    ensures processes { result.processes ≡ machine.processes }
-    ensures asked { result.asked ≡ machine.asked }
+/// Notes that a process was chosen.
+pub(crate) fn schedule(machine: &mut Machine, number: u32)
+    ensures core { (c : Core) → IsCore machine.old c → IsCore machine.new (scheduled number c) }
+    ensures ready { machine.new.ready ≡ machine.old.ready }
+    ensures parents { machine.new.parents ≡ machine.old.parents }
+    ensures processes { machine.new.processes ≡ machine.old.processes }
+    ensures asked { machine.new.asked ≡ machine.old.asked }
 {
-    let Machine {
-        alloc,
-        codes,
-        processes,
-        tree,
-        seed,
-        last: _,
-        x,
-        asked,
-        ready,
-        parents,
-        runners,
-    } = machine;
-    let moved = moved_x(seed, x);
-    Machine {
-        alloc,
-        codes,
-        processes,
-        tree,
-        seed,
-        last: number,
-        x: moved,
-        asked,
-        ready,
-        parents,
-        runners,
-    }
+    let moved = moved_x(machine.seed, machine.x);
+    machine.last = number;
+    machine.x = moved;
 }
