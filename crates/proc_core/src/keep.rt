@@ -129,6 +129,7 @@ fn child_status(processes: &[SlotProcess], child: Option<u32>) -> Option<u8>
 }
 
 /// The status of a process, where it has ended.
+#[inline(always)]
 pub(crate) fn status_in(processes: &[SlotProcess], number: usize) -> Option<u8>
     ensures { result ≡ slot_status_in processes.now number }
 {

@@ -121,6 +121,7 @@ fn pick(ready: &ReadySet, seed: u64, last: u32, x: u64) -> u32
 }
 
 /// The creation number of the process that the seed chooses.
+#[inline(always)]
 pub(crate) fn choose(machine: &Machine) -> u32
     ensures { (c : Core) → IsCore machine.now c → machine.now.ready.flags ≡ runnable_flags c.processes
         → result ≡ choose None c }
