@@ -9,7 +9,7 @@ ghost use Rattle.run_model.specs.Step.{quiet};
 ghost use Rattle.proc_core.specs.SlotOwn.{slot_own};
 ghost use Rattle.proc_core.specs.Counts.{CountsBelow};
 ghost use Rattle.proc_core.specs.SlotReady.{Grows};
-ghost use Rattle.proc_core.specs.SlotStep.{HasRoom, IsKept, next_slotted, slot_effect};
+ghost use Rattle.proc_core.specs.SlotStep.{HasRoom, IsKept, next_slotted, slot_effect, slot_is_kept};
 ghost use Rattle.ldv_value.specs.FileState.{FileState};
 ghost use Rattle.proc_core.specs.Slots.{child_at, slot_ended};
 ghost use Rattle.proc_core.specs.SlotFiles.{slot_on_files};
@@ -212,6 +212,43 @@ fn keep_by<T: Tracer>(
             Ok(())
         }
     }
+}
+
+// Whether a step asks nothing and makes no process, by its instruction.
+#[inline(always)]
+fn is_kept(instr: Option<&SlotInstr>) -> bool
+    ensures { result ≡ slot_is_kept (option_map (λ i. i.now) instr.entry) }
+{
+    match instr {
+        Some(SlotInstr::Own(_)) => true,
+        Some(SlotInstr::OnFiles(_)) => true,
+        Some(
+            SlotInstr::Spawn {
+                child: _,
+                path: _,
+                arguments: _,
+                place: _,
+            },
+        ) => false,
+        Some(SlotInstr::Wait { to: _, child: _ }) => true,
+        Some(
+            SlotInstr::Sql {
+                cursor: _,
+                text: _,
+                params: _,
+            },
+        ) => false,
+        None => true,
+    }
+}
+
+/// Whether the next step of a process asks nothing and makes no process.
+#[inline(always)]
+pub(crate) fn is_kept_at(machine: &Machine, number: usize) -> bool
+    ensures { result ≡ slot_is_kept (next_slotted machine.now.codes
+        (slice_get machine.now.processes.items number)) }
+{
+    is_kept(next_of(&machine.codes, &machine.processes, number))
 }
 
 /// The next step of a process, which asks nothing and makes no process.

@@ -17,7 +17,7 @@ ghost use Rattle.proc_core.specs.declared.ask.Statement.{Statement};
 ghost use Rattle.proc_core.specs.declared.process.SlotProcess.{SlotProcess};
 
 use crate::ask::{Statement, ask_at, take_at};
-use crate::keep::{keep, status_in};
+use crate::keep::{is_kept_at, keep, status_in};
 use crate::launch::spawn;
 use crate::machine::Machine;
 use crate::process::SlotProcess;
@@ -321,8 +321,15 @@ pub(crate) fn move_on<D: Database, T: Tracer>(
     ensures grows { OnOk result (Grows machine.old who.number machine.new) }
     ensures counted { OnOk result (CountsBelow (who.step + 1) machine.new) }
 {
-    match ask_at(machine, who.number) {
-        Ok(asked) => move_by(machine, who, asked, db, tracer),
-        Err(AllocError) => Err(Stopped::NoMemory),
+    if is_kept_at(machine, who.number) {
+        match keep_on(machine, who, tracer) {
+            Ok(()) => Ok(()),
+            Err(AllocError) => Err(Stopped::NoMemory),
+        }
+    } else {
+        match ask_at(machine, who.number) {
+            Ok(asked) => move_by(machine, who, asked, db, tracer),
+            Err(AllocError) => Err(Stopped::NoMemory),
+        }
     }
 }
