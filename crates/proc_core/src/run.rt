@@ -18,7 +18,7 @@ ghost use Rattle.proc_core.specs.Stands.{HasStartScript, IsStartScript, Told};
 ghost use Rattle.proc_core.specs.Stops.{HasStopped, HasRunStopped};
 
 use crate::machine::Machine;
-use crate::outcome::outcome_of;
+use crate::outcome::{outcome_from, outcome_of};
 use crate::ready::{has_ended, refresh};
 use crate::schedule::{choose, schedule};
 use crate::start::machine_at;
@@ -239,6 +239,23 @@ impl<D: Database, T: Tracer> Run<D, T> {
             → outcome ≡ outcome_of s.core) }
     {
         outcome_of(&self.machine)
+    }
+
+    /// The outcome of a run that has ended, as `outcome` gives it. What the processes printed and the replies
+    /// to them go over into it; files are copied.
+    #[tactic(auto, using(crate::proofs::Outcomes::outcome_is))]
+    pub fn into_outcome(self) -> Result<Outcome, AllocError>
+        requires { has_ended self.machine ≡ true }
+        ensures { IfOk result (λ outcome. (s : State D.Db) → Stands self.machine (D.seen self.db) s
+            → outcome ≡ outcome_of s.core) }
+    {
+        let Run {
+            machine,
+            db: _,
+            tracer: _,
+            steps: _,
+        } = self;
+        outcome_from(machine)
     }
 
     /// The database.
