@@ -20,6 +20,9 @@ use ldv_value::{Bytes, Cmp, CopyItem, PRINTED_LIMIT, Value, append_text, holds};
 use script_parse::CalcOp;
 use std::alloc::{AllocError, Global};
 
+// The bytes that a line has room for at first.
+const LINE_ROOM: usize = 128;
+
 /// The value of a variable. One that wasn't set is NULL.
 #[inline(always)]
 pub(crate) fn variable_at(process: &SlotProcess, slot: usize) -> &Value
@@ -223,7 +226,7 @@ pub(crate) fn line_of(
 ) -> Result<Bytes, AllocError>
     ensures { IfOk result (λ line. line ≡ printed_line (slot_values process.now operands.now)) }
 {
-    let mut line = Bytes::new(alloc);
+    let mut line = Bytes::with_capacity(alloc, LINE_ROOM)?;
     append_operands(process, operands, &mut line)?;
     line.extend(b"\n")?;
     Ok(line)
