@@ -98,10 +98,7 @@ fn outcome_from_process(process: SlotProcess) -> ProcOutcome
 }
 
 // The outcomes of processes, from the last to the first, each of which is let go.
-fn outcomes_from(
-    alloc: Global,
-    processes: Vec<SlotProcess>,
-) -> Result<Vec<ProcOutcome>, AllocError>
+fn outcomes_from(alloc: Global, processes: Vec<SlotProcess>) -> Result<Vec<ProcOutcome>, AllocError>
     ensures { IfOk result (λ outcomes. outcomes.items ≡ slot_outcomes processes.items) }
 {
     let mut left = processes;

@@ -155,12 +155,7 @@ fn stop_by(process: &SlotProcess) -> Result<Stopped, AllocError>
 }
 
 // The process of a number has its reply.
-fn take(
-    machine: &mut Machine,
-    number: usize,
-    cursor: usize,
-    reply: Reply,
-) -> Result<(), AllocError>
+fn take(machine: &mut Machine, number: usize, cursor: usize, reply: Reply) -> Result<(), AllocError>
     requires within { number < length machine.old.processes.items }
     requires counted { machine.old.asked + 1 < 2 ^ 32 }
     requires room { HasRoom (slice_get machine.old.processes.items number) }
