@@ -140,7 +140,12 @@ fn parts_around(
     ensures { IfOk result (λ parts. parts
         ≡ parts_of (slot_value process.now by.now) (or_null (slice_get process.now.variables text))) }
 {
-    parts_of(alloc, value_at(process, by), variable_at(process, text))
+    let null = Value::Null;
+    parts_of(
+        alloc,
+        value_at(process, by, &null),
+        variable_at(process, text, &null),
+    )
 }
 
 /// `cut x y v`

@@ -23,25 +23,31 @@ use std::alloc::{AllocError, Global};
 // The bytes that a line has room for at first.
 const LINE_ROOM: usize = 128;
 
-/// The value of a variable. One that wasn't set is NULL.
+/// The value of a variable; of one that wasn't set it is a NULL of the caller's.
 #[inline(always)]
-pub(crate) fn variable_at(process: &SlotProcess, slot: usize) -> &Value
+pub(crate) fn variable_at<'a>(process: &'a SlotProcess, slot: usize, null: &'a Value) -> &'a Value
+    requires { null.now ≡ Value.Null }
     ensures { result.now ≡ or_null (slice_get process.now.variables slot) }
 {
     match process.variables.get(slot) {
-        None => &Value::Null,
+        None => null,
         Some(value) => value,
     }
 }
 
-/// The value that an operand has.
+/// The value that an operand has, with a NULL of the caller's for a variable that wasn't set.
 #[inline(always)]
-pub(crate) fn value_at<'a>(process: &'a SlotProcess, operand: &'a SlotOperand) -> &'a Value
+pub(crate) fn value_at<'a>(
+    process: &'a SlotProcess,
+    operand: &'a SlotOperand,
+    null: &'a Value,
+) -> &'a Value
+    requires { null.now ≡ Value.Null }
     ensures { result.now ≡ slot_value process.now operand.now }
 {
     match operand {
         SlotOperand::Constant(value) => value,
-        SlotOperand::Slot(slot) => variable_at(process, *slot),
+        SlotOperand::Slot(slot) => variable_at(process, *slot, null),
     }
 }
 
@@ -53,7 +59,8 @@ pub(crate) fn value_of(
 ) -> Result<Value, AllocError>
     ensures { IfOk result (λ value. value ≡ slot_value process.now operand.now) }
 {
-    value_at(process, operand).copy_item(alloc)
+    let null = Value::Null;
+    value_at(process, operand, &null).copy_item(alloc)
 }
 
 /// A variable gets the value.
@@ -96,7 +103,12 @@ fn calculation_of(
     ensures { computed result
         ≡ calculated op (slot_value process.now left.now) (slot_value process.now right.now) }
 {
-    calculated(op, value_at(process, left), value_at(process, right))
+    let null = Value::Null;
+    calculated(
+        op,
+        value_at(process, left, &null),
+        value_at(process, right, &null),
+    )
 }
 
 /// `let x = v + w`, also `-` and `*`
@@ -124,7 +136,12 @@ fn text_of(
     ensures { IfOk result (λ c. computed c
         ≡ glued (slot_value process.now left.now) (slot_value process.now right.now)) }
 {
-    glued(alloc, value_at(process, left), value_at(process, right))
+    let null = Value::Null;
+    glued(
+        alloc,
+        value_at(process, left, &null),
+        value_at(process, right, &null),
+    )
 }
 
 /// `let x = v ++ w`
@@ -147,7 +164,8 @@ pub(crate) fn glue(
 fn number_of(value: &SlotOperand, process: &SlotProcess) -> Computed
     ensures { computed result ≡ to_number (slot_value process.now value.now) }
 {
-    to_number(value_at(process, value))
+    let null = Value::Null;
+    to_number(value_at(process, value, &null))
 }
 
 /// `let x = int v`
@@ -176,7 +194,12 @@ fn holds_at(op: Cmp, left: &SlotOperand, right: &SlotOperand, process: &SlotProc
     ensures { result
         ≡ meets op (order (slot_value process.now left.now) (slot_value process.now right.now)) }
 {
-    holds(op, value_at(process, left), value_at(process, right))
+    let null = Value::Null;
+    holds(
+        op,
+        value_at(process, left, &null),
+        value_at(process, right, &null),
+    )
 }
 
 /// `if v = w goto L`, and the other comparisons
@@ -202,7 +225,8 @@ fn append_operand(
 ) -> Result<(), AllocError>
     ensures { OnOk result (to.new ≡ to.old ++ shown (slot_value process.now operand.now)) }
 {
-    append_text(value_at(process, operand), to)
+    let null = Value::Null;
+    append_text(value_at(process, operand, &null), to)
 }
 
 fn append_operands(
@@ -289,7 +313,8 @@ fn status_of(number: i64) -> u8
 fn status_at(status: &SlotOperand, process: &SlotProcess) -> u8
     ensures { result ≡ exit_status (slot_value process.now status.now) }
 {
-    exit_status(value_at(process, status))
+    let null = Value::Null;
+    exit_status(value_at(process, status, &null))
 }
 
 /// `exit v`
