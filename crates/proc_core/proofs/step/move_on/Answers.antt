@@ -6,13 +6,13 @@ pub keep_on-requires-clause-kept : goal.keep_on-requires-clause-kept
 keep_on-requires-clause-kept g c =
     kept_next c.args.machine.now c.args.who.number c.is_kept_at.result c.is_kept_at.ensures c.if-is_kept_at.true
 
-pub returns-then-is_kept_at-in-Ok-clause-state : goal.returns-then-is_kept_at-in-Ok-clause-state
-returns-then-is_kept_at-in-Ok-clause-state g c = λ s is.
+pub returns-in-Ok-clause-state : goal.returns-in-Ok-clause-state
+returns-in-Ok-clause-state g c = λ s is.
     quiet_state g.D.Database.base c.args.machine.now c.keep_on.new.machine c.args.who.number (g.D.Database.seen c.args.db.now) s
     (nothing_asked_next c.args.machine.now c.args.who.number c.is_kept_at.result c.is_kept_at.ensures c.if-is_kept_at.true) c.in-Ok.ensures.core is
 
-pub returns-then-is_kept_at-in-Ok-clause-told : goal.returns-then-is_kept_at-in-Ok-clause-told
-returns-then-is_kept_at-in-Ok-clause-told g c = λ s is.
+pub returns-in-Ok-clause-told : goal.returns-in-Ok-clause-told
+returns-in-Ok-clause-told g c = λ s is.
     quiet_told g.D.Database.base c.args.machine.now c.args.who.number c.args.who.step (g.D.Database.seen c.args.db.now) s
     g.T.Tracer.KEEPS (g.T.Tracer.events c.args.tracer.now) (g.T.Tracer.events c.keep_on.new.tracer)
     (nothing_asked_next c.args.machine.now c.args.who.number c.is_kept_at.result c.is_kept_at.ensures c.if-is_kept_at.true) c.in-Ok.ensures.told is

@@ -88,16 +88,37 @@ returns-then-has_ended-2-clause-never_stuck g c = never_stuck_from g.D.Database.
 pub returns-else-has_ended-2-clause-never_stuck : goal.returns-else-has_ended-2-clause-never_stuck
 returns-else-has_ended-2-clause-never_stuck g c = never_stuck_from g.D.Database.base c.args.self.machine (g.D.Database.seen c.args.self.db)
 
+pub returns-then-has_ended-2-clause-state : goal.returns-then-has_ended-2-clause-state
+returns-then-has_ended-2-clause-state g c =
+    let says = ends_so c.loop-made.machine (g.D.Database.seen c.loop-made.db) c.has_ended-2.result c.has_ended-2.ensures in
+    let within : c.loop-made._made ≤ c.args.budget = omega arith in
+    end_state g.D.Database.base c.args.self.machine c.loop-made.machine (g.D.Database.seen c.args.self.db) (g.D.Database.seen c.loop-made.db) c.loop-made._made c.args.budget
+    c.has_ended-2.result within c.loop-made.invariant.state says c.if-has_ended-2.true
+
 pub returns-then-has_ended-2-clause-ended : goal.returns-then-has_ended-2-clause-ended
 returns-then-has_ended-2-clause-ended g c =
+    let says = ends_so c.loop-made.machine (g.D.Database.seen c.loop-made.db) c.has_ended-2.result c.has_ended-2.ensures in
     let within : c.loop-made._made ≤ c.args.budget = omega arith in
     end_all g.D.Database.base c.args.self.machine c.loop-made.machine (g.D.Database.seen c.args.self.db) (g.D.Database.seen c.loop-made.db) c.loop-made._made c.args.budget
-    c.has_ended-2.result within c.loop-made.invariant.state
-    (ends_so c.loop-made.machine (g.D.Database.seen c.loop-made.db) c.has_ended-2.result c.has_ended-2.ensures) c.if-has_ended-2.true
+    c.has_ended-2.result within c.loop-made.invariant.state says c.if-has_ended-2.true
+
+pub returns-then-has_ended-2-clause-told : goal.returns-then-has_ended-2-clause-told
+returns-then-has_ended-2-clause-told g c =
+    let says = ends_so c.loop-made.machine (g.D.Database.seen c.loop-made.db) c.has_ended-2.result c.has_ended-2.ensures in
+    let within : c.loop-made._made ≤ c.args.budget = omega arith in
+    end_told g.D.Database.base c.args.self.machine c.loop-made.machine (g.D.Database.seen c.args.self.db) (g.D.Database.seen c.loop-made.db) c.loop-made._made c.args.budget
+    c.has_ended-2.result g.T.Tracer.KEEPS (g.T.Tracer.events c.args.self.tracer) (g.T.Tracer.events c.loop-made.tracer) within c.loop-made.invariant.state says c.if-has_ended-2.true c.loop-made.invariant.told
+
+pub returns-then-has_ended-2-clause-steps : goal.returns-then-has_ended-2-clause-steps
+returns-then-has_ended-2-clause-steps g c =
+    let says = ends_so c.loop-made.machine (g.D.Database.seen c.loop-made.db) c.has_ended-2.result c.has_ended-2.ensures in
+    let within : c.loop-made._made ≤ c.args.budget = omega arith in
+    end_steps g.D.Database.base c.args.self.machine c.loop-made.machine (g.D.Database.seen c.args.self.db) (g.D.Database.seen c.loop-made.db) c.loop-made._made c.args.budget
+    c.has_ended-2.result c.loop-made.steps within c.loop-made.invariant.state says c.if-has_ended-2.true c.loop-made.invariant.steps c.loop-made.invariant.made
 
 pub returns-else-has_ended-2-clause-stopped : goal.returns-else-has_ended-2-clause-stopped
 returns-else-has_ended-2-clause-stopped g c =
+    let says = ends_so c.loop-made.machine (g.D.Database.seen c.loop-made.db) c.has_ended-2.result c.has_ended-2.ensures in
     let all : c.loop-made._made ≡ c.args.budget = omega arith in
     end_not g.D.Database.base c.args.self.machine c.loop-made.machine (g.D.Database.seen c.args.self.db) (g.D.Database.seen c.loop-made.db) c.loop-made._made c.args.budget
-    c.has_ended-2.result all c.loop-made.invariant.state
-    (ends_so c.loop-made.machine (g.D.Database.seen c.loop-made.db) c.has_ended-2.result c.has_ended-2.ensures) c.if-has_ended-2.false
+    c.has_ended-2.result all c.loop-made.invariant.state says c.if-has_ended-2.false
