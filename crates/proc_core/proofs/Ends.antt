@@ -10,11 +10,16 @@ use Rattle.run_model.specs.State.{State}
 use Rattle.proc_core.specs.declared.machine.Machine.{Machine}
 use Rattle.run_model.specs.declared.name.ProcName.{ProcName}
 use Rattle.proc_core.specs.declared.stop.Stopped.TheVariants.{Diverged}
-use Rattle.proc_core.specs.Running.{Stands}
+use Rattle.proc_core.specs.Running.{Stands, has_ended}
 use Rattle.proc_core.specs.Stands.{Told}
 use Rattle.proc_core.specs.Stops.{HasStopped}
+use Rattle.proc_core.proofs.Advances.{all_ended_same}
 use Rattle.proc_core.proofs.Runs.{run_more, run_all, events_more, events_all, steps_more, steps_all}
 use Rattle.proc_core.proofs.StepSame.{over_same}
+
+-- what `has_ended` says of the states that a run stands in
+pub ends_so : {Db : Type 0} (m : Machine) (db : Db) (b : Bool) → b ≡ has_ended m → (s : State Db) → Stands m db s → b ≡ all_ended s.core
+ends_so m db b is s here = is ∙ all_ended_same m s.core here.ready
 
 module _ {Db : Type 0} (base : Base Db) (m0 m : Machine) (db0 db : Db) (n budget : ℕ) where
   -- the run is where the definition is after n steps

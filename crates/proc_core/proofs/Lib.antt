@@ -35,3 +35,4 @@ pub mod StartScripts
 pub mod Starts
 pub mod StepSame
 pub mod Stepping
+pub mod Turns

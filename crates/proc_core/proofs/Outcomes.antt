@@ -1,5 +1,5 @@
 -- The outcome of a run, over slots and as it is defined.
-use Rattle.std.proofs.Common.{◌≡◌, List, [], ◌∷◌, ◌++◌, map, reverse, refl, sym, ap, ◌∙◌, Bool, true, false, inl, inr, if◌then◌else◌}
+use Rattle.std.proofs.Common.{◌≡◌, List, [], ◌∷◌, ◌++◌, map, reverse, refl, sym, ap, ◌∙◌, Bool, true, false, inl, inr, if◌then◌else◌, append_assoc, length, arith}
 use Rattle.std.specs.Prelude.{unwrap_or}
 use Rattle.std.specs.Cmp.{IsTotalOrder}
 use Rattle.std.specs.Cmp.Lexicographic.{slice_cmp}
@@ -9,6 +9,7 @@ use Rattle.std.specs.declared.cmp.Ordering.TheVariants.{Less, Equal, Greater}
 use Rattle.std.proofs.lemmas.Cmp.{upto, on_total, nat_list_cmp_total}
 use Rattle.std.proofs.lemmas.List.{reverse-append}
 use Rattle.ldv_value.proofs.Cases.{cases-bool}
+use Rattle.ldv_value.proofs.Lists.{append-nil}
 use Rattle.sql_model.specs.Sorting.{put_sorted, sorted_by}
 use Rattle.run_model.specs.Core.{Process, Core}
 use Rattle.run_model.specs.Outcome.{insert_by_name, by_name, outcome_of_process, outcomes_of_paths, outcome_of}
@@ -100,6 +101,27 @@ sorted_inserted (x ∷ xs) = put_last (backwards xs) x ∙ ap (insert x) (sorted
 pub reversed : (rs : List SlotProcess) → reverse (map slot_outcome rs) ≡ slot_outcomes rs
 reversed [] = refl
 reversed (r ∷ rs) = reverse-append (slot_outcome r ∷ []) (map slot_outcome rs) ∙ ap (λ (l : List ProcOutcome). l ++ slot_outcome r ∷ []) (reversed rs)
+
+-- the outcome of the last process comes first
+outcomes_last : (rs : List SlotProcess) (r : SlotProcess) → slot_outcomes (rs ++ r ∷ []) ≡ slot_outcome r ∷ slot_outcomes rs
+outcomes_last [] r = refl
+outcomes_last (q ∷ rs) r = ap (λ (l : List ProcOutcome). l ++ slot_outcome q ∷ []) (outcomes_last rs r)
+
+-- the last process is taken
+pub outcome_taken : (before after : List ProcOutcome) (old new : List SlotProcess) (r : SlotProcess) (o : ProcOutcome) (all : List ProcOutcome)
+    → old ≡ new ++ r ∷ [] → o ≡ slot_outcome r → after ≡ before ++ o ∷ [] → before ++ slot_outcomes old ≡ all
+    → after ++ slot_outcomes new ≡ all
+outcome_taken before after old new r o all left is push so_far =
+    ap (λ (l : List ProcOutcome). l ++ slot_outcomes new) (push ∙ ap (λ (x : ProcOutcome). before ++ x ∷ []) is)
+    ∙ append_assoc before (slot_outcome r ∷ []) (slot_outcomes new)
+    ∙ ap (λ (l : List ProcOutcome). before ++ l) (sym (outcomes_last new r))
+    ∙ ap (λ (rs : List SlotProcess). before ++ slot_outcomes rs) (sym left)
+    ∙ so_far
+
+-- none is left
+pub outcomes_taken : (made : List ProcOutcome) (left : List SlotProcess) (all : List ProcOutcome) → length left ≡ 0 → made ++ slot_outcomes left ≡ all → made ≡ all
+outcomes_taken made [] all none so_far = sym (append-nil made) ∙ so_far
+outcomes_taken made (r ∷ rs) all none so_far = absurd (omega (arith, none))
 
 -- ---- processes
 

@@ -1,5 +1,5 @@
 -- The step of the process that was chosen, from any state that a run stands in.
-use Rattle.std.proofs.Common.{◌≡◌, ℕ, ◌<◌, List, [], ◌++◌, length, refl, sym, ap, ◌∙◌, subst, Bool, false}
+use Rattle.std.proofs.Common.{◌≡◌, ℕ, ◌<◌, List, [], ◌++◌, length, refl, sym, ap, ◌∙◌, subst, Bool, true, false}
 use Rattle.std.specs.Prelude.{Option, Some, None, slice_get}
 use Rattle.std.proofs.lemmas.Option.{slice_get_within}
 use Rattle.ldv_value.proofs.Lists.{append-nil}
@@ -14,12 +14,16 @@ use Rattle.run_model.specs.State.{State, Stepped}
 use Rattle.run_model.specs.Step.{step}
 use Rattle.run_model.proofs.Equations.{run-zero, events-zero}
 use Rattle.proc_core.specs.declared.ask.Statement.{Statement}
+use Rattle.proc_core.specs.declared.code.Code.{Code}
+use Rattle.proc_core.specs.declared.code.SlotInstr.{SlotInstr}
+use Rattle.proc_core.specs.declared.code.SlotInstr.TheVariants.{Own, OnFiles, Spawn, Wait, Sql}
 use Rattle.proc_core.specs.declared.machine.Machine.{Machine}
 use Rattle.proc_core.specs.declared.process.SlotProcess.{SlotProcess}
 use Rattle.proc_core.specs.declared.stop.Stopped.{Stopped}
 use Rattle.proc_core.specs.Running.{Stands, has_ended}
-use Rattle.proc_core.specs.SlotAsk.{slot_ask_in, slot_ask_at}
+use Rattle.proc_core.specs.SlotAsk.{slot_ask, slot_ask_in, slot_ask_at}
 use Rattle.proc_core.specs.SlotReady.{Grows, refreshed}
+use Rattle.proc_core.specs.SlotStep.{IsKept, next_slotted, slot_is_kept}
 use Rattle.proc_core.specs.Stands.{IsCore, IsState, Told}
 use Rattle.proc_core.specs.Stops.{HasStopped}
 use Rattle.proc_core.proofs.Advances.{advanced, moved_step, scheduled_state}
@@ -33,6 +37,35 @@ within_by m number t (Some r) at is = slice_get_within m.processes.items number 
 
 pub asked_within : (m : Machine) (number : ℕ) (t : Statement) → slot_ask_at m number ≡ Some t → number < length m.processes.items
 asked_within m number t is = within_by m number t (slice_get m.processes.items number) refl is
+
+-- ---- a step that asks nothing and makes no process, by its instruction
+
+kept_by : (o : Option SlotInstr) → slot_is_kept o ≡ true → IsKept o
+kept_by None is = tt
+kept_by (Some (Own o)) is = tt
+kept_by (Some (OnFiles f)) is = tt
+kept_by (Some (Spawn child path arguments place)) is = absurd cc
+kept_by (Some (Wait to child)) is = tt
+kept_by (Some (Sql cursor text params)) is = tt
+
+asks_by : (o : Option SlotInstr) (r : SlotProcess) → slot_is_kept o ≡ true → slot_ask o r ≡ None
+asks_by None r is = refl
+asks_by (Some (Own o)) r is = refl
+asks_by (Some (OnFiles f)) r is = refl
+asks_by (Some (Spawn child path arguments place)) r is = refl
+asks_by (Some (Wait to child)) r is = refl
+asks_by (Some (Sql cursor text params)) r is = absurd cc
+
+asks_in : (codes : List Code) (o : Option SlotProcess) → slot_is_kept (next_slotted codes o) ≡ true → slot_ask_in codes o ≡ None
+asks_in codes None is = refl
+asks_in codes (Some r) is = asks_by (next_slotted codes (Some r)) r is
+
+module _ (m : Machine) (number : ℕ) (b : Bool) (is : b ≡ slot_is_kept (next_slotted m.codes (slice_get m.processes.items number))) (so : b ≡ true) where
+  pub kept_next : IsKept (next_slotted m.codes (slice_get m.processes.items number))
+  kept_next = kept_by (next_slotted m.codes (slice_get m.processes.items number)) (sym is ∙ so)
+
+  pub nothing_asked_next : slot_ask_at m number ≡ None
+  nothing_asked_next = asks_in m.codes (slice_get m.processes.items number) (sym is ∙ so)
 
 -- ---- one step of a run
 

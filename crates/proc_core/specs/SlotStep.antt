@@ -1,7 +1,7 @@
 -- One step over slots.
 use Rattle.std.specs.Prelude.{ℕ, ◌+◌, ◌<◌, ◌^◌, pos, List, [], ◌∷◌, slice_get, Option, Some}
 use Rattle.std.specs.Prelude.{None}
-use Rattle.std.specs.Prelude.{option_and_then, Bool, false, not, ◌&&◌, is_none, if◌then◌else◌}
+use Rattle.std.specs.Prelude.{option_and_then, Bool, true, false, not, ◌&&◌, is_none, if◌then◌else◌}
 use Rattle.ldv_value.specs.FileState.{FileState}
 use Rattle.proc_core.specs.Types.{Int, Waited}
 use Rattle.run_model.specs.StepBase.{wrong_kind}
@@ -101,3 +101,12 @@ IsKept (Some (OnFiles f)) = Unit {0}
 IsKept (Some (Spawn child path arguments place)) = ⊥
 IsKept (Some (Wait to child)) = Unit {0}
 IsKept (Some (Sql cursor text params)) = Unit {0}
+
+-- the same as a test, where it asks nothing either
+abbrev pub slot_is_kept : Option SlotInstr → Bool
+slot_is_kept None = true
+slot_is_kept (Some (Own o)) = true
+slot_is_kept (Some (OnFiles f)) = true
+slot_is_kept (Some (Spawn child path arguments place)) = false
+slot_is_kept (Some (Wait to child)) = true
+slot_is_kept (Some (Sql cursor text params)) = false

@@ -67,8 +67,9 @@ fn bind_first(names: &NameTable, name: &Utf8, value: Value, slots: &mut Values)
 fn argument_name(alloc: Global, number: u64) -> Result<Utf8, AllocError>
     ensures { IfOk result (λ name. name ≡ argument_name number) }
 {
-    let mut name = Utf8::of(alloc, "arg")?;
+    let mut name = Utf8::new(alloc);
     let mut buffer = Buffer::new();
+    name.push_str("arg")?;
     name.push_str(buffer.format(number))?;
     Ok(name)
 }

@@ -1,15 +1,17 @@
 //! `cut`: a text before and after a part of it.
 
-ghost use Rattle.std.specs.Prelude.{◌≡◌, ◌+◌, ◌<◌, ◌≤◌, ◌^◌, length, IfOk, IfSome, OnOk};
+ghost use Rattle.std.specs.Prelude.{◌≡◌, ◌+◌, ◌<◌, ◌≤◌, ◌^◌, length, slice_get, IfOk, IfSome, OnOk};
 ghost use Rattle.std.specs.Str.{IsCharBoundary};
+ghost use Rattle.sql_model.specs.Meaning.{or_null};
 ghost use Rattle.proc_core.specs.Types.{Text};
 ghost use Rattle.run_model.specs.StepVariables.{begins_with, first_place};
 ghost use Rattle.proc_core.specs.SlotVariables.{parts_at, parts_of, slot_cut, slot_cut_parts};
+ghost use Rattle.proc_core.specs.Slots.{slot_value};
 
 use crate::code::SlotOperand;
 use crate::computed::WRONG_KIND;
 use crate::process::SlotProcess;
-use crate::variables::value_of;
+use crate::variables::{value_at, variable_at};
 use ldv_value::{Utf8, Value};
 use std::alloc::{AllocError, Global};
 
@@ -128,6 +130,24 @@ fn cut_parts(before: usize, after: usize, parts: Option<CutParts>, process: &mut
     }
 }
 
+// The parts of the text of a variable around an operand; none where it's misuse.
+fn parts_around(
+    alloc: Global,
+    by: &SlotOperand,
+    text: usize,
+    process: &SlotProcess,
+) -> Result<Option<CutParts>, AllocError>
+    ensures { IfOk result (λ parts. parts
+        ≡ parts_of (slot_value process.now by.now) (or_null (slice_get process.now.variables text))) }
+{
+    let null = Value::Null;
+    parts_of(
+        alloc,
+        value_at(process, by, &null),
+        variable_at(process, text, &null),
+    )
+}
+
 /// `cut x y v`
 pub(crate) fn cut(
     alloc: Global,
@@ -139,9 +159,7 @@ pub(crate) fn cut(
     requires { process.old.place + 1 < 2 ^ 64 }
     ensures { OnOk result (process.new ≡ slot_cut before after by.now process.old) }
 {
-    let by = value_of(alloc, process, by)?;
-    let text = value_of(alloc, process, &SlotOperand::Slot(after))?;
-    let parts = parts_of(alloc, &by, &text)?;
+    let parts = parts_around(alloc, by, after, process)?;
     cut_parts(before, after, parts, process);
     Ok(())
 }

@@ -26,9 +26,15 @@ pub(crate) fn execute_own(
             op,
             left,
             right,
-        } => calculate(alloc, *to, *op, left, right, process),
+        } => {
+            calculate(*to, *op, left, right, process);
+            Ok(())
+        }
         OwnInstr::Glue { to, left, right } => glue(alloc, *to, left, right, process),
-        OwnInstr::ToInt { to, value } => let_number(alloc, *to, value, process),
+        OwnInstr::ToInt { to, value } => {
+            let_number(*to, value, process);
+            Ok(())
+        }
         OwnInstr::Cut { before, after, by } => cut(alloc, *before, *after, by, process),
         OwnInstr::Jump { place } => {
             process.go_to(*place);
@@ -39,9 +45,15 @@ pub(crate) fn execute_own(
             left,
             right,
             place,
-        } => jump_if(alloc, *op, left, right, *place, process),
+        } => {
+            jump_if(*op, left, right, *place, process);
+            Ok(())
+        }
         OwnInstr::Print { values } => print(alloc, values, process),
-        OwnInstr::Exit { status } => exit(alloc, status, process),
+        OwnInstr::Exit { status } => {
+            exit(status, process);
+            Ok(())
+        }
         OwnInstr::Close { file } => {
             close(*file, process);
             Ok(())

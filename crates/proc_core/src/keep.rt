@@ -1,7 +1,7 @@
 //! Steps that ask nothing.
 
 ghost use Rattle.std.specs.Prelude.{◌≡◌, ◌+◌, ◌<◌, ◌^◌, length, Some, map, slice_get, slice_set};
-ghost use Rattle.std.specs.Prelude.{ℕ, IfOk, OnOk, OnSome};
+ghost use Rattle.std.specs.Prelude.{ℕ, OnOk, OnSome};
 ghost use Rattle.std.specs.Option.{option_map};
 ghost use Rattle.run_model.specs.Core.{Core};
 ghost use Rattle.run_model.specs.Events.{event_at};
@@ -9,7 +9,7 @@ ghost use Rattle.run_model.specs.Step.{quiet};
 ghost use Rattle.proc_core.specs.SlotOwn.{slot_own};
 ghost use Rattle.proc_core.specs.Counts.{CountsBelow};
 ghost use Rattle.proc_core.specs.SlotReady.{Grows};
-ghost use Rattle.proc_core.specs.SlotStep.{HasRoom, IsKept, next_slotted, slot_effect};
+ghost use Rattle.proc_core.specs.SlotStep.{HasRoom, IsKept, next_slotted, slot_effect, slot_is_kept};
 ghost use Rattle.ldv_value.specs.FileState.{FileState};
 ghost use Rattle.proc_core.specs.Slots.{child_at, slot_ended};
 ghost use Rattle.proc_core.specs.SlotFiles.{slot_on_files};
@@ -129,6 +129,7 @@ fn child_status(processes: &[SlotProcess], child: Option<u32>) -> Option<u8>
 }
 
 /// The status of a process, where it has ended.
+#[inline(always)]
 pub(crate) fn status_in(processes: &[SlotProcess], number: usize) -> Option<u8>
     ensures { result ≡ slot_status_in processes.now number }
 {
@@ -213,51 +214,71 @@ fn keep_by<T: Tracer>(
     }
 }
 
+// Whether a step asks nothing and makes no process, by its instruction.
+#[inline(always)]
+fn is_kept(instr: Option<&SlotInstr>) -> bool
+    ensures { result ≡ slot_is_kept (option_map (λ i. i.now) instr.entry) }
+{
+    match instr {
+        Some(SlotInstr::Own(_)) => true,
+        Some(SlotInstr::OnFiles(_)) => true,
+        Some(
+            SlotInstr::Spawn {
+                child: _,
+                path: _,
+                arguments: _,
+                place: _,
+            },
+        ) => false,
+        Some(SlotInstr::Wait { to: _, child: _ }) => true,
+        Some(
+            SlotInstr::Sql {
+                cursor: _,
+                text: _,
+                params: _,
+            },
+        ) => false,
+        None => true,
+    }
+}
+
+/// Whether the next step of a process asks nothing and makes no process.
+#[inline(always)]
+pub(crate) fn is_kept_at(machine: &Machine, number: usize) -> bool
+    ensures { result ≡ slot_is_kept (next_slotted machine.now.codes
+        (slice_get machine.now.processes.items number)) }
+{
+    is_kept(next_of(&machine.codes, &machine.processes, number))
+}
+
 /// The next step of a process, which asks nothing and makes no process.
 pub(crate) fn keep<T: Tracer>(
-    machine: Machine,
+    machine: &mut Machine,
     who: Who,
     tracer: &mut T,
-) -> Result<Machine, AllocError>
-    requires kept { IsKept (next_slotted machine.codes (slice_get machine.processes.items who.number)) }
-    ensures core { IfOk result (λ after. (c : Core) → IsCore machine c
-        → IsCore after (quiet who.number c).core) }
-    ensures told { IfOk result (λ after. (c : Core) → IsCore machine c
+) -> Result<(), AllocError>
+    requires kept { IsKept (next_slotted machine.old.codes
+        (slice_get machine.old.processes.items who.number)) }
+    ensures core { OnOk result ((c : Core) → IsCore machine.old c
+        → IsCore machine.new (quiet who.number c).core) }
+    ensures told { OnOk result ((c : Core) → IsCore machine.old c
         → Told T.KEEPS (T.events tracer.old) (T.events tracer.new) (map (event_at who.step who.number)
         (quiet who.number c).acts)) }
-    ensures grows { IfOk result (λ after. Grows machine who.number after) }
-    ensures counted { IfOk result (λ after. (n : ℕ) → CountsBelow n machine → CountsBelow n after) }
+    ensures grows { OnOk result (Grows machine.old who.number machine.new) }
+    ensures counted { OnOk result ((n : ℕ) → CountsBelow n machine.old → CountsBelow n machine.new) }
 {
     let past = who.number >= machine.processes.len();
     if past {
-        return Ok(machine);
+        return Ok(());
     }
-    let Machine {
-        alloc,
-        codes,
-        mut processes,
-        mut tree,
-        seed,
-        last,
-        x,
-        asked,
-        ready,
-        parents,
-        runners,
-    } = machine;
-    let instr = next_of(&codes, &processes, who.number);
-    keep_by(alloc, instr, who, &mut processes, &mut tree, tracer)?;
-    Ok(Machine {
-        alloc,
-        codes,
-        processes,
-        tree,
-        seed,
-        last,
-        x,
-        asked,
-        ready,
-        parents,
-        runners,
-    })
+    let instr = next_of(&machine.codes, &machine.processes, who.number);
+    keep_by(
+        machine.alloc,
+        instr,
+        who,
+        &mut machine.processes,
+        &mut machine.tree,
+        tracer,
+    )?;
+    Ok(())
 }

@@ -1,7 +1,7 @@
 //! A step of a `spawn`.
 
 ghost use Rattle.std.specs.Prelude.{◌≡◌, ◌+◌, ◌++◌, ◌∷◌, [], ◌<◌, Some, length, map, slice_get, slice_set};
-ghost use Rattle.std.specs.Prelude.{IfOk, OnOk};
+ghost use Rattle.std.specs.Prelude.{OnOk};
 ghost use Rattle.ldv_value.specs.Limits.{max_processes};
 ghost use Rattle.proc_core.specs.Types.{Spawned, Unspawned};
 ghost use Rattle.run_model.specs.Core.{Core};
@@ -31,15 +31,14 @@ use run_model::Tracer;
 use std::alloc::AllocError;
 
 // Ends a process, whose value is no path.
-fn with_misuse(machine: Machine, number: usize) -> Machine
-    requires { number < length machine.processes.items }
-    ensures left { (r : SlotProcess) → slice_get machine.processes.items number ≡ Some r
-        → result.processes.items ≡ slice_set machine.processes.items number (slot_ended bad_path r) }
-    ensures others { IsNoChild machine result }
+fn end_misused(machine: &mut Machine, number: usize)
+    requires { number < length machine.old.processes.items }
+    ensures left { (r : SlotProcess) → slice_get machine.old.processes.items number ≡ Some r
+        → machine.new.processes.items
+        ≡ slice_set machine.old.processes.items number (slot_ended bad_path r) }
+    ensures others { IsNoChild machine.old machine.new }
 {
-    let mut after = machine;
-    end_at(BAD_PATH, number, &mut after.processes);
-    after
+    end_at(BAD_PATH, number, &mut machine.processes);
 }
 
 fn go_to_at(place: u32, number: usize, processes: &mut Vec<SlotProcess>)
@@ -52,161 +51,172 @@ fn go_to_at(place: u32, number: usize, processes: &mut Vec<SlotProcess>)
 }
 
 // A process goes on at the place of a label.
-fn with_jump(machine: Machine, place: u32, number: usize) -> Machine
-    requires { number < length machine.processes.items }
-    ensures left { (r : SlotProcess) → slice_get machine.processes.items number ≡ Some r
-        → result.processes.items ≡ slice_set machine.processes.items number (slot_went_to place r) }
-    ensures others { IsNoChild machine result }
+fn jump_at(machine: &mut Machine, place: u32, number: usize)
+    requires { number < length machine.old.processes.items }
+    ensures left { (r : SlotProcess) → slice_get machine.old.processes.items number ≡ Some r
+        → machine.new.processes.items
+        ≡ slice_set machine.old.processes.items number (slot_went_to place r) }
+    ensures others { IsNoChild machine.old machine.new }
 {
-    let mut after = machine;
-    go_to_at(place, number, &mut after.processes);
-    after
+    go_to_at(place, number, &mut machine.processes);
 }
 
 // How a `spawn` ends that is refused.
 fn refuse<T: Tracer>(
-    machine: Machine,
+    machine: &mut Machine,
     who: Who,
     path: &Utf8,
     found: bool,
     place: u32,
     tracer: &mut T,
-) -> Result<Machine, AllocError>
-    requires { who.number < length machine.processes.items }
-    ensures left { IfOk result (λ after. (r : SlotProcess)
-        → slice_get machine.processes.items who.number ≡ Some r
-        → after.processes.items ≡ slice_set machine.processes.items who.number (slot_went_to place r)) }
-    ensures others { IfOk result (λ after. IsNoChild machine after) }
+) -> Result<(), AllocError>
+    requires { who.number < length machine.old.processes.items }
+    ensures left { OnOk result ((r : SlotProcess)
+        → slice_get machine.old.processes.items who.number ≡ Some r
+        → machine.new.processes.items
+        ≡ slice_set machine.old.processes.items who.number (slot_went_to place r)) }
+    ensures others { OnOk result (IsNoChild machine.old machine.new) }
     ensures told { OnOk result (Told T.KEEPS (T.events tracer.old) (T.events tracer.new)
         (map (event_at who.step who.number) (Unspawned path.now found ∷ []))) }
 {
     tell_path(who, PathAct::Unspawned(found), path, tracer)?;
-    Ok(with_jump(machine, place, who.number))
+    jump_at(machine, place, who.number);
+    Ok(())
 }
 
 // Notes which process was made last from a path.
-fn with_runner(machine: Machine, path: Utf8, number: usize) -> Result<Machine, AllocError>
-    ensures { IfOk result (λ after. after ≡ record machine { runners = after.runners }) }
+fn note_runner(machine: &mut Machine, path: Utf8, number: usize) -> Result<(), AllocError>
+    ensures { OnOk result (machine.new ≡ record machine.old { runners = machine.new.runners }) }
 {
-    let mut after = machine;
-    after.runners.insert(path.into_string(), number)?;
-    Ok(after)
+    machine.runners.insert(path.into_string(), number)?;
+    Ok(())
 }
 
-// One resolved script more.
-fn with_code(machine: Machine, code: Code) -> Result<Machine, AllocError>
-    ensures { IfOk result (λ after. after ≡ record machine { codes = machine.codes ++ code ∷ [] }) }
+// Adds a resolved script.
+fn add_code(machine: &mut Machine, code: Code) -> Result<(), AllocError>
+    ensures { OnOk result (machine.new
+        ≡ record machine.old { codes = machine.old.codes ++ code ∷ [] }) }
 {
-    let mut after = machine;
-    after.codes.push(code)?;
-    Ok(after)
+    machine.codes.push(code)?;
+    Ok(())
 }
 
 // Makes a child, which runs the script of an index.
 fn launch<T: Tracer>(
-    machine: Machine,
+    machine: &mut Machine,
     who: Who,
     slot: usize,
     index: usize,
     path: Utf8,
     arguments: &Values,
     tracer: &mut T,
-) -> Result<Machine, AllocError>
-    requires within { who.number < length machine.processes.items }
-    requires few { length machine.processes.items < max_processes }
-    requires held { index < length machine.codes }
-    requires room { HasRoom (slice_get machine.processes.items who.number) }
-    requires counted { CountsBelow who.step machine }
-    ensures made { IfOk result (λ after. (r : SlotProcess) (code : Code)
-        → slice_get machine.processes.items who.number ≡ Some r → slice_get machine.codes index ≡ Some code
-        → HasChild machine who.number slot index code r arguments.now after) }
+) -> Result<(), AllocError>
+    requires within { who.number < length machine.old.processes.items }
+    requires few { length machine.old.processes.items < max_processes }
+    requires held { index < length machine.old.codes }
+    requires room { HasRoom (slice_get machine.old.processes.items who.number) }
+    requires counted { CountsBelow who.step machine.old }
+    ensures made { OnOk result ((r : SlotProcess) (code : Code)
+        → slice_get machine.old.processes.items who.number ≡ Some r
+        → slice_get machine.old.codes index ≡ Some code
+        → HasChild machine.old who.number slot index code r arguments.now machine.new) }
     ensures told { OnOk result (Told T.KEEPS (T.events tracer.old) (T.events tracer.new)
         (map (event_at who.step who.number) (Spawned path ∷ []))) }
 {
     tell_path(who, PathAct::Spawned, &path, tracer)?;
     let number = machine.processes.len();
-    let after = make_child(machine, who.number, slot, index, arguments)?;
-    Ok(with_runner(after, path, number)?)
+    make_child(machine, who.number, slot, index, arguments)?;
+    note_runner(machine, path, number)?;
+    Ok(())
 }
 
 // Makes a child, which runs a script that isn't resolved yet by any process.
 fn launch_new<T: Tracer>(
-    machine: Machine,
+    machine: &mut Machine,
     who: Who,
     slot: usize,
     code: Code,
     path: Utf8,
     arguments: &Values,
     tracer: &mut T,
-) -> Result<Machine, AllocError>
-    requires within { who.number < length machine.processes.items }
-    requires few { length machine.processes.items < max_processes }
-    requires room { HasRoom (slice_get machine.processes.items who.number) }
-    requires counted { CountsBelow who.step machine }
-    ensures made { IfOk result (λ after. (r : SlotProcess)
-        → slice_get machine.processes.items who.number ≡ Some r
-        → HasChild (record machine { codes = machine.codes ++ code ∷ [] }) who.number slot
-        (length machine.codes) code r arguments.now after) }
+) -> Result<(), AllocError>
+    requires within { who.number < length machine.old.processes.items }
+    requires few { length machine.old.processes.items < max_processes }
+    requires room { HasRoom (slice_get machine.old.processes.items who.number) }
+    requires counted { CountsBelow who.step machine.old }
+    ensures made { OnOk result ((r : SlotProcess)
+        → slice_get machine.old.processes.items who.number ≡ Some r
+        → HasChild (record machine.old { codes = machine.old.codes ++ code ∷ [] }) who.number slot
+        (length machine.old.codes) code r arguments.now machine.new) }
     ensures told { OnOk result (Told T.KEEPS (T.events tracer.old) (T.events tracer.new)
         (map (event_at who.step who.number) (Spawned path ∷ []))) }
 {
     let index = machine.codes.len();
-    let more = with_code(machine, code)?;
-    Ok(launch(more, who, slot, index, path, arguments, tracer)?)
+    add_code(machine, code)?;
+    launch(machine, who, slot, index, path, arguments, tracer)?;
+    Ok(())
 }
 
 fn spawn_path<T: Tracer>(
-    machine: Machine,
+    machine: &mut Machine,
     who: Who,
     child: usize,
     path: Utf8,
     arguments: Values,
     place: u32,
     tracer: &mut T,
-) -> Result<Machine, AllocError>
-    requires says { slot_spawning_at machine who.number
+) -> Result<(), AllocError>
+    requires says { slot_spawning_at machine.old who.number
         ≡ Some (record { child = child; path = Some path; arguments = arguments; place = place }) }
-    requires within { who.number < length machine.processes.items }
-    requires room { HasRoom (slice_get machine.processes.items who.number) }
-    requires counted { CountsBelow who.step machine }
-    ensures core { IfOk result (λ after. (c : Core) → IsCore machine c
-        → IsCore after (quiet who.number c).core) }
-    ensures told { OnOk result ((c : Core) → IsCore machine c
+    requires within { who.number < length machine.old.processes.items }
+    requires room { HasRoom (slice_get machine.old.processes.items who.number) }
+    requires counted { CountsBelow who.step machine.old }
+    ensures core { OnOk result ((c : Core) → IsCore machine.old c
+        → IsCore machine.new (quiet who.number c).core) }
+    ensures told { OnOk result ((c : Core) → IsCore machine.old c
         → Told T.KEEPS (T.events tracer.old) (T.events tracer.new) (map (event_at who.step who.number)
         (quiet who.number c).acts)) }
-    ensures grows { IfOk result (λ after. Grows machine who.number after) }
-    ensures counted { IfOk result (CountsBelow (who.step + 1)) }
+    ensures grows { OnOk result (Grows machine.old who.number machine.new) }
+    ensures counted { OnOk result (CountsBelow (who.step + 1) machine.new) }
 {
-    match program_at(&machine, &path)? {
-        Program::Absent => Ok(refuse(machine, who, &path, false, place, tracer)?),
-        Program::Refused => Ok(refuse(machine, who, &path, true, place, tracer)?),
+    match program_at(machine, &path)? {
+        Program::Absent => {
+            refuse(machine, who, &path, false, place, tracer)?;
+            Ok(())
+        }
+        Program::Refused => {
+            refuse(machine, who, &path, true, place, tracer)?;
+            Ok(())
+        }
         Program::Known(index) => {
-            Ok(launch(machine, who, child, index, path, &arguments, tracer)?)
+            launch(machine, who, child, index, path, &arguments, tracer)?;
+            Ok(())
         }
         Program::New(code) => {
-            Ok(launch_new(machine, who, child, code, path, &arguments, tracer)?)
+            launch_new(machine, who, child, code, path, &arguments, tracer)?;
+            Ok(())
         }
     }
 }
 
 /// A step of a `spawn`.
 pub(crate) fn spawn<T: Tracer>(
-    machine: Machine,
+    machine: &mut Machine,
     who: Who,
     spawning: Spawning,
     tracer: &mut T,
-) -> Result<Machine, AllocError>
-    requires says { slot_spawning_at machine who.number ≡ Some spawning }
-    requires within { who.number < length machine.processes.items }
-    requires room { HasRoom (slice_get machine.processes.items who.number) }
-    requires counted { CountsBelow who.step machine }
-    ensures core { IfOk result (λ after. (c : Core) → IsCore machine c
-        → IsCore after (quiet who.number c).core) }
-    ensures told { OnOk result ((c : Core) → IsCore machine c
+) -> Result<(), AllocError>
+    requires says { slot_spawning_at machine.old who.number ≡ Some spawning }
+    requires within { who.number < length machine.old.processes.items }
+    requires room { HasRoom (slice_get machine.old.processes.items who.number) }
+    requires counted { CountsBelow who.step machine.old }
+    ensures core { OnOk result ((c : Core) → IsCore machine.old c
+        → IsCore machine.new (quiet who.number c).core) }
+    ensures told { OnOk result ((c : Core) → IsCore machine.old c
         → Told T.KEEPS (T.events tracer.old) (T.events tracer.new) (map (event_at who.step who.number)
         (quiet who.number c).acts)) }
-    ensures grows { IfOk result (λ after. Grows machine who.number after) }
-    ensures counted { IfOk result (CountsBelow (who.step + 1)) }
+    ensures grows { OnOk result (Grows machine.old who.number machine.new) }
+    ensures counted { OnOk result (CountsBelow (who.step + 1) machine.new) }
 {
     let Spawning {
         child,
@@ -215,7 +225,10 @@ pub(crate) fn spawn<T: Tracer>(
         place,
     } = spawning;
     match path {
-        None => Ok(with_misuse(machine, who.number)),
+        None => {
+            end_misused(machine, who.number);
+            Ok(())
+        }
         Some(path) => spawn_path(machine, who, child, path, arguments, place, tracer),
     }
 }

@@ -54,6 +54,7 @@ pub(crate) fn next_of<'a>(
 }
 
 /// The next instruction of a process.
+#[inline(always)]
 pub(crate) fn next_in<'a>(codes: &'a Codes, process: &SlotProcess) -> Option<&'a SlotInstr>
     ensures next { option_map (λ instr. instr.now) result ≡ next_slotted codes.now (Some process.now) }
     ensures room { OnSome result (process.now.place + 1 < 2 ^ 64) }

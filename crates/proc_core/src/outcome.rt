@@ -2,6 +2,7 @@
 
 ghost use Rattle.std.specs.Prelude.{◌≡◌, IfOk, unwrap_or};
 ghost use Rattle.ldv_value.specs.FileState.{content_at};
+ghost use Rattle.sql_model.specs.Sorting.{sorted_by};
 ghost use Rattle.run_model.specs.Outcome.{outcome_of_path, outcomes_of_paths};
 ghost use Rattle.proc_core.specs.SlotOutcome.{slot_outcome, slot_outcomes, slot_outcomes_by_name};
 ghost use Rattle.proc_core.specs.SlotOutcome.{name_cmp, slot_outcome_of};
@@ -54,12 +55,69 @@ fn compare_names(a: &ProcOutcome, b: &ProcOutcome) -> Ordering
     a.name.parts.items().cmp(b.name.parts.items())
 }
 
+// Outcomes in the order of names.
+fn sorted_by_name(outcomes: Vec<ProcOutcome>) -> Result<ProcOutcomes, AllocError>
+    ensures { IfOk result (λ sorted. sorted ≡ sorted_by name_cmp outcomes.items) }
+{
+    let mut sorted = outcomes;
+    sorted.sort_by(|a, b| compare_names(a, b))?;
+    Ok(ProcOutcomes::of_vec(sorted))
+}
+
 fn outcomes_by_name(alloc: Global, processes: &[SlotProcess]) -> Result<ProcOutcomes, AllocError>
     ensures { IfOk result (λ outcomes. outcomes ≡ slot_outcomes_by_name processes.now) }
 {
-    let mut outcomes = outcomes_of(alloc, processes)?;
-    outcomes.sort_by(|a, b| compare_names(a, b))?;
-    Ok(ProcOutcomes::of_vec(outcomes))
+    let outcomes = outcomes_of(alloc, processes)?;
+    let sorted = sorted_by_name(outcomes)?;
+    Ok(sorted)
+}
+
+// The outcome of a process, with its printed bytes and its replies themselves.
+fn outcome_from_process(process: SlotProcess) -> ProcOutcome
+    ensures { result ≡ slot_outcome process }
+{
+    let SlotProcess {
+        name,
+        code: _,
+        place: _,
+        variables: _,
+        files: _,
+        cursors: _,
+        children: _,
+        spawned: _,
+        printed,
+        replies,
+        status,
+    } = process;
+    ProcOutcome {
+        name: ProcName { parts: name },
+        status: status_or_zero(status),
+        printed,
+        replies,
+    }
+}
+
+// The outcomes of processes, from the last to the first, each of which is let go.
+fn outcomes_from(alloc: Global, processes: Vec<SlotProcess>) -> Result<Vec<ProcOutcome>, AllocError>
+    ensures { IfOk result (λ outcomes. outcomes.items ≡ slot_outcomes processes.items) }
+{
+    let mut left = processes;
+    let mut outcomes = Vec::with_capacity(alloc, left.len())?;
+    while let Some(process) = left.pop() {
+        outcomes.push(outcome_from_process(process))?;
+    }
+    Ok(outcomes)
+}
+
+fn outcomes_by_name_from(
+    alloc: Global,
+    processes: Vec<SlotProcess>,
+) -> Result<ProcOutcomes, AllocError>
+    ensures { IfOk result (λ outcomes. outcomes ≡ slot_outcomes_by_name processes.items) }
+{
+    let outcomes = outcomes_from(alloc, processes)?;
+    let sorted = sorted_by_name(outcomes)?;
+    Ok(sorted)
 }
 
 fn content_of(alloc: Global, tree: &Tree, path: &Utf8) -> Result<Option<Bytes>, AllocError>
@@ -98,5 +156,28 @@ pub(crate) fn outcome_of(machine: &Machine) -> Result<Outcome, AllocError>
     Ok(Outcome {
         processes: outcomes_by_name(machine.alloc, &machine.processes)?,
         paths: outcomes_of_paths(machine.alloc, &machine.tree)?,
+    })
+}
+
+/// The outcome of a run that has ended, with what was printed and the replies themselves.
+pub(crate) fn outcome_from(machine: Machine) -> Result<Outcome, AllocError>
+    ensures { IfOk result (λ outcome. outcome ≡ slot_outcome_of machine) }
+{
+    let Machine {
+        alloc,
+        codes: _,
+        processes,
+        tree,
+        seed: _,
+        last: _,
+        x: _,
+        asked: _,
+        ready: _,
+        parents: _,
+        runners: _,
+    } = machine;
+    Ok(Outcome {
+        processes: outcomes_by_name_from(alloc, processes)?,
+        paths: outcomes_of_paths(alloc, &tree)?,
     })
 }

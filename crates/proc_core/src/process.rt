@@ -46,6 +46,7 @@ impl SlotProcess {
     }
 
     /// Goes on at the next instruction.
+    #[inline(always)]
     pub(crate) fn go_on(&mut self)
         requires { self.old.place + 1 < 2 ^ 64 }
         ensures { self.new ≡ slot_went_on self.old }
@@ -54,6 +55,7 @@ impl SlotProcess {
     }
 
     /// Goes on at the place of a label.
+    #[inline(always)]
     pub(crate) fn go_to(&mut self, place: u32)
         ensures { self.new ≡ slot_went_to place self.old }
     {
@@ -61,6 +63,7 @@ impl SlotProcess {
     }
 
     /// Gives a variable a value.
+    #[inline(always)]
     pub(crate) fn set_variable(&mut self, slot: usize, value: Value)
         ensures { self.new ≡ slot_with_variable slot value self.old }
     {

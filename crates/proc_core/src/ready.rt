@@ -76,20 +76,17 @@ pub(crate) fn has_ended(machine: &Machine) -> bool
     machine.ready.len() == 0
 }
 
-/// The machine after a step of a process, whose flag is brought up to date, and where it has ended that of
-/// its parent.
-pub(crate) fn refresh(machine: Machine, number: usize) -> Machine
-    ensures flags { result.ready.flags
-        ≡ refreshed machine.codes machine.processes.items machine.parents number machine.ready.flags }
-    ensures others { result ≡ record machine { ready = result.ready } }
+/// Brings the flag of a process up to date after its step, and where it has ended that of its parent.
+pub(crate) fn refresh(machine: &mut Machine, number: usize)
+    ensures flags { machine.new.ready.flags ≡ refreshed machine.old.codes machine.old.processes.items
+        machine.old.parents number machine.old.ready.flags }
+    ensures others { machine.new ≡ record machine.old { ready = machine.new.ready } }
 {
-    let mut after = machine;
     refresh_flags(
-        &after.codes,
-        &after.processes,
-        &after.parents,
+        &machine.codes,
+        &machine.processes,
+        &machine.parents,
         number,
-        &mut after.ready,
+        &mut machine.ready,
     );
-    after
 }

@@ -18,7 +18,7 @@ ghost use Rattle.proc_core.specs.Stands.{HasStartScript, IsStartScript, Told};
 ghost use Rattle.proc_core.specs.Stops.{HasStopped, HasRunStopped};
 
 use crate::machine::Machine;
-use crate::outcome::outcome_of;
+use crate::outcome::{outcome_from, outcome_of};
 use crate::ready::{has_ended, refresh};
 use crate::schedule::{choose, schedule};
 use crate::start::machine_at;
@@ -29,6 +29,44 @@ use file_tree::Tree;
 use ldv_value::Words;
 use run_model::{Database, Outcome, Tracer};
 use std::alloc::AllocError;
+
+// One step of the process that the seed chooses.
+fn make_step<D: Database, T: Tracer>(
+    machine: &mut Machine,
+    db: &mut D,
+    tracer: &mut T,
+    steps: u32,
+) -> Result<(), Stopped>
+    requires going { has_ended machine.old ≡ false }
+    requires room { steps < 10000000 }
+    requires asked { D.latest db.old ≤ steps }
+    requires counted { CountsBelow (steps + 1) machine.old }
+    ensures state { OnOk result ((s : State D.Db)
+        → Stands machine.old (D.seen db.old) s
+        → Stands machine.new (D.seen db.new) (move D.base None s).state) }
+    ensures told { OnOk result ((s : State D.Db)
+        → Stands machine.old (D.seen db.old) s
+        → Told T.KEEPS (T.events tracer.old) (T.events tracer.new)
+        (events_of_step (steps + 1) (move D.base None s))) }
+    ensures diverged { IfErr result (λ stop. (s : State D.Db)
+        → Stands machine.old (D.seen db.old) s → HasStopped stop (move D.base None s).state) }
+    ensures asked { OnOk result (D.latest db.new ≤ steps + 1) }
+    ensures counted { OnOk result (CountsBelow (steps + 1 + 1) machine.new) }
+{
+    let number = choose(machine);
+    schedule(machine, number);
+    let who = Who {
+        step: steps + 1,
+        number: number as usize,
+    };
+    match move_on(machine, who, db, tracer) {
+        Err(stop) => Err(stop),
+        Ok(()) => {
+            refresh(machine, number as usize);
+            Ok(())
+        }
+    }
+}
 
 /// A run: its processes and files, the database that it asks, and the tracer that its events are reported to.
 #[derive(Drop)]
@@ -118,21 +156,15 @@ impl<D: Database, T: Tracer> Run<D, T> {
             → Stands self.machine (D.seen self.db) s → HasStopped stop (move D.base None s).state) }
     {
         let Run {
-            machine,
+            mut machine,
             mut db,
             mut tracer,
             steps,
         } = self;
-        let number = choose(&machine);
-        let scheduled = schedule(machine, number);
-        let who = Who {
-            step: steps + 1,
-            number: number as usize,
-        };
-        match move_on(scheduled, who, &mut db, &mut tracer) {
+        match make_step(&mut machine, &mut db, &mut tracer, steps) {
             Err(stop) => Err(stop),
-            Ok(after) => Ok(Run {
-                machine: refresh(after, number as usize),
+            Ok(()) => Ok(Run {
+                machine,
                 db,
                 tracer,
                 steps: steps + 1,
@@ -164,21 +196,36 @@ impl<D: Database, T: Tracer> Run<D, T> {
             → is_over (state_after D.base n [] s).core ≡ false
             → MayRun (choose None (state_after D.base n [] s).core) (state_after D.base n [] s).core }
     {
-        let mut run = self;
+        let Run {
+            mut machine,
+            mut db,
+            mut tracer,
+            mut steps,
+        } = self;
         for _made in 0..budget {
-            if run.ended() {
-                return Ok(run);
+            if has_ended(&machine) {
+                return Ok(Run {
+                    machine,
+                    db,
+                    tracer,
+                    steps,
+                });
             }
-            run = match run.advance() {
-                Ok(next) => next,
+            match make_step(&mut machine, &mut db, &mut tracer, steps) {
+                Ok(()) => steps += 1,
                 Err(Stopped::Diverged { process, index }) => {
                     return Err(RunStop::Diverged { process, index });
                 }
                 Err(Stopped::NoMemory) => return Err(RunStop::NoMemory),
-            };
+            }
         }
-        if run.ended() {
-            Ok(run)
+        if has_ended(&machine) {
+            Ok(Run {
+                machine,
+                db,
+                tracer,
+                steps,
+            })
         } else {
             Err(RunStop::NotEnded)
         }
@@ -192,6 +239,23 @@ impl<D: Database, T: Tracer> Run<D, T> {
             → outcome ≡ outcome_of s.core) }
     {
         outcome_of(&self.machine)
+    }
+
+    /// The outcome of a run that has ended, as `outcome` gives it. What the processes printed and the replies
+    /// to them go over into it; files are copied.
+    #[tactic(auto, using(crate::proofs::Outcomes::outcome_is))]
+    pub fn into_outcome(self) -> Result<Outcome, AllocError>
+        requires { has_ended self.machine ≡ true }
+        ensures { IfOk result (λ outcome. (s : State D.Db) → Stands self.machine (D.seen self.db) s
+            → outcome ≡ outcome_of s.core) }
+    {
+        let Run {
+            machine,
+            db: _,
+            tracer: _,
+            steps: _,
+        } = self;
+        outcome_from(machine)
     }
 
     /// The database.

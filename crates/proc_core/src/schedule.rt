@@ -1,10 +1,11 @@
 //! The scheduler: which process makes the next step.
 
-ghost use Rattle.std.specs.Prelude.{◌≡◌, ◌<◌, None, length, slice_get};
+ghost use Rattle.std.specs.Prelude.{◌≡◌, ◌+◌, ◌<◌, ◌^◌, None, false, true, length, slice_get};
+ghost use Rattle.std.specs.Prelude.{slice_index_or};
 ghost use Rattle.std.specs.Option.{option_map};
 ghost use Rattle.run_model.specs.Core.{Core};
 ghost use Rattle.proc_core.specs.Flags.{runnable_flags};
-ghost use Rattle.ready_set.specs.Ready.{numbers};
+ghost use Rattle.ready_set.specs.Ready.{next_round, numbers};
 ghost use Rattle.run_model.specs.Schedule.{choose, scheduled, moved_x, at_random, pick_of};
 ghost use Rattle.proc_core.specs.SlotStep.{slot_is_runnable, slot_waits_at, slot_waits_for};
 ghost use Rattle.proc_core.specs.SlotStep.{slot_still_runs};
@@ -97,13 +98,37 @@ fn pick_random(ready: &ReadySet, x: u64) -> u32
     ready.pick_at(x >> 33)
 }
 
+// Whether the number after one is in the set.
+fn has_next(ready: &ReadySet, last: u32) -> bool
+    ensures few { result ≡ true → last < 2 ^ 30 }
+    ensures there { result ≡ true → slice_index_or ready.now.flags (last + 1) false ≡ true }
+{
+    if last < ready.made() {
+        ready.contains(last + 1)
+    } else {
+        false
+    }
+}
+
+// The number whose turn it is after one: the next, or else the first after it, which takes a search.
+fn pick_in_turn(ready: &ReadySet, last: u32) -> u32
+    requires { 0 < length (numbers ready.now.flags) }
+    ensures { result ≡ next_round last (numbers ready.now.flags) }
+{
+    if has_next(ready, last) {
+        last + 1
+    } else {
+        ready.pick_next(last)
+    }
+}
+
 // The number that the scheduler picks: by turns under seed 0, and at random under any other.
 fn pick_one(ready: &ReadySet, seed: u64, last: u32, x: u64) -> u32
     requires { 0 < length (numbers ready.now.flags) }
     ensures { result ≡ pick_of seed last x (numbers ready.now.flags) }
 {
     if seed == 0 {
-        ready.pick_next(last)
+        pick_in_turn(ready, last)
     } else {
         pick_random(ready, x)
     }
@@ -121,6 +146,7 @@ fn pick(ready: &ReadySet, seed: u64, last: u32, x: u64) -> u32
 }
 
 /// The creation number of the process that the seed chooses.
+#[inline(always)]
 pub(crate) fn choose(machine: &Machine) -> u32
     ensures { (c : Core) → IsCore machine.now c → machine.now.ready.flags ≡ runnable_flags c.processes
         → result ≡ choose None c }
@@ -129,39 +155,15 @@ pub(crate) fn choose(machine: &Machine) -> u32
     pick(&machine.ready, machine.seed, machine.last, x)
 }
 
-/// The machine in which a process was chosen.
-pub(crate) fn schedule(machine: Machine, number: u32) -> Machine
-    ensures core { (c : Core) → IsCore machine c → IsCore result (scheduled number c) }
-    ensures ready { result.ready ≡ machine.ready }
-    ensures parents { result.parents ≡ machine.parents }
-    ensures processes { result.processes ≡ machine.processes }
-    ensures asked { result.asked ≡ machine.asked }
+/// Notes that a process was chosen.
+pub(crate) fn schedule(machine: &mut Machine, number: u32)
+    ensures core { (c : Core) → IsCore machine.old c → IsCore machine.new (scheduled number c) }
+    ensures ready { machine.new.ready ≡ machine.old.ready }
+    ensures parents { machine.new.parents ≡ machine.old.parents }
+    ensures processes { machine.new.processes ≡ machine.old.processes }
+    ensures asked { machine.new.asked ≡ machine.old.asked }
 {
-    let Machine {
-        alloc,
-        codes,
-        processes,
-        tree,
-        seed,
-        last: _,
-        x,
-        asked,
-        ready,
-        parents,
-        runners,
-    } = machine;
-    let moved = moved_x(seed, x);
-    Machine {
-        alloc,
-        codes,
-        processes,
-        tree,
-        seed,
-        last: number,
-        x: moved,
-        asked,
-        ready,
-        parents,
-        runners,
-    }
+    let moved = moved_x(machine.seed, machine.x);
+    machine.last = number;
+    machine.x = moved;
 }

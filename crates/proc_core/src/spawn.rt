@@ -122,51 +122,27 @@ fn child_at(
 
 /// Makes a child of a process, which runs the script of an index.
 pub(crate) fn make_child(
-    machine: Machine,
+    machine: &mut Machine,
     number: usize,
     slot: usize,
     index: usize,
     arguments: &Values,
-) -> Result<Machine, AllocError>
-    requires within { number < length machine.processes.items }
-    requires few { length machine.processes.items < max_processes }
-    requires held { index < length machine.codes }
-    requires room { HasRoom (slice_get machine.processes.items number) }
-    requires spawns { MaySpawn (slice_get machine.processes.items number) }
-    requires flags { length machine.ready.flags ≤ length machine.processes.items }
-    ensures { IfOk result (λ after. (r : SlotProcess) (code : Code)
-        → slice_get machine.processes.items number ≡ Some r → slice_get machine.codes index ≡ Some code
-        → HasChild machine number slot index code r arguments.now after) }
+) -> Result<(), AllocError>
+    requires within { number < length machine.old.processes.items }
+    requires few { length machine.old.processes.items < max_processes }
+    requires held { index < length machine.old.codes }
+    requires room { HasRoom (slice_get machine.old.processes.items number) }
+    requires spawns { MaySpawn (slice_get machine.old.processes.items number) }
+    requires flags { length machine.old.ready.flags ≤ length machine.old.processes.items }
+    ensures { OnOk result ((r : SlotProcess) (code : Code)
+        → slice_get machine.old.processes.items number ≡ Some r
+        → slice_get machine.old.codes index ≡ Some code
+        → HasChild machine.old number slot index code r arguments.now machine.new) }
 {
-    let child = child_at(&machine, number, index, arguments)?;
+    let child = child_at(machine, number, index, arguments)?;
     let parent = number as u32;
-    let Machine {
-        alloc,
-        codes,
-        mut processes,
-        tree,
-        seed,
-        last,
-        x,
-        asked,
-        mut ready,
-        mut parents,
-        runners,
-    } = machine;
-    add_ready(&mut ready)?;
-    parents.push(parent)?;
-    add_child(child, slot, number, &mut processes)?;
-    Ok(Machine {
-        alloc,
-        codes,
-        processes,
-        tree,
-        seed,
-        last,
-        x,
-        asked,
-        ready,
-        parents,
-        runners,
-    })
+    add_ready(&mut machine.ready)?;
+    machine.parents.push(parent)?;
+    add_child(child, slot, number, &mut machine.processes)?;
+    Ok(())
 }

@@ -17,7 +17,7 @@ ghost use Rattle.proc_core.specs.declared.ask.Statement.{Statement};
 ghost use Rattle.proc_core.specs.declared.process.SlotProcess.{SlotProcess};
 
 use crate::ask::{Statement, ask_at, take_at};
-use crate::keep::{keep, status_in};
+use crate::keep::{is_kept_at, keep, status_in};
 use crate::launch::spawn;
 use crate::machine::Machine;
 use crate::process::SlotProcess;
@@ -29,58 +29,59 @@ use sql_model::Reply;
 use std::alloc::AllocError;
 
 // The step of a process that asks nothing and makes no process, with the end of the process.
-fn keep_on<T: Tracer>(machine: Machine, who: Who, tracer: &mut T) -> Result<Machine, AllocError>
-    requires kept { IsKept (next_slotted machine.codes (slice_get machine.processes.items who.number)) }
-    requires counted { CountsBelow who.step machine }
-    ensures core { IfOk result (λ after. (c : Core) → IsCore machine c
-        → IsCore after (quiet who.number c).core) }
-    ensures told { IfOk result (λ after. (c : Core) → IsCore machine c
+fn keep_on<T: Tracer>(machine: &mut Machine, who: Who, tracer: &mut T) -> Result<(), AllocError>
+    requires kept { IsKept (next_slotted machine.old.codes
+        (slice_get machine.old.processes.items who.number)) }
+    requires counted { CountsBelow who.step machine.old }
+    ensures core { OnOk result ((c : Core) → IsCore machine.old c
+        → IsCore machine.new (quiet who.number c).core) }
+    ensures told { OnOk result ((c : Core) → IsCore machine.old c
         → Told T.KEEPS (T.events tracer.old) (T.events tracer.new) (map (event_at who.step who.number)
         ((quiet who.number c).acts ++ ends_at who.number (quiet who.number c).core))) }
-    ensures grows { IfOk result (λ after. Grows machine who.number after) }
-    ensures counted { IfOk result (CountsBelow (who.step + 1)) }
+    ensures grows { OnOk result (Grows machine.old who.number machine.new) }
+    ensures counted { OnOk result (CountsBelow (who.step + 1) machine.new) }
 {
-    let after = keep(machine, who, tracer)?;
-    tell_status(who, status_in(&after.processes, who.number), tracer)?;
-    Ok(after)
+    keep(machine, who, tracer)?;
+    tell_status(who, status_in(&machine.processes, who.number), tracer)?;
+    Ok(())
 }
 
 // The step of a process that makes one, with its own end.
 fn spawn_on<T: Tracer>(
-    machine: Machine,
+    machine: &mut Machine,
     who: Who,
     spawning: Spawning,
     tracer: &mut T,
-) -> Result<Machine, AllocError>
-    requires says { slot_spawning_at machine who.number ≡ Some spawning }
-    requires within { who.number < length machine.processes.items }
-    requires room { HasRoom (slice_get machine.processes.items who.number) }
-    requires counted { CountsBelow who.step machine }
-    ensures core { IfOk result (λ after. (c : Core) → IsCore machine c
-        → IsCore after (quiet who.number c).core) }
-    ensures told { IfOk result (λ after. (c : Core) → IsCore machine c
+) -> Result<(), AllocError>
+    requires says { slot_spawning_at machine.old who.number ≡ Some spawning }
+    requires within { who.number < length machine.old.processes.items }
+    requires room { HasRoom (slice_get machine.old.processes.items who.number) }
+    requires counted { CountsBelow who.step machine.old }
+    ensures core { OnOk result ((c : Core) → IsCore machine.old c
+        → IsCore machine.new (quiet who.number c).core) }
+    ensures told { OnOk result ((c : Core) → IsCore machine.old c
         → Told T.KEEPS (T.events tracer.old) (T.events tracer.new) (map (event_at who.step who.number)
         ((quiet who.number c).acts ++ ends_at who.number (quiet who.number c).core))) }
-    ensures grows { IfOk result (λ after. Grows machine who.number after) }
-    ensures counted { IfOk result (CountsBelow (who.step + 1)) }
+    ensures grows { OnOk result (Grows machine.old who.number machine.new) }
+    ensures counted { OnOk result (CountsBelow (who.step + 1) machine.new) }
 {
-    let after = spawn(machine, who, spawning, tracer)?;
-    tell_status(who, status_in(&after.processes, who.number), tracer)?;
-    Ok(after)
+    spawn(machine, who, spawning, tracer)?;
+    tell_status(who, status_in(&machine.processes, who.number), tracer)?;
+    Ok(())
 }
 
 // The step of a process that asks nothing, with the end of the process.
-fn quiet_on<T: Tracer>(machine: Machine, who: Who, tracer: &mut T) -> Result<Machine, AllocError>
-    requires { CountsBelow who.step machine }
-    ensures core { IfOk result (λ after. (c : Core) → IsCore machine c
-        → IsCore after (quiet who.number c).core) }
-    ensures told { IfOk result (λ after. (c : Core) → IsCore machine c
+fn quiet_on<T: Tracer>(machine: &mut Machine, who: Who, tracer: &mut T) -> Result<(), AllocError>
+    requires { CountsBelow who.step machine.old }
+    ensures core { OnOk result ((c : Core) → IsCore machine.old c
+        → IsCore machine.new (quiet who.number c).core) }
+    ensures told { OnOk result ((c : Core) → IsCore machine.old c
         → Told T.KEEPS (T.events tracer.old) (T.events tracer.new) (map (event_at who.step who.number)
         ((quiet who.number c).acts ++ ends_at who.number (quiet who.number c).core))) }
-    ensures grows { IfOk result (λ after. Grows machine who.number after) }
-    ensures counted { IfOk result (CountsBelow (who.step + 1)) }
+    ensures grows { OnOk result (Grows machine.old who.number machine.new) }
+    ensures counted { OnOk result (CountsBelow (who.step + 1) machine.new) }
 {
-    match spawning_at(&machine, who.number)? {
+    match spawning_at(machine, who.number)? {
         None => keep_on(machine, who, tracer),
         Some(spawning) => spawn_on(machine, who, spawning, tracer),
     }
@@ -153,105 +154,82 @@ fn stop_by(process: &SlotProcess) -> Result<Stopped, AllocError>
     })
 }
 
-// The machine after the process of a number has its reply.
-fn take(machine: Machine, number: usize, cursor: usize, reply: Reply) -> Result<Machine, AllocError>
-    requires within { number < length machine.processes.items }
-    requires counted { machine.asked + 1 < 2 ^ 32 }
-    requires room { HasRoom (slice_get machine.processes.items number) }
-    ensures core { IfOk result (λ after. (c : Core) (t : Statement) → IsCore machine c
-        → slot_ask_at machine number ≡ Some t → t.cursor ≡ cursor
-        → (a : Ask) → ask_at number c ≡ Some a → IsCore after (took number a reply c)) }
-    ensures grows { IfOk result (λ after. Grows machine number after) }
-    ensures counted { IfOk result (λ after. (n : ℕ) → CountsBelow n machine → CountsBelow (n + 1) after) }
+// The process of a number has its reply.
+fn take(machine: &mut Machine, number: usize, cursor: usize, reply: Reply) -> Result<(), AllocError>
+    requires within { number < length machine.old.processes.items }
+    requires counted { machine.old.asked + 1 < 2 ^ 32 }
+    requires room { HasRoom (slice_get machine.old.processes.items number) }
+    ensures core { OnOk result ((c : Core) (t : Statement) → IsCore machine.old c
+        → slot_ask_at machine.old number ≡ Some t → t.cursor ≡ cursor
+        → (a : Ask) → ask_at number c ≡ Some a → IsCore machine.new (took number a reply c)) }
+    ensures grows { OnOk result (Grows machine.old number machine.new) }
+    ensures counted { OnOk result ((n : ℕ) → CountsBelow n machine.old
+        → CountsBelow (n + 1) machine.new) }
 {
-    let Machine {
-        alloc,
-        codes,
-        mut processes,
-        tree,
-        seed,
-        last,
-        x,
-        asked,
-        ready,
-        parents,
-        runners,
-    } = machine;
-    take_at(cursor, reply, number, &mut processes)?;
-    Ok(Machine {
-        alloc,
-        codes,
-        processes,
-        tree,
-        seed,
-        last,
-        x,
-        asked: asked + 1,
-        ready,
-        parents,
-        runners,
-    })
+    take_at(cursor, reply, number, &mut machine.processes)?;
+    machine.asked += 1;
+    Ok(())
 }
 
 // The process of a number takes its reply, with its end.
 fn take_on<T: Tracer>(
-    machine: Machine,
+    machine: &mut Machine,
     who: Who,
     cursor: usize,
     reply: Reply,
     tracer: &mut T,
-) -> Result<Machine, AllocError>
-    requires within { who.number < length machine.processes.items }
-    requires counted { CountsBelow who.step machine }
-    requires room { HasRoom (slice_get machine.processes.items who.number) }
-    ensures core { IfOk result (λ after. (c : Core) (t : Statement) → IsCore machine c
-        → slot_ask_at machine who.number ≡ Some t → t.cursor ≡ cursor
-        → (a : Ask) → ask_at who.number c ≡ Some a → IsCore after (took who.number a reply c)) }
-    ensures told { IfOk result (λ after. Told T.KEEPS (T.events tracer.old) (T.events tracer.new)
+) -> Result<(), AllocError>
+    requires within { who.number < length machine.old.processes.items }
+    requires counted { CountsBelow who.step machine.old }
+    requires room { HasRoom (slice_get machine.old.processes.items who.number) }
+    ensures core { OnOk result ((c : Core) (t : Statement) → IsCore machine.old c
+        → slot_ask_at machine.old who.number ≡ Some t → t.cursor ≡ cursor
+        → (a : Ask) → ask_at who.number c ≡ Some a → IsCore machine.new (took who.number a reply c)) }
+    ensures told { OnOk result (Told T.KEEPS (T.events tracer.old) (T.events tracer.new)
         (map (event_at who.step who.number)
-        (status_acts (slot_status_in after.processes.items who.number)))) }
-    ensures grows { IfOk result (λ after. Grows machine who.number after) }
-    ensures counted { IfOk result (CountsBelow (who.step + 1)) }
+        (status_acts (slot_status_in machine.new.processes.items who.number)))) }
+    ensures grows { OnOk result (Grows machine.old who.number machine.new) }
+    ensures counted { OnOk result (CountsBelow (who.step + 1) machine.new) }
 {
-    let after = take(machine, who.number, cursor, reply)?;
-    tell_status(who, status_in(&after.processes, who.number), tracer)?;
-    Ok(after)
+    take(machine, who.number, cursor, reply)?;
+    tell_status(who, status_in(&machine.processes, who.number), tracer)?;
+    Ok(())
 }
 
 // The step of a process that asks, by who it is.
 fn ask_as<D: Database, T: Tracer>(
-    machine: Machine,
+    machine: &mut Machine,
     who: Who,
     asker: Asker,
     statement: Statement,
     db: &mut D,
     tracer: &mut T,
-) -> Result<Machine, Stopped>
-    requires asks { slot_ask_at machine who.number ≡ Some statement }
-    requires asker { (r : SlotProcess) → slice_get machine.processes.items who.number ≡ Some r
-        → asker ≡ asker_held r who machine }
-    requires within { who.number < length machine.processes.items }
-    requires room { HasRoom (slice_get machine.processes.items who.number) }
+) -> Result<(), Stopped>
+    requires asks { slot_ask_at machine.old who.number ≡ Some statement }
+    requires asker { (r : SlotProcess) → slice_get machine.old.processes.items who.number ≡ Some r
+        → asker ≡ asker_held r who machine.old }
+    requires within { who.number < length machine.old.processes.items }
+    requires room { HasRoom (slice_get machine.old.processes.items who.number) }
     requires step { asker.step ≡ who.step }
-    requires counted { CountsBelow who.step machine }
+    requires counted { CountsBelow who.step machine.old }
     requires later { D.latest db.old < who.step }
-    ensures state { IfOk result (λ after. (s : State D.Db) → IsState machine (D.seen db.old) s
-        → IsState after (D.seen db.new) (next_step D.base who.number s).state) }
-    ensures told { IfOk result (λ after. (s : State D.Db) → IsState machine (D.seen db.old) s
+    ensures state { OnOk result ((s : State D.Db) → IsState machine.old (D.seen db.old) s
+        → IsState machine.new (D.seen db.new) (next_step D.base who.number s).state) }
+    ensures told { OnOk result ((s : State D.Db) → IsState machine.old (D.seen db.old) s
         → Told T.KEEPS (T.events tracer.old) (T.events tracer.new)
         (events_of_step who.step (next_step D.base who.number s))) }
-    ensures diverged { IfErr result (λ stop. (s : State D.Db) → IsState machine (D.seen db.old) s
+    ensures diverged { IfErr result (λ stop. (s : State D.Db) → IsState machine.old (D.seen db.old) s
         → HasStopped stop (next_step D.base who.number s).state) }
     ensures latest { OnOk result (D.latest db.new ≤ who.step) }
-    ensures grows { IfOk result (λ after. Grows machine who.number after) }
-    ensures counted { IfOk result (CountsBelow (who.step + 1)) }
+    ensures grows { OnOk result (Grows machine.old who.number machine.new) }
+    ensures counted { OnOk result (CountsBelow (who.step + 1) machine.new) }
 {
     match db.ask(&asker, &statement.text, &statement.params, tracer) {
         Ok(reply) => match take_on(machine, who, statement.cursor, reply, tracer) {
-            Ok(after) => Ok(after),
+            Ok(()) => Ok(()),
             Err(AllocError) => Err(Stopped::NoMemory),
         },
-        Err(Stop::Diverged) => Err(stopped(&machine, who.number)),
+        Err(Stop::Diverged) => Err(stopped(machine, who.number)),
         Err(Stop::NoMemory) => Err(Stopped::NoMemory),
     }
 }
@@ -259,28 +237,28 @@ fn ask_as<D: Database, T: Tracer>(
 // The step of a process that asks.
 #[tactic(auto, using(crate::proofs::Stepping::asked_within))]
 fn ask_on<D: Database, T: Tracer>(
-    machine: Machine,
+    machine: &mut Machine,
     who: Who,
     statement: Statement,
     db: &mut D,
     tracer: &mut T,
-) -> Result<Machine, Stopped>
-    requires asks { slot_ask_at machine who.number ≡ Some statement }
-    requires room { HasRoom (slice_get machine.processes.items who.number) }
-    requires counted { CountsBelow who.step machine }
+) -> Result<(), Stopped>
+    requires asks { slot_ask_at machine.old who.number ≡ Some statement }
+    requires room { HasRoom (slice_get machine.old.processes.items who.number) }
+    requires counted { CountsBelow who.step machine.old }
     requires later { D.latest db.old < who.step }
-    ensures state { IfOk result (λ after. (s : State D.Db) → IsState machine (D.seen db.old) s
-        → IsState after (D.seen db.new) (next_step D.base who.number s).state) }
-    ensures told { IfOk result (λ after. (s : State D.Db) → IsState machine (D.seen db.old) s
+    ensures state { OnOk result ((s : State D.Db) → IsState machine.old (D.seen db.old) s
+        → IsState machine.new (D.seen db.new) (next_step D.base who.number s).state) }
+    ensures told { OnOk result ((s : State D.Db) → IsState machine.old (D.seen db.old) s
         → Told T.KEEPS (T.events tracer.old) (T.events tracer.new)
         (events_of_step who.step (next_step D.base who.number s))) }
-    ensures diverged { IfErr result (λ stop. (s : State D.Db) → IsState machine (D.seen db.old) s
+    ensures diverged { IfErr result (λ stop. (s : State D.Db) → IsState machine.old (D.seen db.old) s
         → HasStopped stop (next_step D.base who.number s).state) }
     ensures latest { OnOk result (D.latest db.new ≤ who.step) }
-    ensures grows { IfOk result (λ after. Grows machine who.number after) }
-    ensures counted { IfOk result (CountsBelow (who.step + 1)) }
+    ensures grows { OnOk result (Grows machine.old who.number machine.new) }
+    ensures counted { OnOk result (CountsBelow (who.step + 1) machine.new) }
 {
-    match asker_of(&machine, who) {
+    match asker_of(machine, who) {
         Ok(asker) => ask_as(machine, who, asker, statement, db, tracer),
         Err(AllocError) => Err(Stopped::NoMemory),
     }
@@ -288,30 +266,30 @@ fn ask_on<D: Database, T: Tracer>(
 
 // A step by what the process asks.
 fn move_by<D: Database, T: Tracer>(
-    machine: Machine,
+    machine: &mut Machine,
     who: Who,
     asked: Option<Statement>,
     db: &mut D,
     tracer: &mut T,
-) -> Result<Machine, Stopped>
-    requires asked { asked ≡ slot_ask_at machine who.number }
-    requires room { OnSome asked (HasRoom (slice_get machine.processes.items who.number)) }
-    requires counted { CountsBelow who.step machine }
+) -> Result<(), Stopped>
+    requires asked { asked ≡ slot_ask_at machine.old who.number }
+    requires room { OnSome asked (HasRoom (slice_get machine.old.processes.items who.number)) }
+    requires counted { CountsBelow who.step machine.old }
     requires later { D.latest db.old < who.step }
-    ensures state { IfOk result (λ after. (s : State D.Db) → IsState machine (D.seen db.old) s
-        → IsState after (D.seen db.new) (next_step D.base who.number s).state) }
-    ensures told { IfOk result (λ after. (s : State D.Db) → IsState machine (D.seen db.old) s
+    ensures state { OnOk result ((s : State D.Db) → IsState machine.old (D.seen db.old) s
+        → IsState machine.new (D.seen db.new) (next_step D.base who.number s).state) }
+    ensures told { OnOk result ((s : State D.Db) → IsState machine.old (D.seen db.old) s
         → Told T.KEEPS (T.events tracer.old) (T.events tracer.new)
         (events_of_step who.step (next_step D.base who.number s))) }
-    ensures diverged { IfErr result (λ stop. (s : State D.Db) → IsState machine (D.seen db.old) s
+    ensures diverged { IfErr result (λ stop. (s : State D.Db) → IsState machine.old (D.seen db.old) s
         → HasStopped stop (next_step D.base who.number s).state) }
     ensures latest { OnOk result (D.latest db.new ≤ who.step) }
-    ensures grows { IfOk result (λ after. Grows machine who.number after) }
-    ensures counted { IfOk result (CountsBelow (who.step + 1)) }
+    ensures grows { OnOk result (Grows machine.old who.number machine.new) }
+    ensures counted { OnOk result (CountsBelow (who.step + 1) machine.new) }
 {
     match asked {
         None => match quiet_on(machine, who, tracer) {
-            Ok(after) => Ok(after),
+            Ok(()) => Ok(()),
             Err(AllocError) => Err(Stopped::NoMemory),
         },
         Some(statement) => ask_on(machine, who, statement, db, tracer),
@@ -320,26 +298,33 @@ fn move_by<D: Database, T: Tracer>(
 
 /// A step of the process of a number.
 pub(crate) fn move_on<D: Database, T: Tracer>(
-    machine: Machine,
+    machine: &mut Machine,
     who: Who,
     db: &mut D,
     tracer: &mut T,
-) -> Result<Machine, Stopped>
-    requires counted { CountsBelow who.step machine }
+) -> Result<(), Stopped>
+    requires counted { CountsBelow who.step machine.old }
     requires later { D.latest db.old < who.step }
-    ensures state { IfOk result (λ after. (s : State D.Db) → IsState machine (D.seen db.old) s
-        → IsState after (D.seen db.new) (next_step D.base who.number s).state) }
-    ensures told { IfOk result (λ after. (s : State D.Db) → IsState machine (D.seen db.old) s
+    ensures state { OnOk result ((s : State D.Db) → IsState machine.old (D.seen db.old) s
+        → IsState machine.new (D.seen db.new) (next_step D.base who.number s).state) }
+    ensures told { OnOk result ((s : State D.Db) → IsState machine.old (D.seen db.old) s
         → Told T.KEEPS (T.events tracer.old) (T.events tracer.new)
         (events_of_step who.step (next_step D.base who.number s))) }
-    ensures diverged { IfErr result (λ stop. (s : State D.Db) → IsState machine (D.seen db.old) s
+    ensures diverged { IfErr result (λ stop. (s : State D.Db) → IsState machine.old (D.seen db.old) s
         → HasStopped stop (next_step D.base who.number s).state) }
     ensures latest { OnOk result (D.latest db.new ≤ who.step) }
-    ensures grows { IfOk result (λ after. Grows machine who.number after) }
-    ensures counted { IfOk result (CountsBelow (who.step + 1)) }
+    ensures grows { OnOk result (Grows machine.old who.number machine.new) }
+    ensures counted { OnOk result (CountsBelow (who.step + 1) machine.new) }
 {
-    match ask_at(&machine, who.number) {
-        Ok(asked) => move_by(machine, who, asked, db, tracer),
-        Err(AllocError) => Err(Stopped::NoMemory),
+    if is_kept_at(machine, who.number) {
+        match keep_on(machine, who, tracer) {
+            Ok(()) => Ok(()),
+            Err(AllocError) => Err(Stopped::NoMemory),
+        }
+    } else {
+        match ask_at(machine, who.number) {
+            Ok(asked) => move_by(machine, who, asked, db, tracer),
+            Err(AllocError) => Err(Stopped::NoMemory),
+        }
     }
 }

@@ -1,11 +1,13 @@
 //! `let`, `if`, `goto`, `print` and `exit`: they change their own process only.
 
-ghost use Rattle.std.specs.Prelude.{◌≡◌, ◌+◌, ◌++◌, ◌^◌, ◌<◌, nat_lt, IfOk, OnOk};
+ghost use Rattle.std.specs.Prelude.{◌≡◌, ◌+◌, ◌++◌, ◌^◌, ◌<◌, nat_lt, slice_get, IfOk, OnOk};
 ghost use Rattle.std.specs.List.{flat_map};
 ghost use Rattle.ldv_value.specs.Limits.{printed_limit};
+ghost use Rattle.ldv_value.specs.Order.{order, meets};
 ghost use Rattle.ldv_value.specs.Shown.{shown};
+ghost use Rattle.sql_model.specs.Meaning.{or_null};
 ghost use Rattle.proc_core.specs.Types.{Int};
-ghost use Rattle.run_model.specs.StepVariables.{printed_line, exit_status};
+ghost use Rattle.run_model.specs.StepVariables.{calculated, glued, to_number, printed_line, exit_status};
 ghost use Rattle.proc_core.specs.Slots.{slot_value, slot_values, slot_assign, computed};
 ghost use Rattle.proc_core.specs.SlotVariables.{slot_let, slot_calculate, slot_glue, slot_let_number};
 ghost use Rattle.proc_core.specs.SlotVariables.{slot_jump_if, slot_jump_where, slot_print, slot_print_line};
@@ -18,7 +20,38 @@ use ldv_value::{Bytes, Cmp, CopyItem, PRINTED_LIMIT, Value, append_text, holds};
 use script_parse::CalcOp;
 use std::alloc::{AllocError, Global};
 
-/// The value that an operand has. A variable that wasn't set is NULL.
+// The bytes that a line has room for at first.
+const LINE_ROOM: usize = 128;
+
+/// The value of a variable; of one that wasn't set it is a NULL of the caller's.
+#[inline(always)]
+pub(crate) fn variable_at<'a>(process: &'a SlotProcess, slot: usize, null: &'a Value) -> &'a Value
+    requires { null.now ≡ Value.Null }
+    ensures { result.now ≡ or_null (slice_get process.now.variables slot) }
+{
+    match process.variables.get(slot) {
+        None => null,
+        Some(value) => value,
+    }
+}
+
+/// The value that an operand has, with a NULL of the caller's for a variable that wasn't set.
+#[inline(always)]
+pub(crate) fn value_at<'a>(
+    process: &'a SlotProcess,
+    operand: &'a SlotOperand,
+    null: &'a Value,
+) -> &'a Value
+    requires { null.now ≡ Value.Null }
+    ensures { result.now ≡ slot_value process.now operand.now }
+{
+    match operand {
+        SlotOperand::Constant(value) => value,
+        SlotOperand::Slot(slot) => variable_at(process, *slot, null),
+    }
+}
+
+/// A copy of the value that an operand has.
 pub(crate) fn value_of(
     alloc: Global,
     process: &SlotProcess,
@@ -26,16 +59,12 @@ pub(crate) fn value_of(
 ) -> Result<Value, AllocError>
     ensures { IfOk result (λ value. value ≡ slot_value process.now operand.now) }
 {
-    match operand {
-        SlotOperand::Constant(value) => value.copy_item(alloc),
-        SlotOperand::Slot(slot) => match process.variables.get(*slot) {
-            None => Ok(Value::Null),
-            Some(value) => value.copy_item(alloc),
-        },
-    }
+    let null = Value::Null;
+    value_at(process, operand, &null).copy_item(alloc)
 }
 
 /// A variable gets the value.
+#[inline(always)]
 pub(crate) fn assign(to: usize, value: Computed, process: &mut SlotProcess)
     requires { process.old.place + 1 < 2 ^ 64 }
     ensures { process.new ≡ slot_assign to (computed value) process.old }
@@ -64,22 +93,55 @@ pub(crate) fn let_value(
     Ok(())
 }
 
+// What `+`, `-` or `*` gives.
+fn calculation_of(
+    op: CalcOp,
+    left: &SlotOperand,
+    right: &SlotOperand,
+    process: &SlotProcess,
+) -> Computed
+    ensures { computed result
+        ≡ calculated op (slot_value process.now left.now) (slot_value process.now right.now) }
+{
+    let null = Value::Null;
+    calculated(
+        op,
+        value_at(process, left, &null),
+        value_at(process, right, &null),
+    )
+}
+
 /// `let x = v + w`, also `-` and `*`
 pub(crate) fn calculate(
-    alloc: Global,
     to: usize,
     op: CalcOp,
     left: &SlotOperand,
     right: &SlotOperand,
     process: &mut SlotProcess,
-) -> Result<(), AllocError>
+)
     requires { process.old.place + 1 < 2 ^ 64 }
-    ensures { OnOk result (process.new ≡ slot_calculate to op left.now right.now process.old) }
+    ensures { process.new ≡ slot_calculate to op left.now right.now process.old }
 {
-    let left = value_of(alloc, process, left)?;
-    let right = value_of(alloc, process, right)?;
-    assign(to, calculated(op, &left, &right), process);
-    Ok(())
+    let value = calculation_of(op, left, right, process);
+    assign(to, value, process);
+}
+
+// What `++` gives.
+fn text_of(
+    alloc: Global,
+    left: &SlotOperand,
+    right: &SlotOperand,
+    process: &SlotProcess,
+) -> Result<Computed, AllocError>
+    ensures { IfOk result (λ c. computed c
+        ≡ glued (slot_value process.now left.now) (slot_value process.now right.now)) }
+{
+    let null = Value::Null;
+    glued(
+        alloc,
+        value_at(process, left, &null),
+        value_at(process, right, &null),
+    )
 }
 
 /// `let x = v ++ w`
@@ -93,28 +155,29 @@ pub(crate) fn glue(
     requires { process.old.place + 1 < 2 ^ 64 }
     ensures { OnOk result (process.new ≡ slot_glue to left.now right.now process.old) }
 {
-    let left = value_of(alloc, process, left)?;
-    let right = value_of(alloc, process, right)?;
-    let value = glued(alloc, &left, &right)?;
+    let value = text_of(alloc, left, right, process)?;
     assign(to, value, process);
     Ok(())
 }
 
-/// `let x = int v`
-pub(crate) fn let_number(
-    alloc: Global,
-    to: usize,
-    value: &SlotOperand,
-    process: &mut SlotProcess,
-) -> Result<(), AllocError>
-    requires { process.old.place + 1 < 2 ^ 64 }
-    ensures { OnOk result (process.new ≡ slot_let_number to value.now process.old) }
+// What `int` gives.
+fn number_of(value: &SlotOperand, process: &SlotProcess) -> Computed
+    ensures { computed result ≡ to_number (slot_value process.now value.now) }
 {
-    let value = value_of(alloc, process, value)?;
-    assign(to, to_number(&value), process);
-    Ok(())
+    let null = Value::Null;
+    to_number(value_at(process, value, &null))
 }
 
+/// `let x = int v`
+pub(crate) fn let_number(to: usize, value: &SlotOperand, process: &mut SlotProcess)
+    requires { process.old.place + 1 < 2 ^ 64 }
+    ensures { process.new ≡ slot_let_number to value.now process.old }
+{
+    let number = number_of(value, process);
+    assign(to, number, process);
+}
+
+#[inline(always)]
 fn jump_where(jumps: bool, place: u32, process: &mut SlotProcess)
     requires { process.old.place + 1 < 2 ^ 64 }
     ensures { process.new ≡ slot_jump_where jumps place process.old }
@@ -126,22 +189,32 @@ fn jump_where(jumps: bool, place: u32, process: &mut SlotProcess)
     }
 }
 
+// Whether a comparison holds.
+fn holds_at(op: Cmp, left: &SlotOperand, right: &SlotOperand, process: &SlotProcess) -> bool
+    ensures { result
+        ≡ meets op (order (slot_value process.now left.now) (slot_value process.now right.now)) }
+{
+    let null = Value::Null;
+    holds(
+        op,
+        value_at(process, left, &null),
+        value_at(process, right, &null),
+    )
+}
+
 /// `if v = w goto L`, and the other comparisons
 pub(crate) fn jump_if(
-    alloc: Global,
     op: Cmp,
     left: &SlotOperand,
     right: &SlotOperand,
     place: u32,
     process: &mut SlotProcess,
-) -> Result<(), AllocError>
+)
     requires { process.old.place + 1 < 2 ^ 64 }
-    ensures { OnOk result (process.new ≡ slot_jump_if op left.now right.now place process.old) }
+    ensures { process.new ≡ slot_jump_if op left.now right.now place process.old }
 {
-    let left = value_of(alloc, process, left)?;
-    let right = value_of(alloc, process, right)?;
-    jump_where(holds(op, &left, &right), place, process);
-    Ok(())
+    let jumps = holds_at(op, left, right, process);
+    jump_where(jumps, place, process);
 }
 
 // Appends the value of an operand as text.
@@ -152,13 +225,8 @@ fn append_operand(
 ) -> Result<(), AllocError>
     ensures { OnOk result (to.new ≡ to.old ++ shown (slot_value process.now operand.now)) }
 {
-    match operand {
-        SlotOperand::Constant(value) => append_text(value, to),
-        SlotOperand::Slot(slot) => match process.variables.get(*slot) {
-            None => append_text(&Value::Null, to),
-            Some(value) => append_text(value, to),
-        },
-    }
+    let null = Value::Null;
+    append_text(value_at(process, operand, &null), to)
 }
 
 fn append_operands(
@@ -182,7 +250,7 @@ pub(crate) fn line_of(
 ) -> Result<Bytes, AllocError>
     ensures { IfOk result (λ line. line ≡ printed_line (slot_values process.now operands.now)) }
 {
-    let mut line = Bytes::new(alloc);
+    let mut line = Bytes::with_capacity(alloc, LINE_ROOM)?;
     append_operands(process, operands, &mut line)?;
     line.extend(b"\n")?;
     Ok(line)
@@ -241,15 +309,18 @@ fn status_of(number: i64) -> u8
     }
 }
 
-/// `exit v`
-pub(crate) fn exit(
-    alloc: Global,
-    status: &SlotOperand,
-    process: &mut SlotProcess,
-) -> Result<(), AllocError>
-    ensures { OnOk result (process.new ≡ slot_exit status.now process.old) }
+// The status that an operand means.
+fn status_at(status: &SlotOperand, process: &SlotProcess) -> u8
+    ensures { result ≡ exit_status (slot_value process.now status.now) }
 {
-    let status = value_of(alloc, process, status)?;
-    process.end(exit_status(&status));
-    Ok(())
+    let null = Value::Null;
+    exit_status(value_at(process, status, &null))
+}
+
+/// `exit v`
+pub(crate) fn exit(status: &SlotOperand, process: &mut SlotProcess)
+    ensures { process.new ≡ slot_exit status.now process.old }
+{
+    let code = status_at(status, process);
+    process.end(code);
 }

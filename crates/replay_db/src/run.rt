@@ -86,7 +86,7 @@ fn outcome_of_run(alloc: Global, world: World, budget: u32) -> Result<Outcome, E
     ensures { Gives Stops result (outcome_within budget world) }
 {
     let ended = run_to_end(alloc, world, NullTracer, budget)?;
-    Ok(ended.outcome()?)
+    Ok(ended.into_outcome()?)
 }
 
 /// The outcome of the run of a world by its seed, within a budget of at most 10,000,000 steps. The run takes

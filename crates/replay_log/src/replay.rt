@@ -59,7 +59,7 @@ pub fn replay_owned(alloc: Global, package: Package, budget: u32) -> Result<Outc
         Ok(ended) => ended,
         Err(stop) => return Err(stop),
     };
-    match ended.outcome() {
+    match ended.into_outcome() {
         Ok(outcome) => Ok(outcome),
         Err(AllocError) => Err(RunStop::NoMemory),
     }

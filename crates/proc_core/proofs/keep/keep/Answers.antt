@@ -9,36 +9,36 @@ use Rattle.proc_core.proofs.keep.keep.Goals as goal
 
 pub returns-then-past-clause-core : goal.returns-then-past-clause-core
 returns-then-past-clause-core g c = λ core is.
-    none_core c.args.machine c.args.who.number core (get_none c.args.machine.processes.items c.args.who.number (search rules)) is
+    none_core c.args.machine.now c.args.who.number core (get_none c.args.machine.now.processes.items c.args.who.number (search rules)) is
 
 pub returns-then-past-clause-told : goal.returns-then-past-clause-told
 returns-then-past-clause-told g c = λ core is.
-    none_told c.args.machine c.args.who.number c.args.who.step core g.T.Tracer.KEEPS (g.T.Tracer.events c.args.tracer.now)
-    (get_none c.args.machine.processes.items c.args.who.number (search rules)) is
+    none_told c.args.machine.now c.args.who.number c.args.who.step core g.T.Tracer.KEEPS (g.T.Tracer.events c.args.tracer.now)
+    (get_none c.args.machine.now.processes.items c.args.who.number (search rules)) is
 
 pub returns-clause-core : goal.returns-clause-core
 returns-clause-core g c = λ core is.
     let instr = option_map (λ i. i.now) c.next_of-instr.result in
-    let next : instr ≡ next_slotted c.args.machine.codes (slice_get c.args.machine.processes.items c.args.who.number) =
-    subst (λ (rs : List SlotProcess). instr ≡ next_slotted c.args.machine.codes (slice_get rs c.args.who.number)) c.deref.ensures.value c.next_of-instr.ensures.next in
-    next_core c.args.machine c.args.who.number instr core _ (search rules, next, subst IsKept (sym next) c.requires.kept)
+    let next : instr ≡ next_slotted c.args.machine.now.codes (slice_get c.args.machine.now.processes.items c.args.who.number) =
+    subst (λ (rs : List SlotProcess). instr ≡ next_slotted c.args.machine.now.codes (slice_get rs c.args.who.number)) c.deref.ensures.value c.next_of-instr.ensures.next in
+    next_core c.args.machine.now c.args.who.number instr core _ (search rules, next, subst IsKept (sym next) c.requires.kept)
     c.in_ok-keep_by.ensures.processes c.in_ok-keep_by.ensures.files refl refl refl refl refl is
 
 pub returns-clause-told : goal.returns-clause-told
 returns-clause-told g c = λ core is.
     let instr = option_map (λ i. i.now) c.next_of-instr.result in
-    let next : instr ≡ next_slotted c.args.machine.codes (slice_get c.args.machine.processes.items c.args.who.number) =
-    subst (λ (rs : List SlotProcess). instr ≡ next_slotted c.args.machine.codes (slice_get rs c.args.who.number)) c.deref.ensures.value c.next_of-instr.ensures.next in
-    next_told c.args.machine c.args.who.number instr core
+    let next : instr ≡ next_slotted c.args.machine.now.codes (slice_get c.args.machine.now.processes.items c.args.who.number) =
+    subst (λ (rs : List SlotProcess). instr ≡ next_slotted c.args.machine.now.codes (slice_get rs c.args.who.number)) c.deref.ensures.value c.next_of-instr.ensures.next in
+    next_told c.args.machine.now c.args.who.number instr core
     g.T.Tracer.KEEPS (g.T.Tracer.events c.args.tracer.now) (g.T.Tracer.events c.keep_by.new.tracer) c.args.who.step
     (search rules, next, subst IsKept (sym next) c.requires.kept) c.in_ok-keep_by.ensures.told is
 
 pub returns-clause-grows : goal.returns-clause-grows
 returns-clause-grows g c =
-    grows_kept c.args.machine _ c.args.who.number _ (search rules) (λ r at. c.in_ok-keep_by.ensures.processes r at) refl refl
+    grows_kept c.args.machine.now _ c.args.who.number _ (search rules) (λ r at. c.in_ok-keep_by.ensures.processes r at) refl refl
 
 pub returns-clause-counted : goal.returns-clause-counted
 returns-clause-counted g c =
     let instr = option_map (λ i. i.now) c.next_of-instr.result in
-    fewer_kept c.args.machine _ c.args.who.number (λ r. (slot_effect instr c.args.machine.processes.items r c.args.machine.tree).process)
-    (λ r. effect_counts r instr c.args.machine.processes.items c.args.machine.tree) (search rules) c.in_ok-keep_by.ensures.processes refl refl
+    fewer_kept c.args.machine.now _ c.args.who.number (λ r. (slot_effect instr c.args.machine.now.processes.items r c.args.machine.now.tree).process)
+    (λ r. effect_counts r instr c.args.machine.now.processes.items c.args.machine.now.tree) (search rules) c.in_ok-keep_by.ensures.processes refl refl

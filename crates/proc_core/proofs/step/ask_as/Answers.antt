@@ -5,24 +5,24 @@ use Rattle.proc_core.proofs.step.ask_as.Goals as goal
 
 pub returns-in-Ok-take_on-clause-state : goal.returns-in-Ok-take_on-clause-state
 returns-in-Ok-take_on-clause-state g c = λ s is.
-    ask_state g.D.Database.base c.args.machine c.args.who c.args.statement c.args.asker (g.D.Database.seen c.args.db.now) s
-    c.in-Ok-take_on.after c.in-Ok.reply (g.D.Database.seen c.ask.new.self) c.in-Ok.ensures.reply.0 (c.requires.asks, c.requires.asker)
+    ask_state g.D.Database.base c.args.machine.now c.args.who c.args.statement c.args.asker (g.D.Database.seen c.args.db.now) s
+    c.take_on.new.machine c.in-Ok.reply (g.D.Database.seen c.ask.new.self) c.in-Ok.ensures.reply.0 (c.requires.asks, c.requires.asker)
     c.in-Ok.ensures.reply.1 c.in-Ok-take_on.ensures.core is
 
 pub returns-in-Ok-take_on-clause-told : goal.returns-in-Ok-take_on-clause-told
 returns-in-Ok-take_on-clause-told g c = λ s is.
-    ask_told g.D.Database.base c.args.machine c.args.who c.args.statement c.args.asker (g.D.Database.seen c.args.db.now) s
-    c.in-Ok-take_on.after c.in-Ok.reply (g.D.Database.seen c.ask.new.self) c.in-Ok.ensures.reply.0
+    ask_told g.D.Database.base c.args.machine.now c.args.who c.args.statement c.args.asker (g.D.Database.seen c.args.db.now) s
+    c.take_on.new.machine c.in-Ok.reply (g.D.Database.seen c.ask.new.self) c.in-Ok.ensures.reply.0
     g.T.Tracer.KEEPS (g.T.Tracer.events c.args.tracer.now) (g.T.Tracer.events c.ask.new.tracer) (g.T.Tracer.events c.take_on.new.tracer)
     (c.requires.asks, c.requires.asker) c.in-Ok.ensures.reply.1 c.in-Ok-take_on.ensures.core c.in-Ok.ensures.reply.2
     c.in-Ok-take_on.ensures.told is
 
 pub returns-in-Err-Diverged-clause-diverged : goal.returns-in-Err-Diverged-clause-diverged
 returns-in-Err-Diverged-clause-diverged g c = λ s is.
-    ask_stopped g.D.Database.base c.args.machine c.args.who c.args.statement c.args.asker (g.D.Database.seen c.args.db.now) s
+    ask_stopped g.D.Database.base c.args.machine.now c.args.who c.args.statement c.args.asker (g.D.Database.seen c.args.db.now) s
     c.stopped.result (c.requires.asks, c.requires.asker) (c.in-Err-Diverged.ensures.diverged (search rules)) c.stopped.ensures is
 
 pub stopped-requires-clause-few : goal.stopped-requires-clause-few
 stopped-requires-clause-few g c = λ r at.
-    let fewer : length r.replies < c.args.who.step = fewer_of c.args.machine c.args.machine c.args.who.number r c.args.who.step c.requires.counted at in
+    let fewer : length r.replies < c.args.who.step = fewer_of c.args.machine.now c.args.machine.now c.args.who.number r c.args.who.step c.requires.counted at in
     omega (arith, fewer)

@@ -13,13 +13,13 @@ returns-clause-told g c = λ core is.
     let who = c.args.who in
     let mid = g.T.Tracer.events c.keep.new.tracer in
     let new = g.T.Tracer.events c.tell_status.new.tracer in
-    let status : c.status_in.result ≡ slot_status_in c.in_ok-after.after.processes.items c.args.who.number = search rules in
+    let status : c.status_in.result ≡ slot_status_in c.keep.new.machine.processes.items c.args.who.number = search rules in
     told_more g.T.Tracer.KEEPS (g.T.Tracer.events c.args.tracer.now) mid new who.step who.number (quiet who.number core).acts
-    (ends_at who.number (quiet who.number core).core) (c.in_ok-after.ensures.told core is)
+    (ends_at who.number (quiet who.number core).core) (c.in_ok-keep.ensures.told core is)
     (subst (λ (acts : List Act). Told g.T.Tracer.KEEPS mid new (map (event_at who.step who.number) acts))
-    (ap status_acts status ∙ ends_same c.in_ok-after.after who.number (quiet who.number core).core (c.in_ok-after.ensures.core core is))
+    (ap status_acts status ∙ ends_same c.keep.new.machine who.number (quiet who.number core).core (c.in_ok-keep.ensures.core core is))
     c.in_ok-tell_status.ensures)
 
 pub returns-clause-counted : goal.returns-clause-counted
 returns-clause-counted g c =
-    fewer_next c.in_ok-after.after c.args.who.step (c.in_ok-after.ensures.counted c.args.who.step c.requires.counted)
+    fewer_next c.keep.new.machine c.args.who.step (c.in_ok-keep.ensures.counted c.args.who.step c.requires.counted)

@@ -4,11 +4,11 @@ use Rattle.proc_core.proofs.step.move_by.Goals as goal
 
 pub returns-in-Ok-clause-state : goal.returns-in-Ok-clause-state
 returns-in-Ok-clause-state g c = λ s is.
-    quiet_state g.D.Database.base c.args.machine c.in-Ok.after c.args.who.number (g.D.Database.seen c.args.db.now) s
+    quiet_state g.D.Database.base c.args.machine.now c.quiet_on.new.machine c.args.who.number (g.D.Database.seen c.args.db.now) s
     (sym c.requires.asked ∙ c.in-None.is) c.in-Ok.ensures.core is
 
 pub returns-in-Ok-clause-told : goal.returns-in-Ok-clause-told
 returns-in-Ok-clause-told g c = λ s is.
-    quiet_told g.D.Database.base c.args.machine c.args.who.number c.args.who.step (g.D.Database.seen c.args.db.now) s
+    quiet_told g.D.Database.base c.args.machine.now c.args.who.number c.args.who.step (g.D.Database.seen c.args.db.now) s
     g.T.Tracer.KEEPS (g.T.Tracer.events c.args.tracer.now) (g.T.Tracer.events c.quiet_on.new.tracer)
     (sym c.requires.asked ∙ c.in-None.is) c.in-Ok.ensures.told is

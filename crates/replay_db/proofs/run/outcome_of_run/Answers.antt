@@ -10,4 +10,4 @@ pub returns : goal.returns
 returns c =
     let script = has_script c.args.world c.requires.can_run.script in
     yields c.args.budget c.args.world script.0 script.1 _ c.in_ok-ended.ensures.ended
-    (c.in_ok-outcome.ensures (run sql_base c.args.budget [] (start_state c.args.world script.0)) (c.in_ok-ended.ensures.state script.0 script.1))
+    (c.in_ok-into_outcome.ensures (run sql_base c.args.budget [] (start_state c.args.world script.0)) (c.in_ok-ended.ensures.state script.0 script.1))
