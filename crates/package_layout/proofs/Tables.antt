@@ -6,7 +6,7 @@ use Rattle.std.specs.Prelude.{nat_lt, ◌==◌}
 use Rattle.std.specs.List.{list_all, AllByRecursion}
 use Rattle.std.specs.Str.{IsUtf8}
 use Rattle.std.specs.Int.{w8, w32, to_be_bytes}
-use Rattle.std.proofs.lemmas.Bool.{ltb-true}
+use Rattle.std.proofs.lemmas.Bool.{ltb-true, eqb-true}
 use Rattle.ldv_value.specs.declared.value.Value.{Value}
 use Rattle.ldv_value.proofs.Booleans.{and-parts, and-from}
 use Rattle.sql_model.specs.declared.need.Rule.{Rule}
@@ -184,7 +184,7 @@ foreigns_fit v fs = foreigns_room fs && has_of v fs
 
 none_again : (fs : List Foreign) (rest : List ℕ) → (length fs == 0) ≡ true → foreigns_at One rest ≡ Some (fs, rest)
 none_again [] rest none = refl
-none_again (f ∷ fs) rest none = absurd cc
+none_again (f ∷ fs) rest none = absurd (let no : length (f ∷ fs) ≡ 0 = eqb-true (length (f ∷ fs)) 0 none in omega (arith, no))
 
 none_took : (bytes : List ℕ) (fs : List Foreign) (rest : List ℕ) → foreigns_at One bytes ≡ Some (fs, rest)
     → Took (foreigns_spelling One) (AllByRecursion TypedForeign) (foreigns_fit One) (CountedForeigns One) bytes fs rest

@@ -19,8 +19,8 @@ pub fn round_trip_law()
     ensures unique { (version : Version) (p q : Package) → IsTyped p → IsTyped q → Valid p → Valid q →
         IsTrue (has_tables version p) → IsTrue (has_tables version q) →
         IsCounted version p → IsCounted version q → spelling_as version p ≡ spelling_as version q → p ≡ q }
-    ensures again { (version : Version) (p : Package) → IsTyped p → Valid p → IsTrue (fits_version version p) →
-        IsCounted version p → reading (spelling_as version p) ≡ Ok p }
+    ensures again { (version : Version) (p : Package) → IsTyped p → Valid p →
+        IsTrue (fits_version version p) → IsCounted version p → reading (spelling_as version p) ≡ Ok p }
     ensures counted { (version : Version) (p : Package) → length (spelling_as version p) ≤ input_limit →
         IsCounted version p }
     ensures apart { (p q : Package) → ¬ (spelling_as One p ≡ spelling_as Two q) }

@@ -1,10 +1,9 @@
 //! Logs: recorded questions and their replies.
 
-ghost use Rattle.std.specs.Prelude.{◌≡◌, ◌∷◌, ◌++◌, Some, None, Err, IfOk, OnOk};
+ghost use Rattle.std.specs.Prelude.{◌≡◌, ◌++◌, OnOk};
 ghost use Rattle.std.specs.Str.{IsUtf8};
 ghost use Rattle.package_layout.specs.Fields.{Gives};
 ghost use Rattle.package_layout.specs.Reading.{name_at, refusal_at, refusal_of_code, reply_of_tag};
-ghost use Rattle.package_layout.specs.Reading.{row_key_at};
 ghost use Rattle.package_layout.specs.Spelling.{refusal_spelling, row_key_spelling};
 ghost use Rattle.package_layout.specs.Typed.{TypedRefusal, TypedValues};
 
@@ -29,37 +28,29 @@ fn encode_refusal(refusal: &SqlRefusal, to: &mut Bytes) -> Result<(), AllocError
         SqlRefusal::NoColumn => encode_u8(3, to),
         SqlRefusal::TypeClash => encode_u8(4, to),
         SqlRefusal::NotNull => encode_u8(5, to),
-        SqlRefusal::KeyTaken { table, key } => encode_row_key(6, table, key, to),
+        SqlRefusal::KeyTaken { table, key } => {
+            encode_u8(6, to)?;
+            encode_row_key(table, key, to)
+        }
         SqlRefusal::Full => encode_u8(7, to),
-        SqlRefusal::NoParent { table, key } => encode_row_key(8, table, key, to),
-        SqlRefusal::HasChild { table, key } => encode_row_key(9, table, key, to),
+        SqlRefusal::NoParent { table, key } => {
+            encode_u8(8, to)?;
+            encode_row_key(table, key, to)
+        }
+        SqlRefusal::HasChild { table, key } => {
+            encode_u8(9, to)?;
+            encode_row_key(table, key, to)
+        }
     }
 }
 
-// A code, and the key of a table for which the refusal is.
-fn encode_row_key(code: u8, table: &Utf8, key: &Values, to: &mut Bytes) -> Result<(), AllocError>
-    ensures bytes { OnOk result (to.new ≡ to.old ++ code ∷ row_key_spelling table.now key.now) }
+// A table and the values of a key of it.
+fn encode_row_key(table: &Utf8, key: &Values, to: &mut Bytes) -> Result<(), AllocError>
+    ensures bytes { OnOk result (to.new ≡ to.old ++ row_key_spelling table.now key.now) }
     ensures typed { OnOk result (IsUtf8 table.now × TypedValues key.now) }
 {
-    encode_u8(code, to)?;
     encode_text(table, to)?;
     encode_list(Width::One, key, to)
-}
-
-// A key of a table.
-#[derive(Drop)]
-struct RowKeyOf {
-    table: Utf8,
-    key: Values,
-}
-
-fn decode_row_key(alloc: Global, cursor: &mut Cursor) -> Result<RowKeyOf, DecodeError>
-    ensures ok { IfOk result (λ made. row_key_at cursor.old ≡ Some ((made.table, made.key), cursor.new)) }
-    ensures malformed { result ≡ Err DecodeError.Malformed → row_key_at cursor.old ≡ None }
-{
-    let table = decode_text(alloc, cursor)?;
-    let key = decode_list(alloc, Width::One, cursor)?;
-    Ok(RowKeyOf { table, key })
 }
 
 fn decode_refusal(alloc: Global, cursor: &mut Cursor) -> Result<SqlRefusal, DecodeError>
@@ -79,16 +70,19 @@ fn refusal_of_code(alloc: Global, code: u8, cursor: &mut Cursor) -> Result<SqlRe
         4 => Ok(SqlRefusal::TypeClash),
         5 => Ok(SqlRefusal::NotNull),
         6 => {
-            let RowKeyOf { table, key } = decode_row_key(alloc, cursor)?;
+            let table = decode_text(alloc, cursor)?;
+            let key = decode_list(alloc, Width::One, cursor)?;
             Ok(SqlRefusal::KeyTaken { table, key })
         }
         7 => Ok(SqlRefusal::Full),
         8 => {
-            let RowKeyOf { table, key } = decode_row_key(alloc, cursor)?;
+            let table = decode_text(alloc, cursor)?;
+            let key = decode_list(alloc, Width::One, cursor)?;
             Ok(SqlRefusal::NoParent { table, key })
         }
         9 => {
-            let RowKeyOf { table, key } = decode_row_key(alloc, cursor)?;
+            let table = decode_text(alloc, cursor)?;
+            let key = decode_list(alloc, Width::One, cursor)?;
             Ok(SqlRefusal::HasChild { table, key })
         }
         _ => Err(DecodeError::Malformed),

@@ -1,7 +1,7 @@
 //! Tables of a package.
 
 ghost use Rattle.std.specs.Prelude.{◌≡◌, ◌++◌, length, OnOk};
-ghost use Rattle.std.specs.Int.{w8, w16, to_be_bytes};
+ghost use Rattle.std.specs.Int.{w8, w16};
 ghost use Rattle.std.specs.List.{flat_map, AllByRecursion};
 ghost use Rattle.package_layout.specs.Fields.{Gives, Makes, number_at, items_at, list_at, list_spelling};
 ghost use Rattle.package_layout.specs.Reading.{kind_of, kind_at, rule_of, rule_at, reason_at, places_at};
@@ -9,7 +9,6 @@ ghost use Rattle.package_layout.specs.Reading.{foreigns_at, row_at, rows_at, sch
 ghost use Rattle.package_layout.specs.Spelling.{kind_number, rule_number, reason_spelling, places_spelling};
 ghost use Rattle.package_layout.specs.Spelling.{foreigns_spelling, schema_spelling, table_spelling};
 ghost use Rattle.package_layout.specs.Typed.{TypedForeign, TypedSchema, TypedTable};
-ghost use Rattle.package_layout.specs.Version.{Two};
 
 use crate::codec::{Decode, Encode, decode_items, decode_list, encode_items, encode_list};
 use crate::cursor::Cursor;
@@ -243,7 +242,7 @@ fn tell_typed(foreigns: &Foreigns)
     ensures { AllByRecursion TypedForeign foreigns.now }
 {
     for foreign in foreigns.items() {
-        let _name = foreign.parent.as_str();
+        let _name = foreign.parent.as_str().as_bytes();
     }
 }
 

@@ -8,6 +8,7 @@ pub mod Numbering
 pub mod Pairs
 pub mod ReadDocuments
 pub mod Readings
+pub mod Referring
 pub mod WorldFiles
 pub mod GeneratedRows
 pub mod GeneratedWorlds

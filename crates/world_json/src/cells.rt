@@ -10,7 +10,7 @@ ghost use Rattle.world_json.specs.Typed.{TypedDraftForeign};
 
 use crate::document::DraftForeign;
 use crate::shape::{FromItem, ShapeStop, name_of_text, read_array};
-use ldv_value::{List, Names, Utf8, Value};
+use ldv_value::{Names, Utf8, Value};
 use serde_json::Value as Json;
 use sql_model::Column;
 use std::alloc::Global;

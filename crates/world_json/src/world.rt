@@ -80,6 +80,7 @@ fn world_of_document(alloc: Global, document: Document) -> Result<World, WorldSt
 }
 
 // The world of a document that has none of the faults before Reference.
+#[tactic(auto, using(crate::proofs::Referring::referring_rules))]
 fn referring_world(alloc: Global, document: Document) -> Result<World, WorldStop>
     requires within { is_within document ≡ true }
     requires typed { TypedDocument document }
