@@ -1,9 +1,10 @@
 #!/bin/sh
 # What a package takes: for tables of 1,000 to 1,000,000 rows the seconds and the peak memory of `run`, and of
-# `record` and `replay` of packages with rows and of packages of recorded replies (excluded), those of record
-# and replay as multiples of those of run, the bytes of the input and of what is written, and for record the
-# bytes of the package as a multiple of those of its rows, replies and trace. It ends with an error where the
-# replay's outcome isn't the run's. There are three worlds of each size, which package_worlds.py makes:
+# `record` and `replay` of packages with rows and of packages of recorded replies (excluded), these under another
+# seed too, those of record and replay as multiples of those of run, the bytes of the input and of what is
+# written, and for record the bytes of the package as a multiple of those of its rows, replies and trace. It ends
+# with an error where the replay's outcome isn't the run's: each of the worlds is private. There are three worlds
+# of each size, which package_worlds.py makes:
 #
 #   pick     one SELECT, by an equality that picks one row of a hundred
 #   change   three processes that take turns: one inserts 100 rows, one by one, one updates a hundredth of the
@@ -69,6 +70,8 @@ record_and_replay() {
     cmp "$work/outcome" "$work/replayed"
     measure 'record excluded' world excluded record --excluded "$@"
     measure 'replay excluded' excluded replayed replay "$@"
+    cmp "$work/outcome" "$work/replayed"
+    measure 'replay --seed 7' excluded replayed replay --seed 7 "$@"
     cmp "$work/outcome" "$work/replayed"
 }
 

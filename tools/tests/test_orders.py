@@ -283,6 +283,16 @@ PAIRS = [
     ('open f w "mark" else z\nz:\n', 'exists x "mark"\nprint x\n', False),
     ('remove "data" else z\nexit 1\nz:\n', 'open f r "data" else z\nexit 1\nz:\n', False),
     ('remove "leaf" else z\nz:\n', 'spawn c "leaf" else z\nexit 1\nz:\n', False),
+    # The one only opens what the other names, and the other finds it or not, as a file or a script, or is
+    # refused.
+    ('open f w "data" else z\nz:\n', 'open f r "data" else z\nreadline x f else z\nprint x\nz:\n', False),
+    ('open f a "mark" else z\nz:\n', 'open f n "mark" else z\nexit 1\nz:\n', False),
+    ('open f n "mark" else z\nexit 1\nz:\n', 'open f n "mark" else z\nexit 1\nz:\n', False),
+    ('open f w "mark" else z\nz:\n', 'spawn c "mark" else z\nexit 1\nz:\n', False),
+    ('open f w "data" else z\nz:\n', 'spawn c "data" else z\nexit 1\nz:\n', False),
+    # The one reads it before it changes it, and the other may read it in between.
+    ('open f r "data" else z\nopen g a "data" else z\nwrite g 2\nz:\n',
+     'open f r "data" else z\nreadline x f else z\nreadline x f else z\nprint x\nz:\n', False),
 ]
 
 
