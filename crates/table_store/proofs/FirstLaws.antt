@@ -2,10 +2,10 @@
 use Rattle.std.proofs.Common.{◌≡◌, ℕ, zero, suc, ◌+◌, ◌<◌, ◌≤◌, List, [], ◌∷◌, ◌++◌, length, take, get_or, refl, sym, ap, ◌∙◌, Bool, true, false, inl, inr, arith, add-one}
 use Rattle.std.specs.Prelude.{Option, Some, None, is_some, map, filter, if◌then◌else◌}
 use Rattle.std.proofs.lemmas.List.{take_all}
-use Rattle.std.specs.List.{flat_map, filter_map, cons_option}
+use Rattle.std.specs.List.{flat_map, filter_map, cons_option, list_any}
 use Rattle.std.specs.Option.{option_map, option_and_then, option_or}
 use Rattle.std.proofs.lemmas.Bool.{cases_Bool}
-use Rattle.ldv_value.proofs.Options.{option_or-assoc}
+use Rattle.ldv_value.proofs.Booleans.{or-parts}
 use Rattle.sql_model.specs.References.{first_in}
 use Rattle.table_store.specs.Afterwards.{first_some}
 
@@ -113,3 +113,23 @@ pub first_filtered : {X Z Y : Type 0} (f : Z → Option Y) (g : X → Option Z) 
     → first_some f (filter_map g xs) ≡ first_some (λ x. option_and_then f (g x)) xs
 first_filtered f g [] = refl
 first_filtered {Y = Y} f g (x ∷ xs) = by_option f (g x) (filter_map g xs) ∙ ap (λ (o : Option Y). option_or (option_and_then f (g x)) o) (first_filtered f g xs)
+
+-- ---- items of which none passes a test
+
+pub first_none : {X Y : Type 0} (f : X → Option Y) → ((x : X) → f x ≡ None) → (xs : List X) → first_some f xs ≡ None
+first_none f none [] = refl
+first_none f none (x ∷ xs) = λ j. option_or (none x j) (first_none f none xs j)
+
+pub first_none_of : {X Y : Type 0} (f : X → Option Y) (p : X → Bool) → ((x : X) → p x ≡ false → f x ≡ None) → (xs : List X) → list_any p xs ≡ false
+    → first_some f xs ≡ None
+first_none_of f p none [] is = refl
+first_none_of f p none (x ∷ xs) is =
+    let parts = or-parts (p x) (list_any p xs) is in
+    λ j. option_or (none x parts.0 j) (first_none_of f p none xs parts.1 j)
+
+pub first_agree_of : {X Y : Type 0} (f g : X → Option Y) (p : X → Bool) → ((x : X) → p x ≡ false → f x ≡ g x) → (xs : List X) → list_any p xs ≡ false
+    → first_some f xs ≡ first_some g xs
+first_agree_of f g p same [] is = refl
+first_agree_of f g p same (x ∷ xs) is =
+    let parts = or-parts (p x) (list_any p xs) is in
+    λ j. option_or (same x parts.0 j) (first_agree_of f g p same xs parts.1 j)

@@ -12,7 +12,6 @@ use Rattle.table_store.specs.Stops.{StopsAs, insert_stop, key_stop, stop_if, wit
 use Rattle.table_store.specs.Types.{Foreign, Table, TableRow, Value}
 use Rattle.table_store.specs.declared.stop.StoreStop.{StoreStop}
 use Rattle.table_store.specs.declared.stop.StoreStop.TheVariants.{NotNull, KeyTaken, Full, NoParent, HasChild}
-use Rattle.table_store.proofs.ClaimLaws.{stop_due}
 
 -- what is told of a table that is there
 pub later_is : (f : Table → Option StoreStop) (o : Option Table) (t : Table) (later : Option StoreStop) → o ≡ Some t
@@ -36,14 +35,9 @@ whole_stops X own rest o t later stop found same is =
     ∙ ap (λ (l : Option StoreStop). option_or (own t) l) same)) is
 
 -- what references alone refuse
-pub alone_stops : (X : Type 0) (rest : Table → Option StoreStop) (o : Option Table) (t : Table) (later : Option StoreStop) (stop : StoreStop) → o ≡ Some t
-    → rest t ≡ later → later ≡ Some stop → StopsAs {X = X} (option_and_then rest o) (Err stop)
-alone_stops X rest o t later stop found same is =
-    subst (λ (due : Option StoreStop). StopsAs {X = X} due (Err stop)) (sym (ap (option_and_then rest) found ∙ same ∙ is)) (stop_due X stop)
-
-pub alone_none : (rest : Table → Option StoreStop) (o : Option Table) (t : Table) (later : Option StoreStop) → o ≡ Some t
-    → rest t ≡ later → later ≡ None → option_and_then rest o ≡ None
-alone_none rest o t later found same is = ap (option_and_then rest) found ∙ same ∙ is
+pub alone_is : (rest : Table → Option StoreStop) (o : Option Table) (t : Table) (later : Option StoreStop) → o ≡ Some t
+    → rest t ≡ later → option_and_then rest o ≡ later
+alone_is rest o t later found same = ap (option_and_then rest) found ∙ same
 
 -- ---- new rows leave no child alone
 

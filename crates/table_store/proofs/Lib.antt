@@ -1,5 +1,6 @@
 pub mod CellLaws
 pub mod ChangeLaws
+pub mod ChildLaws
 pub mod ChosenLaws
 pub mod ClaimLaws
 pub mod FirstLaws
@@ -20,6 +21,7 @@ pub mod LossLaws
 pub mod NamedLaws
 pub mod NextLaws
 pub mod NowLaws
+pub mod ParentLaws
 pub mod PutLaws
 pub mod RefusalLaws
 pub mod RekeyLaws

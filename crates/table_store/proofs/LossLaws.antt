@@ -12,14 +12,14 @@ use Rattle.sql_model.proofs.ReferenceLists.{any_split, lost_same}
 use Rattle.sql_model.proofs.UniqueRows.{values_in, apart_from}
 use Rattle.sql_model.specs.ForeignKeys.{have_parents}
 use Rattle.sql_model.specs.References.{Child, Orphan, first_in, reference, has_key, is_lost, orphan_by, orphans_of, other_rows, child_of, children, orphans}
-use Rattle.sql_model.specs.Scope.{is_table, table_at, catalog_of}
+use Rattle.sql_model.specs.Scope.{is_table, same_text, table_at, catalog_of}
 use Rattle.sql_model.specs.Tables.{are_keys_unique}
-use Rattle.table_store.specs.Afterwards.{first_some, loses, is_other, orphan_in_row, orphan_in_other, orphan_in_slot, orphan_in_table, orphan_in_tables}
+use Rattle.table_store.specs.Afterwards.{first_some, loses, is_other, refers_to, orphan_in_row, orphan_in_other, orphan_in_slot, orphan_in_table, orphan_in_tables}
 use Rattle.table_store.specs.Histories.{RowHistory, TableHistory, row_now, rows_now, table_now}
 use Rattle.table_store.specs.Stops.{is_among, replaced_by, with_removed, with_replaced, all_stood}
 use Rattle.table_store.specs.Types.{Foreign, Table, TableRow, Value}
-use Rattle.table_store.proofs.FirstLaws.{first_flat, first_filter_map, first_agree, first_map, first_filter, first_filtered}
-use Rattle.table_store.proofs.PutLaws.{TakesPlace, replaced_has}
+use Rattle.table_store.proofs.FirstLaws.{first_flat, first_filter_map, first_agree, first_filter, first_filtered, first_none, first_none_of}
+use Rattle.table_store.proofs.PutLaws.{TakesPlace, any_same, or_swap, replaced_has}
 
 -- ---- the first child, table by table and slot by slot
 
@@ -57,6 +57,34 @@ module _ (has : TableRow → Bool) (target : List ℕ) (lost : List Value → Bo
       ap first_in (flat_flat (orphans_of target lost) own (map table_now hs) ∙ flat_map-map (λ (t : Table). flat_map (orphans_of target lost) (own t)) table_now hs)
       ∙ first_flat (λ (h : TableHistory). flat_map (orphans_of target lost) (own (table_now h))) hs
       ∙ first_agree (λ (h : TableHistory). first_in (flat_map (orphans_of target lost) (own (table_now h)))) (orphan_in_table has target lost) in_table hs
+
+-- ---- tables that don't refer to the target
+
+module _ (has : TableRow → Bool) (target : List ℕ) (lost : List Value → Bool) where
+  away_by : (child : Child) (f : Foreign) → same_text f.parent target ≡ false → (r : Option (List Value)) → orphan_by target lost child f r ≡ None
+  away_by child f away None = refl
+  away_by child f away (Some key) =
+      ap (λ (b : Bool). if b && lost key then Some (record { table = child.table; row = child.row.number; key = key }) else None) away
+
+  away_row : (t : Table) → refers_to target t ≡ false → (row : TableRow) → orphan_in_row target lost t row ≡ None
+  away_row t away row =
+      first_none_of (λ (f : Foreign). orphan_by target lost (child_of t row) f (reference f row.values)) (λ (f : Foreign). same_text f.parent target)
+      (λ f other. away_by (child_of t row) f other (reference f row.values)) t.schema.foreign away
+
+  away_other : (b : Bool) (o : Option Orphan) → o ≡ None → (if b then o else None) ≡ None
+  away_other true o none = none
+  away_other false o none = refl
+
+  away_slot : (t : Table) → refers_to target t ≡ false → (o : Option TableRow) → option_and_then (orphan_in_other has target lost t) o ≡ None
+  away_slot t away None = refl
+  away_slot t away (Some row) = away_other (is_other has target t row) (orphan_in_row target lost t row) (away_row t away row)
+
+  pub away_table : (h : TableHistory) → refers_to target (table_now h) ≡ false → orphan_in_table has target lost h ≡ None
+  away_table h away = first_none (orphan_in_slot has target lost (table_now h)) (λ slot. away_slot (table_now h) away (row_now slot)) h.slots
+
+  pub away_tables : (hs : List TableHistory) → list_any (λ (h : TableHistory). refers_to target (table_now h)) hs ≡ false
+      → orphan_in_tables has target lost hs ≡ None
+  away_tables hs away = first_none_of (orphan_in_table has target lost) (λ (h : TableHistory). refers_to target (table_now h)) away_table hs away
 
 -- by the same keys the first child is the same
 pub same_lost : (has : TableRow → Bool) (target : List ℕ) (one two : List Value → Bool) → ((key : List Value) → one key ≡ two key)
@@ -104,21 +132,11 @@ module _ (t : Table) (keyed : (length t.schema.key == 0) ≡ false) (unique : ar
   pub removed_lost : is_lost t.schema.key t.rows (with_removed numbers t).rows key ≡ loses (λ k. false) numbers t key
   removed_lost = lost_by false (with_removed numbers t).rows (sym (or-false out))
 
-or_turned : (a b : Bool) → (a || b) ≡ (b || a)
-or_turned true true = refl
-or_turned true false = refl
-or_turned false true = refl
-or_turned false false = refl
-
 and_turned : (a b : Bool) → (a && b) ≡ (b && a)
 and_turned true true = refl
 and_turned true false = refl
 and_turned false true = refl
 and_turned false false = refl
-
-any_same : {X : Type 0} (p q : X → Bool) → ((x : X) → p x ≡ q x) → (xs : List X) → list_any p xs ≡ list_any q xs
-any_same p q same [] = refl
-any_same p q same (x ∷ xs) = λ j. same x j || any_same p q same xs j
 
 pub replaced_lost : (t : Table) → (length t.schema.key == 0) ≡ false → are_keys_unique t.schema.key (values_in t.rows) ≡ true
     → (given : List TableRow) → TakesPlace given given → all_stood given t ≡ true → (key : List Value)
@@ -129,7 +147,7 @@ replaced_lost t keyed unique given takes there key =
     let p : TableRow → Bool = has_key t.schema.key key in
     lost_by t keyed unique numbers key (list_any p given) (with_replaced given t).rows
     (replaced_has given t takes there p
-    ∙ or_turned (list_any p given) (list_any (λ row. p row && not (is_among numbers row)) t.rows)
+    ∙ or_swap (list_any p given) (list_any (λ row. p row && not (is_among numbers row)) t.rows)
     ∙ ap (λ (b : Bool). b || list_any p given)
     (any_same (λ row. p row && not (is_among numbers row)) (λ row. not (is_among numbers row) && p row) (λ row. and_turned (p row) (not (is_among numbers row))) t.rows
     ∙ sym (any_swapped p (λ row. not (is_among numbers row)) t.rows)))

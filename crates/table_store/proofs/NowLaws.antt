@@ -75,6 +75,9 @@ next_last time nexts past = ap (λ (o : Option NextSince). option_map_or (λ (si
 pub now_at : (name : List ℕ) (store : StoreHistory) (table : TableHistory) → Some table ≡ history_at name store → table_at name (tables_now store) ≡ Some (table_now table)
 now_at name store table is = found_now name store.tables ∙ ap (option_map table_now) (sym is)
 
+pub now_none : (name : List ℕ) (store : StoreHistory) → None ≡ history_at name store → table_at name (tables_now store) ≡ None
+now_none name store none = found_now name store.tables ∙ ap (option_map table_now) (sym none)
+
 pub not_absent : (name : List ℕ) (store : StoreHistory) → IsSome (table_at name (tables_now store)) → None ≡ history_at name store → ⊥
 not_absent name store there none =
     let wrong : IsSome {T = TableHistory} None = subst (λ (o : Option TableHistory). IsSome o) (sym none) (there_from name store.tables there) in

@@ -13,13 +13,14 @@ use Rattle.std.proofs.lemmas.Bool.Decides.{Decides-eqb}
 use Rattle.sql_model.proofs.UniqueRows.{same_both, found_same, values_in, keys_apart, repeats_map}
 use Rattle.sql_model.specs.Changes.{numbered, stood}
 use Rattle.sql_model.specs.Keys.{same_values, values_at, repeats}
+use Rattle.sql_model.specs.Meaning.{is_null}
 use Rattle.sql_model.specs.References.{Missing, first_in, reference, has_key, missing_key, missing_by, missing_parents}
 use Rattle.sql_model.specs.Scope.{same_text, is_table, table_at}
 use Rattle.sql_model.specs.Tables.{are_keys_unique}
 use Rattle.table_store.specs.Afterwards.{first_some, has_values, keeps, has_put, put_missing, missing_put, missing_in_row, missing_in_rows}
 use Rattle.table_store.specs.Stops.{replaced_by, is_among, all_stood, are_sorted_rows, with_inserted, with_replaced, with_changed}
 use Rattle.table_store.specs.Types.{Foreign, Table, TableRow, Value}
-use Rattle.table_store.proofs.FirstLaws.{first_flat, first_filter_map, first_agree, first_map}
+use Rattle.table_store.proofs.FirstLaws.{first_flat, first_filter_map, first_agree, first_agree_of, first_map}
 use Rattle.table_store.proofs.GivenKeyLaws.{given_rise}
 use Rattle.table_store.proofs.InsertLaws.{RisesFrom}
 
@@ -29,13 +30,13 @@ bool_same true b one two = sym (one refl)
 bool_same false true one two = two refl
 bool_same false false one two = refl
 
-or_swap : (a b : Bool) → (a || b) ≡ (b || a)
+pub or_swap : (a b : Bool) → (a || b) ≡ (b || a)
 or_swap true true = refl
 or_swap true false = refl
 or_swap false true = refl
 or_swap false false = refl
 
-any_same : {X : Type 0} (p q : X → Bool) → ((x : X) → p x ≡ q x) → (xs : List X) → list_any p xs ≡ list_any q xs
+pub any_same : {X : Type 0} (p q : X → Bool) → ((x : X) → p x ≡ q x) → (xs : List X) → list_any p xs ≡ list_any q xs
 any_same p q same [] = refl
 any_same p q same (x ∷ xs) = λ j. same x j || any_same p q same xs j
 
@@ -91,6 +92,83 @@ module _ (own : List ℕ) (change : Table → Table) (named : (t : Table) → (c
         ∙ first_agree (missing_by (with_changed own change db) row.values) (missing_put has db row.values) (missing_of row.values) fs) rows
         ∙ sym (first_map (missing_in_row has db fs) (λ (row : TableRow). row.values) rows)
 
+-- ---- one foreign key of a row
+
+abbrev missed : Foreign → List Value → Missing
+missed f key = record { parent = f.parent; key = key }
+
+abbrev missed_if : Foreign → List Value → Bool → Option Missing
+missed_if f key b = if b then None else Some (missed f key)
+
+module _ (has : Table → List Value → Bool) (db : List Table) (values : List Value) (f : Foreign) where
+  abbrev of_null : Bool → Option Missing
+  of_null b = put_missing has (table_at f.parent db) f (if b then None else Some (values_at f.columns values))
+
+  none_of : (o : Option Table) → put_missing has o f None ≡ None
+  none_of None = refl
+  none_of (Some t) = refl
+
+  -- a row that has NULL refers to no key
+  pub refers_none : list_any is_null (values_at f.columns values) ≡ true → None ≡ missing_put has db values f
+  refers_none is = sym (ap of_null is ∙ none_of (table_at f.parent db))
+
+  by_there : (o : Option Table) (b : Bool) (key : List Value) → b ≡ option_map_or (λ (parent : Table). has parent key) o false
+      → missed_if f key b ≡ put_missing has o f (Some key)
+  by_there None b key is = ap (missed_if f key) is
+  by_there (Some t) b key is = ap (missed_if f key) is
+
+  missing_is : list_any is_null (values_at f.columns values) ≡ false → (key : List Value) → key ≡ values_at f.columns values
+      → (b : Bool) → b ≡ option_map_or (λ (parent : Table). has parent key) (table_at f.parent db) false
+      → missed_if f key b ≡ missing_put has db values f
+  missing_is some key is b there =
+      by_there (table_at f.parent db) b key there
+      ∙ ap (λ (k : List Value). put_missing has (table_at f.parent db) f (Some k)) is
+      ∙ sym (ap of_null some)
+
+  pub missing_none : list_any is_null (values_at f.columns values) ≡ false → (key : List Value) → key ≡ values_at f.columns values
+      → (b : Bool) → b ≡ option_map_or (λ (parent : Table). has parent key) (table_at f.parent db) false → b ≡ true
+      → None ≡ missing_put has db values f
+  missing_none some key is b there on = sym (ap (missed_if f key) on) ∙ missing_is some key is b there
+
+  pub missing_some : list_any is_null (values_at f.columns values) ≡ false → (key : List Value) → key ≡ values_at f.columns values
+      → (b : Bool) → b ≡ option_map_or (λ (parent : Table). has parent key) (table_at f.parent db) false → b ≡ false
+      → Some (missed f key) ≡ missing_put has db values f
+  missing_some some key is b there off = sym (ap (missed_if f key) off) ∙ missing_is some key is b there
+
+-- ---- foreign keys whose parent is another table
+
+module _ (own : List ℕ) (numbers : List ℕ) (db : List Table) (one two : List Value → Bool) where
+  abbrev has_one : Table → List Value → Bool
+  has_one = has_put one numbers own
+
+  abbrev has_two : Table → List Value → Bool
+  has_two = has_put two numbers own
+
+  -- the keys of given rows don't matter for them
+  put_apart : (f : Foreign) → same_text f.parent own ≡ false → (o : Option Table) → table_at f.parent db ≡ o → (r : Option (List Value))
+      → put_missing has_one o f r ≡ put_missing has_two o f r
+  put_apart f away None is None = refl
+  put_apart f away None is (Some key) = refl
+  put_apart f away (Some t) is None = refl
+  put_apart f away (Some t) is (Some key) =
+      let named : t.name ≡ f.parent = bytes_eq-true t.name f.parent (found-passes (is_table f.parent) db t is) in
+      let other : is_table own t ≡ false = ap (λ (n : List ℕ). same_text n own) named ∙ away in
+      ap (λ (b : Bool). missed_if f key (if b then one key || keeps numbers t key else list_any (has_key t.schema.key key) t.rows)) other
+      ∙ sym (ap (λ (b : Bool). missed_if f key (if b then two key || keeps numbers t key else list_any (has_key t.schema.key key) t.rows)) other)
+
+  missing_apart : (fs : List Foreign) → list_any (λ (f : Foreign). same_text f.parent own) fs ≡ false → (rows : List (List Value))
+      → missing_in_rows has_one db fs rows ≡ missing_in_rows has_two db fs rows
+  missing_apart fs away rows =
+      first_agree (missing_in_row has_one db fs) (missing_in_row has_two db fs)
+      (λ values. first_agree_of (missing_put has_one db values) (missing_put has_two db values) (λ (f : Foreign). same_text f.parent own)
+      (λ f other. put_apart f other (table_at f.parent db) refl (reference f values)) fs away) rows
+
+  -- they are the same, where the table is its own parent
+  pub given_same : (fs : List Foreign) (rows : List (List Value)) (b : Bool) → list_any (λ (f : Foreign). same_text f.parent own) fs ≡ b
+      → (b ≡ true → (key : List Value) → one key ≡ two key) → missing_in_rows has_one db fs rows ≡ missing_in_rows has_two db fs rows
+  given_same fs rows true is same = ap (λ (given : List Value → Bool). missing_in_rows (has_put given numbers own) db fs rows) (λ j key. same refl key j)
+  given_same fs rows false is same = missing_apart fs is rows
+
 -- ---- new rows
 
 numbered_keys : (places : List ℕ) (key : List Value) (next : ℕ) (rows : List (List Value))
@@ -128,7 +206,7 @@ module _ (given : List TableRow) where
   pub kept_row : (row : TableRow) → is_among numbers row ≡ false → replaced_by given row ≡ row
   kept_row row is = ap (λ (o : Option TableRow). unwrap_or o row) (found_none row given is)
 
-  found_some : (row : TableRow) (rows : List TableRow) → list_any (λ (n : ℕ). n == row.number) (map (λ (r : TableRow). r.number) rows) ≡ true
+  pub found_some : (row : TableRow) (rows : List TableRow) → list_any (λ (n : ℕ). n == row.number) (map (λ (r : TableRow). r.number) rows) ≡ true
       → (g : TableRow) × (find (λ (new : TableRow). new.number == row.number) rows ≡ Some g)
   found_some row [] is = cc
   found_some row (r ∷ rows) is = elim (cases_Bool (r.number == row.number)) [
@@ -272,7 +350,7 @@ any_none p q (x ∷ xs) is =
     let parts = or-parts (p x) (list_any p xs) is in
     λ j. (parts.0 j && q x) || any_none p q xs parts.1 j
 
-find_none : {X : Type 0} (p : X → Bool) (xs : List X) → find p xs ≡ None → list_any p xs ≡ false
+pub find_none : {X : Type 0} (p : X → Bool) (xs : List X) → find p xs ≡ None → list_any p xs ≡ false
 find_none p [] is = refl
 find_none p (x ∷ xs) is = elim (cases_Bool (p x)) [
   | inl hit ↦ let wrong : Some x ≡ None = rw hit at is in cc

@@ -1,10 +1,10 @@
 -- What references refuse a change for, by what the code looks up.
-use Rattle.std.proofs.Common.{◌≡◌, ℕ, ◌+◌, ◌<◌, List, [], ◌∷◌, length, refl, sym, ap, ◌∙◌, subst, Bool, true, false, inl, inr, arith}
+use Rattle.std.proofs.Common.{◌≡◌, ℕ, ◌+◌, ◌<◌, List, [], ◌∷◌, length, refl, sym, ap, ◌∙◌, subst, Bool, true, false, cond, is_some, inl, inr, arith}
 use Rattle.std.specs.Prelude.{Option, Some, None, map, filter, find, zip, not, ◌&&◌, ◌||◌, ◌==◌, if◌then◌else◌}
 use Rattle.std.specs.List.{list_any, list_all}
 use Rattle.std.specs.Option.{option_map, option_map_or, option_or}
 use Rattle.std.proofs.lemmas.Bool.{cases_Bool, ne_eqb, not-true}
-use Rattle.ldv_value.proofs.Booleans.{and-parts}
+use Rattle.ldv_value.proofs.Booleans.{and-parts, not-so, or-left, or-right, true≢false}
 use Rattle.ldv_value.proofs.Lists.{found-all, found-passes, list_all-map, list_all-weaker, list_any-map}
 use Rattle.ldv_value.proofs.Options.{none-some, same-some}
 use Rattle.ldv_value.proofs.SameBytes.{bytes_eq-true}
@@ -17,14 +17,14 @@ use Rattle.sql_model.specs.ForeignKeys.{fits_place, fits_parent, has_parents, ha
 use Rattle.sql_model.specs.References.{Missing, Orphan, first_in, has_key, is_lost, missing_parents, orphans}
 use Rattle.sql_model.specs.Scope.{is_table, table_at, schema_at, catalog_of}
 use Rattle.sql_model.specs.Tables.{AreWellFormed, are_keys_unique, is_valid_table}
-use Rattle.table_store.specs.Afterwards.{has_values, keeps, has_put, is_keyed, missing_in_rows, loses, orphan_in_tables}
+use Rattle.table_store.specs.Afterwards.{has_values, keeps, has_put, is_keyed, missing_in_rows, loses, orphan_in_tables, refers_to}
 use Rattle.table_store.specs.Histories.{StoreHistory, TableHistory, history_at, is_history, table_now}
 use Rattle.table_store.specs.Referring.{parent_stop, child_stop, missing_stop, orphan_stop, is_of}
 use Rattle.table_store.specs.Stops.{is_among, all_stood, are_sorted_rows, with_changed, with_inserted, with_removed, with_replaced}
 use Rattle.table_store.specs.Types.{Foreign, Table, TableRow, Value}
 use Rattle.table_store.specs.declared.stop.StoreStop.{StoreStop}
-use Rattle.table_store.proofs.LossLaws.{in_tables, same_lost, same_has, removed_lost, replaced_lost, bare_orphans}
-use Rattle.table_store.proofs.PutLaws.{put_in, missing_are, inserted_has, replaced_has, takes_place}
+use Rattle.table_store.proofs.LossLaws.{away_tables, in_tables, same_lost, same_has, removed_lost, replaced_lost, bare_orphans}
+use Rattle.table_store.proofs.PutLaws.{put_in, given_same, missing_are, inserted_has, replaced_has, takes_place}
 
 -- ---- the table of a history
 
@@ -134,7 +134,7 @@ replace_missing db t found rows sorted stand given are =
 
 -- ---- children
 
-abbrev child_or : Bool → Option Orphan → Option StoreStop
+abbrev pub child_or : Bool → Option Orphan → Option StoreStop
 child_or bare o = if bare then None else option_map child_stop o
 
 module _ (hs : List TableHistory) (h : TableHistory) (formed : AreWellFormed (map table_now hs))
@@ -182,3 +182,57 @@ module _ (hs : List TableHistory) (h : TableHistory) (formed : AreWellFormed (ma
       (λ keyed key. replaced_lost t keyed unique rows (takes_place rows sorted) stand key
       ∙ ap (λ (b : Bool). list_any (λ row. is_among numbers row && has_key t.schema.key key row) t.rows && not b) (sym (are key)))
       bare refl
+
+-- ---- what the code has of it
+
+-- a first refusal, and one that comes where there is none
+pub either_first : (a b m : Option StoreStop) → m ≡ a → is_some m ≡ true → m ≡ option_or a b
+either_first None b m is some = let wrong : false ≡ true = sym (ap is_some is) ∙ some in cc
+either_first (Some stop) b m is some = is
+
+pub either_second : (a b m l : Option StoreStop) → m ≡ a → is_some m ≡ false → l ≡ b → l ≡ option_or a b
+either_second None b m l is none same = same
+either_second (Some stop) b m l is none same = let wrong : true ≡ false = sym (ap is_some is) ∙ none in cc
+
+-- where no foreign key of any table refers to the own one
+pub none_child : (b : Bool) (o : Option Orphan) → o ≡ None → None ≡ child_or b o
+none_child true o is = refl
+none_child false o is = sym (ap (option_map child_stop) is)
+
+found_any : {X : Type 0} (p q : X → Bool) (xs : List X) (x : X) → find q xs ≡ Some x → p x ≡ true → list_any p xs ≡ true
+found_any p q [] x is hit = cc
+found_any p q (y ∷ ys) x is hit = elim (cases_Bool (q y)) [
+  | inl here ↦
+      let e : Some y ≡ Some x = sym (ap (λ b. cond b (Some y) (find q ys)) here) ∙ is in
+      or-left (p y) (list_any p ys) (ap p (same-some y x e) ∙ hit)
+  | inr miss ↦ or-right (p y) (list_any p ys) (found_any p q ys x (sym (ap (λ b. cond b (Some y) (find q ys)) miss) ∙ is) hit)
+]
+
+module _ (hs : List TableHistory) (h : TableHistory) (found : find (is_history h.name) hs ≡ Some h) where
+  -- a table that is its own parent is a parent
+  pub own_apart : list_any (λ (one : TableHistory). refers_to h.name (table_now one)) hs ≡ false → refers_to h.name (table_now h) ≡ false
+  own_apart none = not-so (refers_to h.name (table_now h)) (λ refers.
+      true≢false (sym (found_any (λ (one : TableHistory). refers_to h.name (table_now one)) (is_history h.name) hs h found refers) ∙ none))
+
+  -- the keys of given rows don't matter where the table is no parent
+  module _ (one two : List Value → Bool) (b : Bool) (is : list_any (λ (t : TableHistory). refers_to h.name (table_now t)) hs ≡ b)
+      (same : b ≡ true → (key : List Value) → one key ≡ two key) where
+    pub missing_same : (numbers : List ℕ) (db : List Table) (rows : List (List Value))
+        → missing_in_rows (has_put one numbers h.name) db h.schema.foreign rows ≡ missing_in_rows (has_put two numbers h.name) db h.schema.foreign rows
+    missing_same numbers db rows = by b is same
+      where
+        by : (a : Bool) → list_any (λ (t : TableHistory). refers_to h.name (table_now t)) hs ≡ a → (a ≡ true → (key : List Value) → one key ≡ two key)
+            → missing_in_rows (has_put one numbers h.name) db h.schema.foreign rows ≡ missing_in_rows (has_put two numbers h.name) db h.schema.foreign rows
+        by true told alike = ap (λ (given : List Value → Bool). missing_in_rows (has_put given numbers h.name) db h.schema.foreign rows) (λ j key. alike refl key j)
+        by false told alike = given_same h.name numbers db one two h.schema.foreign rows false (own_apart told) (λ wrong. cc)
+
+    pub orphan_same : (numbers : List ℕ)
+        → orphan_in_tables (is_among numbers) h.name (loses one numbers (table_now h)) hs ≡ orphan_in_tables (is_among numbers) h.name (loses two numbers (table_now h)) hs
+    orphan_same numbers = by b is same
+      where
+        by : (a : Bool) → list_any (λ (t : TableHistory). refers_to h.name (table_now t)) hs ≡ a → (a ≡ true → (key : List Value) → one key ≡ two key)
+            → orphan_in_tables (is_among numbers) h.name (loses one numbers (table_now h)) hs ≡ orphan_in_tables (is_among numbers) h.name (loses two numbers (table_now h)) hs
+        by true told alike = ap (λ (given : List Value → Bool). orphan_in_tables (is_among numbers) h.name (loses given numbers (table_now h)) hs) (λ j key. alike refl key j)
+        by false told alike =
+            away_tables (is_among numbers) h.name (loses one numbers (table_now h)) hs told
+            ∙ sym (away_tables (is_among numbers) h.name (loses two numbers (table_now h)) hs told)

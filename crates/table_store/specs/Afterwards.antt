@@ -8,7 +8,7 @@ use Rattle.std.specs.Option.{option_map_or, option_or, option_and_then}
 use Rattle.sql_model.specs.KeyOrder.{key_order}
 use Rattle.sql_model.specs.Keys.{same_values, values_at}
 use Rattle.sql_model.specs.References.{Missing, Orphan, reference, has_key, child_of, orphan_by}
-use Rattle.sql_model.specs.Scope.{is_table, table_at}
+use Rattle.sql_model.specs.Scope.{is_table, same_text, table_at}
 use Rattle.table_store.specs.Histories.{RowHistory, TableHistory, row_now, table_now}
 use Rattle.table_store.specs.Stops.{is_among}
 use Rattle.table_store.specs.Types.{Foreign, RowKey, Table, TableRow, Value}
@@ -64,6 +64,10 @@ is_keyed db foreign =
     option_map_or (λ parent. not (length parent.schema.key == 0)) (table_at foreign.parent db) true
 
 -- ---- children
+
+-- a foreign key of a table has the table of a name for its parent
+abbrev pub refers_to : List ℕ → Table → Bool
+refers_to target table = list_any (λ foreign. same_text foreign.parent target) table.schema.foreign
 
 -- the row of one of the numbers had the key, and no given row has it
 abbrev pub loses : (List Value → Bool) → List ℕ → Table → List Value → Bool

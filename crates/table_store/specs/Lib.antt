@@ -12,6 +12,7 @@ pub mod IntCells
 pub mod KeyIndex
 pub mod LentCells
 pub mod Nexts
+pub mod ParentRows
 pub mod Referring
 pub mod RowChains
 pub mod RowChanges

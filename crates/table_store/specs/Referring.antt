@@ -84,6 +84,13 @@ abbrev pub origin_now : StoreHistory → Origin → Member
 origin_now store origin =
     record { table = origin.table; row = origin.row; version = version_at store origin.table origin.row }
 
+-- a row that stands, at its version now
+abbrev pub IsAtVersion : StoreHistory → Member → Type 0
+IsAtVersion store member =
+    option_and_then (λ history. version_now (history_of_row member.row history.slots))
+    (history_at member.table store)
+    ≡ Some member.version
+
 -- row by row, and in each by the foreign keys in their order, at their versions now
 abbrev pub parents_now : StoreHistory → List TableRow → Table → List Member
 parents_now store rows table = map (origin_now store) (parents_in_db rows (tables_now store) table)

@@ -1,17 +1,18 @@
 //! What refuses a change for a child row that would lose its parent.
 
-ghost use Rattle.std.specs.Prelude.{◌≡◌, ◌==◌, ◌&&◌, ◌||◌, ℕ, List, [], ◌∷◌, true, false, Some, IfOk};
-ghost use Rattle.std.specs.Prelude.{slice_index_or};
+ghost use Rattle.std.specs.Prelude.{◌≡◌, ◌==◌, ◌&&◌, ◌||◌, ℕ, List, [], ◌∷◌, true, false, not, Some, IfOk};
+ghost use Rattle.std.specs.Prelude.{IsSome, OnOk, slice_index_or};
 ghost use Rattle.std.specs.List.{list_any};
 ghost use Rattle.std.specs.Option.{option_map, option_map_or};
+ghost use Rattle.row_version.specs.History.{current};
 ghost use Rattle.sql_model.specs.References.{child_of, has_key, orphan_by, reference};
 ghost use Rattle.table_store.specs.Afterwards.{first_some, in_set, loses, orphan_in_row, orphan_in_slot};
-ghost use Rattle.table_store.specs.Afterwards.{orphan_in_table, orphan_in_tables};
+ghost use Rattle.table_store.specs.Afterwards.{orphan_in_table, orphan_in_tables, refers_to};
 ghost use Rattle.table_store.specs.Histories.{no_history, row_now, table_now};
 ghost use Rattle.table_store.specs.Referring.{child_stop};
 ghost use Rattle.table_store.specs.Stops.{are_sorted_numbers, is_among};
 ghost use Rattle.sql_model.specs.Keys.{same_values, values_at};
-ghost use Rattle.sql_model.specs.Scope.{is_table};
+ghost use Rattle.sql_model.specs.Scope.{is_table, same_text};
 ghost use Rattle.table_store.specs.Types.{Value};
 ghost use Rattle.table_store.specs.declared.stop.StoreStop.TheVariants.{HasChild};
 
@@ -23,6 +24,28 @@ use ldv_value::Values;
 use sql_model::{Foreign, RowKey, refers_to_none};
 use std::alloc::{AllocError, Global};
 use std::collections::BTreeSet;
+
+/// Whether a foreign key of one of some tables has the table of a name for its parent.
+pub(crate) fn is_parent(tables: &[TableStore], target: &str) -> bool
+    ensures { result ≡ list_any (λ table. refers_to target.now (table_now table)) tables.now }
+{
+    tables.iter().any(|table| refers_to(table, target))
+}
+
+/// Whether a foreign key of a table has the table of a name for its parent.
+pub(crate) fn refers_to(table: &TableStore, target: &str) -> bool
+    ensures { result ≡ refers_to target.now (table_now table.now) }
+{
+    has_parent(table.schema().foreign.items(), target)
+}
+
+fn has_parent(foreigns: &[Foreign], target: &str) -> bool
+    ensures { result ≡ list_any (λ foreign. same_text foreign.parent target.now) foreigns.now }
+{
+    foreigns
+        .iter()
+        .any(|foreign| foreign.parent.is_text(target))
+}
 
 /// The keys that the rows of some numbers have and that aren't among those of given rows.
 pub(crate) fn lost_keys(
@@ -41,7 +64,7 @@ pub(crate) fn lost_keys(
     Ok(lost)
 }
 
-// The row of a number had the key.
+// Adds the key of the row of a number, unless it is among those of given rows.
 fn add_lost(
     alloc: Global,
     held: &TableStore,
@@ -49,18 +72,30 @@ fn add_lost(
     keys: &BTreeSet<RowKey>,
     lost: &mut BTreeSet<RowKey>,
 ) -> Result<(), AllocError>
-    ensures { IfOk result (λ _. (key : List Value) → in_set lost.new key
+    ensures { OnOk result ((key : List Value) → in_set lost.new key
         ≡ (in_set lost.old key || loses (in_set keys.now) (number ∷ []) (table_now held.now) key)) }
 {
-    match key_at(alloc, held, number)? {
+    let found = key_at(alloc, held, number)?;
+    match found {
         None => Ok(()),
-        Some(key) => {
-            if !keys.contains(&key) {
-                lost.insert(key)?;
-            }
-            Ok(())
-        }
+        Some(key) => put_lost(keys, lost, key),
     }
+}
+
+// Adds a key, unless it is among those of given rows.
+fn put_lost(
+    keys: &BTreeSet<RowKey>,
+    lost: &mut BTreeSet<RowKey>,
+    key: RowKey,
+) -> Result<(), AllocError>
+    ensures { OnOk result ((q : List Value) → in_set lost.new q
+        ≡ (in_set lost.old q || (same_values key.values q && not (in_set keys.now q)))) }
+{
+    if keys.contains(&key) {
+        return Ok(());
+    }
+    lost.insert(key)?;
+    Ok(())
 }
 
 // The key of the row of a number, where it stands.
@@ -70,12 +105,17 @@ fn key_at(alloc: Global, held: &TableStore, number: u32) -> Result<Option<RowKey
         ≡ list_any (λ row. is_among (number ∷ []) row && has_key held.now.schema.key key row)
         (table_now held.now).rows) }
 {
+    held.tell_order();
     match held.slot_of(number) {
         None => Ok(None),
-        Some(slot) => key_in(alloc, held, slot),
+        Some(slot) => {
+            let found = key_in(alloc, held, slot)?;
+            Ok(found)
+        }
     }
 }
 
+// The key of the row in a slot, where it stands.
 fn key_in(alloc: Global, held: &TableStore, slot: u64) -> Result<Option<RowKey>, AllocError>
     ensures { IfOk result (λ found. option_map (λ key. key.values) found
         ≡ option_map (λ row. values_at held.now.schema.key row.values)
@@ -84,10 +124,22 @@ fn key_in(alloc: Global, held: &TableStore, slot: u64) -> Result<Option<RowKey>,
     match held.slot_row(slot) {
         None => Ok(None),
         Some(_number) => {
-            let values = held.row_values(slot)?;
-            Ok(Some(key_of(alloc, &held.schema().key, &values)?))
+            let key = key_standing(alloc, held, slot)?;
+            Ok(Some(key))
         }
     }
+}
+
+// The key of the row in a slot, which stands.
+fn key_standing(alloc: Global, held: &TableStore, slot: u64) -> Result<RowKey, AllocError>
+    requires { IsSome (current (slice_index_or held.now.slots slot no_history).changes) }
+    ensures { IfOk result (λ key. Some key.values
+        ≡ option_map (λ row. values_at held.now.schema.key row.values)
+        (row_now (slice_index_or held.now.slots slot no_history))) }
+{
+    let values = held.row_values(slot)?;
+    let key = key_of(alloc, &held.schema().key, &values)?;
+    Ok(key)
 }
 
 /// The first row, by table and number, that isn't given and refers to one of some keys of a table.
@@ -122,6 +174,9 @@ fn child_in(
     ensures { IfOk result (λ stop. stop ≡ option_map child_stop
         (orphan_in_table (is_among numbers.now) target.now (in_set lost.now) table.now)) }
 {
+    if !refers_to(table, target) {
+        return Ok(None);
+    }
     for slot in 0..table.slots() {
         let stop = child_at(alloc, table, slot, target, numbers, lost)?;
         if stop.is_some() {
@@ -148,13 +203,35 @@ fn child_at(
     match table.slot_row(slot) {
         None => Ok(None),
         Some(number) => {
-            if is_passed(table, target, numbers, number) {
-                return Ok(None);
-            }
-            let values = table.row_values(slot)?;
-            child_by_each(alloc, table, target, lost, number, &values)
+            let stop = child_standing(alloc, table, slot, number, target, numbers, lost)?;
+            Ok(stop)
         }
     }
+}
+
+// The row of a number in a slot, which stands, if it isn't given and refers to one of the keys.
+fn child_standing(
+    alloc: Global,
+    table: &TableStore,
+    slot: u64,
+    number: u32,
+    target: &str,
+    numbers: &[u32],
+    lost: &BTreeSet<RowKey>,
+) -> Result<Option<StoreStop>, AllocError>
+    requires sorted { are_sorted_numbers numbers.now ≡ true }
+    requires stands { Some number
+        ≡ option_map (λ row. row.number) (row_now (slice_index_or table.now.slots slot no_history)) }
+    ensures { IfOk result (λ stop. stop ≡ option_map child_stop
+        (orphan_in_slot (is_among numbers.now) target.now (in_set lost.now) (table_now table.now)
+        (slice_index_or table.now.slots slot no_history))) }
+{
+    if is_passed(table, target, numbers, number) {
+        return Ok(None);
+    }
+    let values = table.row_values(slot)?;
+    let stop = child_by_each(alloc, table, target, lost, number, &values)?;
+    Ok(stop)
 }
 
 // Whether a row is given.
@@ -205,12 +282,21 @@ fn child_by(
         return Ok(None);
     }
     let key = key_of(alloc, &foreign.columns, values)?;
-    if foreign.parent.is_text(target) && lost.contains(&key) {
-        return child(table, number, key);
+    if !is_lost(foreign, target, lost, &key) {
+        return Ok(None);
     }
-    Ok(None)
+    let stop = child(table, number, key)?;
+    Ok(stop)
 }
 
+// Whether a foreign key's parent is a table, and this has lost the key.
+fn is_lost(foreign: &Foreign, target: &str, lost: &BTreeSet<RowKey>, key: &RowKey) -> bool
+    ensures { result ≡ (same_text foreign.now.parent target.now && in_set lost.now key.now.values) }
+{
+    foreign.parent.is_text(target) && lost.contains(key)
+}
+
+// What refuses the change for a child row.
 fn child(table: &TableStore, row: u32, key: RowKey) -> Result<Option<StoreStop>, AllocError>
     ensures { IfOk result (λ stop. stop ≡ Some (HasChild table.now.name row key.values)) }
 {

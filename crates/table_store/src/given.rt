@@ -2,7 +2,6 @@
 
 ghost use Rattle.std.specs.Prelude.{◌≡◌, ◌==◌, List, IfOk, map, true};
 ghost use Rattle.std.specs.List.{list_any};
-ghost use Rattle.sql_model.specs.Keys.{values_at};
 ghost use Rattle.table_store.specs.Afterwards.{has_values, in_set};
 ghost use Rattle.table_store.specs.Stops.{are_sorted_numbers};
 ghost use Rattle.table_store.specs.Types.{Value};
@@ -13,8 +12,8 @@ use sql_model::{HasValues, RowKey, TableRow};
 use std::alloc::{AllocError, Global};
 use std::collections::BTreeSet;
 
-/// The keys of given rows.
-pub(crate) fn keys_of<R: HasValues>(
+// The keys of given rows.
+fn keys_of<R: HasValues>(
     alloc: Global,
     key: &Places,
     rows: &[R],
@@ -24,8 +23,26 @@ pub(crate) fn keys_of<R: HasValues>(
 {
     let mut keys = BTreeSet::new(alloc);
     for row in rows {
-        keys.insert(key_of(alloc, key, row.values())?)?;
+        let made = key_of(alloc, key, row.values())?;
+        keys.insert(made)?;
     }
+    Ok(keys)
+}
+
+/// The keys of given rows, where they are asked for, and none otherwise.
+pub(crate) fn keys_if<R: HasValues>(
+    alloc: Global,
+    asked: bool,
+    key: &Places,
+    rows: &[R],
+) -> Result<BTreeSet<RowKey>, AllocError>
+    ensures { IfOk result (λ keys. asked ≡ true → (wanted : List Value) → in_set keys wanted
+        ≡ list_any (λ row. has_values key.now wanted (R.cells row)) rows.now) }
+{
+    if !asked {
+        return Ok(BTreeSet::new(alloc));
+    }
+    let keys = keys_of(alloc, key, rows)?;
     Ok(keys)
 }
 

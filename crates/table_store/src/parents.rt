@@ -1,19 +1,16 @@
 //! What refuses given rows for want of a parent.
 
-ghost use Rattle.std.specs.Prelude.{◌≡◌, ◌<◌, ℕ, List, true, false, Some, None, IfOk, IfSome, length, map};
+ghost use Rattle.std.specs.Prelude.{◌≡◌, ◌<◌, ◌||◌, true, false, IfOk, length, map};
 ghost use Rattle.std.specs.List.{list_all, list_any};
 ghost use Rattle.std.specs.Option.{option_map, option_map_or};
-ghost use Rattle.sql_model.specs.Keys.{values_at};
-ghost use Rattle.sql_model.specs.Meaning.{is_null};
 ghost use Rattle.sql_model.specs.References.{has_key};
-ghost use Rattle.sql_model.specs.Scope.{table_at};
+ghost use Rattle.sql_model.specs.Scope.{is_table, table_at};
 ghost use Rattle.sql_model.specs.Tables.{are_keys_unique, row_values};
 ghost use Rattle.table_store.specs.Afterwards.{has_put, in_set, is_keyed, keeps, missing_in_row};
 ghost use Rattle.table_store.specs.Afterwards.{missing_in_rows, missing_put};
 ghost use Rattle.table_store.specs.Histories.{table_now, tables_now};
 ghost use Rattle.table_store.specs.Referring.{parent_stop};
 ghost use Rattle.table_store.specs.Stops.{are_sorted_numbers};
-ghost use Rattle.table_store.specs.Types.{Value};
 
 use crate::given::is_given;
 use crate::index::key_of;
@@ -65,7 +62,7 @@ fn missing_in_row(
         (missing_in_row (has_put (in_set keys.now) numbers.now own.now.name) (tables_now store.now)
         own.now.schema.foreign values.now)) }
 {
-    missing_by_each(
+    let stop = missing_by_each(
         alloc,
         store,
         own.name(),
@@ -73,7 +70,8 @@ fn missing_in_row(
         numbers,
         values,
         &own.schema().foreign,
-    )
+    )?;
+    Ok(stop)
 }
 
 fn missing_by_each(
@@ -163,11 +161,29 @@ fn has_put(
     requires apart { are_keys_unique parent.now.schema.key (row_values (table_now parent.now)) ≡ true }
     ensures { result ≡ has_put (in_set keys.now) numbers.now own.now (table_now parent.now) key.now.values }
 {
-    if parent.name() == own {
-        keys.contains(key) || is_kept(parent, numbers, key)
+    if is_own(parent, own) {
+        is_put(parent, keys, numbers, key)
     } else {
         has_row(parent, key)
     }
+}
+
+/// Whether a table is the one of a name.
+pub(crate) fn is_own(parent: &TableStore, own: &str) -> bool
+    ensures { result ≡ is_table own.now (table_now parent.now) }
+{
+    parent.name() == own
+}
+
+// Whether a given row has a key, or one that isn't given.
+fn is_put(parent: &TableStore, keys: &BTreeSet<RowKey>, numbers: &[u32], key: &RowKey) -> bool
+    requires sorted { are_sorted_numbers numbers.now ≡ true }
+    requires keyed { 0 < length parent.now.schema.key }
+    requires apart { are_keys_unique parent.now.schema.key (row_values (table_now parent.now)) ≡ true }
+    ensures { result ≡ (in_set keys.now key.now.values
+        || keeps numbers.now (table_now parent.now) key.now.values) }
+{
+    keys.contains(key) || is_kept(parent, numbers, key)
 }
 
 fn has_row(parent: &TableStore, key: &RowKey) -> bool

@@ -1,17 +1,16 @@
 //! What references between tables refuse a change of rows for.
 
-ghost use Rattle.std.specs.Prelude.{◌≡◌, ◌==◌, List, None, Some, IfOk, if◌then◌else◌, length, true};
+ghost use Rattle.std.specs.Prelude.{◌≡◌, ◌==◌, None, Some, IfOk, if◌then◌else◌, length, true};
 ghost use Rattle.std.specs.Option.{option_map, option_or};
 ghost use Rattle.sql_model.specs.Changes.{numbered};
-ghost use Rattle.sql_model.specs.Scope.{table_at};
 ghost use Rattle.table_store.specs.Afterwards.{in_set, loses, orphan_in_tables};
 ghost use Rattle.table_store.specs.Histories.{history_at, table_now, tables_now};
 ghost use Rattle.table_store.specs.Referring.{child_stop, is_of, missing_stop, orphan_stop};
 ghost use Rattle.table_store.specs.Stops.{all_stand, all_stood, are_sorted_numbers, are_sorted_rows};
 ghost use Rattle.table_store.specs.Stops.{is_among, with_changed, with_inserted, with_removed, with_replaced};
 
-use crate::children::{first_child, lost_keys};
-use crate::given::{keys_of, numbers_of};
+use crate::children::{first_child, is_parent, lost_keys, refers_to};
+use crate::given::{keys_if, numbers_of};
 use crate::parents::missing_parent;
 use crate::stop::StoreStop;
 use crate::store::Store;
@@ -34,7 +33,8 @@ pub(crate) fn insert_refusal(
 {
     let alloc = own.allocator();
     store.tell_formed();
-    let keys = keys_of(alloc, &own.schema().key, rows.items())?;
+    let referred = refers_to(own, own.name());
+    let keys = keys_if(alloc, referred, &own.schema().key, rows.items())?;
     let later = missing_parent(alloc, store, own, &keys, &[], rows.items())?;
     Ok(later)
 }
@@ -56,13 +56,15 @@ pub(crate) fn replace_refusal(
 {
     let alloc = own.allocator();
     store.tell_formed();
-    let keys = keys_of(alloc, &own.schema().key, rows)?;
+    let referred = is_parent(store.tables(), own.name());
+    let keys = keys_if(alloc, referred, &own.schema().key, rows)?;
     let numbers = numbers_of(alloc, rows)?;
-    let missing = missing_parent(alloc, store, own, &keys, numbers.as_slice(), rows)?;
+    let given = numbers.as_slice();
+    let missing = missing_parent(alloc, store, own, &keys, given, rows)?;
     if missing.is_some() {
         return Ok(missing);
     }
-    let lost = lost_child(store, own, numbers.as_slice(), &keys)?;
+    let lost = lost_child(store, own, given, &keys)?;
     Ok(lost)
 }
 
@@ -98,11 +100,16 @@ fn lost_child(
         (orphan_in_tables (is_among numbers.now) own.now.name
         (loses (in_set keys.now) numbers.now (table_now own.now)) store.now.tables))) }
 {
+    let tables = store.tables();
+    let name = own.name();
+    if !is_parent(tables, name) {
+        return Ok(None);
+    }
     if own.schema().key.is_empty() {
         return Ok(None);
     }
     let alloc = own.allocator();
     let lost = lost_keys(alloc, own, numbers, keys)?;
-    let child = first_child(alloc, store.tables(), own.name(), numbers, &lost)?;
+    let child = first_child(alloc, tables, name, numbers, &lost)?;
     Ok(child)
 }

@@ -3,7 +3,7 @@
 ghost use Rattle.std.specs.Prelude.{◌≡◌, ◌==◌, ℕ, ◌+◌, ◌*◌, ◌/◌, ◌<◌, ◌≤◌, Bool, true, false, List, [], ◌∷◌};
 ghost use Rattle.std.specs.Prelude.{◌++◌, Option, Some, None, find, OnOk, OnErr, IfOk, IsOk, IsSome, IfSome};
 ghost use Rattle.std.specs.Prelude.{length, map, slice_get, slice_index_or, slice_set};
-ghost use Rattle.std.specs.List.{list_all};
+ghost use Rattle.std.specs.List.{AllByRecursion, list_all};
 ghost use Rattle.std.specs.Option.{option_map, option_map_or, option_and_then, option_or};
 ghost use Rattle.lanes.specs.Sets.{member};
 ghost use Rattle.row_version.specs.History.{current};
@@ -22,7 +22,7 @@ ghost use Rattle.table_store.specs.Stops.{is_among, with_inserted, with_replaced
 ghost use Rattle.sql_model.specs.Changes.{numbered};
 ghost use Rattle.table_store.specs.Referring.{are_apart, insert_refusal, replace_refusal, delete_refusal};
 ghost use Rattle.table_store.specs.Referring.{parents_now};
-ghost use Rattle.table_store.specs.Referring.{CanBePut, is_of, missing_stop, orphan_stop};
+ghost use Rattle.table_store.specs.Referring.{CanBePut, IsAtVersion, is_of, missing_stop, orphan_stop};
 ghost use Rattle.table_store.specs.StoreView.{started, no_table, are_sorted};
 ghost use Rattle.table_store.specs.TableView.{begun};
 ghost use Rattle.table_store.specs.Types.{Null, Value};
@@ -250,16 +250,20 @@ impl Store {
     /// `rows` refers, and that stand: row by row, and of each by the foreign keys in their order. A row to
     /// which several refer is there several times. The table is there, `rows` stand in it, sorted by number,
     /// or are numbered from the number of its next row on. Where two rows would have one key, nothing is
-    /// said.
+    /// said of which rows these are.
     pub fn parents_of(&self, table: &str, rows: &TableRows) -> Result<Members, AllocError>
         requires there { IsSome (table_at table.now (tables_now self.now)) }
         requires put { IfSome (table_at table.now (tables_now self.now)) (CanBePut rows.now) }
-        ensures { IfOk result (λ members. IfSome (table_at table.now (tables_now self.now))
+        ensures versions { IfOk result (λ members. AllByRecursion (IsAtVersion self.now) members) }
+        ensures parents { IfOk result (λ members. IfSome (table_at table.now (tables_now self.now))
             (λ own. are_apart rows.now own ≡ true → members ≡ parents_now self.now rows.now own)) }
     {
         match self.table(table) {
             None => unreachable!(),
-            Some(own) => parents_of(self, own, rows.items()),
+            Some(own) => {
+                let members = parents_of(self, own, rows.items())?;
+                Ok(members)
+            }
         }
     }
 
@@ -356,11 +360,8 @@ impl Store {
             None => unreachable!(),
             Some(place) => {
                 let later = self.later_of_delete(table, numbers.items())?;
-                if let Some(stop) = later {
-                    return Err(stop);
-                }
-                match delete_in(&mut self.tables, place, numbers, time) {
-                    Err(_refused) => Err(StoreStop::NoMemory),
+                match delete_in(&mut self.tables, place, numbers, later, time) {
+                    Err(stop) => Err(stop),
                     Ok(()) => {
                         self.time = time;
                         Ok(())
@@ -531,20 +532,22 @@ fn delete_in(
     tables: &mut Vec<TableStore>,
     place: usize,
     numbers: &Numbers,
+    later: Option<StoreStop>,
     time: u32,
-) -> Result<(), AllocError>
+) -> Result<(), StoreStop>
     requires within { place < length tables.old.items }
     requires later { last_since (slice_index_or tables.old.items place no_table).nexts < time }
     requires sorted { are_sorted_numbers numbers.now ≡ true }
     requires stand { all_stand numbers.now (table_now (slice_index_or tables.old.items place no_table))
         ≡ true }
+    ensures stop { StopsAs later result }
     ensures ok { OnOk result (tables.new.items
         ≡ slice_set tables.old.items place
         (removed time numbers.now (slice_index_or tables.old.items place no_table))) }
     ensures err { OnErr result (tables.new.items ≡ tables.old.items) }
 {
     let held = &mut tables[place];
-    held.delete_all(numbers, time)
+    held.delete_all(numbers, later, time)
 }
 
 fn stores_of(alloc: Global, tables: Tables) -> Result<Vec<TableStore>, AllocError>

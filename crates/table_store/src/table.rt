@@ -386,14 +386,25 @@ impl TableStore {
     }
 
     /// Drops the rows of these numbers at a time. The time is later than that of each earlier change. The
-    /// numbers are sorted, and each is that of a row that stands. On `AllocError` nothing has changed.
-    pub(crate) fn delete_all(&mut self, numbers: &Numbers, time: u32) -> Result<(), AllocError>
+    /// numbers are sorted, and each is that of a row that stands. `later` is returned; NoMemory: out of
+    /// memory. The table is then as it was.
+    pub(crate) fn delete_all(
+        &mut self,
+        numbers: &Numbers,
+        later: Option<StoreStop>,
+        time: u32,
+    ) -> Result<(), StoreStop>
         requires later { last_since self.old.nexts < time }
         requires sorted { are_sorted_numbers numbers.now ≡ true }
         requires stand { all_stand numbers.now (table_now self.old) ≡ true }
+        ensures stop { StopsAs later result }
         ensures ok { OnOk result (self.new ≡ removed time numbers.now self.old) }
         ensures err { OnErr result (self.new ≡ self.old) }
     {
+        match later {
+            None => {}
+            Some(stop) => return Err(stop),
+        }
         let alloc = self.name.allocator();
         let given = removals(alloc, numbers.items())?;
         change_rows(alloc, &mut self.rows, &mut self.nexts, given, time)?;

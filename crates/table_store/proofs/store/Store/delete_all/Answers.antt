@@ -1,10 +1,17 @@
-use Rattle.std.proofs.Common.{◌≡◌, ◌∙◌, ap, true, get_or}
+use Rattle.std.proofs.Common.{◌≡◌, ◌∙◌, ap, sym, subst, List, Option, Some, true, get_or}
+use Rattle.std.specs.Prelude.{Err}
+use Rattle.std.specs.Option.{option_and_then}
+use Rattle.sql_model.specs.Scope.{table_at}
 use Rattle.sql_model.specs.Tables.{is_valid_table}
-use Rattle.table_store.specs.Histories.{TableHistory, removed, table_now}
-use Rattle.table_store.specs.Stops.{with_removed, all_stand}
+use Rattle.table_store.specs.Histories.{TableHistory, removed, table_now, tables_now}
+use Rattle.table_store.specs.Referring.{delete_refusal, orphan_stop}
+use Rattle.table_store.specs.Stops.{StopsAs, is_among, with_removed, all_stand}
+use Rattle.table_store.specs.Types.{Table}
+use Rattle.table_store.specs.declared.stop.StoreStop.{StoreStop}
 use Rattle.table_store.specs.StoreView.{no_table}
 use Rattle.table_store.proofs.FormedLaws.{removed_valid}
-use Rattle.table_store.proofs.StoreChangeLaws.{remove_is, valid_there, later_there, given_there, after_stored, after_is, after_now, after_kept, not_missing}
+use Rattle.table_store.proofs.LaterLaws.{alone_is, later_is}
+use Rattle.table_store.proofs.StoreChangeLaws.{remove_is, valid_there, at_place, later_there, given_there, after_stored, after_is, after_now, after_kept, not_missing}
 use Rattle.table_store.proofs.TableChangeLaws.{removed_now}
 use Rattle.table_store.proofs.store.Store.delete_all.Goals as goal
 
@@ -64,3 +71,31 @@ returns-in-Ok-clause-earlier c =
     let place = c.in-Some.place in
     let found = c.in-Some.ensures.found in
     after_kept a.catalog tables a.time c.self.invariant c.args.self.now c.self.view_is c.args.table.now place found c.args.time c.requires.later (removed c.args.time c.args.numbers.now) (remove_is c.args.time c.args.numbers.now) c.delete_in.new.tables.items c.in-Ok.ensures.ok
+
+pub returns-in-Ok-clause-stop : goal.returns-in-Ok-clause-stop
+returns-in-Ok-clause-stop c =
+    let a = c.self.inside in
+    let tables = a.tables.items in
+    let place = c.in-Some.place in
+    let found = c.in-Some.ensures.found in
+    let there : TableHistory = get_or tables place no_table in
+    let db : List Table = tables_now c.args.self.now in
+    let o : Option Table = table_at c.args.table.now db in
+    let at : o ≡ Some (table_now there) = at_place a.catalog tables a.time c.self.invariant c.args.self.now c.self.view_is c.args.table.now place found c.args.time c.requires.later in
+    let rest : Table → Option StoreStop = λ (own : Table). orphan_stop (is_among c.args.numbers.now) own (with_removed c.args.numbers.now own) db in
+    let same : rest (table_now there) ≡ c.in_ok-later-in-Some.later = later_is rest o (table_now there) c.in_ok-later-in-Some.later at c.in_ok-later-in-Some.ensures in
+    alone_is rest o (table_now there) c.in_ok-later-in-Some.later at same ∙ c.in-Ok.ensures.stop
+
+pub returns-in-Err-clause-stop : goal.returns-in-Err-clause-stop
+returns-in-Err-clause-stop c =
+    let a = c.self.inside in
+    let tables = a.tables.items in
+    let place = c.in-Some.place in
+    let found = c.in-Some.ensures.found in
+    let there : TableHistory = get_or tables place no_table in
+    let db : List Table = tables_now c.args.self.now in
+    let o : Option Table = table_at c.args.table.now db in
+    let at : o ≡ Some (table_now there) = at_place a.catalog tables a.time c.self.invariant c.args.self.now c.self.view_is c.args.table.now place found c.args.time c.requires.later in
+    let rest : Table → Option StoreStop = λ (own : Table). orphan_stop (is_among c.args.numbers.now) own (with_removed c.args.numbers.now own) db in
+    let same : rest (table_now there) ≡ c.in_ok-later-in-Some.later = later_is rest o (table_now there) c.in_ok-later-in-Some.later at c.in_ok-later-in-Some.ensures in
+    subst (λ (due : Option StoreStop). StopsAs {X = Unit {0}} due (Err c.in-Err.stop)) (sym (alone_is rest o (table_now there) c.in_ok-later-in-Some.later at same)) c.in-Err.ensures.stop

@@ -1,4 +1,5 @@
-use Rattle.std.proofs.Common.{◌≡◌, ◌∙◌, ◌<◌, ap, sym, subst, ℕ, List, map}
+use Rattle.std.proofs.Common.{◌≡◌, ◌∙◌, ◌<◌, ap, sym, subst, ℕ, List, map, Option}
+use Rattle.std.specs.Prelude.{Err}
 use Rattle.row_version.specs.History.{Change}
 use Rattle.table_store.specs.Histories.{RowHistory, NextSince, TableHistory, changed_by, last_since, last_next, noted, rows_now, dropped, removed}
 use Rattle.table_store.specs.IndexView.{held_in}
@@ -6,8 +7,11 @@ use Rattle.table_store.specs.KeyIndex.{Held, AreIndexed}
 use Rattle.table_store.specs.Nexts.{nexts_of}
 use Rattle.table_store.specs.RowChains.{RowsHistory}
 use Rattle.table_store.specs.RowChanges.{removal, changes_given, RiseFrom, AllFitKinds, AllStand}
+use Rattle.table_store.specs.Stops.{StopsAs}
 use Rattle.table_store.specs.TableView.{IsStored}
 use Rattle.table_store.specs.declared.change.RowChange.{RowChange}
+use Rattle.table_store.specs.declared.stop.StoreStop.{StoreStop}
+use Rattle.table_store.proofs.ClaimLaws.{stop_due}
 use Rattle.table_store.proofs.TableChangeLaws.{before_all, removals_rise, removals_stand, removals_fit, changes_removed, stored_changed, indexed_removed}
 use Rattle.table_store.proofs.table.TableStore.delete_all.Goals as goal
 
@@ -60,3 +64,10 @@ returns-clause-ok c =
     c.in_ok-change_rows.ensures.nexts ∙ ap (λ (n : ℕ). noted time n (nexts_of a.nexts.items)) (sym c.self.invariant.next) in
     let made : TableHistory = record { name = a.name; schema = a.schema; slots = a.rows.slots; nexts = nexts_of a.nexts.items } in
     (λ j. record { name = made.name; schema = made.schema; slots = slots j; nexts = nexts j }) ∙ ap (removed time numbers) c.self.view_is
+
+pub returns-in-Some-clause-stop : goal.returns-in-Some-clause-stop
+returns-in-Some-clause-stop c =
+    subst (λ (due : Option StoreStop). StopsAs {X = Unit {0}} due (Err c.in-Some.stop)) (sym c.in-Some.is) (stop_due (Unit {0}) c.in-Some.stop)
+
+pub returns-clause-stop : goal.returns-clause-stop
+returns-clause-stop c = c.in-None.is
