@@ -12,7 +12,8 @@ use Rattle.ldv_value.specs.Limits.{input_limit}
 use Rattle.package_layout.specs.Counted.{IsCounted}
 use Rattle.package_layout.specs.Plain.{has_no_foreign, has_tables}
 use Rattle.package_layout.specs.Valid.{Valid}
-use Rattle.package_layout.specs.Version.{Version, One, Two}
+use Rattle.package_layout.specs.declared.version.Version.{Version}
+use Rattle.package_layout.specs.declared.version.Version.TheVariants.{One, Two}
 use Rattle.package_layout.proofs.Package.{fit_tables}
 use Rattle.package_layout.specs.Whole.{spelling_as, IsTyped}
 use Rattle.replay_db.specs.Auditing.{SoundLaw, RecordedSoundLaw, OwnSoundLaw, verdict_on}

@@ -1,6 +1,6 @@
 -- What the event of a statement meets, over a database whose tables have these names.
-use Rattle.std.proofs.Common.{◌≡◌, ℕ, suc, ◌+◌, ◌<◌, ◌≤◌, ◌^◌, List, [], ◌∷◌, length, refl, sym, ap, ◌∙◌, subst, Bool, true, false, arith, inl, inr}
-use Rattle.std.specs.Prelude.{Option, Some, None, map, filter, ◌&&◌, ◌==◌, nat_le, nat_lt, if◌then◌else◌, IsTrue}
+use Rattle.std.proofs.Common.{◌≡◌, ℕ, ◌+◌, ◌<◌, ◌≤◌, ◌^◌, List, [], ◌∷◌, length, refl, sym, ap, ◌∙◌, subst, Bool, true, false, arith, inl, inr}
+use Rattle.std.specs.Prelude.{Option, Some, None, map, filter, ◌&&◌, ◌==◌, nat_lt, IsTrue}
 use Rattle.std.specs.List.{list_all, list_any, AllByRecursion}
 use Rattle.std.specs.Str.{IsUtf8}
 use Rattle.std.proofs.lemmas.Bool.{cases_Bool, leb-true, ltb-true, lt-ltb, eq-eqb}
@@ -17,7 +17,7 @@ use Rattle.sql_model.specs.declared.reply.SqlRefusal.TheVariants.{NotNull, Full}
 use Rattle.sql_model.specs.declared.statement.Insert.{Insert}
 use Rattle.sql_model.specs.declared.statement.Statement.TheVariants.{Query as TheQuery, Insert as TheInsert, Update as TheUpdate, Delete as TheDelete}
 use Rattle.sql_model.specs.QueryAnswer.{Origin}
-use Rattle.sql_model.specs.Changes.{numbered, new_values, inserted, lacks_value, key_clash, changed, key_refusal, is_full, or_else, refusal_if, change_refusal}
+use Rattle.sql_model.specs.Changes.{numbered, new_values, lacks_value, key_clash, changed, key_refusal, is_full, or_else, refusal_if, change_refusal}
 use Rattle.sql_model.specs.Needs.{Versions, NeededRow, need_of, asked_names, is_asked, table_name, asked_tables, new_member, made_by, updated_rows, is_row_of, versions_after, read_of}
 use Rattle.sql_model.specs.Refusals.{check_refusal}
 use Rattle.sql_model.specs.Scope.{same_text, is_table, table_at, rows_of, catalog_of}
@@ -28,7 +28,7 @@ use Rattle.sql_model.proofs.ValidTables.{TableParts, table-parts}
 use Rattle.sql_model.proofs.SortedLists.{sorted-filter}
 use Rattle.sql_laws.proofs.DatabaseLaws.{tables_law}
 use Rattle.sql_laws.proofs.ChangedTables.{else-parts, if-none}
-use Rattle.replay_db.specs.Types.{Statement, Table, TableRow, Member, Need, Act, Asked}
+use Rattle.replay_db.specs.Types.{Statement, Table, TableRow, Member, Need, Act}
 use Rattle.run_model.specs.SqlDatabase.{SqlDatabase, db_after, lists_of}
 use Rattle.run_model.specs.Step.{asked_act}
 use Rattle.package_layout.specs.Events.{need_groups, member_groups, needs_room, members_room, act_room, TypedNeed, TypedMember, TypedAct}

@@ -1,5 +1,5 @@
 -- What a statement over terms answers, needs, leaves and makes.
-use Rattle.std.proofs.Common.{◌≡◌, List, [], ◌++◌, map, refl, ap, ◌∙◌}
+use Rattle.std.proofs.Common.{◌≡◌, List, [], ◌++◌, map, ap, ◌∙◌}
 use Rattle.std.specs.Prelude.{Option, Some, None}
 use Rattle.sql_cases.proofs.FreeTables.{else_none}
 use Rattle.sql_cases.proofs.Types.{L, Rows, Refused, SqlRefusal, Statement, Table}
