@@ -1,5 +1,5 @@
 -- What is spelled of the package of a valid world's run is read back as that package.
-use Rattle.std.proofs.Common.{◌≡◌, ℕ, ◌≤◌, length, true}
+use Rattle.std.proofs.Common.{◌≡◌, ℕ, ◌≤◌, length, refl, true}
 use Rattle.std.specs.Prelude.{Ok, IsTrue}
 use Rattle.ldv_value.specs.Limits.{input_limit, max_steps}
 use Rattle.run_model.specs.declared.package.Mode.{Mode}
