@@ -8,7 +8,7 @@ use Rattle.dml_versions.proofs.MadeLaws.{position-here, position-later}
 use Rattle.ldv_value.proofs.Booleans.{or-cases, or-left, or-right, or-parts, false≢true}
 use Rattle.ldv_value.proofs.Cases.{cases-bool}
 use Rattle.ldv_value.proofs.Lists.{list_any-append, length-map}
-use Rattle.ldv_value.proofs.Options.{same-some}
+use Rattle.ldv_value.proofs.Options.{same-some, none-some}
 use Rattle.ldv_value.proofs.SameBytes.{bytes_eq-true, bytes_eq-itself}
 use Rattle.sql_laws.proofs.ParentTables.{Among, parents_taken, taken_soon}
 use Rattle.sql_engine.proofs.LeastTables.{close-least}
@@ -355,7 +355,7 @@ waiting-at (m ∷ ms) place is = elim (cases-bool (is_waiting m)) [
 none_waits : (marks : List Mark) → position is_waiting marks ≡ None → list_any is_waiting marks ≡ false
 none_waits [] is = refl
 none_waits (m ∷ ms) is = elim (cases-bool (is_waiting m)) [
-  | inl hit ↦ let wrong : Some 0 ≡ None = sym (position-here is_waiting m ms hit) ∙ is in cc
+  | inl hit ↦ absurd (none-some 0 (sym is ∙ position-here is_waiting m ms hit))
   | inr miss ↦
       rw miss (none_waits ms (by (position is_waiting ms) (sym (position-later is_waiting m ms miss) ∙ is)))
 ]

@@ -26,8 +26,10 @@ pub inserted_needs-requires : goal.inserted_needs-requires
 inserted_needs-requires c =
     let old = c.args.store.now in
     let later : old.time ≤ c.args.time = omega (arith, c.requires.later) in
-    ap (λ (n : List ℕ). option_map (λ (table : Table). table.next) (table_at n (tables_now old))) (sym c.as_str-name.ensures)
-    ∙ c.next_at-next.ensures.last later
+    record {
+      next = ap (λ (n : List ℕ). option_map (λ (table : Table). table.next) (table_at n (tables_now old))) (sym c.as_str-name.ensures)
+          ∙ c.next_at-next.ensures.last later;
+    }
 
 pub insert_all-requires-clause-there : goal.insert_all-requires-clause-there
 insert_all-requires-clause-there c =
@@ -94,8 +96,8 @@ table_of-table-requires c =
     (history-some insert.table c.args.store.now
     (there-of (tables_now c.args.store.now) c.args.checked.now c.requires.checked (TheInsert insert) c.insert_of-insert.ensures tt))
 
-pub returns-clause-change : goal.returns-clause-change
-returns-clause-change c =
+pub returns-in_ok-refused-in-Err-clause-change : goal.returns-in_ok-refused-in-Err-clause-change
+returns-in_ok-refused-in-Err-clause-change c =
     let f = c.in_ok-rows.ensures in
     let insert = c.insert_of-insert.result.now in
     let old = c.args.store.now in
@@ -131,8 +133,8 @@ returns-clause-change c =
     ∙ insert-needs old insert f.table f.there f.held.order formed check rows f.rows_are c.next_at-next.result next c.in_ok-needs.needs (c.in_ok-needs.ensures kept fits) own))
     (insert-refused old insert f.table f.there f.held.order formed check rows f.rows_are ℕ at stops over.whole over.is))
 
-pub returns-clause-after : goal.returns-clause-after
-returns-clause-after c =
+pub returns-in_ok-refused-in-Err-clause-after : goal.returns-in_ok-refused-in-Err-clause-after
+returns-in_ok-refused-in-Err-clause-after c =
     let f = c.in_ok-rows.ensures in
     let insert = c.insert_of-insert.result.now in
     let old = c.args.store.now in

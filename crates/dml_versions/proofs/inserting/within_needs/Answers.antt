@@ -9,12 +9,12 @@ use Rattle.dml_versions.specs.Types.{Need, TableRow}
 use Rattle.dml_versions.proofs.inserting.within_needs.Goals as goal
 
 pub parents_with-requires-clause-there : goal.parents_with-requires-clause-there
-parents_with-requires-clause-there c = next-there c.args.next (table_at c.args.insert.now.table (tables_now c.args.store.now)) c.requires
+parents_with-requires-clause-there c = next-there c.args.next (table_at c.args.insert.now.table (tables_now c.args.store.now)) c.requires.next
 
 pub parents_with-requires-clause-put : goal.parents_with-requires-clause-put
 parents_with-requires-clause-put c =
     subst (λ (rows : List TableRow). IfSome (table_at c.args.insert.now.table (tables_now c.args.store.now)) (CanBePut rows)) (sym c.in_ok-given.ensures)
-    (next-put c.args.next c.args.rows.now (table_at c.args.insert.now.table (tables_now c.args.store.now)) c.requires)
+    (next-put c.args.next c.args.rows.now (table_at c.args.insert.now.table (tables_now c.args.store.now)) c.requires.next)
 
 pub returns : goal.returns
 returns c = λ fits.

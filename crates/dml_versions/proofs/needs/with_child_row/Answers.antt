@@ -6,7 +6,7 @@ use Rattle.dml_versions.proofs.needs.with_child_row.Goals as goal
 
 pub returns : goal.returns
 returns c = λ there.
-    let one : c.push.new.others ≡ child_need (versions_now c.args.store.now) c.args.table.now c.args.row ∷ [] =
+    let one : c.push.new.self ≡ child_need (versions_now c.args.store.now) c.args.table.now c.args.row ∷ [] =
     c.in_ok-push.ensures.ok
     ∙ (λ j. c.in_ok-others.ensures j ++ c.in_ok-child.ensures there j ∷ []) in
     c.in_ok-all.ensures

@@ -6,8 +6,8 @@ use Rattle.sql_engine.specs.Taking.{is_done, is_waiting, AreMarks}
 use Rattle.sql_engine.specs.declared.tables.Mark.{Mark}
 use Rattle.sql_engine.proofs.tables.close.Goals as goal
 
-pub finish-requires-in-Some : goal.finish-requires-in-Some
-finish-requires-in-Some c =
+pub finish-requires : goal.finish-requires
+finish-requires c =
     let marks = c.tables.marks.items in
     let place = c.in-Some.place in
     let at : position is_waiting marks ≡ Some place = ap (position is_waiting) (sym c.as_slice.ensures.value) ∙ sym c.first_waiting.ensures ∙ c.in-Some.is in
@@ -22,8 +22,8 @@ tables-preserved c =
     subst (AreMarks first c.args.catalog.now) (sym c.finish.ensures)
     (finish-keeps first c.args.catalog.now c.requires marks place (waiting-at marks place at) (c.tables.invariant first is))
 
-pub tables-decreases : goal.tables-decreases
-tables-decreases c =
+pub tables-smaller : goal.tables-smaller
+tables-smaller c =
     let marks = c.tables.marks.items in
     let place = c.in-Some.place in
     let at : position is_waiting marks ≡ Some place = ap (position is_waiting) (sym c.as_slice.ensures.value) ∙ sym c.first_waiting.ensures ∙ c.in-Some.is in
