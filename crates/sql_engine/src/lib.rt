@@ -11,7 +11,8 @@
 //! `asking` gives a change to `dml_versions`, and a query to `answered`. This evaluates the cores one by one
 //! (`cores`, by `query_eval` and `group_eval`), unites, sorts and cuts their rows (`specs/Answering.antt`),
 //! and `needs` lists the rows that these come from (`specs/Listing.antt`). At last `tables` marks the tables
-//! that the statement names and those of the rows that it needs, with all their parents (`specs/Taking.antt`).
+//! that the statement names and those of the rows that it needs, with all their parents
+//! (`specs/Taking.antt`).
 #![tactic(auto)]
 
 mod answered;

@@ -241,7 +241,8 @@ fn keep_at(items: &mut Vec<Utf8>, kept: usize, place: usize, taken: bool) -> usi
     requires behind { kept ≤ place }
     ensures few { result ≤ place + 1 }
     ensures long { length items.new.items ≡ length items.old.items }
-    ensures kept { (test : Items ℕ → Bool) (all : Items (Items ℕ)) → InPlace test all items.old.items kept place
+    ensures kept { (test : Items ℕ → Bool) (all : Items (Items ℕ))
+        → InPlace test all items.old.items kept place
         → test (slice_index_or items.old.items place []) ≡ taken
         → InPlace test all items.new.items result (place + 1) }
 {
