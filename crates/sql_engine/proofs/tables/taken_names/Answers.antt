@@ -1,5 +1,5 @@
 use Rattle.std.proofs.Common.{◌∙◌, sym, arith}
-use Rattle.sql_engine.proofs.PlaceLaws.{none-in-place, all-in-place, marked-at}
+use Rattle.sql_engine.proofs.PlaceLaws.{all-in-place, marked-at}
 use Rattle.sql_engine.proofs.tables.taken_names.Goals as goal
 
 pub loop-place-preserved : goal.loop-place-preserved
