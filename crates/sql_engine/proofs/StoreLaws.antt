@@ -43,8 +43,7 @@ tell_versions store table number v is = by (history_at table store) is
 pub sorted_names : (store : StoreHistory) → is_database (tables_now store) ≡ true
     → IsStrictlySortedBy (slice_cmp nat_cmp) (table_names store)
 sorted_names store is =
-    names-sorted (tables_now store)
-    sorted_of_database (tables_now store) is
+    names-sorted (tables_now store) (sorted_of_database (tables_now store) is)
 
 names_apart : (t : Table) (ts : List Table) → list_all (table_precedes t) ts ≡ true → list_any (same_text t.name) (map (λ (u : Table). u.name) ts) ≡ false
 names_apart t [] after = refl
