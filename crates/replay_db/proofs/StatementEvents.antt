@@ -189,7 +189,7 @@ module _ (names : List (List ℕ)) (asked : ℕ) (db : SqlDatabase) (good : Good
       let named : is_name_of names t.name ≡ true =
       among t.name (or-left (same_text t.name t.name) (is_name_of (map table_name ts) t.name) (bytes_eq-itself t.name)) in (
         all-weaker (λ (row : TableRow). row.number < t.next) (λ (row : TableRow). IsThere t.name row.number)
-        (λ row below. (named, omega (arith, below, parts.next))) t.rows parts.below,
+            (λ row below. (named, omega (arith, below, parts.next))) t.rows parts.below,
         each_there ts both.1 (λ name more. among name (or-right (same_text t.name name) (is_name_of (map table_name ts) name) more)),
       )
 
