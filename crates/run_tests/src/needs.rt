@@ -22,6 +22,8 @@ fn rule_name(rule: Rule) -> &'static str {
         Rule::L => " L",
         Rule::H => " H",
         Rule::K => " K",
+        Rule::P => " P",
+        Rule::C => " C",
     }
 }
 
