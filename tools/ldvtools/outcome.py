@@ -11,7 +11,10 @@
 
 docs/FORMATS.md has the format. Replies are counted from 1 within their process. An outcome has no statements
 and no names of columns. With --world or --package, of which it is the outcome, each reply has its statement
-and its columns' names; else columns are counted.
+and its columns' names; else columns are counted. Whether it is the outcome of this world is told by what the
+scripts print, write and end with, by the number of statements, and of each statement by whether it is
+refused, whether it asks or changes, and how many columns it has, and of which kinds. With another limit in a
+WHERE it could be either: make the outcome anew where the questions change.
 
 In CSV the first line has the columns' names, or their places where these aren't known. A change is a column
 `changed` with the number of changed rows. A refused statement has no data: --reply K of it ends with status
@@ -39,6 +42,7 @@ import re
 import sys
 from typing import Dict, List, Optional, Sequence, Set, Tuple
 
+from .agreement import check_replies
 from .errors import Misused, Refused, command, words_of
 from .language import MISUSES
 from .outcomes import Outcome, read_outcome
@@ -119,8 +123,10 @@ def column_names(question: Question, document: Document) -> List[str]:
 
 
 def asked_in(document: Document, outcome: Outcome) -> Asked:
+    questions = questions_of(document.world, outcome)
+    check_replies(questions, document.schemas)
     return {(question.process, question.place): (question, column_names(question, document))
-            for question in questions_of(document.world, outcome)}
+            for question in questions}
 
 
 # ---- decimals

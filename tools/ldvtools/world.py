@@ -42,6 +42,7 @@ Statuses: 0 made; 1 refused, or a file can't be read or written; 2 the words of 
 from __future__ import annotations
 
 import argparse
+import codecs
 import gc
 import os
 import random
@@ -168,12 +169,17 @@ def world_files(words: argparse.Namespace, made: Made) -> Dict[str, bytes]:
         name = name or os.path.basename(path)
         if name in files:
             raise Refused(f"two files have the path {name}; give NAME=FILE")
-        files[name] = read_file(path)
+        files[name] = without_mark(read_file(path)) if word == words.script else read_file(path)
     for name, content in files.items():
         check_file(name, content)
     if len(files) > MAX_FILES:
         raise Refused(f"{len(files)} files; the limit is {MAX_FILES}")
     return files
+
+
+def without_mark(script: bytes) -> bytes:
+    """The start script as Windows writes it, without the mark of its encoding."""
+    return script[len(codecs.BOM_UTF8):] if script.startswith(codecs.BOM_UTF8) else script
 
 
 def check_file(name: str, content: bytes) -> None:

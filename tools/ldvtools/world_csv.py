@@ -109,6 +109,9 @@ def hints_of_quotes(lines: Lines, header: Sequence[str], columns: Sequence[List[
             else "where \" is a sign as any other")
     how = f"{what}, --delimiter tab --quotes none reads the file" if lines.delimiter == "\t" else (
         f"{what}, --quotes none reads the file")
+    if lines.is_tsv and lines.odd is not None:
+        line, odd = lines.odd
+        yield f"{lines.path} line {line}: it has {odd}, which no database writes as an escape; {how}"
     joined = joined_cells(lines, columns) if lines.has_joined else []
     if joined:
         place, column = joined[0]
@@ -191,6 +194,8 @@ class Lines:
         # Whether a cell may have a line feed in it: known when the records were read.
         self.has_joined = False
         self.found: List[int] = []
+        # The line of the first escape that COPY of PostgreSQL and --batch of MySQL never write, and that.
+        self.odd: Optional[Tuple[int, str]] = odd_escape(text) if is_tsv else None
 
     def reader(self) -> Any:
         csv.field_size_limit(2**31 - 1)
@@ -259,6 +264,16 @@ def refuse_width(lines: Lines, header: Sequence[str]) -> None:
 
 
 ESCAPES = {"t": "\t", "n": "\n", "r": "\r", "b": "\b", "f": "\f", "v": "\v", "0": "\0", "\\": "\\"}
+
+
+# The escapes that databases write, and what may be none. \\N is one where it is a whole cell.
+ESCAPE = re.compile(r"(?m)\\[tnrbfv0\\]|(?:^|(?<=\t))\\N(?=[\t\r]|$)|(\\[^\t\r\n]?)")
+
+
+def odd_escape(text: str) -> Optional[Tuple[int, str]]:
+    """The line of the first backslash that no escape of a database begins with, and how it stands there."""
+    found = next((found for found in ESCAPE.finditer(text) if found[1]), None)
+    return (text.count("\n", 0, found.start()) + 1, found[1]) if found else None
 
 
 def unescaped(cell: str) -> str:

@@ -15,7 +15,7 @@ from .language import MAX_COLUMNS, MAX_INT, MAX_NAME, MAX_ROWS, MAX_TEXT, MIN_IN
 from .world_cells import (MAX_SCALE, comparable, has_no_equal, scaled_number, shown, text_value,
                           whole_number)
 from .world_columns import NO_VALUE, Cell, Column, Form, Table
-from .world_hints import hint_of_dates, hint_of_text, largest, number_advice, scale_advised
+from .world_hints import advice_of, hint_of_dates, hint_of_text, largest, scale_advised
 from .world_settings import Settings, fold, tidy_names
 
 # Written in C where that is built.
@@ -90,7 +90,8 @@ def fitting(table: Table, column: Column, value: Cell, is_given: bool, settings:
     """A cell as its column carries it. `is_given`: the kind was given by an option."""
     if value is None:
         if column.not_null:
-            raise Unfit("NULL, but " + ("it is in the key" if column.name in table.key else "it is NOT NULL"))
+            raise Unfit(f"NULL, but it is in the key; --key {table.name}=none makes a table without one"
+                        if column.name in table.key else "NULL, but it is NOT NULL")
         return None
     if column.scale is not None:
         return scaled_number(value, column.scale, column.form, settings.rounds)
@@ -114,7 +115,7 @@ def fill_column(table: Table, column: Column, is_given: bool, settings: Settings
         try:
             column.cells[row] = fitting(table, column, value, is_given, settings)
         except Unfit as fault:
-            advice = number_advice(table, column, value)
+            advice = advice_of(table, column, value)
             raise Refused(f"{table.at(row, column)}: {fault}{advice}") from None
 
 
