@@ -6,8 +6,6 @@ warning; of a number that meets a column of decimals it is said what it means, s
 """
 from __future__ import annotations
 
-import itertools
-import re
 from typing import Dict, Iterator, List, Mapping, NamedTuple, Optional, Sequence, Tuple, Union
 
 from .check import Finding, operands_known, scripts_of, text_of
@@ -17,14 +15,10 @@ from .scripts import Instruction, Operand
 from .sql import Expr, Insert, NoReading, Query, Source, Statement, Update, parse_statement
 from .sql_check import shown
 from .values import Scaled, Value
-from .world_cells import DATE, TIME, padded_date, padded_time, scaled_number, whole_number
+from .world_cells import scaled_number, whole_number
 from .world_columns import Column, Table
+from .world_dates import said_of_date
 
-SAMPLE = 1000
-# The beginnings of texts as --date carries them: a year, a month, a day, an hour and so on.
-CLOCK = r"[0-9]{2}(?::[0-9]{2}(?::[0-9]{2}(?:\.[0-9]+)?)?)?"
-CARRIED_TIME = re.compile(CLOCK + r"\Z")
-CARRIED_DATE = re.compile(rf"[0-9]{{4}}(?:-[0-9]{{2}}(?:-[0-9]{{2}}(?:[ T]{CLOCK})?)?)?\Z")
 Columns = Mapping[str, Mapping[str, Column]]
 
 
@@ -68,21 +62,26 @@ def said_of_number(carrier: Carrier, number: int) -> Optional[str]:
     return means if abs(meant) > MAX_INT else f"{means}; {number} itself is written {meant}"
 
 
-def said_of_text(carrier: Carrier, text: str) -> Optional[str]:
+def said_of_text(carrier: Carrier, text: str, compare: str) -> Optional[str]:
     """What to write in place of a text that isn't in the form of its column."""
     column, name = carrier.column, carrier.name
     if column.kind == "INT":
         number = number_of_text(column, text)
         return None if number is None else f"{name} is {times(carrier.scale)}: '{text}' is written {number}"
-    date = column.date or own_date(column)
-    if date is None or is_as_carried(date, text):
+    return said_of_date(name, column, text, compare) or said_of_escapes(name, column, text)
+
+
+CONTROLS = {"\t": "a tab", "\n": "a line feed"}
+
+
+def said_of_escapes(name: str, column: Column, text: str) -> Optional[str]:
+    """That a text has a tab or a line feed, and no text of its column has it: in a script's text \\t and \\n
+    are these."""
+    found = [sign for sign in CONTROLS if sign in text]
+    if not found or any(sign in cell for cell in column.cells if isinstance(cell, str) for sign in found):
         return None
-    found = padded_time(text.strip()) if date == "time" else padded_day(column.date, text.strip())
-    like = "09:05" if date == "time" else "2019-01-31"
-    if found is None and column.date is None and not (TIME.match(text) or DATE.match(text)):
-        return None
-    what = f"'{text}' is written '{found}'" if found else f"'{text}' isn't, and compares as a text"
-    return f"{name} has texts such as {like}: {what}"
+    has = " and ".join(CONTROLS[sign] for sign in found)
+    return f"the text has {has}, and no text of {name} has; in a script \\ is written \\\\"
 
 
 def number_of_text(column: Column, text: str) -> Optional[int]:
@@ -93,26 +92,6 @@ def number_of_text(column: Column, text: str) -> Optional[int]:
         return whole_number(text, column.form)
     except Unfit:
         return None
-
-
-def own_date(column: Column) -> Optional[str]:
-    """Whether the texts of a column are dates or clock times in the form of --date, without that option."""
-    sample = list(itertools.islice((cell for cell in column.cells if isinstance(cell, str)), SAMPLE))
-    for date in ("time", "ymd"):
-        if sample and all(len(cell) > 4 and is_as_carried(date, cell) for cell in sample):
-            return date
-    return None
-
-
-def is_as_carried(date: str, text: str) -> bool:
-    """Whether a text is a date or a clock time as --date carries it, or the beginning of one."""
-    return (CARRIED_TIME if date == "time" else CARRIED_DATE).match(text) is not None
-
-
-def padded_day(date: Optional[str], text: str) -> Optional[str]:
-    """A date as it is carried. Where nothing says which part is the day, points stand in dates that have the
-    day first."""
-    return padded_date(text, date or ("dmy" if "." in text else "ymd"))
 
 
 # ---- expressions
@@ -199,7 +178,7 @@ class Scope:
             self.add(other.at, f"{what} of {carrier.name} is NULL here, and no comparison with NULL is true; "
                                f"write {carrier.name} {test}", False)
         elif isinstance(value, str):
-            self.add(other.at, said_of_text(carrier, value), False)
+            self.add(other.at, said_of_text(carrier, value, compare), False)
 
     def add(self, at: int, cause: Optional[str], is_meaning: bool) -> None:
         if cause is not None and cause not in [each.cause for each in self.found]:

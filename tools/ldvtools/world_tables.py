@@ -15,6 +15,7 @@ from .language import MAX_COLUMNS, MAX_INT, MAX_NAME, MAX_ROWS, MAX_TEXT, MIN_IN
 from .world_cells import (MAX_SCALE, comparable, has_no_equal, scaled_number, shown, text_value,
                           whole_number)
 from .world_columns import NO_VALUE, Cell, Column, Form, Table
+from .world_dates import hint_of_shapes
 from .world_hints import advice_of, hint_of_dates, hint_of_text, largest, scale_advised
 from .world_settings import Settings, fold, tidy_names
 
@@ -314,6 +315,8 @@ def settle_cells(table: Table, column: Column, is_given: bool, settings: Setting
     if not table.from_text and column.kind == "TEXT" and column.date is None and not is_given:
         hint = hint_of_dates(table, column, [cell for cell in column.cells if cell is not None])
         hints += [hint] if hint else []
+    hint = hint_of_shapes(table, column)
+    hints += [hint] if hint else []
     if column.scale is not None and sum(map(abs, filter(None, column.cells))) > MAX_INT:
         hints.append(f"{table.full_name(column)}: the sum of its rows may leave 64 bits at --scale "
                      f"{column.scale}, and "
