@@ -48,6 +48,7 @@ from .language import MISUSES
 from .outcomes import Outcome, read_outcome
 from .packages import read_package
 from .rerun import Question, questions_of
+from .sql import NoReading, Query, parse_statement
 from .sql_check import judge
 from .values import (Reply, Row, Scaled, Value, cell, csv_line, escaped, heads_of, plain_count, reply_title,
                      table_lines)
@@ -165,6 +166,33 @@ def scaled(outcome: Outcome, asked: Optional[Asked], scales: Dict[str, int]) -> 
     return outcome._replace(processes=processes)
 
 
+def scale_notes(scales: Dict[str, int], asked: Optional[Asked], document: Optional[Document]) -> List[str]:
+    """That a head of --scale is one of several tables, or of a COUNT, which has no decimals."""
+    notes: List[str] = []
+    for name, scale in scales.items():
+        shown = f"is shown with {plain_count(scale, 'decimal')} wherever it is a head"
+        tables = [table for table, columns in ((document.schemas if document else None) or {}).items()
+                  if name in [column for column, _ in columns]]
+        if len(tables) > 1:
+            notes.append(f"--scale {name}: {', '.join(tables)} have a column {name}, which {shown}; AS gives "
+                         "another head")
+        notes += [f"--scale {name}: in process {process} reply {number + 1} {name} is a COUNT, and {shown}; "
+                  "AS gives another head" for (process, number), (question, _) in (asked or {}).items()
+                  if name in count_heads(question.text)]
+    return notes
+
+
+def count_heads(text: str) -> List[str]:
+    """The heads by which an answer calls a COUNT."""
+    try:
+        statement = parse_statement(text).statement
+    except NoReading:
+        return []
+    items = statement.cores[0].items or [] if isinstance(statement, Query) else []
+    return [item.name for item in items if item.name and (item.expr.form, item.expr.word) == (
+        "aggregate", "count")]
+
+
 def shown_at(value: Value, scale: Optional[int]) -> Value:
     return Scaled(value, scale) if isinstance(value, int) and scale is not None else value
 
@@ -208,6 +236,15 @@ def csv_sections(outcome: Outcome, null: str, asked: Optional[Asked]) -> str:
             title += "".join(f"# {line}\n" for line in text_lines(found[0].text)) if found else ""
             parts.append(title + csv_text(reply, null, found[1] if found else ()))
     return "\n".join(parts)
+
+
+def null_notes(outcome: Outcome, words: argparse.Namespace) -> List[str]:
+    """That a NULL is an empty line: in CSV a row of one empty field, which many readers leave out."""
+    return [f"process {process.name} reply {number}: NULL of its only column is an empty line, which many "
+            "readers of CSV leave out; --null WORD writes a word"
+            for process in outcome.processes for number, reply in enumerate(process.replies, 1)
+            if [None] in reply.rows and (words.reply is None or (words.process or "0", words.reply) == (
+                process.name, number))]
 
 
 def chosen_reply(outcome: Outcome, name: str, number: int) -> Reply:
@@ -299,7 +336,10 @@ def work(given: Optional[Sequence[str]]) -> int:
     asked = asked_in(document, outcome) if document else None
     ends = end_lines(outcome)
     scales = scales_of(words.scale)
+    notes = scale_notes(scales, asked, document)
     show(scaled(outcome, asked, scales) if scales else outcome, asked, words)
+    for note in notes + ([] if words.null or not (words.folder or words.csv) else null_notes(outcome, words)):
+        print(f"outcome.py: {note}", file=sys.stderr)
     if words.folder or words.csv or words.printed or words.file is not None:
         for line in ends:
             print(f"outcome.py: {line}", file=sys.stderr)

@@ -12,7 +12,7 @@ from .check import Finding, operands_known, scripts_of, text_of
 from .errors import Unfit
 from .language import MAX_INT
 from .scripts import Instruction, Operand
-from .sql import Expr, Insert, NoReading, Query, Source, Statement, Update, parse_statement
+from .sql import Core, Expr, Insert, NoReading, Query, Source, Statement, Update, parse_statement
 from .sql_check import shown
 from .values import Scaled, Value
 from .world_cells import scaled_number, whole_number
@@ -37,6 +37,7 @@ class Carrier(NamedTuple):
     name: str
     column: Column
     scale: int
+    is_product: bool = False
 
 
 class Unwritten:
@@ -45,6 +46,8 @@ class Unwritten:
 
 UNWRITTEN = Unwritten()
 Written = Union[Value, Unwritten]
+# A column of an answer: what it is carried as, and its expression where it has one.
+Place = Tuple[Optional[Carrier], Optional[Expr]]
 
 
 # ---- what is said of a constant
@@ -60,6 +63,22 @@ def said_of_number(carrier: Carrier, number: int) -> Optional[str]:
     means = f"{carrier.name} is {times(carrier.scale)}, so {number} means {Scaled(number, carrier.scale)}"
     meant = number * 10 ** carrier.scale
     return means if abs(meant) > MAX_INT else f"{means}; {number} itself is written {meant}"
+
+
+def said_of_product(carrier: Carrier, factors: Tuple[int, int]) -> Optional[str]:
+    """What a product means in which a number is times 10, 100 and so on, and that isn't as the column is."""
+    if not carrier.column.scale or 10 ** carrier.scale in factors or not any(map(zeros_of, factors)):
+        return None
+    number, power = sorted(factors, key=zeros_of)
+    return (f"{carrier.name} is {times(carrier.scale)}, so {number} * {power} means "
+            f"{Scaled(number * power, carrier.scale)}; {number} itself is written {number} * "
+            f"{10 ** carrier.scale}")
+
+
+def zeros_of(number: int) -> int:
+    """How many zeros 10, 100 and so on have, and 0 for another number."""
+    zeros = len(str(number)) - 1
+    return zeros if number == 10 ** zeros else 0
 
 
 def said_of_text(carrier: Carrier, text: str, compare: str) -> Optional[str]:
@@ -153,8 +172,8 @@ class Scope:
             value = written(other, self.parameters)
             if carrier is None or not isinstance(value, int):
                 continue
-            zeros = len(str(value)) - 1
-            if value == 10 ** zeros and zeros:
+            zeros = zeros_of(value)
+            if zeros:
                 return Carrier(f"{carrier.name} * {value}", carrier.column, carrier.scale + zeros)
         return next(filter(None, carriers), None)
 
@@ -167,9 +186,23 @@ class Scope:
         self.add(at, f"{more.name} is {times(more.scale)}, and {less.name} {times(less.scale)}: write "
                      f"{less.name} * {by}", False)
 
+    def join(self, at: int, one: Place, other: Place) -> None:
+        """Of two columns that a UNION puts into one."""
+        (left, first), (right, second) = one, other
+        if left and right:
+            self.meet_scales(at, left, right)
+        elif left and second:
+            self.meet(left, second, "")
+        elif right and first:
+            self.meet(right, first, "")
+
     def meet(self, carrier: Carrier, other: Expr, compare: str) -> None:
         """What is said where a column meets another expression, by a comparison or by none."""
         value = written(other, self.parameters)
+        if other.form == "arithmetic" and other.word == "*":
+            left, right = (written(part, self.parameters) for part in other.parts)
+            if isinstance(left, int) and isinstance(right, int):
+                self.add(other.at, said_of_product(carrier, (left, right)), True)
         if isinstance(value, int):
             self.add(other.at, said_of_number(carrier, value), True)
         elif isinstance(value, str) and compare and value in carrier.column.nulls:
@@ -191,7 +224,7 @@ def product(left: Optional[Carrier], right: Optional[Carrier]) -> Optional[Carri
         return None
     more = left if left.scale >= right.scale else right
     name = more.name if not min(left.scale, right.scale) else f"{left.name} * {right.name}"
-    return Carrier(name, more.column, left.scale + right.scale)
+    return Carrier(name, more.column, left.scale + right.scale, min(left.scale, right.scale) > 0)
 
 
 # ---- statements
@@ -210,11 +243,15 @@ def meetings_of(text: str, parameters: Sequence[Written], columns: Columns) -> L
 
 def scopes_of(statement: Statement, columns: Columns, parameters: Sequence[Written]) -> Iterator[Scope]:
     if isinstance(statement, Query):
+        first: List[Place] = []
         for core in statement.cores:
             scope = Scope(core.sources, columns, parameters)
-            items = [item.expr for item in core.items or []]
-            for expr in [*items, *core.picks, *([core.having] if core.having else [])]:
+            found = answer_columns(core, scope)
+            for expr in [*core.picks, *([core.having] if core.having else [])]:
                 scope.look(expr)
+            for one, other in zip(first, found):
+                scope.join(core.at, one, other)
+            first = first or found
             yield scope
         return
     scope = Scope([statement.table], columns, parameters)
@@ -226,6 +263,21 @@ def scopes_of(statement: Statement, columns: Columns, parameters: Sequence[Writt
     if not isinstance(statement, Insert) and statement.pick is not None:
         scope.look(statement.pick)
     yield scope
+
+
+def answer_columns(core: Core, scope: Scope) -> List[Place]:
+    """The columns of an answer. Of a product of two decimals it is said what it is carried as."""
+    if core.items is None:
+        return [(Carrier(name, column, column.scale or 0), None) for _, columns in scope.sources
+                for name, column in columns.items()]
+    found: List[Place] = []
+    for place, item in enumerate(core.items, 1):
+        carrier = scope.look(item.expr)
+        if carrier is not None and carrier.is_product:
+            scope.add(item.expr.at, f"{carrier.name} is {times(carrier.scale)} in the answer; outcome.py "
+                                    f"--scale {item.name or place}={carrier.scale} shows it", True)
+        found.append((carrier, item.expr))
+    return found
 
 
 def taken(statement: Statement, columns: Columns) -> Iterator[Tuple[str, Expr]]:

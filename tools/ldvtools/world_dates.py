@@ -45,12 +45,23 @@ def is_in_calendar(date: str, text: str) -> bool:
     return padded_date(day, "ymd") is not None and (match[4] is None or is_in_calendar("time", match[4]))
 
 
+# An offset of a zone behind a clock time.
+OFFSET = re.compile(r":[0-9.]+([+-][0-9:]+)\Z")
+
+
+def shape_of(text: str) -> str:
+    """The form of a text: 0 for each digit but for those of a zone, since times of two zones don't compare."""
+    match = OFFSET.search(text)
+    end = match.start(1) if match else len(text)
+    return text[:end].translate(DIGITS) + text[end:]
+
+
 def shapes_of(cells: Iterable[Cell]) -> Dict[str, str]:
-    """The forms of some texts, with 0 for each digit, and the first text of each."""
+    """The forms of some texts, and the first text of each."""
     found: Dict[str, str] = {}
     for cell in cells:
         if isinstance(cell, str):
-            found.setdefault(cell.translate(DIGITS), cell)
+            found.setdefault(shape_of(cell), cell)
     return found
 
 
@@ -62,7 +73,7 @@ def hint_of_shapes(table: Table, column: Column) -> Optional[str]:
     if len(shapes) < 2:
         return None
     return (f"{table.full_name(column)} has {shown(shapes[0])} and {shown(shapes[1])} side by side, and texts "
-            "of two forms aren't equal where their times are; write them in one form in the file first")
+            "of two forms don't compare as times do; write them in one form in the file first")
 
 
 # ---- what a statement compares with them
@@ -91,7 +102,7 @@ def said_of_other(name: str, column: Column, date: str, text: str) -> Optional[s
 def said_of_shape(name: str, shapes: Dict[str, str], text: str, compare: str) -> Optional[str]:
     """What to write in place of a date or a time that a column has in another form. The beginning of one has
     a place in the order, and is equal to none."""
-    own, is_order = text.translate(DIGITS), compare not in ("=", "<>")
+    own, is_order = shape_of(text), compare not in ("=", "<>")
     if not shapes or own in shapes or is_order and any(each.startswith(own) for each in shapes):
         return None
     like = f"{name} has texts such as {next(iter(shapes.values()))}"
@@ -109,9 +120,9 @@ def in_shapes(shapes: Dict[str, str], text: str) -> Iterator[str]:
     """The same date or time in a form that a column has."""
     for each in (text.replace(" ", "T", 1), text.replace("T", " ", 1), text):
         for other in (each, each + ":00", *(zeros.sub("", each) for zeros in ZEROS)):
-            if other.translate(DIGITS) in shapes:
+            if shape_of(other) in shapes:
                 yield other
-        if each != text and any(shape.startswith(each.translate(DIGITS)) for shape in shapes):
+        if each != text and any(shape.startswith(shape_of(each)) for shape in shapes):
             yield each
 
 
