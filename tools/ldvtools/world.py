@@ -258,6 +258,8 @@ def read_words(given: Optional[Sequence[str]]) -> argparse.Namespace:
                         help="round what has more decimals than --scale, half to even")
     parser.add_argument("--skip-blank", action="store_true",
                         help="no row for a line that has delimiters alone")
+    parser.add_argument("--trim", action="store_true",
+                        help="in CSV files, no blanks at the ends of cells, nor before a quote")
     parser.add_argument("--shuffle", type=int, metavar="SEED",
                         help="the rows of each table in another order, which says nothing of the order that "
                              "they had")
@@ -274,6 +276,9 @@ def read_words(given: Optional[Sequence[str]]) -> argparse.Namespace:
     parser.add_argument("-o", "--output", metavar="FILE", help="the document (default: standard output)")
     parser.add_argument("-q", "--quiet", action="store_true", help="say nothing but why it is refused")
     parser.add_argument("--strict", action="store_true", help="refuse where there is a note or a warning")
+    many("--accept", "TEXT", "with --strict: not where the note or the warning has this text in it")
+    parser.add_argument("--look", action="store_true",
+                        help="make no document: only say what becomes of the tables, without a start script")
     parser.add_argument("--no-check", action="store_true", help="don't look into scripts and statements")
     words = parser.parse_args(given)
     if len(words.script) > 1:
@@ -284,8 +289,14 @@ def read_words(given: Optional[Sequence[str]]) -> argparse.Namespace:
 
 
 def check_words(words: argparse.Namespace) -> None:
-    if bool(words.script) == bool(words.sql or words.ask):
-        raise Misused("give a start script: either --script, or --sql and --ask")
+    has_script = bool(words.script), bool(words.sql or words.ask)
+    if words.look and (any(has_script) or words.output):
+        raise Misused("--look makes no document: it goes without --script, --sql, --ask and -o")
+    if not words.look and has_script[0] == has_script[1]:
+        raise Misused("give a start script: either --script, or --sql and --ask; --look says what becomes of "
+                      "the tables without one")
+    if words.accept and not words.strict:
+        raise Misused("--accept goes with --strict")
     if not 0 <= words.seed < 2**64:
         raise Misused("--seed is from 0 to 18446744073709551615")
     if words.table and not words.sqlite:
@@ -329,6 +340,8 @@ def made_world(words: argparse.Namespace) -> World:
     hints: List[str] = []
     tables = world_tables(words, notes, hints, progress)
     made = made_script(words, tables)
+    if words.look:
+        return World(b"", notes, [], hints, [summary(table) for table in tables])
     files = world_files(words, made)
     start = start_words(files, words)
     warnings = [] if words.no_check else check_scripts(files, tables, made.places, hints)
@@ -341,17 +354,22 @@ def document_of(given: Sequence[str]) -> bytes:
     return made_world(read_words(given)).data
 
 
+def check_strict(words: argparse.Namespace, said: Sequence[str]) -> None:
+    left = [each for each in said if not any(text in each for text in words.accept)]
+    if left and words.strict:
+        raise Refused("a world hasn't all that the database has, or a script has a line that fails (--strict; "
+                      f"--accept TEXT lets one pass): {left[0]}")
+
+
 def work(given: Optional[Sequence[str]]) -> int:
     words = read_words(given)
     made = made_world(words)
     if not words.quiet:
         for note in made.notes:
             print(f"world.py: note: {note}", file=sys.stderr)
-    if (made.notes or made.warnings) and words.strict:
-        raise Refused("a world hasn't all that the database has, or a script has a line that fails "
-                      "(--strict): "
-                      + (made.notes + made.warnings)[0])
-    write_file(made.data, words.output)
+    check_strict(words, made.notes + made.warnings)
+    if not words.look:
+        write_file(made.data, words.output)
     if not words.quiet:
         for line in made.warnings + made.hints + made.summaries:
             print(f"world.py: {line}", file=sys.stderr)

@@ -220,13 +220,13 @@ def check_many(table: Table, names: Sequence[str]) -> None:
     if len(bad) < 2 or all(NAME.match(fold(names[place])) for place in bad):
         return
     tidied = tidy_names([column.old for column in table.columns])
-    few = [(table.columns[place], tidied[place]) for place in bad[:8]]
-    words = " ".join(f'--rename "{table.place_name(column)}={name}"' for column, name in few)
-    shown_names = ", ".join(f"{column.place} {column.name!r}" for column, _ in few)
-    rest = ", .." if len(bad) > 8 else ""
-    raise Refused(f"{table.name}: {len(bad)} columns need another name, column {shown_names}{rest}: a "
-                  "letter a to z or _, then "
-                  f"such letters, digits and _, no reserved word, and none twice; give --tidy, or {words}")
+    pairs = [(table.columns[place], tidied[place]) for place in bad]
+    words = " ".join(f'--rename "{table.place_name(column)}={name}"' for column, name in pairs)
+    shown_names = ", ".join(f"{column.place} {column.name!r}" for column, _ in pairs)
+    title = "; where the first line is a title, take it off first" if not any(names[1:]) else ""
+    raise Refused(f"{table.name}: {len(bad)} columns need another name, column {shown_names}: a letter a to z "
+                  "or _, then such letters, digits and _, no reserved word, and none twice; give --tidy, or "
+                  f"{words}{title}")
 
 
 def settle_kind(table: Table, column: Column, settings: Settings) -> bool:
