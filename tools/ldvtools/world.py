@@ -12,16 +12,17 @@ A CSV file has a header; a blank line is no row. A column is INT where each cell
 number of 64 bits without a plus sign or needless zeros; else it is TEXT. An empty cell is NULL. --kind,
 --empty and --null say otherwise. A world has no decimals and no dates: --scale carries a decimal as a whole
 number of tenths, cents and so on, and a date is best a text such as 2019-01-31, which compares as the date
-does; --date makes such texts. A column that looks like numbers or dates and is neither is said, with the
-options that carry it. A byte order mark says the encoding of a file.
+does; --date makes such texts. A column that looks like numbers, dates or times in one of the forms of
+docs/TUTORIAL.md and is TEXT is said, with the options that carry it or what to write in the file first; in
+another form it is a text. A byte order mark says the encoding of a file.
 
 --delimiter, --encoding, --quotes, --decimal, --thousands and --null hold for all CSV files, or for the one
 whose table is named: --delimiter 'plots=;'. The last three may name a column too: --null plots.height=NA.
---tsv, --skip-blank, --round, --lower and --tidy hold for all files.
+--tsv, --skip-blank, --trim, --round, --lower and --tidy hold for all files.
 
 A plain table of tabs, as cut and awk mean it, has neither quotes nor escapes: --delimiter tab --quotes none.
 --tsv is for what databases write, with \\n and \\t as escapes. A cell that has a line feed and a delimiter in
-it, by quotes or by escapes, is said: several cells may have become one.
+it, by quotes or by escapes, is said: several cells may have become one. So is a \\ that no database writes.
 
 --tidy makes a name of each header and of each file's name: letters become small ASCII letters without their
 marks (ä a, ß ss, æ ae, ø o), what stands between letters and digits one _, and none stands at an end. A text
@@ -33,7 +34,11 @@ Scripts and statements are looked at as `tools/check.py` does. What they have wr
 world is made; a join of another dialect, such as LEFT JOIN, is refused. A statement asks for values as they
 are carried: 2024-02-01 and 09:05, and 1250 for 12.50 at --scale 2. A date, a clock time, a word for NULL or a
 number with its unit that stands there as in the file is a warning, with what to write instead. Beside a
-column of --scale it is said what a number means, unless it is written as a product: 20 * 10.
+column of --scale it is said what a number means, unless it is written as a product with what the column is
+carried times: 20 * 10. A script writes values as they are carried into its own files too.
+
+--strict refuses where there is a note or a warning, but for those that have a text of --accept in them; what
+a number means, and what is said of a column, it lets pass.
 
 TABLE and COLUMN in an option are names in the world; OLD is a name in the file or database.
 
