@@ -362,8 +362,8 @@ def document_of(given: Sequence[str]) -> bytes:
 def check_strict(words: argparse.Namespace, said: Sequence[str]) -> None:
     left = [each for each in said if not any(text in each for text in words.accept)]
     if left and words.strict:
-        raise Refused("a world hasn't all that the database has, or a script has a line that fails (--strict; "
-                      f"--accept TEXT lets one pass): {left[0]}")
+        raise Refused("a world hasn't all that the database has, or a script has a line that fails "
+                      f"(--strict; --accept TEXT lets one pass): {left[0]}")
 
 
 def work(given: Optional[Sequence[str]]) -> int:

@@ -1,4 +1,4 @@
-"""Columns of dates and clock times that compare as these do, and texts that a statement compares with them."""
+"""Columns of dates and clock times that compare as these do, and texts that statements compare with them."""
 from __future__ import annotations
 
 import itertools
@@ -35,7 +35,7 @@ def is_as_carried(date: str, text: str) -> bool:
 
 
 def is_in_calendar(date: str, text: str) -> bool:
-    """Whether a text that is as --date carries it, or the beginning of one, is one of those that there are."""
+    """Whether a text that is as --date carries it, or the beginning of one, is one that there is."""
     if date == "time":
         return padded_time(text if ":" in text else text + ":00") is not None
     match = CARRIED_DATE.match(text)
@@ -50,7 +50,7 @@ OFFSET = re.compile(r":[0-9.]+([+-][0-9:]+)\Z")
 
 
 def shape_of(text: str) -> str:
-    """The form of a text: 0 for each digit but for those of a zone, since times of two zones don't compare."""
+    """The form of a text: 0 for each digit but for those of a zone. Times of two zones don't compare."""
     match = OFFSET.search(text)
     end = match.start(1) if match else len(text)
     return text[:end].translate(DIGITS) + text[end:]
@@ -72,8 +72,8 @@ def hint_of_shapes(table: Table, column: Column) -> Optional[str]:
     shapes = list(shapes_of(dict.fromkeys(column.cells)).values())
     if len(shapes) < 2:
         return None
-    return (f"{table.full_name(column)} has {shown(shapes[0])} and {shown(shapes[1])} side by side, and texts "
-            "of two forms don't compare as times do; write them in one form in the file first")
+    return (f"{table.full_name(column)} has {shown(shapes[0])} and {shown(shapes[1])} side by side, and "
+            "texts of two forms don't compare as times do; write them in one form in the file first")
 
 
 # ---- what a statement compares with them

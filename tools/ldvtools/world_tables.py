@@ -224,8 +224,8 @@ def check_many(table: Table, names: Sequence[str]) -> None:
     words = " ".join(f'--rename "{table.place_name(column)}={name}"' for column, name in pairs)
     shown_names = ", ".join(f"{column.place} {column.name!r}" for column, _ in pairs)
     title = "; where the first line is a title, take it off first" if not any(names[1:]) else ""
-    raise Refused(f"{table.name}: {len(bad)} columns need another name, column {shown_names}: a letter a to z "
-                  "or _, then such letters, digits and _, no reserved word, and none twice; give --tidy, or "
+    raise Refused(f"{table.name}: {len(bad)} columns need another name, column {shown_names}: a letter a to "
+                  "z or _, then such letters, digits and _, no reserved word, and none twice; give --tidy, or "
                   f"{words}{title}")
 
 
