@@ -225,8 +225,8 @@ def check_many(table: Table, names: Sequence[str]) -> None:
     shown_names = ", ".join(f"{column.place} {column.name!r}" for column, _ in pairs)
     title = "; where the first line is a title, take it off first" if not any(names[1:]) else ""
     raise Refused(f"{table.name}: {len(bad)} columns need another name, column {shown_names}: a letter a to "
-                  "z or _, then such letters, digits and _, no reserved word, and none twice; give --tidy, or "
-                  f"{words}{title}")
+                  "z or _, then such letters, digits and _, no reserved word, and none twice; give --tidy, "
+                  f"or {words}{title}")
 
 
 def settle_kind(table: Table, column: Column, settings: Settings) -> bool:
