@@ -8,7 +8,7 @@ import itertools
 import os
 import re
 import shlex
-from typing import Any, Iterator, List, Optional, Sequence, Tuple
+from typing import Any, Iterator, List, Match, Optional, Sequence, Tuple
 
 from .errors import Misused, Refused
 from .progress import Progress
@@ -303,14 +303,18 @@ def refuse_width(lines: Lines, header: Sequence[str]) -> None:
 ESCAPES = {"t": "\t", "n": "\n", "r": "\r", "b": "\b", "f": "\f", "v": "\v", "0": "\0", "\\": "\\"}
 
 
-# The escapes that databases write, and what may be none. \\N is one where it is a whole cell.
-ESCAPE = re.compile(r"(?m)\\[tnrbfv0\\]|(?:^|(?<=\t))\\N(?=[\t\r]|$)|(\\[^\t\r\n]?)")
-
-
 def odd_escape(text: str) -> Optional[Tuple[int, str]]:
     """The line of the first backslash that no escape of a database begins with, and how it stands there."""
-    found = next((found for found in ESCAPE.finditer(text) if found[1]), None)
-    return (text.count("\n", 0, found.start()) + 1, found[1]) if found else None
+    for found in re.finditer(r"(?s)\\(.?)", text):
+        if found[1] not in ESCAPES and not is_whole_cell(text, found):
+            return text.count("\n", 0, found.start()) + 1, found[0].rstrip("\t\r\n")
+    return None
+
+
+def is_whole_cell(text: str, found: Match[str]) -> bool:
+    """Whether what was found is \\N with nothing else in its cell, which stands for NULL."""
+    around = text[max(found.start() - 1, 0):found.start()], text[found.end():found.end() + 1]
+    return found[0] == NO_VALUE and around[0] in ("", "\t", "\n") and around[1] in ("", "\t", "\r", "\n")
 
 
 def unescaped(cell: str) -> str:
