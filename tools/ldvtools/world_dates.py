@@ -47,13 +47,16 @@ def is_in_calendar(date: str, text: str) -> bool:
 
 # An offset of a zone behind a clock time.
 OFFSET = re.compile(r":[0-9.]+([+-][0-9:]+)\Z")
+# Parts of a second, which have their place in the order however long they are; before a Z they haven't.
+PARTS = re.compile(r"(:00)\.0+(?!0*Z)")
 
 
 def shape_of(text: str) -> str:
-    """The form of a text: 0 for each digit but for those of a zone. Times of two zones don't compare."""
+    """The form of a text, without parts of a second: 0 for each digit but for those of a zone, since times of
+    two zones don't compare."""
     match = OFFSET.search(text)
     end = match.start(1) if match else len(text)
-    return text[:end].translate(DIGITS) + text[end:]
+    return PARTS.sub(r"\1", text[:end].translate(DIGITS)) + text[end:]
 
 
 def shapes_of(cells: Iterable[Cell]) -> Dict[str, str]:

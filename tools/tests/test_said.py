@@ -234,7 +234,14 @@ class Times(Forms):
             self.assertIn(f"t.a has '{one}' and '{cells[1]}' side by side, and texts of two forms don't "
                           f"compare as "
                           "times do; write them in one form in the file first\n", err)
-        for cells in (["09:05", "10:30"], ["2024-03-05", "2024-12-31"],
+        # Parts of a second have their place in the order, but not before a Z.
+        parts = ["2024-03-05 02:00:00", "2024-03-05 02:00:00.123", "2024-03-05 02:00:00.5"]
+        self.assertEqual(self.found(parts, "a < '2024-03-05 02:00:00.2'"), [0, 1])
+        self.assertEqual(self.found([part + "Z" for part in parts], "a < '2024-03-05 02:00:00.2Z'"), [1])
+        self.assertIn("side by side", self.said(self.column([part + "Z" for part in parts]), "--delimiter",
+                                                ";"))
+        for cells in (parts, [part + "+01" for part in parts], ["09:05", "10:30"], ["2024-03-05",
+                                                                                    "2024-12-31"],
                       ["2024-03-05T02:00:00+01:00", "2024-03-06T02:00:00+01:00"], ["a", "bc"]):
             self.assertNotIn("side by side", self.said(self.column(cells), "--delimiter", ";"))
 
