@@ -47,7 +47,7 @@ class Unwritten:
 UNWRITTEN = Unwritten()
 Written = Union[Value, Unwritten]
 # A column of an answer: what it is carried as, and its expression where it has one.
-Place = Tuple[Optional[Carrier], Optional[Expr]]
+AnswerColumn = Tuple[Optional[Carrier], Optional[Expr]]
 
 
 # ---- what is said of a constant
@@ -186,7 +186,7 @@ class Scope:
         self.add(at, f"{more.name} is {times(more.scale)}, and {less.name} {times(less.scale)}: write "
                      f"{less.name} * {by}", False)
 
-    def join(self, at: int, one: Place, other: Place) -> None:
+    def join(self, at: int, one: AnswerColumn, other: AnswerColumn) -> None:
         """Of two columns that a UNION puts into one."""
         (left, first), (right, second) = one, other
         if left and right:
@@ -199,10 +199,9 @@ class Scope:
     def meet(self, carrier: Carrier, other: Expr, compare: str) -> None:
         """What is said where a column meets another expression, by a comparison or by none."""
         value = written(other, self.parameters)
-        if other.form == "arithmetic" and other.word == "*":
-            left, right = (written(part, self.parameters) for part in other.parts)
-            if isinstance(left, int) and isinstance(right, int):
-                self.add(other.at, said_of_product(carrier, (left, right)), True)
+        factors = self.factors(other)
+        if factors is not None:
+            self.add(other.at, said_of_product(carrier, factors), True)
         if isinstance(value, int):
             self.add(other.at, said_of_number(carrier, value), True)
         elif isinstance(value, str) and compare and value in carrier.column.nulls:
@@ -212,6 +211,13 @@ class Scope:
                                f"write {carrier.name} {test}", False)
         elif isinstance(value, str):
             self.add(other.at, said_of_text(carrier, value, compare), False)
+
+    def factors(self, expr: Expr) -> Optional[Tuple[int, int]]:
+        """The two numbers of a product that is written, such as 20 * 10."""
+        if expr.form != "arithmetic" or expr.word != "*":
+            return None
+        left, right = (written(part, self.parameters) for part in expr.parts)
+        return (left, right) if isinstance(left, int) and isinstance(right, int) else None
 
     def add(self, at: int, cause: Optional[str], is_meaning: bool) -> None:
         if cause is not None and cause not in [each.cause for each in self.found]:
@@ -243,7 +249,7 @@ def meetings_of(text: str, parameters: Sequence[Written], columns: Columns) -> L
 
 def scopes_of(statement: Statement, columns: Columns, parameters: Sequence[Written]) -> Iterator[Scope]:
     if isinstance(statement, Query):
-        first: List[Place] = []
+        first: List[AnswerColumn] = []
         for core in statement.cores:
             scope = Scope(core.sources, columns, parameters)
             found = answer_columns(core, scope)
@@ -265,12 +271,12 @@ def scopes_of(statement: Statement, columns: Columns, parameters: Sequence[Writt
     yield scope
 
 
-def answer_columns(core: Core, scope: Scope) -> List[Place]:
+def answer_columns(core: Core, scope: Scope) -> List[AnswerColumn]:
     """The columns of an answer. Of a product of two decimals it is said what it is carried as."""
     if core.items is None:
         return [(Carrier(name, column, column.scale or 0), None) for _, columns in scope.sources
                 for name, column in columns.items()]
-    found: List[Place] = []
+    found: List[AnswerColumn] = []
     for place, item in enumerate(core.items, 1):
         carrier = scope.look(item.expr)
         if carrier is not None and carrier.is_product:

@@ -28,16 +28,14 @@ class Numbers(Forms):
                 given = cell.replace(".", sign)
                 message = f"column a: '{given}' is no "
                 self.csv_refused(message, f"a;b\n{given};x\n1{sign}500;x\n", "--delimiter", ";",
-                                 "--thousands",
-                                 sign, *words)
+                                 "--thousands", sign, *words)
             table = self.table(f"a;b\n1{sign}500;x\n12{sign}345{sign}678;x\n0;x\n", "--delimiter", ";",
                                "--thousands", sign, *words)
             times = 10 if words[0] == "--scale" else 1
             self.assertEqual([row[0] for row in table["rows"]], [1500 * times, 12345678 * times, 0])
         self.csv_refused("'0.500' is no whole number, and the column is INT; . doesn't stand between "
-                         "thousands "
-                         "here: where it stands before decimals, give --decimal . in place of --thousands\n",
-                         "a\n0.500\n", "--thousands", "t.a=.")
+                         "thousands here: where it stands before decimals, give --decimal . in place of "
+                         "--thousands\n", "a\n0.500\n", "--thousands", "t.a=.")
 
     def test_no_cell_with_both(self):
         """A point between thousands in one cell, and a comma before decimals in another."""
@@ -72,15 +70,12 @@ class Numbers(Forms):
                 (["3:45,2", "4:01,0"], "3:45,2", "times with a comma before their decimals",
                  "write 03:45.2 in place of 3:45,2, or the whole in tenths of a second,")):
             self.assertEqual(self.hinted(cells), [f"t.a is TEXT, and looks like {what}, such as {odd!r}; "
-                                                  f"{how}"
-                                                  f"{IN_FILE}"])
+                                                  f"{how}{IN_FILE}"])
             self.csv_refused(f"{odd!r} is no decimal number such as -1,25; {how}{IN_FILE}\n",
-                             self.column([odd]),
-                             "--delimiter", ";", "--decimal", ",", "--scale", "t.a=1")
+                             self.column([odd]), "--delimiter", ";", "--decimal", ",", "--scale", "t.a=1")
         self.assertEqual(self.hinted(["9,5", "10.5", "100,25"]),
                          ["t.a is TEXT, and looks like numbers of which some have a comma before decimals "
-                          "and "
-                          f"some a point, such as '9,5' and '10.5'; write them in one way{IN_FILE}"])
+                          f"and some a point, such as '9,5' and '10.5'; write them in one way{IN_FILE}"])
         for cells in (["555-", "Bob", "Ann"], ["1.2.3", "1,2"], ["10.0.0.1", "10,5"], ["0150", "0170"],
                       ["A-", "B-"]):
             self.assertNotIn("looks like", "".join(self.hinted(cells)), cells)
@@ -98,8 +93,7 @@ class Numbers(Forms):
             cell = f"-{blank}{blank}\u20ac"
             hint, = self.hinted(["1.234,50 \u20ac", cell, "2,00 \u20ac"])
             self.assertTrue(hint.endswith(f" carries it as whole numbers; where {cell!r} is 0, write 0 in "
-                                          f"its "
-                                          "place in the file first"), hint)
+                                          "its place in the file first"), hint)
             self.assertEqual("\u00a0" in hint, False)
         self.assertIn("--null $'t.a=-\\u00a0\\u00a0\u20ac' carries", hint)
         self.assertNotIn("where", self.hinted(["1,5 %", "-", "2 %"])[0])
@@ -107,15 +101,13 @@ class Numbers(Forms):
     def test_ways_out(self):
         """A refusal says what to do."""
         for cell, said in (("#NV", "where it stands for NULL: --null '#NV', or --null 't.a=#NV' for this "
-                                   "column "
-                                   "alone"),
+                                   "column alone"),
                            ("31.12.24", f"years have four digits: write it so{IN_FILE}"),
                            ("1 Feb 2020", f"write it from the year down, as 2019-01-31,{IN_FILE}")):
             self.csv_refused(f"{cell!r} is no date such as 31.1.2019 (--date dmy); {said}\n",
                              self.column(["1.1.2020", cell]), "--delimiter", ";", "--date", "t.a=dmy")
         table = self.table(self.column(["1.1.2020", "#NV"]), "--delimiter", ";", "--date", "t.a=dmy",
-                           "--null",
-                           "#NV")
+                           "--null", "#NV")
         self.assertEqual([row[0] for row in table["rows"]], ["2020-01-01", None])
         self.csv_refused("column b: NULL, but it is in the key; --key t=none makes a table without one\n",
                          "a,b\n1,\n", "--key", "t=b")
@@ -137,8 +129,7 @@ class Numbers(Forms):
         self.assertIn("m.ldv line 1: bad: it begins with a byte order mark: save it without one\n", err)
         self.assertEqual(tool(outcome, self.put("o", "")),
                          (1, b"", "outcome.py: no outcome: it is empty; did the run fail? It says why on "
-                                  "standard "
-                                  "error\n"))
+                                  "standard error\n"))
         given = self.put("s.json", "{}")
         self.assertEqual(tool(page, given),
                          (1, b"", "page.py: no package: it doesn't begin with LDVPACK1 or LDVPACK2, as `ldv "
@@ -194,8 +185,7 @@ class Times(Forms):
                          "a < '2024-03-05'", [])
             self.assertEqual(self.asked(cells, "a < '2024-03-05T12:00:00Z'"),
                              [f"a has texts such as {cells[0]}: '2024-03-05T12:00:00Z' isn't, and compares "
-                              f"as a "
-                              "text"])
+                              "as a text"])
         # As these are written, each row is after noon, and none of it: what is warned of is wrong.
         self.assertEqual(self.found(tee, "a >= '2024-03-05 12:00'"), [0, 1, 2])
 
@@ -209,8 +199,7 @@ class Times(Forms):
                      "a >= '2024-12-31'", [0])
         self.assertEqual(self.asked(days, "a = '2024-12'"),
                          ["a has texts such as 2024-12-31, and '2024-12' is only the beginning of one and "
-                          "equal to "
-                          "none; write >= and <"])
+                          "equal to none; write >= and <"])
         self.assertEqual(self.found(days, "a = '2024-12'"), [])
         self.assertEqual(self.found(days, "a >= '2024-12' AND a < '2025-01'"), [0])
         self.assertEqual(len(self.asked(times, "a = '23'")), 1)
@@ -232,8 +221,7 @@ class Times(Forms):
             err = self.said(self.column(cells), "--delimiter", ";", *words)
             one = "09:05" if words else cells[0]
             self.assertIn(f"t.a has '{one}' and '{cells[1]}' side by side, and texts of two forms don't "
-                          f"compare as "
-                          "times do; write them in one form in the file first\n", err)
+                          "compare as times do; write them in one form in the file first\n", err)
         # Parts of a second have their place in the order, but not before a Z.
         parts = ["2024-03-05 02:00:00", "2024-03-05 02:00:00.123", "2024-03-05 02:00:00.5"]
         self.assertEqual(self.found(parts, "a < '2024-03-05 02:00:00.2'"), [0, 1])
@@ -254,9 +242,9 @@ class Texts(Forms):
                                ("a\\qb", "\\q", ["aqb", 1]), ("a\\Nb", "\\N", ["aNb", 1]), ("C:\\", "\\",
                                                                                             ["C:\\", 1])):
             content = f"p\tq\n{cell}\t1\n"
-            self.assertIn(f"t.csv line 2: it has {odd}, which no database writes as an escape; where \\ is "
-                          f"a sign as "
-                          "any other, --delimiter tab --quotes none reads the file\n", self.said(content,
+            self.assertIn(f"t.csv line 2: it has {odd}, which no database writes as an escape; where \\ is a "
+                          "sign as any other, --delimiter tab --quotes none reads the "
+                          "file\n", self.said(content,
                                                                                                  "--tsv"))
             self.assertEqual(self.table(content, "--tsv")["rows"], [row])
             self.assertEqual(self.table(content, "--delimiter", "tab", "--quotes", "none")["rows"], [[cell,
@@ -279,7 +267,7 @@ class Texts(Forms):
                 self.assertEqual(status, 0, err)
                 self.assertEqual(re.findall(r"warning: m.ldv line \d: (.*)", err),
                                  [f"the text has {said}, and no text of p has; in a script \\ is written "
-                                  f"\\\\"]
+                                  "\\\\"]
                                  if said else [])
         self.assertNotIn("warning", tool(world, *plain, "--ask",
                                          "SELECT id FROM t WHERE p = 'C:\\temp\\new'")[2])
@@ -293,8 +281,7 @@ class Texts(Forms):
             plain = content.replace(', B"', '"')
             words = words or ["--rename", "t. name=name"]
             self.assertIn("t.csv line 1: ' name' begins with a blank; --trim reads cells without the blanks "
-                          "at their "
-                          "ends\n", self.said(plain, *words))
+                          "at their ends\n", self.said(plain, *words))
         table = self.table(content, "--trim")
         self.assertEqual((table["columns"], table["rows"]),
                          ([["id", "INT"], ["name", "TEXT"]], [[1, "Bob"], [2, "Ann, B"], [3, "Cy"]]))
@@ -309,8 +296,8 @@ class Texts(Forms):
     def test_titles(self):
         """A title above the header."""
         path = os.path.join(self.folder, "t.csv")
-        words = ("; where the first line is a title, take it off first, as tail -n +2 "
-                 f"{shlex.quote(path)} does\n")
+        words = (f"; where the first line is a title, take it off first, as tail -n +2 {shlex.quote(path)} "
+                 "does\n")
         self.csv_refused("t.csv line 2: 3 cells, but the header has 1" + words, "Report\nid,n,x\n1,5,6\n")
         self.csv_refused("t: 3 columns need another name", "Report,,\nid,n,x\n1,5,6\n")
         self.csv_refused("; where the first line is a title, take it off first\n",
@@ -398,12 +385,11 @@ class Scales(InFolder):
     def test_products(self):
         """A number times what another column is carried times."""
         self.assertEqual(self.asked("SELECT id FROM t WHERE temp > 3 * 100")[0],
-                         ["--ask 1: temp is carried times 10, so 3 * 100 means 30.0; 3 itself is written 3 "
-                          "* 10"])
+                         ["--ask 1: temp is carried times 10, so 3 * 100 means 30.0; 3 itself is written 3 * "
+                          "10"])
         self.assertEqual(self.asked("SELECT id FROM t WHERE 100 * -3 < price * 10")[0],
-                         ["--ask 1: price * 10 is carried times 1000, so -3 * 100 means -0.300; -3 itself "
-                          "is written "
-                          "-3 * 1000"])
+                         ["--ask 1: price * 10 is carried times 1000, so -3 * 100 means -0.300; -3 itself is "
+                          "written -3 * 1000"])
         for text in ("SELECT id FROM t WHERE temp > 3 * 10", "SELECT id FROM t WHERE temp > 10 * 100",
                      "SELECT id FROM t WHERE n > 3 * 100", "SELECT id FROM t WHERE temp > 3 * 7"):
             self.assertEqual(self.asked(text)[0], [], text)
@@ -411,9 +397,8 @@ class Scales(InFolder):
         for item, head in (("price * temp AS y", "y"), ("price * temp", "1"), ("SUM(price * temp) AS y",
                                                                                "y")):
             self.assertEqual(self.asked(f"SELECT {item} FROM t")[0],
-                             [f"--ask 1: price * temp is carried times 1000 in the answer; outcome.py "
-                              f"--scale "
-                              f"{head}=3 shows it"])
+                             ["--ask 1: price * temp is carried times 1000 in the answer; outcome.py "
+                              f"--scale {head}=3 shows it"])
         # 1.50 * 2.5 is 3.750, and 30 * 4 is 120.
         self.assertEqual(self.rows("SELECT price * temp AS y FROM t"), [3750, 120000])
         self.assertEqual(self.asked("SELECT price * n AS y FROM t")[0], [])
@@ -430,12 +415,11 @@ class Scales(InFolder):
         both = {"t": [["value", "INT"]], "u": [["value", "INT"]]}
         given = b"rows 1\nrow 1\nint 2\n"
         status, out, err = self.outcome_of("SELECT COUNT(value) AS value FROM t", both, given, "--scale",
-                                           "value=2",
-                                           "--csv", "--reply", "1")
+                                           "value=2", "--csv", "--reply", "1")
         shown = "is shown with 2 decimals wherever it is a head; AS gives another head\n"
         self.assertEqual((status, out, err), (0, b"value\n0.02\n", (
-            f"outcome.py: --scale value: t, u have a column value, which {shown}"
-            f"outcome.py: --scale value: in process 0 reply 1 value is a COUNT, and {shown}")))
+            f"outcome.py: --scale value: t, u have a column value, which {shown}outcome.py: --scale value: "
+            f"in process 0 reply 1 value is a COUNT, and {shown}")))
         for text, tables in (("SELECT value FROM t", {"t": both["t"]}), ("SELECT COUNT(value) AS n FROM t", {
                 "t": both["t"] + [["n", "INT"]]})):
             scale = "n=2" if " AS n" in text else "value=2"
@@ -445,9 +429,8 @@ class Scales(InFolder):
 
     def test_lonely_null(self):
         """A NULL that would be an empty line of CSV."""
-        said = ("outcome.py: process 0 reply 1: NULL of its only column is an empty line, which many "
-                "readers of CSV "
-                "leave out; --null WORD writes a word\n")
+        said = ("outcome.py: process 0 reply 1: NULL of its only column is an empty line, which many readers "
+                "of CSV leave out; --null WORD writes a word\n")
         one, given = {"t": [["a", "TEXT"]]}, b"rows 2\nrow 1\nnull\nrow 1\ntext 1\nx\n"
         text = "SELECT a FROM t"
         self.assertEqual(self.outcome_of(text, one, given, "--csv", "--reply", "1"), (0, b"a\n\nx\n", said))
@@ -489,14 +472,11 @@ class OtherWorlds(InFolder):
                                                     "changed"),
                 ("SELECT c FROM t", row, "the statement is refused with code 3, and the reply is 1 row"),
                 ("SELECT FROM", b"changed 0\n", "the statement is refused with code 1, and the reply is 0 "
-                                                "rows "
-                                                 "changed"),
+                                                "rows changed"),
                 ("SELECT a FROM t", b"refused 2\n", "the statement is not refused, and the reply is refused "
-                                                    "with "
-                                                     "code 2: "),
+                                                    "with code 2: "),
                 ("SELECT a FROM u", b"refused 1\n", "the statement is refused with code 2, and the reply is "
-                                                    "refused "
-                                                     "with code 1: ")):
+                                                    "refused with code 1: ")):
             status, err = self.both(text, given)
             self.assertEqual(status, 1, text)
             self.assertIn(f": process 0 reply 1: {said}", err)
@@ -522,8 +502,8 @@ class Documents(InFolder):
         pages["page --help"] = " ".join(tool(page, "--help")[1].decode().split())
         for name in ("README.md", "docs/TUTORIAL.md", "docs/PACKAGES.md", "docs/ldv.1", "page --help"):
             self.assertRegex(pages[name], "browser with JavaScript", name)
-        for words in ("in the other forms that it knows", "A form that isn't there is a text, and nothing "
-                                                          "is said",
+        for words in ("in the other forms that it knows", "A form that isn't there is a text, and nothing is "
+                                                          "said",
                       "can't be told from the one before", "outcome.py --scale` shows replies alone as "
                                                            "decimals",
                       "in a script write `\\\\`"):
