@@ -11,7 +11,8 @@ doesn't fit. It looks at the start script and at those that a script starts by a
 where one starts a script by a path that it computes, at all files whose name ends with .ldv or .script too. A
 statement whose text is computed is judged with --outcome only, and so is one that rests on what a parameter
 is. A comparison with NULL isn't refused and is never true: that is said too. With --outcome statements are
-numbered over the whole run, from 0, as `inspect` of `ldv` numbers them.
+numbered over the whole run, from 0, as `inspect` of `ldv` numbers them. What can't be the outcome of this
+world is refused, as far as `tools/outcome.py --help` says that it can be told.
 
 Statuses: 0 nothing found; 1 something found, or the input is no world document; 2 wrong words.
 """
@@ -23,11 +24,12 @@ import re
 import sys
 from typing import Dict, Iterator, List, Mapping, NamedTuple, Optional, Sequence, Set, Tuple
 
+from .agreement import check_replies
 from .errors import Misused, Refused, command, words_of
 from .language import MISUSES
 from .outcome import read_input
 from .outcomes import read_outcome
-from .rerun import Machine, Question, World, answers_of
+from .rerun import Question, World, rerun
 from .scripts import BadLine, Instruction, Operand, Script, read_script
 from .sql import never_true
 from .sql_check import UNKNOWN, Finding as Refusal, Judged, Parameter, Schemas, judge
@@ -231,9 +233,8 @@ def cause_of(question: Question, schemas: Optional[Schemas]) -> Tuple[str, int]:
 
 def run_lines(world: World, schemas: Optional[Schemas], outcome_data: bytes) -> List[str]:
     """Each refused statement and each misuse of a run, with its cause."""
-    outcome = read_outcome(outcome_data)
-    machine = Machine(world, answers_of({process.name: process.replies for process in outcome.processes}))
-    machine.run()
+    machine = rerun(world, read_outcome(outcome_data))
+    check_replies(machine.questions, schemas)
     lines: List[str] = []
     for question in machine.questions:
         if question.reply is not None and question.reply.kind == "refused":

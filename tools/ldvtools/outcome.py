@@ -11,7 +11,10 @@
 
 docs/FORMATS.md has the format. Replies are counted from 1 within their process. An outcome has no statements
 and no names of columns. With --world or --package, of which it is the outcome, each reply has its statement
-and its columns' names; else columns are counted.
+and its columns' names; else columns are counted. Whether it is the outcome of this world is told by what the
+scripts print, write and end with, by the number of statements, and of each statement by whether it is
+refused, whether it asks or changes, and how many columns it has, and of which kinds. With another limit in a
+WHERE it could be either: make the outcome anew where the questions change.
 
 In CSV the first line has the columns' names, or their places where these aren't known. A change is a column
 `changed` with the number of changed rows. A refused statement has no data: --reply K of it ends with status
@@ -39,11 +42,13 @@ import re
 import sys
 from typing import Dict, List, Optional, Sequence, Set, Tuple
 
+from .agreement import check_replies
 from .errors import Misused, Refused, command, words_of
 from .language import MISUSES
 from .outcomes import Outcome, read_outcome
 from .packages import read_package
 from .rerun import Question, questions_of
+from .sql import NoReading, Query, parse_statement
 from .sql_check import judge
 from .values import (Reply, Row, Scaled, Value, cell, csv_line, escaped, heads_of, plain_count, reply_title,
                      table_lines)
@@ -119,8 +124,10 @@ def column_names(question: Question, document: Document) -> List[str]:
 
 
 def asked_in(document: Document, outcome: Outcome) -> Asked:
+    questions = questions_of(document.world, outcome)
+    check_replies(questions, document.schemas)
     return {(question.process, question.place): (question, column_names(question, document))
-            for question in questions_of(document.world, outcome)}
+            for question in questions}
 
 
 # ---- decimals
@@ -157,6 +164,33 @@ def scaled(outcome: Outcome, asked: Optional[Asked], scales: Dict[str, int]) -> 
             rest = "" if asked else "; --world or --package gives names"
             raise Misused(f"--scale {name}: no reply has a column with this head; there are {there}{rest}")
     return outcome._replace(processes=processes)
+
+
+def scale_notes(scales: Dict[str, int], asked: Optional[Asked], document: Optional[Document]) -> List[str]:
+    """That a head of --scale is one of several tables, or of a COUNT, which has no decimals."""
+    notes: List[str] = []
+    for name, scale in scales.items():
+        shown = f"is shown with {plain_count(scale, 'decimal')} wherever it is a head"
+        tables = [table for table, columns in ((document.schemas if document else None) or {}).items()
+                  if name in [column for column, _ in columns]]
+        if len(tables) > 1:
+            notes.append(f"--scale {name}: {', '.join(tables)} have a column {name}, which {shown}; AS gives "
+                         "another head")
+        notes += [f"--scale {name}: in process {process} reply {number + 1} {name} is a COUNT, and {shown}; "
+                  "AS gives another head" for (process, number), (question, _) in (asked or {}).items()
+                  if name in count_heads(question.text)]
+    return notes
+
+
+def count_heads(text: str) -> List[str]:
+    """The heads by which an answer calls a COUNT."""
+    try:
+        statement = parse_statement(text).statement
+    except NoReading:
+        return []
+    items = statement.cores[0].items or [] if isinstance(statement, Query) else []
+    return [item.name for item in items if item.name and (item.expr.form, item.expr.word) == (
+        "aggregate", "count")]
 
 
 def shown_at(value: Value, scale: Optional[int]) -> Value:
@@ -202,6 +236,15 @@ def csv_sections(outcome: Outcome, null: str, asked: Optional[Asked]) -> str:
             title += "".join(f"# {line}\n" for line in text_lines(found[0].text)) if found else ""
             parts.append(title + csv_text(reply, null, found[1] if found else ()))
     return "\n".join(parts)
+
+
+def null_notes(outcome: Outcome, words: argparse.Namespace) -> List[str]:
+    """That a NULL is an empty line: in CSV a row of one empty field, which many readers leave out."""
+    return [f"process {process.name} reply {number}: NULL of its only column is an empty line, which many "
+            "readers of CSV leave out; --null WORD writes a word"
+            for process in outcome.processes for number, reply in enumerate(process.replies, 1)
+            if [None] in reply.rows and (words.reply is None or (words.process or "0", words.reply) == (
+                process.name, number))]
 
 
 def chosen_reply(outcome: Outcome, name: str, number: int) -> Reply:
@@ -293,7 +336,10 @@ def work(given: Optional[Sequence[str]]) -> int:
     asked = asked_in(document, outcome) if document else None
     ends = end_lines(outcome)
     scales = scales_of(words.scale)
+    notes = scale_notes(scales, asked, document)
     show(scaled(outcome, asked, scales) if scales else outcome, asked, words)
+    for note in notes + ([] if words.null or not (words.folder or words.csv) else null_notes(outcome, words)):
+        print(f"outcome.py: {note}", file=sys.stderr)
     if words.folder or words.csv or words.printed or words.file is not None:
         for line in ends:
             print(f"outcome.py: {line}", file=sys.stderr)

@@ -156,6 +156,8 @@ def read_path(reader: Reader, before: Optional[str]) -> Tuple[str, Optional[byte
 
 def read_outcome(data: bytes) -> Outcome:
     """The outcome that bytes spell; Malformed where they spell none."""
+    if not data:
+        raise Malformed("it is empty; did the run fail? It says why on standard error")
     reader = Reader(data)
     head = reader.line(rf"outcome {NATURAL} {NATURAL}", "outcome P F")
     processes = reader.number(head[0], 1, MAX_PROCESSES, "the number of processes")

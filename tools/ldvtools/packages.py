@@ -418,7 +418,7 @@ def read_any(data: bytes, reads: Callable[[bytes, int], Reader] = Reader) -> Uni
     reader of these bytes without their digest, and of their version."""
     magic = data[:MAGIC_LENGTH]
     if magic not in VERSIONS and magic != JOINED:
-        raise Malformed("it doesn't begin with LDVPACK1, LDVPACK2 or LDVJOIN1")
+        raise Malformed("it doesn't begin with LDVPACK1 or LDVPACK2, as `ldv record` writes a package")
     digest = data[-DIGEST_LENGTH:]
     if len(data) < MAGIC_LENGTH + DIGEST_LENGTH or hashlib.sha256(data[:-DIGEST_LENGTH]).digest() != digest:
         raise Malformed("its digest is another one")

@@ -1,4 +1,4 @@
-"""Makes a page of a package: one file that any browser shows, without a network.
+"""Makes a page of a package: one file that any browser with JavaScript shows, without a network.
 
     tools/page.py world.package -o page.html
     tools/page.py world.package --ldv ./ldv -o page.html          with its replay, and what `audit` says

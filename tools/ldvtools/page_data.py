@@ -4,6 +4,7 @@ from __future__ import annotations
 import base64
 from typing import Any, Dict, Iterable, List, Optional, Set, Tuple
 
+from .agreement import check_replies
 from .language import ACTS, ASKED, MISUSES, RULE_TEXTS
 from .outcome import column_names
 from .outcomes import Outcome
@@ -77,7 +78,9 @@ def statements_of(package: Package, outcome: Optional[Outcome]) -> List[Statemen
              if run.first.act == ASKED and run.first.asked is not None]
     document = world_of_package(package)
     if outcome is not None:
-        for statement, question in zip(found, questions_of(document.world, outcome)):
+        questions = questions_of(document.world, outcome)
+        check_replies(questions, document.schemas)
+        for statement, question in zip(found, questions):
             statement.know(question, document)
     elif package.logs:
         left: Dict[str, List[Entry]] = {log.process: list(reversed(log.entries)) for log in package.logs}

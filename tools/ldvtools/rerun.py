@@ -401,16 +401,18 @@ def answers_of(replies: Mapping[str, Sequence[Reply]]) -> Callable[[str, int, st
     return answer
 
 
-def questions_of(world: World, outcome: Outcome) -> List[Question]:
-    """The statements of the run whose outcome this is, in the order in which they were asked.
-
-    Malformed where the scripts of the world don't lead to this outcome.
-    """
+def rerun(world: World, outcome: Outcome) -> Machine:
+    """The run whose outcome this is, ended; Malformed where the scripts of the world don't lead to it."""
     machine = Machine(world, answers_of({process.name: process.replies for process in outcome.processes}))
     machine.run()
     for difference in differences(machine, outcome):
         raise Malformed(f"{difference}: the outcome isn't of this world")
-    return machine.questions
+    return machine
+
+
+def questions_of(world: World, outcome: Outcome) -> List[Question]:
+    """The statements of the run whose outcome this is, in the order in which they were asked."""
+    return rerun(world, outcome).questions
 
 
 def differences(machine: Machine, outcome: Outcome) -> Iterator[str]:

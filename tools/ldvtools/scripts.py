@@ -312,6 +312,8 @@ def instruction(tokens: Sequence[str], number: int) -> Instruction:
 
 def no_instruction(tokens: Sequence[str]) -> str:
     word = tokens[0]
+    if word.startswith("\ufeff"):
+        return "it begins with a byte order mark: save it without one"
     if word.endswith(":") and len(tokens) > 1:
         return f"{word} is a label, which has a line of its own"
     if word.endswith(":"):

@@ -12,16 +12,17 @@ A CSV file has a header; a blank line is no row. A column is INT where each cell
 number of 64 bits without a plus sign or needless zeros; else it is TEXT. An empty cell is NULL. --kind,
 --empty and --null say otherwise. A world has no decimals and no dates: --scale carries a decimal as a whole
 number of tenths, cents and so on, and a date is best a text such as 2019-01-31, which compares as the date
-does; --date makes such texts. A column that looks like numbers or dates and is neither is said, with the
-options that carry it. A byte order mark says the encoding of a file.
+does; --date makes such texts. A column that looks like numbers, dates or times in one of the forms of
+docs/TUTORIAL.md and is TEXT is said, with the options that carry it or what to write in the file first; in
+another form it is a text. A byte order mark says the encoding of a file.
 
 --delimiter, --encoding, --quotes, --decimal, --thousands and --null hold for all CSV files, or for the one
 whose table is named: --delimiter 'plots=;'. The last three may name a column too: --null plots.height=NA.
---tsv, --skip-blank, --round, --lower and --tidy hold for all files.
+--tsv, --skip-blank, --trim, --round, --lower and --tidy hold for all files.
 
 A plain table of tabs, as cut and awk mean it, has neither quotes nor escapes: --delimiter tab --quotes none.
 --tsv is for what databases write, with \\n and \\t as escapes. A cell that has a line feed and a delimiter in
-it, by quotes or by escapes, is said: several cells may have become one.
+it, by quotes or by escapes, is said: several cells may have become one. So is a \\ that no database writes.
 
 --tidy makes a name of each header and of each file's name: letters become small ASCII letters without their
 marks (ä a, ß ss, æ ae, ø o), what stands between letters and digits one _, and none stands at an end. A text
@@ -33,7 +34,11 @@ Scripts and statements are looked at as `tools/check.py` does. What they have wr
 world is made; a join of another dialect, such as LEFT JOIN, is refused. A statement asks for values as they
 are carried: 2024-02-01 and 09:05, and 1250 for 12.50 at --scale 2. A date, a clock time, a word for NULL or a
 number with its unit that stands there as in the file is a warning, with what to write instead. Beside a
-column of --scale it is said what a number means, unless it is written as a product: 20 * 10.
+column of --scale it is said what a number means, unless it is written as a product with what the column is
+carried times: 20 * 10. A script writes values as they are carried into its own files too.
+
+--strict refuses where there is a note or a warning, but for those that have a text of --accept in them; what
+a number means, and what is said of a column, it lets pass.
 
 TABLE and COLUMN in an option are names in the world; OLD is a name in the file or database.
 
@@ -42,6 +47,7 @@ Statuses: 0 made; 1 refused, or a file can't be read or written; 2 the words of 
 from __future__ import annotations
 
 import argparse
+import codecs
 import gc
 import os
 import random
@@ -172,12 +178,17 @@ def world_files(words: argparse.Namespace, made: Made) -> Dict[str, bytes]:
         name = name or os.path.basename(path)
         if name in files:
             raise Refused(f"two files have the path {name}; give NAME=FILE")
-        files[name] = read_file(path)
+        files[name] = without_mark(read_file(path)) if word == words.script else read_file(path)
     for name, content in files.items():
         check_file(name, content)
     if len(files) > MAX_FILES:
         raise Refused(f"{len(files)} files; the limit is {MAX_FILES}")
     return files
+
+
+def without_mark(script: bytes) -> bytes:
+    """The start script as Windows writes it, without the mark of its encoding."""
+    return script[len(codecs.BOM_UTF8):] if script.startswith(codecs.BOM_UTF8) else script
 
 
 def check_file(name: str, content: bytes) -> None:
@@ -260,6 +271,8 @@ def read_words(given: Optional[Sequence[str]]) -> argparse.Namespace:
                         help="round what has more decimals than --scale, half to even")
     parser.add_argument("--skip-blank", action="store_true",
                         help="no row for a line that has delimiters alone")
+    parser.add_argument("--trim", action="store_true",
+                        help="in CSV files, no blanks at the ends of cells, nor before a quote")
     parser.add_argument("--shuffle", type=int, metavar="SEED",
                         help="the rows of each table in another order, which says nothing of the order that "
                              "they had")
@@ -276,6 +289,9 @@ def read_words(given: Optional[Sequence[str]]) -> argparse.Namespace:
     parser.add_argument("-o", "--output", metavar="FILE", help="the document (default: standard output)")
     parser.add_argument("-q", "--quiet", action="store_true", help="say nothing but why it is refused")
     parser.add_argument("--strict", action="store_true", help="refuse where there is a note or a warning")
+    many("--accept", "TEXT", "with --strict: not where the note or the warning has this text in it")
+    parser.add_argument("--look", action="store_true",
+                        help="make no document: only say what becomes of the tables, without a start script")
     parser.add_argument("--no-check", action="store_true", help="don't look into scripts and statements")
     words = parser.parse_args(given)
     if len(words.script) > 1:
@@ -286,8 +302,14 @@ def read_words(given: Optional[Sequence[str]]) -> argparse.Namespace:
 
 
 def check_words(words: argparse.Namespace) -> None:
-    if bool(words.script) == bool(words.sql or words.ask):
-        raise Misused("give a start script: either --script, or --sql and --ask")
+    has_script = bool(words.script), bool(words.sql or words.ask)
+    if words.look and (any(has_script) or words.output):
+        raise Misused("--look makes no document: it goes without --script, --sql, --ask and -o")
+    if not words.look and has_script[0] == has_script[1]:
+        raise Misused("give a start script: either --script, or --sql and --ask; --look says what becomes of "
+                      "the tables without one")
+    if words.accept and not words.strict:
+        raise Misused("--accept goes with --strict")
     if not 0 <= words.seed < 2**64:
         raise Misused("--seed is from 0 to 18446744073709551615")
     if words.table and not words.sqlite:
@@ -331,6 +353,8 @@ def made_world(words: argparse.Namespace) -> World:
     hints: List[str] = []
     tables = world_tables(words, notes, hints, progress)
     made = made_script(words, tables)
+    if words.look:
+        return World(b"", notes, [], hints, [summary(table) for table in tables])
     files = world_files(words, made)
     start = start_words(files, words)
     warnings = [] if words.no_check else check_scripts(files, tables, made.places, hints)
@@ -343,17 +367,22 @@ def document_of(given: Sequence[str]) -> bytes:
     return made_world(read_words(given)).data
 
 
+def check_strict(words: argparse.Namespace, said: Sequence[str]) -> None:
+    left = [each for each in said if not any(text in each for text in words.accept)]
+    if left and words.strict:
+        raise Refused("a world hasn't all that the database has, or a script has a line that fails "
+                      f"(--strict; --accept TEXT lets one pass): {left[0]}")
+
+
 def work(given: Optional[Sequence[str]]) -> int:
     words = read_words(given)
     made = made_world(words)
     if not words.quiet:
         for note in made.notes:
             print(f"world.py: note: {note}", file=sys.stderr)
-    if (made.notes or made.warnings) and words.strict:
-        raise Refused("a world hasn't all that the database has, or a script has a line that fails "
-                      "(--strict): "
-                      + (made.notes + made.warnings)[0])
-    write_file(made.data, words.output)
+    check_strict(words, made.notes + made.warnings)
+    if not words.look:
+        write_file(made.data, words.output)
     if not words.quiet:
         for line in made.warnings + made.hints + made.summaries:
             print(f"world.py: {line}", file=sys.stderr)

@@ -6,25 +6,19 @@ warning; of a number that meets a column of decimals it is said what it means, s
 """
 from __future__ import annotations
 
-import itertools
-import re
 from typing import Dict, Iterator, List, Mapping, NamedTuple, Optional, Sequence, Tuple, Union
 
 from .check import Finding, operands_known, scripts_of, text_of
 from .errors import Unfit
 from .language import MAX_INT
 from .scripts import Instruction, Operand
-from .sql import Expr, Insert, NoReading, Query, Source, Statement, Update, parse_statement
+from .sql import Core, Expr, Insert, NoReading, Query, Source, Statement, Update, parse_statement
 from .sql_check import shown
 from .values import Scaled, Value
-from .world_cells import DATE, TIME, padded_date, padded_time, scaled_number, whole_number
+from .world_cells import scaled_number, whole_number
 from .world_columns import Column, Table
+from .world_dates import said_of_date
 
-SAMPLE = 1000
-# The beginnings of texts as --date carries them: a year, a month, a day, an hour and so on.
-CLOCK = r"[0-9]{2}(?::[0-9]{2}(?::[0-9]{2}(?:\.[0-9]+)?)?)?"
-CARRIED_TIME = re.compile(CLOCK + r"\Z")
-CARRIED_DATE = re.compile(rf"[0-9]{{4}}(?:-[0-9]{{2}}(?:-[0-9]{{2}}(?:[ T]{CLOCK})?)?)?\Z")
 Columns = Mapping[str, Mapping[str, Column]]
 
 
@@ -43,6 +37,7 @@ class Carrier(NamedTuple):
     name: str
     column: Column
     scale: int
+    is_product: bool = False
 
 
 class Unwritten:
@@ -51,6 +46,8 @@ class Unwritten:
 
 UNWRITTEN = Unwritten()
 Written = Union[Value, Unwritten]
+# A column of an answer: what it is carried as, and its expression where it has one.
+AnswerColumn = Tuple[Optional[Carrier], Optional[Expr]]
 
 
 # ---- what is said of a constant
@@ -68,21 +65,42 @@ def said_of_number(carrier: Carrier, number: int) -> Optional[str]:
     return means if abs(meant) > MAX_INT else f"{means}; {number} itself is written {meant}"
 
 
-def said_of_text(carrier: Carrier, text: str) -> Optional[str]:
+def said_of_product(carrier: Carrier, factors: Tuple[int, int]) -> Optional[str]:
+    """What a product means in which a number is times 10, 100 and so on, and that isn't as the column is."""
+    if not carrier.column.scale or 10 ** carrier.scale in factors or not any(map(zeros_of, factors)):
+        return None
+    number, power = sorted(factors, key=zeros_of)
+    return (f"{carrier.name} is {times(carrier.scale)}, so {number} * {power} means "
+            f"{Scaled(number * power, carrier.scale)}; {number} itself is written {number} * "
+            f"{10 ** carrier.scale}")
+
+
+def zeros_of(number: int) -> int:
+    """How many zeros 10, 100 and so on have, and 0 for another number."""
+    zeros = len(str(number)) - 1
+    return zeros if number == 10 ** zeros else 0
+
+
+def said_of_text(carrier: Carrier, text: str, compare: str) -> Optional[str]:
     """What to write in place of a text that isn't in the form of its column."""
     column, name = carrier.column, carrier.name
     if column.kind == "INT":
         number = number_of_text(column, text)
         return None if number is None else f"{name} is {times(carrier.scale)}: '{text}' is written {number}"
-    date = column.date or own_date(column)
-    if date is None or is_as_carried(date, text):
+    return said_of_date(name, column, text, compare) or said_of_escapes(name, column, text)
+
+
+CONTROLS = {"\t": "a tab", "\n": "a line feed"}
+
+
+def said_of_escapes(name: str, column: Column, text: str) -> Optional[str]:
+    """That a text has a tab or a line feed, and no text of its column has it: in a script's text \\t and \\n
+    are these."""
+    found = [sign for sign in CONTROLS if sign in text]
+    if not found or any(sign in cell for cell in column.cells if isinstance(cell, str) for sign in found):
         return None
-    found = padded_time(text.strip()) if date == "time" else padded_day(column.date, text.strip())
-    like = "09:05" if date == "time" else "2019-01-31"
-    if found is None and column.date is None and not (TIME.match(text) or DATE.match(text)):
-        return None
-    what = f"'{text}' is written '{found}'" if found else f"'{text}' isn't, and compares as a text"
-    return f"{name} has texts such as {like}: {what}"
+    has = " and ".join(CONTROLS[sign] for sign in found)
+    return f"the text has {has}, and no text of {name} has; in a script \\ is written \\\\"
 
 
 def number_of_text(column: Column, text: str) -> Optional[int]:
@@ -93,26 +111,6 @@ def number_of_text(column: Column, text: str) -> Optional[int]:
         return whole_number(text, column.form)
     except Unfit:
         return None
-
-
-def own_date(column: Column) -> Optional[str]:
-    """Whether the texts of a column are dates or clock times in the form of --date, without that option."""
-    sample = list(itertools.islice((cell for cell in column.cells if isinstance(cell, str)), SAMPLE))
-    for date in ("time", "ymd"):
-        if sample and all(len(cell) > 4 and is_as_carried(date, cell) for cell in sample):
-            return date
-    return None
-
-
-def is_as_carried(date: str, text: str) -> bool:
-    """Whether a text is a date or a clock time as --date carries it, or the beginning of one."""
-    return (CARRIED_TIME if date == "time" else CARRIED_DATE).match(text) is not None
-
-
-def padded_day(date: Optional[str], text: str) -> Optional[str]:
-    """A date as it is carried. Where nothing says which part is the day, points stand in dates that have the
-    day first."""
-    return padded_date(text, date or ("dmy" if "." in text else "ymd"))
 
 
 # ---- expressions
@@ -174,8 +172,8 @@ class Scope:
             value = written(other, self.parameters)
             if carrier is None or not isinstance(value, int):
                 continue
-            zeros = len(str(value)) - 1
-            if value == 10 ** zeros and zeros:
+            zeros = zeros_of(value)
+            if zeros:
                 return Carrier(f"{carrier.name} * {value}", carrier.column, carrier.scale + zeros)
         return next(filter(None, carriers), None)
 
@@ -188,9 +186,22 @@ class Scope:
         self.add(at, f"{more.name} is {times(more.scale)}, and {less.name} {times(less.scale)}: write "
                      f"{less.name} * {by}", False)
 
+    def join(self, at: int, one: AnswerColumn, other: AnswerColumn) -> None:
+        """Of two columns that a UNION puts into one."""
+        (left, first), (right, second) = one, other
+        if left and right:
+            self.meet_scales(at, left, right)
+        elif left and second:
+            self.meet(left, second, "")
+        elif right and first:
+            self.meet(right, first, "")
+
     def meet(self, carrier: Carrier, other: Expr, compare: str) -> None:
         """What is said where a column meets another expression, by a comparison or by none."""
         value = written(other, self.parameters)
+        factors = self.factors(other)
+        if factors is not None:
+            self.add(other.at, said_of_product(carrier, factors), True)
         if isinstance(value, int):
             self.add(other.at, said_of_number(carrier, value), True)
         elif isinstance(value, str) and compare and value in carrier.column.nulls:
@@ -199,7 +210,14 @@ class Scope:
             self.add(other.at, f"{what} of {carrier.name} is NULL here, and no comparison with NULL is true; "
                                f"write {carrier.name} {test}", False)
         elif isinstance(value, str):
-            self.add(other.at, said_of_text(carrier, value), False)
+            self.add(other.at, said_of_text(carrier, value, compare), False)
+
+    def factors(self, expr: Expr) -> Optional[Tuple[int, int]]:
+        """The two numbers of a product that is written, such as 20 * 10."""
+        if expr.form != "arithmetic" or expr.word != "*":
+            return None
+        left, right = (written(part, self.parameters) for part in expr.parts)
+        return (left, right) if isinstance(left, int) and isinstance(right, int) else None
 
     def add(self, at: int, cause: Optional[str], is_meaning: bool) -> None:
         if cause is not None and cause not in [each.cause for each in self.found]:
@@ -212,7 +230,7 @@ def product(left: Optional[Carrier], right: Optional[Carrier]) -> Optional[Carri
         return None
     more = left if left.scale >= right.scale else right
     name = more.name if not min(left.scale, right.scale) else f"{left.name} * {right.name}"
-    return Carrier(name, more.column, left.scale + right.scale)
+    return Carrier(name, more.column, left.scale + right.scale, min(left.scale, right.scale) > 0)
 
 
 # ---- statements
@@ -231,11 +249,15 @@ def meetings_of(text: str, parameters: Sequence[Written], columns: Columns) -> L
 
 def scopes_of(statement: Statement, columns: Columns, parameters: Sequence[Written]) -> Iterator[Scope]:
     if isinstance(statement, Query):
+        first: List[AnswerColumn] = []
         for core in statement.cores:
             scope = Scope(core.sources, columns, parameters)
-            items = [item.expr for item in core.items or []]
-            for expr in [*items, *core.picks, *([core.having] if core.having else [])]:
+            found = answer_columns(core, scope)
+            for expr in [*core.picks, *([core.having] if core.having else [])]:
                 scope.look(expr)
+            for one, other in zip(first, found):
+                scope.join(core.at, one, other)
+            first = first or found
             yield scope
         return
     scope = Scope([statement.table], columns, parameters)
@@ -247,6 +269,21 @@ def scopes_of(statement: Statement, columns: Columns, parameters: Sequence[Writt
     if not isinstance(statement, Insert) and statement.pick is not None:
         scope.look(statement.pick)
     yield scope
+
+
+def answer_columns(core: Core, scope: Scope) -> List[AnswerColumn]:
+    """The columns of an answer. Of a product of two decimals it is said what it is carried as."""
+    if core.items is None:
+        return [(Carrier(name, column, column.scale or 0), None) for _, columns in scope.sources
+                for name, column in columns.items()]
+    found: List[AnswerColumn] = []
+    for place, item in enumerate(core.items, 1):
+        carrier = scope.look(item.expr)
+        if carrier is not None and carrier.is_product:
+            scope.add(item.expr.at, f"{carrier.name} is {times(carrier.scale)} in the answer; outcome.py "
+                                    f"--scale {item.name or place}={carrier.scale} shows it", True)
+        found.append((carrier, item.expr))
+    return found
 
 
 def taken(statement: Statement, columns: Columns) -> Iterator[Tuple[str, Expr]]:

@@ -48,6 +48,7 @@ def plain_number(text: str, form: Form) -> str:
     """A number as -1234.5, as far as a text is one in a form; else some text that is no number."""
     if not text.isascii() and OTHER_MINUS.search(text):
         text = text.translate(MINUSES)
+    text = text.strip()
     if form.unit:
         text = without_unit(text, form.unit)
     if form.thousands:
@@ -75,9 +76,9 @@ def without_thousands(text: str, form: Form) -> str:
 
 @functools.lru_cache(maxsize=None)
 def grouped(form: Form) -> Pattern[str]:
-    """Numbers in a form that has signs between thousands, in groups of three."""
+    """Numbers in a form that has signs between thousands, in groups of three. None of 0.500 begins with 0."""
     between, decimal = re.escape(form.thousands), re.escape(form.decimal)
-    return re.compile(rf"[+-]?[0-9]{{1,3}}(?:{between}[0-9]{{3}})+(?:{decimal}[0-9]*)?\Z")
+    return re.compile(rf"[+-]?[1-9][0-9]{{0,2}}(?:{between}[0-9]{{3}})+(?:{decimal}[0-9]*)?\Z")
 
 
 def whole_number(value: Cell, form: Form = PLAIN) -> int:

@@ -7,7 +7,8 @@ import io
 import itertools
 import os
 import re
-from typing import Any, Iterator, List, Optional, Sequence, Tuple
+import shlex
+from typing import Any, Iterator, List, Match, Optional, Sequence, Tuple
 
 from .errors import Misused, Refused
 from .progress import Progress
@@ -24,6 +25,8 @@ OTHERS = ((b"PK\x03\x04", "a workbook, as Excel writes it: save it as CSV"),
           (b"PAR1", "a Parquet file: docs/DUMPS.md says how it becomes CSV"),
           (b"\x1f\x8b", "compressed: unpack it first"))
 MANY = 100_000
+# So many cells of a column are looked at for blanks before them.
+MANY_BLANKS = 1000
 
 
 def named_file(word: str) -> Tuple[Optional[str], str]:
@@ -48,6 +51,9 @@ def read_csv(word: str, settings: Settings, hints: List[str], progress: Progress
     lines = lines_of(name, path, settings, hints)
     header, cells = columns_of(lines, progress)
     hints += hints_of_quotes(lines, header, cells)
+    hints += hints_of_blanks(lines, header, cells)
+    if looks_like_title(header):
+        hints.append(f"{path}: the first line has one name, {header[0]!r}{title_words(path)}")
     count = len(cells[0]) if cells else 0
     kept: Sequence[int] = range(count)
     blank = blank_places(cells)
@@ -75,7 +81,7 @@ def lines_of(name: str, path: str, settings: Settings, hints: List[str]) -> Line
     if said:
         # An empty line in its place leaves the numbers of the others.
         delimiter, text = said[1], "\n" + text[said.end():]
-    return Lines(path, text, delimiter, settings.is_tsv, has_quotes)
+    return Lines(path, text, delimiter, settings.is_tsv, has_quotes, settings.trims)
 
 
 def check_header(lines: Lines, header: Sequence[str], cells: Sequence[str]) -> None:
@@ -87,6 +93,33 @@ def check_header(lines: Lines, header: Sequence[str], cells: Sequence[str]) -> N
             word = ("tab" if other == "\t" else f"'{other}'") + (", not --tsv" if lines.is_tsv else "")
             raise Refused(f"{lines.path}: the first line has one name, {header[0]!r}; "
                           f"give --delimiter {word}")
+
+
+def looks_like_title(header: Sequence[str]) -> bool:
+    """Whether a first line has a text alone, as a title above the header has it."""
+    return len(header) > 2 and bool(header[0]) and not any(header[1:])
+
+
+def title_words(path: str) -> str:
+    return f"; where the first line is a title, take it off first, as tail -n +2 {shlex.quote(path)} does"
+
+
+def hints_of_blanks(lines: Lines, header: Sequence[str], columns: Sequence[List[str]]) -> Iterator[str]:
+    """That cells have blanks before them, as where `, ` stands between cells."""
+    is_looked_at = not lines.is_tsv and not lines.trims and " " in lines.text
+    for row, cell in itertools.islice(blanks_before(header, columns), 1) if is_looked_at else ():
+        yield (f"{lines.path} line {lines.of(row)}: {cell[:40]!r} begins with a blank; --trim reads cells "
+               "without the blanks at their ends")
+
+
+def blanks_before(header: Sequence[str], columns: Sequence[List[str]]) -> Iterator[Tuple[int, str]]:
+    """The records and the texts of cells that show that blanks stand before cells."""
+    yield from ((0, cell) for cell in header if cell.startswith(" "))
+    for column in columns:
+        sample = column[:MANY_BLANKS]
+        found = [(row, cell) for row, cell in enumerate(sample, 1) if cell.startswith(" ")]
+        yield from found if 2 * len(found) > len(sample) else (
+            each for each in found if each[1].startswith(' "'))
 
 
 def blank_places(columns: Sequence[List[str]]) -> List[int]:
@@ -109,6 +142,9 @@ def hints_of_quotes(lines: Lines, header: Sequence[str], columns: Sequence[List[
             else "where \" is a sign as any other")
     how = f"{what}, --delimiter tab --quotes none reads the file" if lines.delimiter == "\t" else (
         f"{what}, --quotes none reads the file")
+    if lines.is_tsv and lines.odd is not None:
+        line, odd = lines.odd
+        yield f"{lines.path} line {line}: it has {odd}, which no database writes as an escape; {how}"
     joined = joined_cells(lines, columns) if lines.has_joined else []
     if joined:
         place, column = joined[0]
@@ -185,18 +221,21 @@ def hints_of_controls(path: str, text: str, encoding: str) -> Iterator[str]:
 class Lines:
     """The line on which each record begins, counted only where a message wants it."""
 
-    def __init__(self, path: str, text: str, delimiter: str, is_tsv: bool, has_quotes: bool) -> None:
+    def __init__(self, path: str, text: str, delimiter: str, is_tsv: bool, has_quotes: bool,
+                 trims: bool) -> None:
         self.path, self.text, self.delimiter, self.is_tsv = path, text, delimiter, is_tsv
-        self.has_quotes = has_quotes
+        self.has_quotes, self.trims = has_quotes, trims
         # Whether a cell may have a line feed in it: known when the records were read.
         self.has_joined = False
         self.found: List[int] = []
+        # The line of the first escape that COPY of PostgreSQL and --batch of MySQL never write, and that.
+        self.odd: Optional[Tuple[int, str]] = odd_escape(text) if is_tsv else None
 
     def reader(self) -> Any:
         csv.field_size_limit(2**31 - 1)
         quoting = csv.QUOTE_MINIMAL if self.has_quotes else csv.QUOTE_NONE
         return csv.reader(io.StringIO(self.text, newline=""), delimiter=self.delimiter, quoting=quoting,
-                          strict=True)
+                          strict=True, skipinitialspace=self.trims)
 
     def of(self, place: int) -> int:
         if not self.found:
@@ -244,6 +283,8 @@ def columns_of(lines: Lines, progress: Progress) -> Tuple[List[str], List[List[s
     if lines.is_tsv and "\\" in lines.text:
         return ([unescaped(cell) for cell in header],
                 [[unescaped(cell) for cell in column] for column in columns])
+    if lines.trims:
+        return list(map(str.strip, header)), [list(map(str.strip, column)) for column in columns]
     return header, columns
 
 
@@ -254,11 +295,26 @@ def refuse_width(lines: Lines, header: Sequence[str]) -> None:
         check_header(lines, header, [cell for record in records[1:] for cell in record])
     for place, row in enumerate(records):
         if len(row) != len(header):
+            is_title = len(header) == 1 or looks_like_title(header)
             raise Refused(f"{lines.path} line {lines.of(place)}: {plain_count(len(row), 'cell')}, but the "
-                          f"header has {len(header)}")
+                          f"header has {len(header)}{title_words(lines.path) if is_title else ''}")
 
 
 ESCAPES = {"t": "\t", "n": "\n", "r": "\r", "b": "\b", "f": "\f", "v": "\v", "0": "\0", "\\": "\\"}
+
+
+def odd_escape(text: str) -> Optional[Tuple[int, str]]:
+    """The line of the first backslash that no escape of a database begins with, and how it stands there."""
+    for found in re.finditer(r"(?s)\\(.?)", text):
+        if found[1] not in ESCAPES and not is_whole_cell(text, found):
+            return text.count("\n", 0, found.start()) + 1, found[0].rstrip("\t\r\n")
+    return None
+
+
+def is_whole_cell(text: str, found: Match[str]) -> bool:
+    """Whether what was found is \\N with nothing else in its cell, which stands for NULL."""
+    around = text[max(found.start() - 1, 0):found.start()], text[found.end():found.end() + 1]
+    return found[0] == NO_VALUE and around[0] in ("", "\t", "\n") and around[1] in ("", "\t", "\r", "\n")
 
 
 def unescaped(cell: str) -> str:

@@ -5,7 +5,7 @@ import collections
 import itertools
 import re
 import shlex
-from typing import List, Match, NamedTuple, Optional, Sequence, Tuple
+from typing import List, Match, NamedTuple, Optional, Pattern, Sequence, Tuple
 
 from .language import MAX_INT, MIN_INT
 from .world_cells import (DATE, DECIMAL, MAX_SCALE, OTHER_BLANKS, OTHER_MINUSES, TIME, decimal_text,
@@ -153,14 +153,15 @@ FORMS = (PLAIN, Form(","), Form(".", ","), Form(",", "."), Form(".", " "), Form(
 
 class Written(NamedTuple):
     """How most cells of a column are written that are numbers: their form, the decimals that they need,
-    whether one has another minus sign, whether what looks like decimals may be thousands, and the cells that
-    are no numbers."""
+    whether one has another minus sign, whether what looks like decimals may be thousands, the cells that are
+    no numbers, and whether one has blanks at its ends."""
 
     form: Form
     scale: int
     has_minus: bool
     are_thousands: bool
     others: List[str]
+    has_blanks: bool = False
 
 
 def fits(form: Form, digits: str) -> bool:
@@ -189,7 +190,8 @@ def written(cells: Sequence[str]) -> Optional[Written]:
         fits(Form(";", form.decimal), each) for each in digits)
     return Written(form._replace(unit="".join(units)), max(map(len, parts)),
                    any(match[2] in OTHER_MINUSES for match in found if match[2]), are_thousands,
-                   list(dict.fromkeys(cell for cell, match in pairs if not match)))
+                   list(dict.fromkeys(cell for cell, match in pairs if not match)),
+                   any(match and cell != cell.strip() for cell, match in pairs))
 
 
 def form_words(name: str, form: Form) -> List[str]:
@@ -211,7 +213,16 @@ def number_words(name: str, found: Written) -> str:
 
 
 def null_word(name: str, cell: str) -> str:
-    return "--null " + shlex.quote(f"{name}={cell}")
+    return "--null " + quoted_word(f"{name}={cell}")
+
+
+def quoted_word(word: str) -> str:
+    """A word for a shell, in which blanks that look like others are shown by their numbers."""
+    if word.isprintable():
+        return shlex.quote(word)
+    signs = {"\\": "\\\\", "'": "\\'"}
+    return "$'" + "".join(signs.get(char, char) if char.isprintable() else f"\\u{ord(char):04x}"
+                          for char in word) + "'"
 
 
 def may_be_null(cell: str) -> bool:
@@ -229,7 +240,7 @@ def hint_of_numbers(table: Table, column: Column, cells: Sequence[str]) -> Optio
     if found is None or found.scale > MAX_SCALE or len(found.others) > MAX_WORDS or not all(
             map(may_be_null, found.others)):
         return None
-    is_plain = found.form == PLAIN and not found.has_minus
+    is_plain = found.form == PLAIN and not found.has_minus and not found.has_blanks
     # Numbers that are names, as 0150, are left as they are.
     if is_plain and (not found.others or any(map(ZEROS.match, sample))):
         return None
@@ -237,6 +248,7 @@ def hint_of_numbers(table: Table, column: Column, cells: Sequence[str]) -> Optio
             else "numbers with another sign than -" if found.has_minus
             else "numbers with signs between thousands" if found.form.thousands
             else "decimals with a comma" if found.form.decimal == ","
+            else "numbers with blanks around them" if found.has_blanks
             else "numbers with a word for what isn't known")
     odd = next(cell for cell in sample if (cell in found.others if is_plain else is_odd(cell, found)))
     return f"{name} is TEXT, and looks like {what}, such as {shown(odd)}; {carrying_words(name, found)}"
@@ -246,11 +258,17 @@ def carrying_words(name: str, found: Written) -> str:
     """What carries such a column as whole numbers. 1,234 has two readings."""
     words = number_words(name, found)
     if not found.are_thousands:
-        return f"{words} carries it as whole numbers"
+        return f"{words} carries it as whole numbers{zero_words(found)}"
     others = [null_word(name, each) for each in found.others]
     whole = [*form_words(name, Form(".", found.form.decimal, found.form.unit)), f"--kind {name}=INT", *others]
     return (f"where these are thousands, {' '.join(whole)} carries it as whole numbers, where decimals, "
             f"{words}")
+
+
+def zero_words(found: Written) -> str:
+    """Of a unit without a number, as Excel shows an amount of 0: it may be 0 in place of NULL."""
+    zeros = [cell for cell in found.others if found.form.unit and found.form.unit in cell]
+    return f"; where {shown(zeros[0])} is 0, write 0 in its place in the file first" if zeros else ""
 
 
 def is_odd(cell: str, found: Written) -> bool:
@@ -262,8 +280,68 @@ def is_odd(cell: str, found: Written) -> bool:
         return found.form.unit in cell
     if found.has_minus:
         return match[2] != "" and match[2] in OTHER_MINUSES
-    return not DECIMAL.match(cell) and (found.form.thousands or found.form.decimal) in cell.translate(
+    if found.has_blanks and found.form == PLAIN:
+        return cell != cell.strip()
+    # With signs between thousands some cell has one: else another form would have been found.
+    return (found.form.thousands or found.form.decimal) in cell.translate(
         dict.fromkeys(map(ord, OTHER_BLANKS), " "))
+
+
+# ---- forms that no option reads
+
+class OddForm(NamedTuple):
+    """A form of numbers or times that no option reads: what it is, and how to write it instead."""
+
+    pattern: Pattern[str]
+    what: str
+    how: str
+
+
+ODD_FORMS = tuple(OddForm(re.compile(pattern + r"\s?\Z"), what, how) for pattern, what, how in (
+    (rf"\s?-?[0-9][0-9.']*[.,](?:-|--|[{OTHER_MINUSES}]+)(?:\s?[{SYMBOLS}])?", "amounts without their cents",
+     "write 1234 in place of 1.234,--"),
+    (rf"\s?[0-9][0-9.,']*\s?[{OTHER_MINUSES}-](?:\s?[{SYMBOLS}])?", "numbers with their minus behind",
+     "write -0.50 in place of 0.50-"),
+    (rf"\s?\(\s?[{SYMBOLS}]?[0-9][0-9.,']*(?:\s?[{SYMBOLS}])?\)", "numbers below 0 in brackets",
+     "write -0.50 in place of (0.50)"),
+    (r"\s?[+-]?[0-9]+(?:[.,][0-9]+)?[eE][+-]?[0-9]+", "numbers with an exponent",
+     "write 0.001 in place of 1e-3"),
+    (r"\s?[0-9]{1,2}[:.][0-9]{2}(?::[0-9]{2})?\s?(?:Uhr|uhr|h)", "clock times with a word behind them",
+     "write 09:05 in place of 9:05 Uhr"),
+    (r"\s?[0-9]{1,3}(?::[0-9]{2}){1,2},[0-9]+", "times with a comma before their decimals",
+     "write 03:45.2 in place of 3:45,2, or the whole in tenths of a second,")))
+
+
+def odd_form(cell: str) -> Optional[OddForm]:
+    return next((form for form in ODD_FORMS if form.pattern.match(cell)), None)
+
+
+def hint_of_odd(table: Table, column: Column, cells: Sequence[str]) -> Optional[str]:
+    """That a column looks like numbers or times in a form that no option reads, or in several forms."""
+    odd = [(cell, form) for cell, form in ((cell, odd_form(cell)) for cell in cells) if form]
+    numbers = [match[4].strip() for match in map(NUMBER.match, cells) if match]
+    name = table.full_name(column)
+    found = len(odd) + len(numbers)
+    if odd and 2 * found > len(cells) and found >= len(cells) - MAX_WORDS:
+        cell, form = odd[0]
+        return (f"{name} is TEXT, and looks like {form.what}, such as {shown(cell)}; {form.how} in the file "
+                "first")
+    if not are_most(numbers, cells) or not all(map(fits_any, numbers)):
+        return None
+    comma = next((cell for cell in numbers if COMMA.match(cell)), None)
+    point = next((cell for cell in numbers if POINT.match(cell)), None)
+    if comma is None or point is None:
+        return None
+    return (f"{name} is TEXT, and looks like numbers of which some have a comma before decimals and some a "
+            f"point, such as {shown(comma)} and {shown(point)}; write them in one way in the file first")
+
+
+# Decimals after a comma and after a point, which may not be thousands.
+COMMA, POINT = (re.compile(rf"[0-9.']*{sign}(?:[0-9]{{1,2}}|[0-9]{{4,}})\Z") for sign in (",", r"\."))
+
+
+def fits_any(digits: str) -> bool:
+    return any(fits(form, digits) for form in FORMS)
 
 
 # ---- what is said
@@ -276,7 +354,8 @@ def hint_of_text(table: Table, column: Column, hints: List[str]) -> None:
     if not any(map(DIGIT.search, sample)):
         return
     cells = [cell for cell in column.cells if cell is not None] if None in column.cells else column.cells
-    hint = hint_of_dates(table, column, cells) or hint_of_numbers(table, column, cells)
+    hint = (hint_of_dates(table, column, cells) or hint_of_numbers(table, column, cells)
+            or hint_of_odd(table, column, sample))
     if hint is None and are_most([cell for cell in sample if DECIMAL.match(cell)], sample):
         hint = hint_of_decimals(table, column)
     if hint is not None:
@@ -313,16 +392,32 @@ def is_canonical(text: str) -> bool:
     return CANONICAL.match(text) is not None and MIN_INT <= int(text) <= MAX_INT
 
 
-def number_advice(table: Table, column: Column, value: Cell) -> str:
-    """What to do about a text of a CSV file where a number is due."""
-    if not isinstance(value, str) or not table.from_text or column.kind != "INT":
+def advice_of(table: Table, column: Column, value: Cell) -> str:
+    """What to do about a text of a CSV file where a number or a date is due."""
+    if not isinstance(value, str) or not table.from_text or column.kind != "INT" and column.date is None:
         return ""
     name = table.full_name(column)
     if may_be_null(value):
-        return (f"; where it stands for NULL: --null {shlex.quote(value)}, or {null_word(name, value)} "
-                f"for this "
-                "column alone")
+        return (f"; where it stands for NULL: --null {quoted_word(value)}, or {null_word(name, value)} "
+                "for this column alone")
+    return date_advice(value) if column.date is not None else number_advice(name, column, value)
+
+
+def date_advice(value: str) -> str:
+    match = DATE.match(value)
+    if match and len(match[1]) < 4 and len(match[4]) != 4:
+        return "; years have four digits: write it so in the file first"
+    return "; write it from the year down, as 2019-01-31, in the file first" if MONTH.match(value) else ""
+
+
+def number_advice(name: str, column: Column, value: str) -> str:
     found = written([value])
+    odd = odd_form(value)
+    if odd is not None and (found is None or not found.form.unit):
+        return f"; {odd.how} in the file first"
+    if found and column.form.thousands and found.form.decimal == column.form.thousands:
+        return (f"; {found.form.decimal} doesn't stand between thousands here: where it stands before "
+                f"decimals, give --decimal {found.form.decimal} in place of --thousands")
     # What the options say already isn't said again.
     words = [word for word in form_words(name, found.form) if word not in form_words(name, column.form)
              ] if found else []

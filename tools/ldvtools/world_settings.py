@@ -69,6 +69,7 @@ class Settings:
         self.tidy: bool = words.tidy
         self.rounds: bool = words.round
         self.skips_blank: bool = words.skip_blank
+        self.trims: bool = words.trim
         # As PostgreSQL's COPY and MySQL's --batch write tables: no quotes, and escapes by backslash.
         self.is_tsv: bool = words.tsv
         for (option, name), value in self.values.items():

@@ -15,7 +15,8 @@ from .language import MAX_COLUMNS, MAX_INT, MAX_NAME, MAX_ROWS, MAX_TEXT, MIN_IN
 from .world_cells import (MAX_SCALE, comparable, has_no_equal, scaled_number, shown, text_value,
                           whole_number)
 from .world_columns import NO_VALUE, Cell, Column, Form, Table
-from .world_hints import hint_of_dates, hint_of_text, largest, number_advice, scale_advised
+from .world_dates import hint_of_shapes
+from .world_hints import advice_of, hint_of_dates, hint_of_text, largest, scale_advised
 from .world_settings import Settings, fold, tidy_names
 
 # Written in C where that is built.
@@ -90,7 +91,8 @@ def fitting(table: Table, column: Column, value: Cell, is_given: bool, settings:
     """A cell as its column carries it. `is_given`: the kind was given by an option."""
     if value is None:
         if column.not_null:
-            raise Unfit("NULL, but " + ("it is in the key" if column.name in table.key else "it is NOT NULL"))
+            raise Unfit(f"NULL, but it is in the key; --key {table.name}=none makes a table without one"
+                        if column.name in table.key else "NULL, but it is NOT NULL")
         return None
     if column.scale is not None:
         return scaled_number(value, column.scale, column.form, settings.rounds)
@@ -114,7 +116,7 @@ def fill_column(table: Table, column: Column, is_given: bool, settings: Settings
         try:
             column.cells[row] = fitting(table, column, value, is_given, settings)
         except Unfit as fault:
-            advice = number_advice(table, column, value)
+            advice = advice_of(table, column, value)
             raise Refused(f"{table.at(row, column)}: {fault}{advice}") from None
 
 
@@ -218,13 +220,13 @@ def check_many(table: Table, names: Sequence[str]) -> None:
     if len(bad) < 2 or all(NAME.match(fold(names[place])) for place in bad):
         return
     tidied = tidy_names([column.old for column in table.columns])
-    few = [(table.columns[place], tidied[place]) for place in bad[:8]]
-    words = " ".join(f'--rename "{table.place_name(column)}={name}"' for column, name in few)
-    shown_names = ", ".join(f"{column.place} {column.name!r}" for column, _ in few)
-    rest = ", .." if len(bad) > 8 else ""
-    raise Refused(f"{table.name}: {len(bad)} columns need another name, column {shown_names}{rest}: a "
-                  "letter a to z or _, then "
-                  f"such letters, digits and _, no reserved word, and none twice; give --tidy, or {words}")
+    pairs = [(table.columns[place], tidied[place]) for place in bad]
+    words = " ".join(f'--rename "{table.place_name(column)}={name}"' for column, name in pairs)
+    shown_names = ", ".join(f"{column.place} {column.name!r}" for column, _ in pairs)
+    title = "; where the first line is a title, take it off first" if not any(names[1:]) else ""
+    raise Refused(f"{table.name}: {len(bad)} columns need another name, column {shown_names}: a letter a to "
+                  "z or _, then such letters, digits and _, no reserved word, and none twice; give --tidy, "
+                  f"or {words}{title}")
 
 
 def settle_kind(table: Table, column: Column, settings: Settings) -> bool:
@@ -313,6 +315,8 @@ def settle_cells(table: Table, column: Column, is_given: bool, settings: Setting
     if not table.from_text and column.kind == "TEXT" and column.date is None and not is_given:
         hint = hint_of_dates(table, column, [cell for cell in column.cells if cell is not None])
         hints += [hint] if hint else []
+    hint = hint_of_shapes(table, column)
+    hints += [hint] if hint else []
     if column.scale is not None and sum(map(abs, filter(None, column.cells))) > MAX_INT:
         hints.append(f"{table.full_name(column)}: the sum of its rows may leave 64 bits at --scale "
                      f"{column.scale}, and "

@@ -377,7 +377,7 @@ class ScriptsAndFiles(InFolder):
         text = tool(world, "--help")[1].decode()
         self.assertIn("--delimiter, --encoding, --quotes, --decimal, --thousands and --null hold for all CSV "
                       "files, or for the one\nwhose table is named", text)
-        self.assertIn("--tsv, --skip-blank, --round, --lower and --tidy hold for all files.", text)
+        self.assertIn("--tsv, --skip-blank, --trim, --round, --lower and --tidy hold for all files.", text)
 
     def test_files(self):
         script, logo = self.put("go.ldv", "print 1\n"), self.put("logo", b"\x89PNG")
