@@ -1,1 +1,2 @@
 pub mod StoreFacts
+pub mod OneTable

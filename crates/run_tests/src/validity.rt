@@ -3,21 +3,35 @@
 ghost use Rattle.std.specs.Prelude.{◌≡◌, ◌&&◌, IfOk, IsTrue, nat_le, nat_lt, true};
 ghost use Rattle.std.specs.List.{list_all};
 ghost use Rattle.ldv_value.specs.Limits.{max_next};
+ghost use Rattle.sql_model.specs.ForeignKeys.{have_parents};
+ghost use Rattle.sql_model.specs.Scope.{catalog_of};
 ghost use Rattle.sql_model.specs.Tables.{are_distinct, have_distinct_columns, is_database, is_row};
 ghost use Rattle.sql_model.specs.Tables.{is_valid_table, numbers_test};
 
 use ldv_value::is_strictly_sorted;
-use sql_model::{Columns, Table, TableRow, are_rows, has_key_twice, meets_column_names};
+use sql_model::{
+    Columns, Table, TableRow, are_rows, has_key_twice, have_parents, meets_column_names,
+};
 use std::alloc::{AllocError, Global};
 
-/// Whether there is one table, and it is valid.
+/// Whether there is one table, it is valid, and no foreign key is without its parent.
+#[tactic(auto, using(crate::proofs::OneTable::one_database))]
 pub(crate) fn is_one_table(alloc: Global, tables: &[Table]) -> Result<bool, AllocError>
     ensures { IfOk result (λ holds. IsTrue holds → is_database tables.now ≡ true) }
 {
+    if !are_with_parents(tables) {
+        return Ok(false);
+    }
     match tables {
         [table] => is_valid_table(alloc, table),
         _ => Ok(false),
     }
+}
+
+fn are_with_parents(tables: &[Table]) -> bool
+    ensures { result ≡ have_parents (catalog_of tables.now) }
+{
+    have_parents(tables)
 }
 
 /// Whether there is one table, and no two of its columns have one name.
