@@ -163,9 +163,10 @@ class Examples(InFolder):
         make_database(path, read(TUTORIAL + "/library.sql").decode())
         err = tool(world, "--sqlite", path, *LIBRARY)[2].replace(ROOT + os.sep, "")
         said = [line for line in err.split("\n") if line and " rows; " not in line]
-        self.assertEqual(sum(line.startswith("world.py: note: ") for line in said), 6)
+        self.assertEqual(sum(line.startswith("world.py: note: ") for line in said), 5)
         page = read(os.path.join(ROOT, "docs/TUTORIAL.md")).decode()
-        block = page.partition("What it has and a world hasn't is noted by name:\n\n")[2].partition("\n\n")[0]
+        noted = "What the database has and a world hasn't is noted by name:\n\n"
+        block = page.partition(noted)[2].partition("\n\n")[0]
         self.assertEqual([line[4:] for line in block.split("\n")], said)
 
     def test_tutorial(self):
