@@ -1,11 +1,12 @@
 -- The words of `run`, `record`, `replay` and `audit`, and the budget of any command.
-use Rattle.std.specs.Prelude.{ℕ, List, [], ◌∷◌, codes, ◌&&◌, bytes_eq, if◌then◌else◌, Option, Some, None}
+use Rattle.std.specs.Prelude.{ℕ, List, [], ◌∷◌, codes, ◌&&◌, ◌||◌, bytes_eq, if◌then◌else◌, Option, Some, None}
 use Rattle.std.specs.Prelude.{option_and_then}
 use Rattle.ldv_value.specs.Limits.{max_steps, default_steps}
 use Rattle.run_model.specs.declared.package.Mode.TheVariants.{Included, Excluded}
 use Rattle.ldv_top.specs.declared.command.Command.{Command}
 use Rattle.ldv_top.specs.declared.command.Command.TheVariants.{Run, Record, Replay, ReplaySeed, Audit}
 use Rattle.ldv_top.specs.WordNumbers.{number_within, positive_within}
+use Rattle.ldv_top.specs.WordsOfJoins.{replay_of_run}
 
 -- a command of one word
 abbrev pub command_named : List ℕ → ℕ → Option Command
@@ -40,10 +41,17 @@ seeded word option seed budget =
     if bytes_eq option (codes "--seed")
     then option_and_then (command_seeded word budget) (number_within max_seed seed) else None
 
--- `--seed S` or `--steps N`
+-- `--seed S` or `--run K`, after which `--steps N` may follow
+abbrev pub chosen : List ℕ → List ℕ → List ℕ → ℕ → Option Command
+chosen word option number budget =
+    if bytes_eq option (codes "--run") then replay_of_run word option number budget
+    else seeded word option number budget
+
+-- `--seed S`, `--run K` or `--steps N`
 abbrev pub command_with : List ℕ → List ℕ → List ℕ → Option Command
 command_with word option number =
-    if bytes_eq option (codes "--seed") then seeded word option number default_steps
+    if bytes_eq option (codes "--seed") || bytes_eq option (codes "--run")
+    then chosen word option number default_steps
     else option_and_then (command_named word) (budget_in option number)
 
 -- by the first word and the others
@@ -54,5 +62,5 @@ run_of word (option ∷ number ∷ []) = command_with word option number
 run_of word (flag ∷ option ∷ number ∷ []) =
     option_and_then (command_flagged word flag) (budget_in option number)
 run_of word (option ∷ seed ∷ steps ∷ number ∷ []) =
-    option_and_then (seeded word option seed) (budget_in steps number)
+    option_and_then (chosen word option seed) (budget_in steps number)
 run_of word (option ∷ seed ∷ steps ∷ number ∷ more ∷ words) = None

@@ -6,6 +6,7 @@ ghost use Rattle.ldv_io.specs.Causes.{Rose};
 ghost use Rattle.ldv_top.specs.Exits.{line_of, status_of};
 
 use ldv_io::{Sink, WriteStop, write_all};
+use package_join::Clash;
 use package_layout::DamageKind;
 use run_model::ProcName;
 use world_json::WorldFault;
@@ -33,6 +34,8 @@ pub enum Exit {
     Diverged { process: ProcName, index: u32 },
     /// There is no such item.
     NoSuch,
+    /// Two packages that have to be joined differ.
+    Clash(Clash),
     /// Memory ran out.
     NoMemory,
     /// The package would have more than 67,108,864 bytes.
@@ -61,6 +64,7 @@ pub fn status(exit: &Exit) -> u8
             index: _,
         } => 9,
         Exit::NoSuch => 10,
+        Exit::Clash(_) => 15,
         Exit::NoMemory => 11,
         Exit::PackageTooLong => 12,
         Exit::NotPrivate => 14,

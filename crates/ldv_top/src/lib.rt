@@ -4,8 +4,8 @@
 //! `replay_db` and, for a package that holds the recorded replies in place of the needed rows, of
 //! `replay_log`. `audit` says whether a package is that of its own world's run, `table` shows a table after a
 //! step of such a run, `inspect` reports on a package, by the calls of `inspect`, `gen` sums up the record
-//! and the replay of a world that it makes, and `migrate` writes a package of either version in the second
-//! one.
+//! and the replay of a world that it makes, `migrate` writes a package of either version in the second
+//! one, and `join` puts two packages into one, of which `replay --run` runs either run again.
 //!
 //! It promises, in the clauses of `ldv`:
 //! - the exit and the bytes are those that are due for the words and the input (`specs/Due.antt`); only a
@@ -24,6 +24,9 @@
 //!   audit of both finds them sound or of neither (`specs/Migrated.antt`);
 //! - what `inspect depends` lists are the nodes of the trace's graph from which a path leads to the path that
 //!   was asked for, in time, and no others (`specs/Reported.antt`);
+//! - what the packages of two worlds with the same files and tables are joined to is replayed, run by run, as each
+//!   world is run (`specs/TwoRuns.antt`), and of any valid joined package `replay --run` runs the world of that
+//!   run;
 //! - bytes that are no package and a package that would be too long are refused, and then nothing is written.
 //!
 //! `ldv_main` says the same of the exit of which it tells the line and gives the status.
@@ -36,6 +39,8 @@ mod exit;
 mod generating;
 mod headline;
 mod inspecting;
+mod join_law;
+mod joining;
 mod messages;
 mod migrating;
 mod migration;
@@ -47,6 +52,7 @@ mod replay;
 mod report_law;
 mod reseeding;
 mod response;
+mod run_choice;
 mod seed_law;
 mod tabling;
 mod top;

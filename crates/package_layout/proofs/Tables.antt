@@ -86,10 +86,10 @@ pub rule_law : IsField (λ r. to_be_bytes w8 (rule_number r)) Anything always Un
 rule_law = made_law (to_be_bytes w8) (λ n. n < 256) always (number_at w8) Anything always rule_of rule_number (number_law w8 256 wide8)
     (λ r t f. rule_again r) (λ n r t f e. (rule_back n r e, tt, refl))
 
-abbrev Reason : Type 0
+abbrev pub Reason : Type 0
 Reason = ℕ × Rule
 
-reason_law : IsField (λ (p : Reason). reason_spelling p.0 p.1) (λ (p : Reason). IsU32 p.0 × Unit {0}) always Uncounted reason_at
+pub reason_law : IsField (λ (p : Reason). reason_spelling p.0 p.1) (λ (p : Reason). IsU32 p.0 × Unit {0}) always Uncounted reason_at
 reason_law = recount Uncounted (then_law (to_be_bytes w32) IsU32 always (number_at w32) (λ r. to_be_bytes w8 (rule_number r)) Anything (λ a. always) (λ a. rule_at) u32_law (λ a. rule_law)) (λ p n. (tt, tt)) (λ p n. tt)
 
 abbrev RowEnd : Type 0
@@ -98,7 +98,7 @@ RowEnd = Reason × List Value
 abbrev RowParts : Type 0
 RowParts = ℕ × RowEnd
 
-abbrev so_many : ℕ → List Value → Bool
+abbrev pub so_many : ℕ → List Value → Bool
 so_many columns values = (length values == columns) && list_all always values
 
 abbrev end_spelling : RowEnd → List ℕ
@@ -171,10 +171,10 @@ key_law Two = recount Uncounted (made_law (λ (p : List ℕ × ℕ). list_spelli
 abbrev SchemaParts : Type 0
 SchemaParts = List Column × List ℕ
 
-abbrev schema_room : Schema → Bool
+abbrev pub schema_room : Schema → Bool
 schema_room s = few s.columns && key_room s.key
 
-schema_law : (v : Version) → IsField (schema_spelling v) (λ s. AllByRecursion TypedColumn s.columns) schema_room (λ s. AllByRecursion CountedColumn s.columns) (schema_at v)
+pub schema_law : (v : Version) → IsField (schema_spelling v) (λ s. AllByRecursion TypedColumn s.columns) schema_room (λ s. AllByRecursion CountedColumn s.columns) (schema_at v)
 schema_law v = recount (λ s. AllByRecursion CountedColumn s.columns) (restate (schema_spelling v) (λ s. AllByRecursion TypedColumn s.columns × Unit {0}) (λ s. AllByRecursion TypedColumn s.columns) (λ s. (few s.columns && list_all always s.columns) && key_room s.key) schema_room (schema_at v)
     (struct_law (λ (p : SchemaParts). list_spelling w8 column_spelling p.0 ++ key_spelling v p.1) (λ (p : SchemaParts). AllByRecursion TypedColumn p.0 × Unit {0}) (λ (p : SchemaParts). (few p.0 && list_all always p.0) && key_room p.1) (both_at (list_at w8 column_at) (key_at v))
     (λ (p : SchemaParts). record { columns = p.0; key = p.1 }) (λ (s : Schema). (s.columns, s.key))

@@ -22,7 +22,7 @@ use std::alloc::{AllocError, Global};
 
 /// Whether the runs of a package are those of a trace, and all of it meets the rules for valid packages. No
 /// list of events is made. `AllocError` means out of memory and nothing else.
-pub(crate) fn is_valid_package(alloc: Global, package: &RunPackage) -> Result<bool, AllocError>
+pub fn is_valid_package(alloc: Global, package: &RunPackage) -> Result<bool, AllocError>
     ensures { IfOk result (λ holds. holds ≡ run_rules «package».now) }
 {
     if !are_runs(package.runs.items()) {
