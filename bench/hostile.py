@@ -6,7 +6,8 @@
 
 The inputs are made by mutation of those of the cases in crates/conformance/data and of the documents in
 examples/: bytes of documents, their JSON values, lines of their scripts, bytes of packages with a digest that
-is right again, in their version and in the other one, runs of their traces, and words. Each call has 8 MiB of
+is right again, in their version and in the other one, runs of their traces, nodes, edges and spellings of
+provenance documents, and words. Each call has 8 MiB of
 stack, MIB MiB of memory (default 512) and T seconds (default 20). An answer is as it has to be where
 
 - the status is one that docs/COMMANDS.md gives for the command, or 2 where the words are none, and no signal
@@ -15,6 +16,7 @@ stack, MIB MiB of memory (default 512) and T seconds (default 20). An answer is 
   message, else no output and one line of a message;
 - a world that `run` runs is recorded and replayed to the very bytes that `run` wrote, or the package is too
   long;
+- a provenance document is one, and depends on what it says, exactly as tools/prov.py reads it;
 - what `migrate` writes is of version 2, is written again as it is, and is replayed as its input is.
 
 It prints the number of answers by command and status, and ends with status 1 where one isn't as it has to be;
@@ -35,6 +37,7 @@ import sys
 import tempfile
 import time
 
+from hostile_documents import mutated_provenance, reads
 from hostile_packages import EDGES, in_other_version, mutated_bytes, mutated_package
 
 HERE = os.path.dirname(os.path.abspath(__file__))
@@ -49,10 +52,13 @@ STATUSES = {
     'table': {0, 7, 8, 10},
     'inspect': {0, 8, 10},
     'migrate': {0, 8, 12},
+    'prov': {0, 8},
 }
+DEPENDS = ['prov', 'depends']
+OF_DEPENDS = {0, 10, 16}
 USAGE, NO_MEMORY = 2, 11
 # The words whose output may be empty.
-MAY_BE_EMPTY = (['inspect', 'rows'], ['inspect', 'depends'])
+MAY_BE_EMPTY = (['inspect', 'rows'], ['inspect', 'depends'], DEPENDS)
 TEXTS = ['', 'a', 'main', "'", '"', '\\', '\n', '\0', '?', '*', '--', 'é', '\U0001f600', ' ' * 70,
          'x' * 65537]
 SQL = ['SELECT', 'FROM', 'WHERE', 'GROUP BY', 'HAVING', 'ORDER BY', 'LIMIT', 'UNION', 'UNION ALL', 'JOIN',
@@ -70,12 +76,18 @@ def bytes_of(text):
 
 
 def corpus():
-    """Documents and packages of the cases and the examples: of each those that are run, and all."""
-    good, documents, sound, packages = [], [], [], []
+    """Documents and packages of the cases and the examples: of each those that are run, and all. And
+    provenance documents."""
+    good, documents, sound, packages, provenance = [], [], [], [], []
     for path in sorted(glob.glob(os.path.join(ROOT, 'crates/conformance/data/*.json'))):
         for case in json.load(open(path, encoding='utf-8')):
             data = bytes_of(case['input'])
             if len(data) > LONGEST or case['words'][:1] in ([], ['gen']):
+                continue
+            if case['words'] == ['prov'] and case['status'] == 0:
+                provenance.append(bytes_of(case['output']))
+            if case['words'][:2] == DEPENDS:
+                provenance.append(data)
                 continue
             reads_world = case['words'][0] in ('run', 'record')
             (documents if reads_world else packages).append(data)
@@ -85,7 +97,7 @@ def corpus():
         data = open(path, 'rb').read()
         if len(data) <= LONGEST:
             good.append(data)
-    return good, documents, sound, packages
+    return good, documents, sound, packages, provenance
 
 
 # ---- documents
@@ -244,7 +256,9 @@ def words_of(rng, name):
     if name == 'inspect':
         words += rng.choice((['rows'], ['files'], ['trace'], ['why', 't', '0'], ['why', 't', '4294967294'],
                              ['depends', 'main'], ['depends', 'q'], ['depends', 'f']))
-    elif name != 'migrate' and rng.random() < 0.7:
+    elif name == 'prov' and rng.random() < 0.7:
+        words += ['depends', rng.choice(('main', 'f', 'g', 'out', 'q'))]
+    elif name not in ('migrate', 'prov') and rng.random() < 0.7:
         words += ['--steps', str(rng.choice((1, 2, 10, 1000, 50_000)))]
     # The name of a table is no reserved word.
     right = name in STATUSES and words[:2] != ['table', 'order']
@@ -295,7 +309,8 @@ def complaint(words, right, answer):
     status, output, error = answer
     if status is None:
         return 'no answer in time'
-    if status not in (STATUSES[words[0]] | {NO_MEMORY} if right else {USAGE}):
+    own = OF_DEPENDS if words[:2] == DEPENDS else STATUSES[words[0]] if right else None
+    if status not in (own | {NO_MEMORY} if right else {USAGE}):
         return 'status %r' % status
     if status == 0 and not output and words[:2] not in MAY_BE_EMPTY:
         return 'no output with status 0'
@@ -340,7 +355,7 @@ def migrates(calls, data, package):
 def work(job):
     program, limits, seed, count, keep, names, place = job
     rng = random.Random(seed)
-    good, documents, sound, packages = corpus()
+    good, documents, sound, packages, provenance = corpus()
     counts, wrong = collections.Counter(), []
     with tempfile.TemporaryDirectory(dir=place) as folder:
         calls = Calls(program, limits, folder)
@@ -354,6 +369,8 @@ def work(job):
             whole = rng.random() < 0.8
             if name in ('run', 'record'):
                 data = mutated_document(rng, rng.choice(good if whole else documents))
+            elif words[:2] == DEPENDS:
+                data = mutated_provenance(rng, rng.choice(provenance))
             else:
                 data = package_input(rng, rng.choice(sound if whole else packages))
             if rng.random() < 0.02:
@@ -369,7 +386,10 @@ def work(job):
             if not said and answer[0] == 0 and words == ['migrate'] and is_replayed:
                 said = migrates(calls, data, answer[1])
                 counts['migrate, replay', 0] += 1
-            counts[words[0] if words and words[0] in STATUSES else 'other', answer[0]] += 1
+            if not said and right and words[:2] == DEPENDS and answer[0] != NO_MEMORY:
+                said = reads(data, words[2], answer)
+            told = ' '.join(words[:2]) if words[:2] == DEPENDS else words[0] if words else ''
+            counts[told if words and words[0] in STATUSES else 'other', answer[0]] += 1
             if said:
                 os.makedirs(keep, exist_ok=True)
                 path = os.path.join(keep, '%d_%d' % (seed, number))

@@ -6,12 +6,16 @@
 #            about the same
 #   table    `table t STEP` of packages of runs over 1,000 to 1,000,000 rows at the first, the middle and the last step,
 #            as a multiple of `replay` of the same package. At most 1.1 is aimed at
+#   prov     `prov` of the same runs, and `prov depends out` of what it wrote where that isn't longer than an input may
+#            be: the seconds for each edge, and the memory as a multiple of the document's bytes. At most 4 microseconds
+#            and 16 times are aimed at
 #   gen      `gen N`, which makes, records and replays a world, beside the same tables and the same script over
 #            the program `sqlite3`, in memory, where that is installed: with rows that are made by SQL, and with rows
 #            that are imported from CSV. It ends with an error where the two don't find the same. At most 1.0 is aimed at
 #
 # package_worlds.py makes the worlds. LDV names another program than the one of this checkout, SIZES other
-# numbers of events and rows, ONLY="depends table" some of the three, NUMBERS other N of gen.
+# numbers of events and rows, ONLY="depends table" some of the four, NUMBERS other N of gen, EDGES other numbers of
+# events for prov, where an event is an edge or, with rows, three.
 set -eu
 
 here=$(CDPATH='' cd -- "$(dirname "$0")" && pwd -P)
@@ -45,6 +49,31 @@ depends() {
                 printf "%-6s %9d %9d %10d %9.3f %9.1f %12.3f %9d\n", name, events, steps, bytes, s, m,
                     s * 1000000 / events, lines
             }'
+        done
+    done
+}
+
+# usage: show_prov COMMAND; a line of the table, of the document in the work folder.
+show_prov() {
+    awk -v name="$name" -v edges="$edges" -v command="$1" -v s="$seconds" -v m="$memory" \
+        -v bytes="$(wc -c <"$work/document")" 'BEGIN {
+        printf "%-6s %9d %10d %-17s %9.3f %9.3f %9.1f %9.2f\n", name, edges, bytes, command, s, s * 1000000 / edges, m,
+            m * 1048576 / bytes
+    }'
+}
+
+prov() {
+    printf '%-6s %9s %10s %-17s %9s %9s %9s %9s\n' run edges bytes command seconds us/edge MiB of-bytes
+    for name in files rows; do
+        for size in ${EDGES:-${SIZES:-1000 10000 100000 150000 400000 1000000}}; do
+            record "$name" "$size"
+            measure "$work/package" "$work/document" "$ldv" prov
+            edges=$(tr '{' '\n' <"$work/document" | grep -c '"ldv:first"')
+            show_prov prov
+            if [ "$(wc -c <"$work/document")" -le 67108864 ]; then
+                measure "$work/document" "$work/report" "$ldv" prov depends out
+                show_prov 'prov depends out'
+            fi
         done
     done
 }
@@ -153,11 +182,11 @@ gen() {
 }
 
 first=yes
-for part in ${ONLY:-depends table gen}; do
+for part in ${ONLY:-depends prov table gen}; do
     [ "$first" ] || echo
     first=
     case $part in
-        depends | table | gen) "$part" ;;
+        depends | prov | table | gen) "$part" ;;
         *)
             echo "inspect.sh: there is no part $part" >&2
             exit 2 ;;

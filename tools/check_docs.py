@@ -1,12 +1,14 @@
 #!/usr/bin/env python3
-"""Compares the documents with the tree that they speak of.
+"""Compares the documents with the tree that they speak of, and looks at its layout.
 
     tools/check_docs.py [ROOT]
 
 ROOT is the top of a checkout, by default that of this script. Checked are
 
-- crates.txt: that a crate comes after those that it stands on, that it names each of these in its sources,
-  specs or proofs, and that the folders of crates/ are the crates that it lists;
+- crates.txt: that a crate comes after those that it stands on, that its sources, specs or proofs use each of
+  these by a path, and that the folders of crates/ are the crates that it lists;
+- the lines of sources and specs: that they have at most 110 columns, but for imports and attributes, which
+  rt fmt lays out, and a few that have yet to be broken;
 - the tables of crates in docs/ARCHITECTURE.md against crates.txt: the crates in their order, what each stands
   on, and the libraries of the kit; and that its entry function and its first definition are where it says;
 - the boxes in docs/ARCHITECTURE.md against the parts of crates.txt;
@@ -20,9 +22,12 @@ ROOT is the top of a checkout, by default that of this script. Checked are
 
 It prints a line for each difference, and ends with status 1 where there is one.
 """
+from __future__ import annotations
+
 import os
 import re
 import sys
+from typing import Dict, Iterator, List, Optional, Set, Tuple, Union
 
 CRATES = 'crates.txt'
 ARCHITECTURE = 'docs/ARCHITECTURE.md'
@@ -38,31 +43,49 @@ CRATE_PATH = re.compile(r'(?<![\w./-])\w+/(?:src|specs|proofs|must-fail)/[\w./+*
 # A path with such a mark stands for several, or for one that a build makes.
 PLACEHOLDER = re.compile(r'\*|\bNAME\b|/out\b|[A-Z]{3,}\b(?!\.md)')
 
-# What a crate lists and needn't name.
-UNNAMED = ()
+COMMENT = re.compile(r'^\s*(?://|--).*$', re.M)
+# The first name of a path in antt, and in Rust.
+USED = re.compile(r'\bRattle\.(\w+)|\b(\w+)::')
+
+COLUMNS = 110
+LAID_OUT = re.compile(r'\s*(?:(?:pub |ghost )?use |#!?\[)')
+# How many longer lines a file has left. To break one is to prove anew what stands on its crate, so each waits
+# for another change of the crate.
+LONGER = {
+    'crates/lineage/specs/Blocks.antt': 4,
+    'crates/reach/specs/Depends.antt': 1,
+    'crates/reach/specs/Search.antt': 1,
+    'crates/run_laws/specs/LogLaws.antt': 1,
+    'crates/value_laws/specs/Literals.antt': 1,
+}
+
+# The number of a line, its cells, and those of the head of its table.
+Row = Tuple[int, List[str], List[str]]
+# What COMMANDS or the manual page has, with its line: the words of a command, or a status and its message.
+Listed = Dict[Union[str, Tuple[str, str]], int]
 
 
 class Differences:
     """Prints each difference, and counts them."""
 
-    def __init__(self):
+    def __init__(self) -> None:
         self.count = 0
 
-    def add(self, document, line, text):
+    def add(self, document: str, line: int, text: str) -> None:
         self.count += 1
         print(f'{document}:{line}: {text}')
 
 
-def read(root, name):
+def read(root: str, name: str) -> str:
     with open(os.path.join(root, name), encoding='utf-8') as file:
         return file.read()
 
 
-def exists(root, name):
+def exists(root: str, name: str) -> bool:
     return os.path.exists(os.path.join(root, name))
 
 
-def documents(root):
+def documents(root: str) -> List[str]:
     """All documents of the checkout, but for what a build makes."""
     found = []
     for folder, folders, files in os.walk(root):
@@ -71,9 +94,9 @@ def documents(root):
     return sorted(found)
 
 
-def parts_in(root):
+def parts_in(root: str) -> Dict[str, List[Tuple[int, str, List[str]]]]:
     """The parts of crates.txt by their headings: of each line its number, the crate and what it stands on."""
-    parts = {}
+    parts: Dict[str, List[Tuple[int, str, List[str]]]] = {}
     for number, line in enumerate(read(root, CRATES).splitlines(), 1):
         if line.startswith('# '):
             heading = line[2:].strip()
@@ -83,14 +106,14 @@ def parts_in(root):
     return parts
 
 
-def crates_in(root):
+def crates_in(root: str) -> Dict[str, List[str]]:
     """Each crate of crates.txt with what it stands on, in their order."""
     return {name: uses for lines in parts_in(root).values() for _, name, uses in lines}
 
 
-def tables(text):
+def tables(text: str) -> Iterator[Row]:
     """The tables of a document: each row as its line number, its cells and the cells of the table's head."""
-    head = None
+    head: Optional[List[str]] = None
     for number, line in enumerate(text.splitlines(), 1):
         if not line.startswith('|'):
             head = None
@@ -102,44 +125,72 @@ def tables(text):
             yield number, cells, head
 
 
-def codes(cell):
+def codes(cell: str) -> List[str]:
     return CODE.findall(cell)
 
 
 # ---- crates.txt
 
-def named_in(root, crate):
-    """All sources, specs and proofs of a crate."""
+def files_of(root: str, crate: str, parts: Tuple[str, ...]) -> List[str]:
+    """The files in Rust and in antt below some folders of a crate, as src and specs."""
     found = []
-    for folder, folders, files in os.walk(os.path.join(root, 'crates', crate)):
-        folders[:] = [f for f in folders if f != 'out']
-        found += [os.path.join(folder, f) for f in files if f.endswith(('.rt', '.antt'))]
-    return '\n'.join(open(file, encoding='utf-8').read() for file in found)
+    for part in parts:
+        for folder, folders, files in os.walk(os.path.join(root, 'crates', crate, part)):
+            folders.sort()
+            found += [os.path.relpath(os.path.join(folder, f), root) for f in sorted(files)
+                      if f.endswith(('.rt', '.antt'))]
+    return found
 
 
-def check_list(root, differ):
+def used_by(root: str, crate: str) -> Set[str]:
+    """The libraries that a crate names in the paths of its sources, specs and proofs."""
+    text = '\n'.join(read(root, file) for file in files_of(root, crate, ('src', 'specs', 'proofs')))
+    text = COMMENT.sub('', text)
+    return {name for names in USED.findall(text) for name in names}
+
+
+def check_list(root: str, differ: Differences) -> None:
     crates = crates_in(root)
-    seen = set()
+    seen: Set[str] = set()
     for number, name, uses in [line for lines in parts_in(root).values() for line in lines]:
         for use in uses:
             if use in crates and use not in seen:
                 differ.add(CRATES, number, f'{name} comes before {use}')
         seen.add(name)
-        text = named_in(root, name)
-        for use in uses:
-            if use not in UNNAMED and not re.search(r'\b%s\b' % re.escape(use), text):
-                differ.add(CRATES, number, f'{name} names no {use}')
+        for use in sorted(set(uses) - used_by(root, name)):
+            differ.add(CRATES, number, f'{name} uses no {use}')
     folders = {f for f in os.listdir(os.path.join(root, 'crates')) if exists(root, f'crates/{f}/src')}
     for name in sorted(folders ^ set(crates)):
         differ.add(CRATES, 1, f'{name} is '
                    + ('no crate of the list' if name in folders else 'no folder of crates/'))
 
 
+# ---- lines
+
+def longer_lines(text: str) -> Iterator[Tuple[int, int]]:
+    """The lines that are too long, each by its number, with their lengths."""
+    for number, line in enumerate(text.split('\n'), 1):
+        if len(line) > COLUMNS and not LAID_OUT.match(line):
+            yield number, len(line)
+
+
+def check_lines(root: str, differ: Differences) -> None:
+    for crate in crates_in(root):
+        for file in files_of(root, crate, ('src', 'specs')):
+            found = list(longer_lines(read(root, file)))
+            left = LONGER.get(file, 0)
+            if len(found) > left:
+                for number, length in found:
+                    differ.add(file, number, f'a line of {length} columns')
+            elif len(found) < left:
+                differ.add(file, 1, f'has {len(found)} longer lines, and LONGER says {left}')
+
+
 # ---- the boxes and tables of crates
 
-def boxes_in(text):
+def boxes_in(text: str) -> List[Tuple[str, List[str]]]:
     """The boxes of docs/ARCHITECTURE.md: the heading and the crates of each."""
-    boxes = []
+    boxes: List[Tuple[str, List[str]]] = []
     for line in text.splitlines():
         heading = re.match(r'    [┌├]─ (.*?) ─+[┐┤]$', line)
         if heading:
@@ -149,7 +200,7 @@ def boxes_in(text):
     return boxes
 
 
-def check_boxes(root, differ):
+def check_boxes(root: str, differ: Differences) -> None:
     boxes = dict(boxes_in(read(root, ARCHITECTURE)))
     parts = {heading: [name for _, name, _ in lines] for heading, lines in parts_in(root).items()}
     for heading in sorted(set(boxes) | set(parts)):
@@ -158,13 +209,13 @@ def check_boxes(root, differ):
             differ.add(ARCHITECTURE, 1, f'the box {heading} has {" ".join(here)}, {CRATES} {" ".join(there)}')
 
 
-def place(crate, path):
+def place(crate: str, path: str) -> str:
     """A file of the crate itself, or of another one whose name stands before it."""
     own = path.split('/')[0] in ('src', 'specs', 'proofs')
     return f'crates/{crate}/{path}' if own else f'crates/{path}'
 
 
-def check_entry(root, number, crate, cell, differ):
+def check_entry(root: str, number: int, crate: str, cell: str, differ: Differences) -> None:
     """The last code in the cell is a file, and those before it are functions that it defines."""
     words = codes(cell)
     if not words:
@@ -179,7 +230,7 @@ def check_entry(root, number, crate, cell, differ):
             differ.add(ARCHITECTURE, number, f'{file} has no function {word}')
 
 
-def check_crates(root, differ):
+def check_crates(root: str, differ: Differences) -> None:
     check_list(root, differ)
     check_boxes(root, differ)
     crates = crates_in(root)
@@ -204,8 +255,8 @@ def check_crates(root, differ):
     check_kit(crates, differ, root)
 
 
-def check_kit(crates, differ, root):
-    used = {}
+def check_kit(crates: Dict[str, List[str]], differ: Differences, root: str) -> None:
+    used: Dict[str, List[str]] = {}
     for crate, uses in crates.items():
         for use in uses:
             if use not in crates:
@@ -227,13 +278,13 @@ def check_kit(crates, differ, root):
 
 # ---- links and paths
 
-def headings(text):
+def headings(text: str) -> Set[str]:
     """The anchors of a document's headings."""
     titles = re.findall(r'^#+ (.*)$', text, re.M)
     return {re.sub(r'[^\w\- ]', '', title.lower()).replace(' ', '-') for title in titles}
 
 
-def check_link(root, document, number, target, differ):
+def check_link(root: str, document: str, number: int, target: str, differ: Differences) -> None:
     if re.match(r'[a-z]+:', target):
         return
     path, _, anchor = target.partition('#')
@@ -244,7 +295,7 @@ def check_link(root, document, number, target, differ):
         differ.add(document, number, f'{file} has no heading {anchor}')
 
 
-def check_paths(root, document, differ):
+def check_paths(root: str, document: str, differ: Differences) -> None:
     for number, line in enumerate(read(root, document).splitlines(), 1):
         for target in LINK.findall(line):
             check_link(root, document, number, target, differ)
@@ -258,7 +309,7 @@ def check_paths(root, document, differ):
 
 # ---- definitions
 
-def check_definitions(root, differ):
+def check_definitions(root: str, differ: Differences) -> None:
     """A row's names are defined in the file of its last cell,
     in the folder that its section's heading names."""
     text = read(root, DEFINITIONS)
@@ -284,10 +335,11 @@ def check_definitions(root, differ):
 
 # ---- the manual page
 
-def listed_commands(text):
+def listed_commands(text: str) -> Tuple[Listed, Listed]:
     """The words of each command in the tables of words,
     and each status with its message in those of statuses; both with their line."""
-    commands, statuses = {}, {}
+    commands: Listed = {}
+    statuses: Listed = {}
     for number, cells, head in tables(text):
         if head[0] == 'Words':
             commands.update((words, number) for words in codes(cells[0]))
@@ -297,9 +349,10 @@ def listed_commands(text):
     return commands, statuses
 
 
-def manual_commands(text):
+def manual_commands(text: str) -> Tuple[Listed, Listed]:
     """The same of a manual page: the items of its lists that begin with a command or with a number."""
-    commands, statuses = {}, {}
+    commands: Listed = {}
+    statuses: Listed = {}
     for number, line in enumerate(text.splitlines(), 1):
         if line.startswith('.It Cm '):
             words = re.sub(r'\b(?:Cm|Ar) ', '', line[len('.It '):])
@@ -310,7 +363,7 @@ def manual_commands(text):
     return commands, statuses
 
 
-def check_manual(root, differ):
+def check_manual(root: str, differ: Differences) -> None:
     listed, manual = listed_commands(read(root, COMMANDS)), manual_commands(read(root, MANUAL))
     for what, here, there in zip(('command', 'status'), listed, manual):
         for name in sorted(set(here) ^ set(there)):
@@ -321,10 +374,11 @@ def check_manual(root, differ):
                 differ.add(MANUAL, there[name], f'{COMMANDS} has no {what} {shown}')
 
 
-def main(words):
+def main(words: List[str]) -> int:
     root = words[0] if words else os.path.dirname(os.path.dirname(os.path.abspath(__file__)))
     differ = Differences()
     check_crates(root, differ)
+    check_lines(root, differ)
     for document in documents(root):
         check_paths(root, document, differ)
     check_definitions(root, differ)

@@ -3,7 +3,8 @@
 
     tools/check_page.py [--program PROGRAM] [--fill] [PAGE ..]
 
-A page is a document with indented blocks such as this one, by default docs/PACKAGES.md and docs/TUTORIAL.md:
+A page is a document with indented blocks such as this one, by default docs/PACKAGES.md,
+docs/ORDERS.md and docs/TUTORIAL.md:
 
     $ ./ldv record < examples/orders.json > orders.package
     $ ./ldv inspect why orders 0 < orders.package
@@ -39,6 +40,7 @@ from ldvtools.outcomes import read_outcome                                   # n
 from ldvtools.values import cell, reply_title                                # noqa: E402
 
 PAGE = os.path.join(ROOT, "docs", "PACKAGES.md")
+ORDERS = os.path.join(ROOT, "docs", "ORDERS.md")
 TUTORIAL = os.path.join(ROOT, "docs", "TUTORIAL.md")
 STATEMENT = re.compile(r"`((?:SELECT|INSERT|UPDATE|DELETE) [^`]+)`")
 DATA = re.compile(r"`(examples/[\w./]+\.csv)`")
@@ -196,7 +198,7 @@ def check(path, program, fill):
 
 def main(words=None):
     parser = words_of("check_page.py", __doc__)
-    parser.add_argument("pages", nargs="*", default=[PAGE, TUTORIAL], metavar="PAGE")
+    parser.add_argument("pages", nargs="*", default=[PAGE, ORDERS, TUTORIAL], metavar="PAGE")
     parser.add_argument("--program", default=PROGRAM)
     parser.add_argument("--fill", action="store_true")
     given = parser.parse_args(words)

@@ -100,6 +100,17 @@ def at_the_limits(check):
         check.expect('noise after a right magic', ['replay'], noise, 8, error=b'ldv: damaged: digest\n')
     check.expect('arrays nested 100,000 deep', ['run'], b'[' * 100_000 + b']' * 100_000, 6,
                  error=b'ldv: not a world: not json\n')
+    no_document = b'ldv: not a provenance document\n'
+    check.expect('a document nested 100,000 deep', ['prov', 'depends', 'main'], b'{"a":' * 100_000, 16,
+                 error=no_document)
+    check.expect('a document of one text of 64 MiB', ['prov', 'depends', 'main'],
+                 b'"' + b'x' * (INPUT_LIMIT - 2) + b'"', 16, error=no_document)
+    long_path = b'{"activity":{},"entity":{"ldv:path/' + b'x' * (60 << 20) + b'":{"ldv:place":0}},'
+    check.expect('a document with a path of 60 MiB', ['prov', 'depends', 'main'],
+                 long_path + b'"used":{},"wasDerivedFrom":{},"wasGeneratedBy":{},"wasInformedBy":{}}', 16,
+                 error=no_document)
+    check.expect('a document past the limit', ['prov', 'depends', 'main'], b' ' * (INPUT_LIMIT + 1), 5,
+                 error=too_long)
     long_text = b'{"start":["main","' + b'x' * (60 << 20) + b'"],"files":{"main":""}}'
     check.expect('a start word of 60 MiB', ['run'], long_text, 6, error=b'ldv: not a world: limit\n')
 

@@ -5,7 +5,7 @@ import json
 import os
 import sys
 import tempfile
-from typing import Iterable, Mapping, Optional, Sequence, Tuple
+from typing import Iterable, Mapping, NamedTuple, Optional, Sequence, Tuple
 
 from .errors import Refused
 from .language import MAX_DOCUMENT
@@ -25,16 +25,26 @@ def file_json(content: bytes) -> str:
         return as_json({"hex": content.hex()})
 
 
-def table_json(columns: Sequence[Tuple[str, str]], key: Sequence[str], rows: Sequence[str],
+class Rows(NamedTuple):
+    """The rows of a table as the document has them, and how many they are."""
+
+    text: str
+    number: int
+
+
+def row_lines(cells: Iterable[str], count: int) -> Rows:
+    """So many rows, each as its cells in JSON with commas between them."""
+    return Rows("[\n        [" + "],\n        [".join(cells) + "]\n      ]" if count else "[]", count)
+
+
+def table_json(columns: Sequence[Tuple[str, str]], key: Sequence[str], rows: Rows,
                following: Optional[int] = None, foreign: Sequence[Tuple[Sequence[str], str]] = ()) -> str:
-    """A table. Each row is JSON already; the number of the next row is left out where
-    it is the number of rows."""
+    """A table. The number of the next row is left out where it is the number of rows."""
     parts = [f'      "columns": {as_json([list(column) for column in columns])}']
     if key:
         parts.append(f'      "key": {as_json(list(key))}')
-    lines = ",\n        ".join(rows)
-    parts.append('      "rows": ' + (f"[\n        {lines}\n      ]" if lines else "[]"))
-    if following is not None and following != len(rows):
+    parts.append('      "rows": ' + rows.text)
+    if following is not None and following != rows.number:
         parts.append(f'      "next": {following}')
     if foreign:
         parts.append(f'      "foreign": {as_json([[list(columns), parent] for columns, parent in foreign])}')

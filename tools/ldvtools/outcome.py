@@ -5,6 +5,9 @@
     tools/outcome.py --csv world.outcome                  one section for each reply
     tools/outcome.py --csv --reply 2 world.outcome        the second reply only
     tools/outcome.py --folder replies world.outcome       a file for each reply: replies/0-1.csv and so on
+    tools/outcome.py --printed world.outcome              what process 0 printed, as it is, and nothing else
+    tools/outcome.py --file report.txt world.outcome      the bytes of one file, and nothing else
+    tools/outcome.py --scale tenths=1 --world ..          the column tenths as decimals: 3 is shown as 0.3
 
 docs/FORMATS.md has the format. Replies are counted from 1 within their process. An outcome has no statements
 and no names of columns. With --world or --package, of which it is the outcome, each reply has its statement
@@ -14,8 +17,12 @@ In a table numbers stand right and texts left. A text stands in quotes where it 
 else: where it is empty, NULL or a number, has blanks at an end, or has characters that don't show. In CSV
 NULL is an empty field (or what --null says) and the empty text is "".
 
+--scale NAME=N shows the numbers of each column with this head as decimals with N digits after the point, as
+`world.py --scale` carried them: at 2, 300 is 3.00. A column without a name has its place for a head, so
+--scale 2=1 is such a second column. It holds for tables and CSV, and changes no outcome.
+
 At the end it says how many statements were refused and how many processes ended by misuse, where there are
-such; with --csv and --folder it does so on standard error.
+such; with --csv, --folder, --printed and --file it does so on standard error.
 
 Statuses: 0 shown; 1 the input is no outcome, a file can't be read or written, or, with --strict, a statement
 was refused or a process ended by misuse; 2 wrong words.
@@ -24,16 +31,18 @@ from __future__ import annotations
 
 import argparse
 import os
+import re
 import sys
-from typing import Dict, List, Optional, Sequence, Tuple
+from typing import Dict, List, Optional, Sequence, Set, Tuple
 
-from .errors import Malformed, Misused, command, words_of
+from .errors import Misused, Refused, command, words_of
 from .language import KEYED_REFUSALS, MISUSES
 from .outcomes import Outcome, read_outcome
 from .packages import read_package
 from .rerun import Question, questions_of
 from .sql_check import judge
-from .values import Reply, Row, cell, csv_line, escaped, plain_count, reply_title, table_lines
+from .values import (Reply, Row, Scaled, Value, cell, csv_line, escaped, heads_of, plain_count, reply_title,
+                     table_lines)
 from .worlds import Document, read_world, world_of_package
 
 Asked = Dict[Tuple[str, int], Tuple[Question, List[str]]]
@@ -110,6 +119,65 @@ def asked_in(document: Document, outcome: Outcome) -> Asked:
             for question in questions_of(document.world, outcome)}
 
 
+# ---- decimals
+
+def scales_of(words: Sequence[str]) -> Dict[str, int]:
+    """The decimals of columns by their heads, as --scale names them."""
+    found: Dict[str, int] = {}
+    for word in words:
+        name, _, number = word.rpartition("=")
+        if not name or not re.fullmatch("[0-9]|1[0-8]", number):
+            raise Misused(f"--scale {word}: give NAME=N, the head of a column and 0 to 18 decimals")
+        found[name] = int(number)
+    return found
+
+
+def scaled(outcome: Outcome, asked: Optional[Asked], scales: Dict[str, int]) -> Outcome:
+    """An outcome in which the numbers of some columns are shown as decimals."""
+    heads: Set[str] = set()
+    processes = []
+    for process in outcome.processes:
+        replies = []
+        for number, reply in enumerate(process.replies):
+            found = (asked or {}).get((process.name, number))
+            width = max(map(len, reply.rows), default=0)
+            names = heads_of(found[1] if found else [], width)
+            heads |= set(names)
+            rows = [[shown_at(value, scales.get(name)) for value, name in zip(row, names)]
+                    for row in reply.rows]
+            replies.append(reply._replace(rows=rows))
+        processes.append(process._replace(replies=replies))
+    for name in scales:
+        if name not in heads:
+            there = ", ".join(sorted(heads)) or "none"
+            rest = "" if asked else "; --world or --package gives names"
+            raise Misused(f"--scale {name}: no reply has a column with this head; there are {there}{rest}")
+    return outcome._replace(processes=processes)
+
+
+def shown_at(value: Value, scale: Optional[int]) -> Value:
+    return Scaled(value, scale) if isinstance(value, int) and scale is not None else value
+
+
+# ---- a part alone
+
+def printed_by(outcome: Outcome, name: str) -> bytes:
+    for process in outcome.processes:
+        if process.name == name:
+            return process.printed.encode()
+    raise Refused(f"there is no process {name}")
+
+
+def content_of(outcome: Outcome, path: str) -> bytes:
+    there = dict(outcome.touched)
+    content = there.get(path)
+    if content is None:
+        paths = ", ".join(escaped(each) for each, found in outcome.touched if found is not None) or "none"
+        what = "was removed" if path in there else "isn't there"
+        raise Refused(f"the file {escaped(path)} {what}; the run left {paths}")
+    return content
+
+
 # ---- CSV
 
 def csv_text(reply: Reply, null: str, names: Optional[List[str]] = None) -> str:
@@ -137,9 +205,9 @@ def chosen_reply(outcome: Outcome, name: str, number: int) -> Reply:
     for process in outcome.processes:
         if process.name == name:
             if not 1 <= number <= len(process.replies):
-                raise Malformed(f"process {name} has {len(process.replies)} replies, and none is {number}")
+                raise Refused(f"process {name} has {len(process.replies)} replies, and none is {number}")
             return process.replies[number - 1]
-    raise Malformed(f"there is no process {name}")
+    raise Refused(f"there is no process {name}")
 
 
 def write_folder(outcome: Outcome, folder: str, null: str, asked: Optional[Asked]) -> None:
@@ -160,8 +228,12 @@ def read_words(given: Optional[Sequence[str]]) -> argparse.Namespace:
     parser.add_argument("outcome", nargs="?", help="the outcome (default: standard input)")
     parser.add_argument("--csv", action="store_true", help="the replies as CSV")
     parser.add_argument("--reply", type=int, metavar="K", help="with --csv: only the reply K")
-    parser.add_argument("--process", default="0", metavar="NAME", help="with --reply: of which (default 0)")
+    parser.add_argument("--process", metavar="NAME", help="with --reply or --printed: of which (default 0)")
     parser.add_argument("--folder", metavar="FOLDER", help="a CSV file for each reply, in this folder")
+    parser.add_argument("--printed", action="store_true", help="only what a process printed, as it is")
+    parser.add_argument("--file", metavar="PATH", help="only the bytes of the file at this path")
+    parser.add_argument("--scale", metavar="NAME=N", action="append", default=[],
+                        help="show the columns with this head as decimals with N digits after the point")
     parser.add_argument("--null", default="", metavar="WORD", help="NULL in CSV (default: an empty field)")
     parser.add_argument("--world", metavar="FILE", help="the world of which it is the outcome")
     parser.add_argument("--package", metavar="FILE", help="the package of which it is the outcome")
@@ -171,8 +243,12 @@ def read_words(given: Optional[Sequence[str]]) -> argparse.Namespace:
     words = parser.parse_args(given)
     if words.reply is not None and not words.csv:
         parser.error("--reply goes with --csv")
-    if words.csv and words.folder:
-        parser.error("give either --csv or --folder")
+    if sum(map(bool, (words.csv, words.folder, words.printed, words.file is not None))) > 1:
+        parser.error("give one of --csv, --folder, --printed and --file")
+    if words.process is not None and words.reply is None and not words.printed:
+        parser.error("--process goes with --reply or --printed")
+    if words.scale and (words.printed or words.file is not None):
+        parser.error("--scale goes with replies")
     if words.world and words.package:
         parser.error("give either --world or --package")
     return words
@@ -186,7 +262,11 @@ def read_input(path: Optional[str]) -> bytes:
 
 
 def write_out(text: str) -> None:
-    sys.stdout.buffer.write(text.encode())
+    write_bytes(text.encode())
+
+
+def write_bytes(data: bytes) -> None:
+    sys.stdout.buffer.write(data)
     sys.stdout.buffer.flush()
 
 
@@ -207,19 +287,29 @@ def work(given: Optional[Sequence[str]]) -> int:
     document = document_of(words)
     asked = asked_in(document, outcome) if document else None
     ends = end_lines(outcome)
+    scales = scales_of(words.scale)
+    show(scaled(outcome, asked, scales) if scales else outcome, asked, words)
+    if words.folder or words.csv or words.printed or words.file is not None:
+        for line in ends:
+            print(f"outcome.py: {line}", file=sys.stderr)
+    return 1 if words.strict and ends else 0
+
+
+def show(outcome: Outcome, asked: Optional[Asked], words: argparse.Namespace) -> None:
+    name = words.process or "0"
     if words.folder:
         write_folder(outcome, words.folder, words.null, asked)
+    elif words.printed:
+        write_bytes(printed_by(outcome, name))
+    elif words.file is not None:
+        write_bytes(content_of(outcome, words.file))
     elif words.reply is not None:
-        found = (asked or {}).get((words.process, words.reply - 1))
-        write_out(csv_text(chosen_reply(outcome, words.process, words.reply), words.null, found and found[1]))
+        found = (asked or {}).get((name, words.reply - 1))
+        write_out(csv_text(chosen_reply(outcome, name, words.reply), words.null, found and found[1]))
     elif words.csv:
         write_out(csv_sections(outcome, words.null, asked))
     else:
         write_out("".join(line + "\n" for line in shown_lines(outcome, asked)))
-    if words.folder or words.csv:
-        for line in ends:
-            print(f"outcome.py: {line}", file=sys.stderr)
-    return 1 if words.strict and ends else 0
 
 
 def main(given: Optional[Sequence[str]] = None) -> int:

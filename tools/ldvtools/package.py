@@ -32,7 +32,7 @@ import sys
 from typing import Dict, Iterator, List, Optional, Sequence, Tuple, Union
 
 from .check import findings_of
-from .documents import as_json, document, table_json, write_file
+from .documents import as_json, document, row_lines, table_json, write_file
 from .errors import Refused, command, words_of
 from .language import RULE_TEXTS
 from .outcome import read_input, write_out
@@ -267,7 +267,7 @@ def world_of(package: Package, asks: Sequence[str]) -> Tuple[bytes, List[str]]:
             foreign = []
         if [row.number for row in table.rows] != list(range(len(table.rows))):
             notes.append(f"{table.name}: its rows get the numbers 0 to {len(table.rows) - 1}")
-        rows = [as_json(row.values) for row in table.rows]
+        rows = row_lines((as_json(row.values)[1:-1] for row in table.rows), len(table.rows))
         tables.append((table.name, table_json(table.columns, table.key, rows, table.next, foreign)))
     if asks:
         files = {"main": script_of([(text, f"--ask {place}") for place, text in enumerate(asks, 1)])}

@@ -24,7 +24,6 @@ import html
 import json
 import os
 import pkgutil
-import subprocess
 import sys
 from typing import List, Optional, Sequence, Tuple
 
@@ -34,6 +33,7 @@ from .outcome import read_input
 from .outcomes import Outcome, read_outcome
 from .packages import Package, read_package
 from .page_data import Json, page_json
+from .program import answer_of
 
 TEMPLATE = """<!DOCTYPE html>
 <html lang="en">
@@ -76,15 +76,6 @@ def page_text(data: Json) -> str:
 
 
 # ---- the program
-
-def answer_of(program: str, words: Sequence[str], data: bytes) -> Tuple[int, bytes, str]:
-    try:
-        done = subprocess.run([program, *words], input=data, stdout=subprocess.PIPE, stderr=subprocess.PIPE,
-                              check=False)
-    except OSError as fault:
-        raise Refused(f"{program}: {fault.strerror}") from None
-    return done.returncode, done.stdout, done.stderr.decode(errors="replace").strip()
-
 
 def asked_program(program: str, data: bytes, package: Package, run: Optional[int],
                   budget: Sequence[str]) -> Tuple[Outcome, Optional[str]]:

@@ -3,6 +3,7 @@ with their cause."""
 from __future__ import annotations
 
 import difflib
+import re
 from typing import Dict, Iterator, List, Mapping, NamedTuple, NoReturn, Optional, Sequence, Set, Tuple
 
 from .sql import Core, Expr, Insert, NoReading, Parsed, Query, Source, Statement, Update, parse_statement
@@ -238,7 +239,7 @@ class Kinds:
                 refuse(4, part.at, f"a condition is no value, and {expr.word} compares values")
         if set(kinds) == {INT, TEXT}:
             left, right = (told(part, kind) for part, kind in zip(expr.parts, kinds))
-            refuse(4, expr.at, f"{expr.word} compares {left} with {right}")
+            refuse(4, expr.at, f"{expr.word} compares {left} with {right}{quotes_hint(expr, kinds)}")
 
     def aggregate(self, expr: Expr, over_groups: bool) -> str:
         name = expr.word.upper()
@@ -271,7 +272,15 @@ def kind_of_value(value: object) -> str:
 def told(expr: Expr, kind: str) -> str:
     """An expression as a message names it."""
     what = {INT: "a number", TEXT: "a text", ANY: "NULL", TRUTH: "a condition"}[kind]
-    return f"{shown(expr)}, {what}," if expr.form == "column" else what
+    return f"{shown(expr)} ({what})" if expr.form == "column" else what
+
+
+def quotes_hint(expr: Expr, kinds: Sequence[str]) -> str:
+    """Where a number is compared with a number in quotes, the number."""
+    for part, kind in zip(expr.parts, kinds):
+        if part.form == "constant" and kind == TEXT and re.fullmatch(r"-?[0-9]{1,18}", str(part.value)):
+            return f"; a number has no quotes: {part.value}"
+    return ""
 
 
 def names_column(expr: Expr) -> bool:

@@ -11,6 +11,23 @@ Value = Union[None, int, str]
 Row = List[Value]
 
 
+class Scaled(int):
+    """A number that is carried as a whole number of tenths, hundredths and so on, and shown as a decimal."""
+
+    scale: int
+
+    def __new__(cls, number: int, scale: int) -> Scaled:
+        found = super().__new__(cls, number)
+        found.scale = scale
+        return found
+
+    def __str__(self) -> str:
+        if self.scale == 0:
+            return int.__repr__(self)
+        digits = int.__repr__(abs(self)).rjust(self.scale + 1, "0")
+        return f"{'-' if self < 0 else ''}{digits[:-self.scale]}.{digits[-self.scale:]}"
+
+
 class Reply(NamedTuple):
     """A reply. `kind` is "rows", "changed" or "refused", and only the fields of that kind have a meaning."""
 
@@ -57,12 +74,15 @@ def cell(value: Value) -> str:
     return value
 
 
+def heads_of(names: Sequence[str], width: int) -> List[str]:
+    """The heads of columns: their names, as far as these are known, and their places from 1."""
+    return [*names, *(str(place) for place in range(len(names) + 1, width + 1))]
+
+
 def table_lines(rows: Sequence[Row], names: Optional[Sequence[str]] = None) -> List[str]:
     """Rows as a table with the names of its columns, or with these counted from 1."""
-    width = max([len(row) for row in rows] + [len(names or ())])
-    known = list(names or ())
-    heads = (known + [str(place + 1) for place in range(len(known), width)]) if known else [
-        str(place + 1) for place in range(width)]
+    heads = heads_of(names or (), max(map(len, rows), default=0))
+    width = len(heads)
     cells = [[cell(value) for value in row] for row in rows]
     sizes = [max(len(row[place]) for row in [heads] + cells if place < len(row)) for place in range(width)]
 

@@ -12,8 +12,18 @@ A CSV file has a header; a blank line is no row. A column is INT where each cell
 number of 64 bits without a plus sign or needless zeros; else it is TEXT. An empty cell is NULL. --kind,
 --empty and --null say otherwise. A world has no decimals and no dates: --scale carries a decimal as a whole
 number of tenths, cents and so on, and a date is best a text such as 2019-01-31, which compares as the date
-does. A byte order mark says the encoding of a file. --delimiter, --decimal, --encoding and --null hold for
-all CSV files: convert the odd one first.
+does; --date makes such texts. A column that looks like numbers or dates and is neither is said, with the
+options that carry it. A byte order mark says the encoding of a file.
+
+--delimiter, --encoding, --decimal, --thousands and --null hold for all CSV files, or for the one whose table
+is named: --delimiter 'plots=;'. The last three may name a column too: --null plots.height=NA.
+--tsv, --skip-blank, --round, --lower and --tidy hold for all files.
+
+--tidy makes a name of each header and of each file's name: letters become small ASCII letters without their
+marks (ä a, ß ss, æ ae, ø o), what stands between letters and digits one _, and none stands at an end. A text
+without any of these becomes column; _ stands before a first digit, and after a reserved word (count becomes
+count_). A name that is there already in its table has _ and its place from 1 behind it: a second Count, in
+column 5, becomes count__5.
 
 Scripts and statements are looked at as `tools/check.py` does. What they have wrong is a warning, and the
 world is made; a join that would mean another one, such as LEFT JOIN, is refused.
@@ -38,10 +48,11 @@ from .language import MAX_FILE, MAX_FILES, MAX_PATH, MAX_START_WORDS, MAX_TABLES
 from .progress import Progress
 from .scripts_of_statements import script_of
 from .sql_check import Schemas
+from .world_columns import Table
 from .world_csv import named_file, read_csv, read_file
 from .world_settings import Settings
 from .world_sqlite import note_types, read_database
-from .world_tables import Table, rows_json, settle
+from .world_tables import rows_json, settle
 
 
 # ---- what a world has
@@ -49,11 +60,10 @@ from .world_tables import Table, rows_json, settle
 def world_tables(words: argparse.Namespace, notes: List[str], hints: List[str],
                  progress: Progress) -> List[Table]:
     settings = Settings(words)
-    delimiter = "\t" if words.delimiter == "tab" else words.delimiter
 
     def read_all() -> Iterator[List[Table]]:
         for word in words.csv:
-            yield [read_csv(word, settings, delimiter, words.encoding, hints, progress)]
+            yield [read_csv(word, settings, hints, progress)]
         for path in words.sqlite:
             yield read_database(path, words.table, settings, notes)
 
@@ -91,10 +101,9 @@ def check_names(tables: Sequence[Table], left: Iterator[List[Table]], settings: 
     except Refused:
         return
     for table in there:
-        settings.take("--key", table.name)
+        settings.take_all(table.name)
         for column in table.columns:
-            for option in ("--kind", "--scale", "--empty"):
-                settings.take(option, table.full_name(column))
+            settings.take_all(table.full_name(column))
     settings.check_used(names_of(there))
 
 
@@ -111,6 +120,8 @@ def shuffle(tables: Sequence[Table], seed: int) -> None:
         chance.shuffle(order)
         for column in table.columns:
             column.cells = [column.cells[place] for place in order]
+            if column.spelled is not None:
+                column.spelled = [column.spelled[place] for place in order]
 
 
 def statement_texts(words: argparse.Namespace) -> List[Tuple[str, str]]:
@@ -208,11 +219,16 @@ def read_words(given: Optional[Sequence[str]]) -> argparse.Namespace:
     many("--kind", "TABLE.COLUMN=KIND", "INT, TEXT, 'INT NOT NULL' or 'TEXT NOT NULL'")
     many("--scale", "TABLE.COLUMN=N", "a column of decimals: with N = 1, 3.4 is carried as 34")
     many("--empty", "TABLE.COLUMN=text", "in this column of a CSV file an empty cell is the empty text")
-    many("--null", "WORD", "in CSV files WORD is NULL too, such as NA")
+    many("--unit", "TABLE.COLUMN=TEXT", "its numbers have this before or after them, such as %% or €")
+    many("--date", "TABLE.COLUMN=FORM", "its dates are made texts that compare as dates: dmy (31.1.2019), "
+         "mdy (1/31/2019) or ymd become 2019-01-31; time makes 09:05 of 9:05 and 21:05 of 9:05 PM")
+    many("--null", "[NAME=]WORD", "in CSV files WORD is NULL too, such as NA; NAME is TABLE or TABLE.COLUMN")
     many("--rename", "OLD=NEW",
          "another name for the table OLD, for the column TABLE.OLD, or for the third column TABLE.#3")
-    many("--leave-out", "NAME", "not the table OLD, or not the column TABLE.COLUMN")
-    parser.add_argument("--decimal", default=".", metavar="CHARACTER", help="in --scale columns (default .)")
+    many("--leave-out", "NAME", "not the table OLD, or not the column TABLE.COLUMN, or the third TABLE.#3")
+    many("--decimal", "[NAME=]CHARACTER", "in columns of --scale (default .); NAME as for --null")
+    many("--thousands", "[NAME=]CHARACTER", "stands between thousands in columns of --scale or --kind INT; "
+         "NAME as for --null. With . the default of --decimal is ,")
     parser.add_argument("--round", action="store_true",
                         help="round what has more decimals than --scale, half to even")
     parser.add_argument("--skip-blank", action="store_true",
@@ -222,14 +238,12 @@ def read_words(given: Optional[Sequence[str]]) -> argparse.Namespace:
                              "they had")
     parser.add_argument("--lower", action="store_true", help="names in lower case")
     parser.add_argument("--tidy", action="store_true",
-                        help="what isn't a name is made one: 'Birth year' birth_year, "
-                        "and a header that is there twice gets its place behind it")
-    parser.add_argument("--delimiter", default=",", help="of CSV files: one character, or tab (default ,)")
+                        help="what isn't a name is made one, as said above: 'Birth year' birth_year")
+    many("--delimiter", "[TABLE=]CHARACTER", "of CSV files: one character, or tab (default ,)")
     parser.add_argument("--tsv", action="store_true",
                         help="the CSV files are as COPY of PostgreSQL and --batch of MySQL write "
                         "them: tabs between cells, no quotes, \\t, \\n and \\\\ as escapes, \\N for NULL")
-    parser.add_argument("--encoding", default="utf-8",
-                        help="of CSV files without a byte order mark (default utf-8)")
+    many("--encoding", "[TABLE=]NAME", "of CSV files without a byte order mark (default utf-8)")
     parser.add_argument("-o", "--output", metavar="FILE", help="the document (default: standard output)")
     parser.add_argument("-q", "--quiet", action="store_true", help="say nothing but why it is refused")
     parser.add_argument("--strict", action="store_true", help="refuse where there is a note or a warning")
@@ -247,10 +261,6 @@ def check_words(words: argparse.Namespace) -> None:
         raise Misused("give a start script: either --script, or --sql and --ask")
     if not 0 <= words.seed < 2**64:
         raise Misused("--seed is from 0 to 18446744073709551615")
-    if words.delimiter != "tab" and (len(words.delimiter) != 1 or words.delimiter in '"\r\n'):
-        raise Misused("--delimiter is one character, or tab")
-    if len(words.decimal) != 1 or words.decimal.isalnum() or words.decimal in "+-":
-        raise Misused("--decimal is one character, such as ,")
     if words.table and not words.sqlite:
         raise Misused("--table names a table of a database; give --sqlite")
 

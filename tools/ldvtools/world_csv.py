@@ -1,6 +1,7 @@
 """Tables of CSV files."""
 from __future__ import annotations
 
+import codecs
 import csv
 import io
 import itertools
@@ -11,8 +12,9 @@ from typing import Any, List, Optional, Sequence, Tuple
 from .errors import Misused, Refused
 from .progress import Progress
 from .values import plain_count
+from .world_columns import NO_VALUE, Column, Table
 from .world_settings import Settings, tidy_name, tidy_names
-from .world_tables import NO_VALUE, Column, Table, keep_columns
+from .world_tables import keep_columns
 
 MARKS = ((b"\xef\xbb\xbf", "utf-8-sig"), (b"\xff\xfe\x00\x00", "utf-32"), (b"\x00\x00\xfe\xff", "utf-32"),
          (b"\xff\xfe", "utf-16"), (b"\xfe\xff", "utf-16"))
@@ -38,56 +40,58 @@ def read_file(path: str, size: int = -1) -> bytes:
         raise Refused(f"{path}: {fault.strerror}") from None
 
 
-def read_csv(word: str, settings: Settings, delimiter: str, encoding: str, hints: List[str],
-             progress: Progress) -> Table:
+def read_csv(word: str, settings: Settings, hints: List[str], progress: Progress) -> Table:
     """The table of a CSV file, not settled yet."""
     given, path = named_file(word)
     name = given or os.path.splitext(os.path.basename(path))[0]
     name = settings.new_name(name, tidy_name(name) if settings.tidy and not given else name)
-    lines = Lines(path, text_of(path, encoding), "\t" if settings.is_tsv else delimiter, settings.is_tsv)
-    records = records_of(lines, progress)
-    if not records:
-        raise Refused(f"{path} is empty; its first line has to name the columns")
-    header = records.pop(0)
-    check_header(lines, header, records)
-    for place, row in enumerate(records, 1) if set(map(len, records)) - {len(header)} else ():
-        if len(row) != len(header):
-            raise Refused(f"{path} line {lines.of(place)}: {plain_count(len(row), 'cell')}, but the header "
-                          "has "
-                          f"{len(header)}")
-    kept: Sequence[int] = range(len(records))
-    blank = blank_places(records)
+    lines = lines_of(name, path, settings)
+    header, cells = columns_of(lines, progress)
+    count = len(cells[0]) if cells else 0
+    kept: Sequence[int] = range(count)
+    blank = blank_places(cells)
     if blank and settings.skips_blank:
         kept = sorted(set(kept) - set(blank))
-        records = [records[place] for place in kept]
+        cells = [[column[place] for place in kept] for column in cells]
     elif blank:
         hints.append(hint_of_blank(lines, blank))
     plain = tidy_names(header) if settings.tidy else header
-    columns = [Column(settings.new_name(f"{name}.{cell}", own, f"{name}.#{place}"), cell)
+    columns = [Column(settings.new_name(f"{name}.{cell}", own, f"{name}.#{place}"), cell, place)
                for place, (cell, own) in enumerate(zip(header, plain), 1)]
-    for column, cells in zip(columns, zip(*records)):
-        column.cells = list(cells)
-    return Table(name, keep_columns(name, columns, settings), len(records), from_text=True,
+    for column, found in zip(columns, cells):
+        column.cells = found
+    return Table(name, keep_columns(name, columns, settings), len(kept), from_text=True,
                  row_name=lambda row: f"{path} line {lines.of(kept[row] + 1)} (row {row} of {name})")
 
 
-def check_header(lines: Lines, header: Sequence[str], records: List[List[str]]) -> None:
+def lines_of(name: str, path: str, settings: Settings) -> Lines:
+    """The lines of the file of a table. Excel may say before the header what stands between cells."""
+    delimiter = settings.of_table("--delimiter", name, ",")
+    delimiter = "\t" if delimiter == "tab" or settings.is_tsv else delimiter
+    text = text_of(path, settings.of_table("--encoding", name, "utf-8"))
+    said = re.match(r"sep=(.)\r?\n", text)
+    if said:
+        # An empty line in its place leaves the numbers of the others.
+        delimiter, text = said[1], "\n" + text[said.end():]
+    return Lines(path, text, delimiter, settings.is_tsv)
+
+
+def check_header(lines: Lines, header: Sequence[str], cells: Sequence[str]) -> None:
     """Refuses a file that would be one column because it has another delimiter, which rows have too."""
-    for other in ",;\t|" if len(header) == 1 else "":
+    for other in ",;\t|":
         if other == lines.delimiter or other not in header[0]:
             continue
-        if not records or any(other in cell for row in records for cell in row):
+        if not cells or any(other in cell for cell in cells):
             word = ("tab" if other == "\t" else f"'{other}'") + (", not --tsv" if lines.is_tsv else "")
             raise Refused(f"{lines.path}: the first line has one name, {header[0]!r}; "
                           f"give --delimiter {word}")
 
 
-def blank_places(records: List[List[str]]) -> List[int]:
-    """The records that have delimiters alone."""
-    width = len(records[0]) if records else 0
-    if width < 2 or not records.count([""] * width):
+def blank_places(columns: Sequence[List[str]]) -> List[int]:
+    """The rows that have delimiters alone."""
+    if len(columns) < 2 or not all("" in column for column in columns):
         return []
-    return [place for place, row in enumerate(records) if not any(row)]
+    return [place for place, row in enumerate(zip(*columns)) if not any(row)]
 
 
 def hint_of_blank(lines: Lines, blank: Sequence[int]) -> str:
@@ -106,8 +110,9 @@ def text_of(path: str, encoding: str) -> str:
     encoding = next((name for mark, name in MARKS if data.startswith(mark)), encoding)
     try:
         text = data.decode(encoding)
-        # Some encodings have half surrogate pairs, which UTF-8 hasn't.
-        text.encode()
+        if codecs.lookup(encoding).name != "utf-8":
+            # Some encodings have half surrogate pairs, which UTF-8 hasn't.
+            text.encode()
     except UnicodeDecodeError as fault:
         raise Refused(f"{path}: byte {fault.start} isn't {encoding}; give --encoding, such as cp1252 (of "
                       "Windows) "
@@ -116,7 +121,7 @@ def text_of(path: str, encoding: str) -> str:
         raise Refused(f"{path} isn't {encoding}: {fault}") from None
     except LookupError:
         raise Misused(f"--encoding {encoding}: there is no such encoding") from None
-    return text.lstrip("\ufeff")
+    return text.lstrip("\ufeff") if text[:1] == "\ufeff" else text
 
 
 class Lines:
@@ -148,20 +153,43 @@ class Lines:
             raise Refused(f"{self.path} line {line}: {fault}") from None
 
 
-def records_of(lines: Lines, progress: Progress) -> List[List[str]]:
-    """The records that aren't blank lines."""
+def columns_of(lines: Lines, progress: Progress) -> Tuple[List[str], List[List[str]]]:
+    """The header and the columns. A blank line is no row."""
     reader = lines.reader()
-    records: List[List[str]] = []
+    header: List[str] = []
+    columns: List[List[str]] = []
     try:
+        header = next((record for record in reader if record), [])
+        columns = [[] for _ in header]
         while chunk := list(itertools.islice(reader, MANY)):
-            records += chunk
-            progress.tell(f"{lines.path}: {len(records):,} rows are read")
+            if set(map(len, chunk)) - {len(header)}:
+                chunk = [record for record in chunk if record]
+                if set(map(len, chunk)) - {len(header)}:
+                    refuse_width(lines, header)
+            for column, cells in zip(columns, zip(*chunk)):
+                column += cells
+            progress.tell(f"{lines.path}: {len(columns[0]):,} rows are read")
     except csv.Error:
         lines.count()
-    records = [record for record in records if record] if [] in records else records
+    if not header:
+        raise Refused(f"{lines.path} is empty; its first line has to name the columns")
+    if len(header) == 1:
+        check_header(lines, header, columns[0])
     if lines.is_tsv and "\\" in lines.text:
-        return [[unescaped(cell) for cell in record] for record in records]
-    return records
+        return ([unescaped(cell) for cell in header],
+                [[unescaped(cell) for cell in column] for column in columns])
+    return header, columns
+
+
+def refuse_width(lines: Lines, header: Sequence[str]) -> None:
+    """Refuses the first row that has more or fewer cells than the header."""
+    records = [record for record in lines.reader() if record]
+    if len(header) == 1:
+        check_header(lines, header, [cell for record in records[1:] for cell in record])
+    for place, row in enumerate(records):
+        if len(row) != len(header):
+            raise Refused(f"{lines.path} line {lines.of(place)}: {plain_count(len(row), 'cell')}, but the "
+                          f"header has {len(header)}")
 
 
 ESCAPES = {"t": "\t", "n": "\n", "r": "\r", "b": "\b", "f": "\f", "v": "\v", "0": "\0", "\\": "\\"}

@@ -9,28 +9,39 @@ from typing import Dict, List, Optional, Sequence, Set, Tuple
 from .errors import Misused
 from .language import KINDS, MAX_NAME, RESERVED
 
+# Options that are given a table, a column, or both before an `=`.
+OF_NAMES = ("--key", "--kind", "--scale", "--empty", "--rename", "--unit", "--date")
+OF_COLUMNS = ("--kind", "--scale", "--empty", "--unit", "--date")
+# Options that hold for all CSV files, or for what is named before an `=`.
+BROAD = ("--delimiter", "--encoding", "--decimal", "--thousands", "--null")
+OF_TABLES = ("--delimiter", "--encoding")
+DATE_FORMS = ("dmy", "mdy", "ymd", "time")
+# What letters become that aren't an ASCII letter with a mark.
+LETTERS = str.maketrans({"ß": "ss", "æ": "ae", "Æ": "ae", "ø": "o", "Ø": "o"})
+
 
 def fold(name: str) -> str:
     return "".join(chr(ord(c) + 32) if "A" <= c <= "Z" else c for c in name)
 
 
 def tidy_name(text: str) -> str:
-    """A name that is as near to a text as a name may be."""
-    plain = unicodedata.normalize("NFKD",
-                                  text.replace("ß", "ss").replace("æ",
-                                                                  "ae").replace("ø", "o")).encode("ascii",
-                                                                                                  "ignore")
-    name = re.sub(r"[^a-z0-9_]+", "_", fold(plain.decode()).strip()).strip("_") or "column"
+    """A name that is as near to a text as a name may be: ASCII letters in lower case without their marks,
+    digits, and one _ for what stands between; `column` for a text without these; _ before a digit at its
+    start, and after a reserved word."""
+    plain = unicodedata.normalize("NFKD", text.translate(LETTERS)).encode("ascii", "ignore").decode()
+    name = re.sub(r"[^a-z0-9_]+", "_", fold(plain).strip()).strip("_") or "column"
     name = ("_" + name if name[0].isdigit() else name)[:MAX_NAME - 5]
     return name + "_" if name in RESERVED else name
 
 
 def tidy_names(texts: Sequence[str]) -> List[str]:
-    """Names for the columns of a table; one that is there already has its place behind it."""
+    """Names for the columns of a table; one that is there already has _ and its place behind it."""
     found: List[str] = []
     for place, text in enumerate(texts, 1):
         name = tidy_name(text)
-        found.append(name if name not in found else f"{name}_{place}")
+        while name in found:
+            name = f"{name}_{place}"
+        found.append(name)
     return found
 
 
@@ -39,19 +50,23 @@ class Settings:
 
     def __init__(self, words: argparse.Namespace) -> None:
         self.values: Dict[Tuple[str, str], str] = {}
-        for option in ("--key", "--kind", "--scale", "--empty", "--rename"):
+        self.general: Dict[str, str] = {}
+        # The words for NULL of a table or column, and by the empty name of all.
+        self.nulls: Dict[str, Set[str]] = {}
+        for option in OF_NAMES:
             for word in getattr(words, option[2:]):
                 name, _, value = word.rpartition("=")
                 if not (name and value):
-                    raise Misused(f"{option} {word}: give NAME=VALUE")
+                    raise Misused(f"{option} {word}: give {form_of(option)}")
                 self.values[option, name] = value.upper() if option == "--kind" else value
+        for option in BROAD:
+            for word in getattr(words, option[2:]):
+                self.add_broad(option, word)
         for name in words.leave_out:
             self.values["--leave-out", name] = "yes"
         self.unused: Set[Tuple[str, str]] = set(self.values)
-        self.nulls = set(words.null)
         self.lower: bool = words.lower
         self.tidy: bool = words.tidy
-        self.decimal: str = words.decimal
         self.rounds: bool = words.round
         self.skips_blank: bool = words.skip_blank
         # As PostgreSQL's COPY and MySQL's --batch write tables: no quotes, and escapes by backslash.
@@ -59,26 +74,76 @@ class Settings:
         for (option, name), value in self.values.items():
             self.check(option, name, value)
 
+    def add_broad(self, option: str, word: str) -> None:
+        """Takes [NAME=]VALUE. A value may begin with an `=`, or be one."""
+        name, equals, value = word.partition("=")
+        if not (name and equals and value):
+            name, value = "", word
+        check_broad(option, name, value)
+        if name:
+            self.values[option, name] = value
+        else:
+            self.general[option] = value
+        if option == "--null":
+            self.nulls.setdefault(name, set()).add(value)
+
     def check(self, option: str, name: str, value: str) -> None:
         kinds = list(KINDS.values())
-        if option in ("--kind", "--scale", "--empty") and "." not in name:
+        if option in OF_COLUMNS and "." not in name:
             raise Misused(f"{option} {name}={value}: give TABLE.COLUMN={value}")
         if option == "--kind" and value not in kinds:
             raise Misused(f"--kind {name}={value}: a kind is one of {', '.join(kinds)}")
-        if option == "--kind" and value.startswith("TEXT") and ("--scale", name) in self.values:
-            raise Misused(f"--scale {name}: by --kind the column is {value}")
+        if option == "--kind" and value.startswith("TEXT"):
+            for other in ("--scale", "--unit"):
+                if (other, name) in self.values:
+                    raise Misused(f"{other} {name}: by --kind the column is {value}")
         if option == "--scale" and not re.fullmatch("[0-9]|1[0-8]", value):
             raise Misused(f"--scale {name}={value}: give a number of decimals from 0 to 18")
         if option == "--empty" and value not in ("text", "null"):
             raise Misused(f"--empty {name}={value}: give text or null")
+        if option == "--date":
+            self.check_date(name, value)
+
+    def check_date(self, name: str, value: str) -> None:
+        if value not in DATE_FORMS:
+            raise Misused(f"--date {name}={value}: give dmy for the day first, mdy for the month first, ymd "
+                          "for the year first, or time for clock times")
+        for other in ("--scale", "--unit"):
+            if (other, name) in self.values:
+                raise Misused(f"{other} {name}: by --date the column is TEXT")
+        if self.values.get(("--kind", name), "TEXT").startswith("INT"):
+            raise Misused(f"--kind {name}: by --date the column is TEXT")
 
     def take(self, option: str, name: str) -> Optional[str]:
         """What an option says of a name, or None."""
         self.unused.discard((option, name))
         return self.values.get((option, name))
 
-    def is_left_out(self, name: str) -> bool:
-        return self.take("--leave-out", name) is not None
+    def take_all(self, name: str) -> None:
+        """Notes that a table or a column is there."""
+        for option in ("--key", *OF_COLUMNS, *BROAD):
+            self.take(option, name)
+
+    def of_table(self, option: str, table: str, default: str) -> str:
+        """What an option says of a table, or of all."""
+        own = self.take(option, table)
+        return own if own is not None else self.general.get(option, default)
+
+    def of_column(self, option: str, table: str, column: str, default: str) -> str:
+        """What an option says of a column, or of its table, or of all."""
+        of_table = self.of_table(option, table, default)
+        return self.take(option, f"{table}.{column}") or of_table
+
+    def nulls_of(self, table: str, column: str) -> Set[str]:
+        """The words that are NULL in a column."""
+        found: Set[str] = set()
+        for name in ("", table, f"{table}.{column}"):
+            self.take("--null", name)
+            found |= self.nulls.get(name, set())
+        return found
+
+    def is_left_out(self, *names: str) -> bool:
+        return any([self.take("--leave-out", name) is not None for name in names])
 
     def new_name(self, old: str, name: str, place: str = "") -> str:
         """The name in the world of what is read as `name`, which --rename calls `old`,
@@ -95,3 +160,20 @@ class Settings:
             which = (f"{table} has {', '.join(columns)}" if columns and "." in name
                      else f"the tables are {', '.join(there) or 'none'}")
             raise Misused(f"{option} {name}: nothing that was read has this name; {which}")
+
+
+def form_of(option: str) -> str:
+    """The form of an option's word."""
+    return {"--key": "TABLE=COLUMN,..", "--rename": "OLD=NEW"}.get(option, "TABLE.COLUMN=VALUE")
+
+
+def check_broad(option: str, name: str, value: str) -> None:
+    if option in OF_TABLES and "." in name:
+        raise Misused(f"{option} {name}={value}: it is of a whole file; give "
+                      f"{name.partition('.')[0]}={value}")
+    if option == "--delimiter" and value != "tab" and (len(value) != 1 or value in '"\r\n'):
+        raise Misused("--delimiter is one character, or tab")
+    if option == "--decimal" and (len(value) != 1 or value.isalnum() or value in "+-"):
+        raise Misused("--decimal is one character, such as ,")
+    if option == "--thousands" and (len(value) != 1 or value.isalnum() or value in "+-"):
+        raise Misused("--thousands is one character, such as . or a blank")

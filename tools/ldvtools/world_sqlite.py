@@ -11,9 +11,10 @@ import sqlite3
 from typing import Any, Dict, List, Optional, Sequence, Set, Tuple, Union
 
 from .errors import Refused
+from .world_columns import BadText, Column, Table
 from .world_csv import read_file
 from .world_settings import Settings, tidy_name, tidy_names
-from .world_tables import BadText, Column, Table, keep_columns
+from .world_tables import keep_columns
 
 # A column of PRAGMA table_xinfo: place, name, declared type, NOT NULL, default, place in the key from 1,
 # hidden.
@@ -111,9 +112,9 @@ def read_table(base: sqlite3.Connection, name: str, sql: str, settings: Settings
     shape: List[Shape] = [row for row in base.execute(f"PRAGMA table_xinfo({quoted(name)})") if row[6] != 1]
     columns = []
     plain = tidy_names([row[1] for row in shape]) if settings.tidy else [row[1] for row in shape]
-    for (_, old, declared, not_null, default, _, _), tidied in zip(shape, plain):
-        own = settings.new_name(f"{new}.{old}", tidied)
-        columns.append(Column(own, old, kind_of_type(declared), bool(not_null), declared))
+    for place, ((_, old, declared, not_null, default, _, _), tidied) in enumerate(zip(shape, plain), 1):
+        own = settings.new_name(f"{new}.{old}", tidied, f"{new}.#{place}")
+        columns.append(Column(own, old, place, kind_of_type(declared), bool(not_null), declared))
         columns[-1].default = default
     key = [columns[place].name for _, place in sorted((row[5], row[0]) for row in shape if row[5])]
     chosen = ", ".join(quoted(row[1]) for row in shape)

@@ -7,70 +7,25 @@ from __future__ import annotations
 
 import json.encoder
 import re
-from decimal import ROUND_HALF_EVEN, Context, Decimal
-from typing import Any, Callable, Dict, Iterator, List, Optional, Sequence, Tuple
+from typing import Callable, Dict, Iterator, List, Optional, Sequence, Tuple
 
-from .errors import Refused, Unfit
+from .documents import Rows, row_lines
+from .errors import Misused, Refused, Unfit
 from .language import MAX_COLUMNS, MAX_INT, MAX_NAME, MAX_ROWS, MAX_TEXT, MIN_INT, NAME, RESERVED
-from .values import plain_count
+from .world_cells import (MAX_SCALE, comparable, has_no_equal, scaled_number, shown, text_value,
+                          whole_number)
+from .world_columns import NO_VALUE, Cell, Column, Form, Table
+from .world_hints import hint_of_dates, hint_of_text, number_advice, scale_advised
 from .world_settings import Settings, fold, tidy_names
 
-# A whole number; a decimal number.
-WHOLE = re.compile(r"[+-]?[0-9]+\Z")
-DECIMAL = re.compile(r"([+-]?)(?=\.?[0-9])([0-9]*)(?:\.([0-9]*))?\Z")
-MAX_SCALE = 18
-MANY_DIGITS = 15
-SAMPLE = 1000
 # Written in C where that is built.
 spelled_text: Callable[[str], str] = getattr(json.encoder, "encode_basestring")
-# A cell as it was read: NULL, a number, a text, or what has no equal in a world.
-Cell = Any
-
-
-# What stands for NULL in files without quotes.
-NO_VALUE = "\\N"
-
-
-class BadText:
-    """A text of a database whose bytes aren't UTF-8."""
-
-
-class Column:
-    """A column. `kind` is INT, TEXT, or None where the values decide; `old` is its name where it was read,
-    `default` what an INSERT there gives it."""
-
-    def __init__(self, name: str, old: str, kind: Optional[str] = None, not_null: bool = False,
-                 declared: str = "") -> None:
-        self.name, self.old, self.declared = name, old, declared
-        self.kind, self.not_null = kind, not_null
-        self.scale: Optional[int] = None
-        self.default: Any = None
-        self.cells: List[Cell] = []
-
-    def full_kind(self) -> str:
-        return (self.kind or "TEXT") + (" NOT NULL" if self.not_null else "")
-
-
-class Table:
-    """A table that is being read. `row_name` says how a message names one of its rows."""
-
-    def __init__(self, name: str, columns: List[Column], count: int, key: Sequence[str] = (),
-                 row_name: Optional[Callable[[int], str]] = None, from_text: bool = False) -> None:
-        self.name, self.columns, self.count, self.key = name, columns, count, list(key)
-        self.row_name = row_name or (lambda row: f"row {row} of {name}")
-        self.from_text = from_text
-
-    def at(self, row: int, column: Column) -> str:
-        return f"{self.row_name(row)}, column {column.name}"
-
-    def full_name(self, column: Column) -> str:
-        return f"{self.name}.{column.name}"
 
 
 # ---- names
 
-def check_name(what: str, name: str, place: str = "") -> None:
-    how = f"--rename \"{place}=NAME\"" if place else "--rename"
+def check_name(what: str, name: str, place: str = "", how: str = "") -> None:
+    how = how or (f"--rename \"{place}=NAME\"" if place else f"--rename \"{name}=NAME\"")
     if name in RESERVED:
         raise Refused(f"{what} {name!r} is a reserved word; give {how}")
     # A word of the command line that isn't UTF-8 has half surrogate pairs.
@@ -84,22 +39,29 @@ def check_name(what: str, name: str, place: str = "") -> None:
                   f"give {how}")
 
 
-# ---- cells
+# ---- kinds
 
-def shown(value: Cell) -> str:
-    """How a message shows a cell."""
-    if isinstance(value, float):
-        return f"the REAL value {value!r}"
-    if isinstance(value, bytes):
-        return f"a BLOB of {len(value)} bytes"
-    if isinstance(value, BadText):
-        return "a text that isn't UTF-8"
-    text = repr(value)
-    return text if len(text) <= 60 else text[:57] + ".."
+def canonical_numbers(cells: List[Optional[str]]) -> Optional[Tuple[List[Optional[int]], List[str]]]:
+    """The numbers of texts that are each written in the only way that loses nothing as a number, and how the
+    document has them, or None."""
+    has_null = None in cells
+    texts = [cell for cell in cells if cell is not None]
+    try:
+        numbers = list(map(int, texts))
+    except ValueError:
+        return None
+    if not numbers or list(map(str, numbers)) != texts or not are_within(numbers, texts):
+        return None
+    if not has_null:
+        return list(numbers), texts
+    following = iter(numbers)
+    return ([None if cell is None else next(following) for cell in cells],
+            ["null" if cell is None else cell for cell in cells])
 
 
-def has_no_equal(value: Cell) -> bool:
-    return isinstance(value, (float, bytes, BadText))
+def are_within(numbers: Sequence[int], texts: Sequence[str]) -> bool:
+    """Whether all numbers have 64 bits. One of at most 18 digits has them."""
+    return max(map(len, texts)) <= MAX_SCALE or min(numbers) >= MIN_INT and max(numbers) <= MAX_INT
 
 
 def no_equal(table: Table, column: Column, value: Cell) -> Unfit:
@@ -108,155 +70,6 @@ def no_equal(table: Table, column: Column, value: Cell) -> Unfit:
     if isinstance(value, float):
         advice = f"--scale {name}=DECIMALS carries it as a whole number, {advice}"
     return Unfit(f"{shown(value)} has no equal here; {advice}")
-
-
-def whole_number(value: Cell) -> int:
-    """The number of a cell of an INT column."""
-    number = value
-    if isinstance(value, str) and WHOLE.match(value):
-        digits = value.lstrip("+-0")
-        # Longer ones are outside 64 bits, and python doesn't read numbers of every length.
-        number = MAX_INT + 1 if len(digits) > 19 else int(digits or "0")
-        number = -number if value[0] == "-" else number
-    if not isinstance(number, int):
-        raise Unfit(f"{shown(value)} is no whole number, and the column is INT")
-    if not MIN_INT <= number <= MAX_INT:
-        raise Unfit(f"{shown(value)} is outside 64 bits ({MIN_INT} to {MAX_INT})")
-    return number
-
-
-def decimal_text(value: Cell, settings: Settings) -> str:
-    """A cell of a column of decimals with a point, as far as it is one."""
-    if isinstance(value, float):
-        return format(Decimal(repr(value)), "f")
-    text = str(value)
-    return text.replace(".", "x").replace(settings.decimal, ".") if settings.decimal != "." else text
-
-
-def scaled_number(value: Cell, scale: int, settings: Settings) -> int:
-    """The number of a cell of an INT column that carries so many decimals."""
-    text = decimal_text(value, settings)
-    match = None if isinstance(value, (bytes, BadText)) else DECIMAL.match(text)
-    if match is None:
-        raise Unfit(f"{shown(value)} is no decimal number such as -1{settings.decimal}25")
-    sign, whole, part = match.group(1), match.group(2), match.group(3) or ""
-    if part[scale:].strip("0"):
-        if not settings.rounds:
-            raise Unfit(f"{shown(value)} has more than the {plain_count(scale, 'decimal')} of --scale; "
-                        "--round rounds")
-        exact = Context(prec=len(whole) + scale + 2, rounding=ROUND_HALF_EVEN)
-        rounded = exact.quantize(Decimal(f"{sign}0{whole}.{part}"), Decimal(1).scaleb(-scale))
-        return within(format(rounded, "f").replace(".", ""), value, scale)
-    return within(f"{sign}0{whole}{part[:scale].ljust(scale, '0')}", value, scale)
-
-
-def within(text: str, value: Cell, scale: int) -> int:
-    """The whole number that a text is. A message about it has the value as it was read."""
-    try:
-        return whole_number(text)
-    except Unfit:
-        raise Unfit(f"{shown(value)} is outside 64 bits at --scale {scale} ({MIN_INT} to {MAX_INT} by "
-                    f"{10 ** scale})") from None
-
-
-def text_value(value: Cell) -> str:
-    """The text of a cell of a TEXT column."""
-    text = str(value)
-    # A character has at most 4 bytes.
-    length = len(text.encode()) if len(text) * 4 > MAX_TEXT else 0
-    if length > MAX_TEXT:
-        raise Unfit(f"a text of {length} bytes; the limit is {MAX_TEXT}")
-    return text
-
-
-# ---- kinds
-
-def canonical_numbers(cells: Sequence[Optional[str]]) -> Optional[List[Optional[int]]]:
-    """The numbers of texts that are each written in the only way that loses nothing as a number, or None."""
-    texts = [cell for cell in cells if cell is not None]
-    try:
-        numbers = list(map(int, texts))
-    except ValueError:
-        return None
-    if not numbers or list(map(str, numbers)) != texts or min(numbers) < MIN_INT or max(numbers) > MAX_INT:
-        return None
-    if len(numbers) == len(cells):
-        return list(numbers)
-    following = iter(numbers)
-    return [None if cell is None else next(following) for cell in cells]
-
-
-def decimals_of(value: Cell, settings: Settings) -> Optional[int]:
-    """How many decimals a cell needs, or None where it is no decimal number."""
-    match = DECIMAL.match(decimal_text(value, settings))
-    return len((match.group(3) or "").rstrip("0")) if match else None
-
-
-def scale_needed(column: Column, settings: Settings) -> Optional[int]:
-    """How many decimals the cells of a column need that are decimal numbers."""
-    found = [decimals_of(cell, settings) for cell in column.cells if cell is not None and not isinstance(
-        cell, (bytes, BadText))]
-    return max((each for each in found if each is not None), default=None)
-
-
-def scale_advised(column: Column, settings: Settings) -> Tuple[int, bool]:
-    """The decimals for a column with REAL values, and whether some have more. A value of many digits, such as
-    0.30000000000000004, is most often what arithmetic left, and doesn't count."""
-    needed = scale_needed(column, settings) or 0
-    numbers = [cell for cell in column.cells if isinstance(cell, (int, float))]
-    short = [decimals_of(cell, settings) or 0 for cell in numbers
-             if len(decimal_text(cell, settings).replace(".", "").strip("-0")) < MANY_DIGITS]
-    scale = min(needed if len(short) == len(numbers) else min(needed, max(short + [1])), MAX_SCALE)
-    most = max((abs(number) for number in numbers), default=0)
-    while scale and most * 10 ** scale > MAX_INT:
-        scale -= 1
-    return scale, needed > scale
-
-
-def hint_of_text(table: Table, column: Column, settings: Settings, hints: List[str]) -> None:
-    """Says that a column of a CSV file is TEXT where most of its cells are numbers."""
-    there = [(row, cell) for row, cell in enumerate(column.cells) if cell is not None]
-    hint_of_form(table, column, [cell for _, cell in there], hints)
-    # A column of names needn't be looked at to its end.
-    if not any(decimals_of(cell, settings) is not None for _, cell in there[:SAMPLE]):
-        return
-    decimals = [decimals_of(cell, settings) for _, cell in there]
-    numbers = [each for each in decimals if each is not None]
-    if 2 * len(numbers) < len(there) or not there:
-        return
-    row, first = next((row, cell) for row, cell in there if not is_canonical(cell))
-    scale = max(numbers, default=0)
-    name = table.full_name(column)
-    if len(numbers) == len(there) and 0 < scale <= MAX_SCALE:
-        how = f"--scale {name}={scale} carries it as whole numbers"
-    else:
-        how = "--null, --kind or --scale say otherwise"
-    hints.append(f"{name} is TEXT, since {table.row_name(row)} has {shown(first)}; {how}")
-
-
-COMMA = re.compile(r"[+-]?[0-9]*,([0-9]+)\Z")
-DAY_FIRST = re.compile(r"[0-9]{1,2}([./-])[0-9]{1,2}\1[0-9]{2,4}\Z")
-
-
-def hint_of_form(table: Table, column: Column, cells: Sequence[str], hints: List[str]) -> None:
-    """Says that a column looks like decimals with a comma, or like dates that don't compare as dates."""
-    name = table.full_name(column)
-    sample = cells[:SAMPLE]
-    decimals = [COMMA.match(cell) for cell in sample]
-    if any(decimals) and all(found or WHOLE.match(cell) for cell, found in zip(sample, decimals)):
-        scale = max(len(found[1]) for found in decimals if found)
-        are_thousands = all(len(found[1]) == 3 for found in decimals if found)
-        rest = ", or, if these are thousands, take the separators out first" if are_thousands else ""
-        hints.append(f"{name} is TEXT, and looks like decimals with a comma; --decimal , --scale "
-                     f"{name}={scale} carries it as whole numbers{rest}")
-    elif sample and all(DAY_FIRST.match(cell) for cell in sample):
-        hints.append(f"{name} is TEXT, and looks like dates such as {shown(sample[0])}: these don't compare "
-                     "as dates; from the "
-                     "year down, as 2019-01-31, they do")
-
-
-def is_canonical(text: str) -> bool:
-    return canonical_numbers([text]) is not None
 
 
 def kind_of_values(table: Table, column: Column) -> str:
@@ -280,54 +93,64 @@ def fitting(table: Table, column: Column, value: Cell, is_given: bool, settings:
             raise Unfit("NULL, but " + ("it is in the key" if column.name in table.key else "it is NOT NULL"))
         return None
     if column.scale is not None:
-        return scaled_number(value, column.scale, settings)
+        return scaled_number(value, column.scale, column.form, settings.rounds)
     if has_no_equal(value):
         raise no_equal(table, column, value)
+    if column.date is not None:
+        return comparable(value, column.date)
     if column.kind == "TEXT":
         return text_value(value)
     if isinstance(value, int) or table.from_text or is_given:
-        return whole_number(value)
+        return whole_number(value, column.form)
     raise Unfit(f"{shown(value)} is no whole number, and the column is INT; "
                 f"--kind {table.full_name(column)}=TEXT carries the column as texts")
 
 
 def fill_column(table: Table, column: Column, is_given: bool, settings: Settings) -> None:
     """Brings the cells of a column to its kind."""
-    if is_filled(column) or is_scaled(column, settings):
+    if is_filled(column) or is_scaled(column):
         return
     for row, value in enumerate(column.cells):
         try:
             column.cells[row] = fitting(table, column, value, is_given, settings)
         except Unfit as fault:
-            raise Refused(f"{table.at(row, column)}: {fault}") from None
+            advice = number_advice(table, column, value)
+            raise Refused(f"{table.at(row, column)}: {fault}{advice}") from None
 
 
 def is_filled(column: Column) -> bool:
     """Whether all cells are as the column carries them already."""
-    types = set(map(type, column.cells))
-    if column.scale is not None or column.not_null and type(None) in types:
+    if column.scale is not None or column.date is not None or column.not_null and None in column.cells:
         return False
-    types.discard(type(None))
+    if column.spelled is not None:
+        return True
+    types = set(map(type, column.cells)) - {type(None)}
     if column.kind == "TEXT":
         return types <= {str} and max(map(len, filter(None, column.cells)), default=0) * 4 <= MAX_TEXT
     return types <= {int}
 
 
-def is_scaled(column: Column, settings: Settings) -> bool:
+def is_scaled(column: Column) -> bool:
     """Whether all cells were short decimals in plain digits,
     and are brought to their whole numbers by that."""
-    if column.scale is None or column.not_null or settings.decimal != ".":
+    if column.scale is None or column.not_null or column.form.thousands or column.form.unit:
         return False
     if set(map(type, column.cells)) - {str, type(None)}:
         return False
-    scale = column.scale
-    match = re.compile(rf"-?[0-9]{{1,{MAX_SCALE - scale or 1}}}(?:\.[0-9]{{0,{scale}}})?\Z").match
-    texts = [cell for cell in column.cells if cell is not None]
+    scale, sign = column.scale, column.form.decimal
+    most = MAX_SCALE - scale or 1
+    match = re.compile(rf"-?[0-9]{{1,{most}}}(?:{re.escape(sign)}[0-9]{{0,{scale}}})?\Z").match
+    # Measurements have few values, each many times.
+    texts = set(column.cells) - {None}
     if scale >= MAX_SCALE or not all(map(match, texts)):
         return False
-    numbers = iter([int(whole + part.ljust(scale, "0"))
-                    for whole, _, part in (text.partition(".") for text in texts)])
-    column.cells = [None if cell is None else next(numbers) for cell in column.cells]
+    parts = ((text, text.partition(sign)) for text in texts)
+    numbers: Dict[Optional[str], Optional[int]] = {
+        text: int(whole + part.ljust(scale, "0")) for text, (whole, _, part) in parts}
+    numbers[None] = None
+    spelled = {text: "null" if number is None else str(number) for text, number in numbers.items()}
+    column.spelled = list(map(spelled.__getitem__, column.cells))
+    column.cells = list(map(numbers.__getitem__, column.cells))
     return True
 
 
@@ -345,7 +168,7 @@ def settle(tables: Sequence[Table], settings: Settings, hints: List[str]) -> Non
 
 def prepare(table: Table, settings: Settings) -> List[bool]:
     """Takes what the options say of a table. Whether they name the kind, of each column."""
-    check_name("the table", table.name)
+    check_name("the table", table.name, how="--csv NAME=FILE, or --tidy" if table.from_text else "")
     if not 1 <= len(table.columns) <= MAX_COLUMNS:
         raise Refused(f"{table.name} has {len(table.columns)} columns; a table has 1 to {MAX_COLUMNS}")
     if table.count > MAX_ROWS:
@@ -361,11 +184,11 @@ def check_columns(table: Table) -> None:
     names = [column.name for column in table.columns]
     check_many(table, names)
     for place, name in enumerate(names):
-        by_place = f"{table.name}.#{place + 1}" if table.from_text else ""
-        check_name(f"{table.name}: column {place + 1}", name, by_place)
+        column = table.columns[place]
+        by_place = table.place_name(column)
+        check_name(f"{table.name}: column {column.place}", name, by_place)
         if name in names[:place]:
-            how = (f"--rename \"{by_place}=NAME\" renames the column {place + 1}" if by_place
-                   else "give --rename")
+            how = f"--rename \"{by_place}=NAME\" renames the column {column.place}"
             raise Refused(f"{table.name}: two columns have the name {name}; {how}")
     for place, name in enumerate(table.key):
         if name not in names:
@@ -379,11 +202,12 @@ def check_many(table: Table, names: Sequence[str]) -> None:
     """Where several columns have no name, all of them at once."""
     bad = [place for place, name in enumerate(names)
            if not NAME.match(name) or name in RESERVED or name in names[:place]]
-    if len(bad) < 2 or not table.from_text or all(NAME.match(fold(names[place])) for place in bad):
+    if len(bad) < 2 or all(NAME.match(fold(names[place])) for place in bad):
         return
     tidied = tidy_names([column.old for column in table.columns])
-    words = " ".join(f'--rename "{table.name}.#{place + 1}={tidied[place]}"' for place in bad[:8])
-    shown_names = ", ".join(f"{place + 1} {names[place]!r}" for place in bad[:8])
+    few = [(table.columns[place], tidied[place]) for place in bad[:8]]
+    words = " ".join(f'--rename "{table.place_name(column)}={name}"' for column, name in few)
+    shown_names = ", ".join(f"{column.place} {column.name!r}" for column, _ in few)
     rest = ", .." if len(bad) > 8 else ""
     raise Refused(f"{table.name}: {len(bad)} columns need another name, column {shown_names}{rest}: a "
                   "letter a to z or _, then "
@@ -395,16 +219,35 @@ def settle_kind(table: Table, column: Column, settings: Settings) -> bool:
     name = table.full_name(column)
     kind = settings.take("--kind", name)
     scale = settings.take("--scale", name)
+    date = settings.take("--date", name)
+    column.form = form_of(table, column, settings)
     if kind is not None:
         column.kind, column.not_null = kind.split()[0], kind.endswith("NOT NULL")
+    elif column.form.unit or ("--thousands", name) in settings.values:
+        column.kind = "INT"
     if scale is not None:
         column.kind, column.scale = "INT", int(scale)
+    if date is not None:
+        column.kind, column.date = "TEXT", date
     column.not_null = column.not_null or column.name in table.key
+    is_text = (settings.take("--empty", name) or ("text" if settings.is_tsv else "null")) == "text"
+    nulls = settings.nulls_of(table.name, column.name)
     if table.from_text:
-        is_text = (settings.take("--empty", name) or ("text" if settings.is_tsv else "null")) == "text"
-        words = settings.nulls | (set() if is_text else {""}) | ({NO_VALUE} if settings.is_tsv else set())
-        column.cells = [None if cell in words else cell for cell in column.cells]
-    return kind is not None
+        words = nulls | (set() if is_text else {""}) | ({NO_VALUE} if settings.is_tsv else set())
+        if any(word in column.cells for word in words):
+            column.cells = [None if cell in words else cell for cell in column.cells]
+    return kind is not None or bool(column.form.unit)
+
+
+def form_of(table: Table, column: Column, settings: Settings) -> Form:
+    """How the options say that the numbers of a column are written."""
+    unit = settings.take("--unit", table.full_name(column)) or ""
+    thousands = settings.of_column("--thousands", table.name, column.name, "")
+    # Where the point stands between thousands, the comma stands before decimals.
+    decimal = settings.of_column("--decimal", table.name, column.name, "," if thousands == "." else ".")
+    if decimal == thousands:
+        raise Misused(f"{table.full_name(column)}: --decimal and --thousands are both {decimal}")
+    return Form(decimal, thousands, unit)
 
 
 def check_scales(tables: Sequence[Table], settings: Settings) -> None:
@@ -415,7 +258,7 @@ def check_scales(tables: Sequence[Table], settings: Settings) -> None:
     if not needed:
         return
     table, row, column, value = needed[0]
-    scales = [(each.full_name(other), *scale_advised(other, settings)) for each, _, other, _ in needed]
+    scales = [(each.full_name(other), *scale_advised(other)) for each, _, other, _ in needed]
     words = " ".join(f"--scale {name}={scale}" for name, scale, _ in scales)
     are_rounded = any(is_rounded for _, _, is_rounded in scales)
     words, how = (words + " --round", ", rounded") if are_rounded else (words, "")
@@ -432,20 +275,36 @@ def first_float(column: Column) -> Iterator[Tuple[int, float]]:
 
 
 def settle_cells(table: Table, column: Column, is_given: bool, settings: Settings, hints: List[str]) -> None:
+    if table.from_text and column.kind != "TEXT" and column.scale is None:
+        found = canonical_numbers(column.cells)
+        if found is not None:
+            column.kind = "INT"
+            column.cells, column.spelled = found
     if column.kind is None and table.from_text:
-        numbers = canonical_numbers(column.cells)
-        column.kind = "TEXT" if numbers is None else "INT"
-        if numbers is None:
-            hint_of_text(table, column, settings, hints)
-        else:
-            column.cells = list(numbers)
+        column.kind = "TEXT"
+        hint_of_text(table, column, hints)
     elif column.kind is None:
         column.kind = kind_of_values(table, column)
+    if column.form.unit:
+        hint_of_unit(table, column, hints)
     fill_column(table, column, is_given, settings)
+    if not table.from_text and column.kind == "TEXT" and column.date is None and not is_given:
+        hint = hint_of_dates(table, column, [cell for cell in column.cells if cell is not None])
+        hints += [hint] if hint else []
     if column.scale is not None and sum(map(abs, filter(None, column.cells))) > MAX_INT:
         hints.append(f"{table.full_name(column)}: the sum of its rows may leave 64 bits at --scale "
                      f"{column.scale}, and "
                      "SUM is NULL there")
+
+
+def hint_of_unit(table: Table, column: Column, hints: List[str]) -> None:
+    """Says that some cells haven't the unit of --unit."""
+    unit, cells = column.form.unit, [cell for cell in column.cells if cell is not None]
+    missing = sum(unit not in str(cell) for cell in cells)
+    if missing:
+        hints.append(f"{table.full_name(column)}: {missing} of {len(cells)} cells have no {unit}, and "
+                     f"are read "
+                     "as if they had it")
 
 
 def check_key(table: Table) -> None:
@@ -462,19 +321,23 @@ def check_key(table: Table) -> None:
 
 
 def keep_columns(table_name: str, columns: Sequence[Column], settings: Settings) -> List[Column]:
-    """The columns that --leave-out keeps."""
-    return [column for column in columns if not settings.is_left_out(f"{table_name}.{column.name}")]
+    """The columns that --leave-out keeps. It names one by its name or by its place."""
+    return [column for column in columns
+            if not settings.is_left_out(f"{table_name}.{column.name}", f"{table_name}.#{column.place}")]
 
 
 SPELLERS: Dict[str, Callable[[Cell], str]] = {"INT": str, "TEXT": spelled_text}
 
 
-def rows_json(columns: Sequence[Column]) -> List[str]:
-    """The rows of a settled table, each as JSON."""
+def rows_json(columns: Sequence[Column]) -> Rows:
+    """The rows of a settled table as JSON."""
     spelled: List[Sequence[str]] = []
     for column in columns:
+        if column.spelled is not None:
+            spelled.append(column.spelled)
+            continue
         spell = SPELLERS[column.kind or "TEXT"]
         has_null = None in column.cells
         spelled.append(["null" if cell is None else spell(cell) for cell in column.cells] if has_null
                        else list(map(spell, column.cells)))
-    return ["[" + row + "]" for row in map(",".join, zip(*spelled))]
+    return row_lines(map(",".join, zip(*spelled)), len(columns[0].cells))

@@ -88,5 +88,5 @@ class InFolder(unittest.TestCase):
         self.assertEqual((got, out), (status, b""), err)
         self.assertIn(message, err)
 
-    def csv_refused(self, message, content, *words):
-        self.refused(message, "--csv", self.put("t.csv", content), *ASK, *words)
+    def csv_refused(self, message, content, *words, status=1):
+        self.refused(message, "--csv", self.put("t.csv", content), *ASK, *words, status=status)

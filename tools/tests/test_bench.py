@@ -13,14 +13,21 @@ import packages
 
 from ldvtools.errors import Malformed
 from ldvtools.packages import read_package
+from ldvtools.provenance import Edge, Node, Provenance, document_text
 
 from .support import EXAMPLES, ROOT, InFolder, command, read, tool
 from .test_documents import INSTRUCTIONS
 
 sys.path.append(os.path.join(ROOT, "bench"))
 import hostile                                                               # noqa: E402
+import hostile_documents                                                     # noqa: E402
 import hostile_packages                                                      # noqa: E402
 import refused                                                               # noqa: E402
+
+# A process that read `main` and wrote `g`.
+PROVENANCE = document_text(Provenance(
+    [Node("path", "main"), Node("process", "0"), Node("path", "g")],
+    [Edge(0, 1, 0, 0), Edge(1, 2, 1, 1)])).encode()
 
 
 # A program that asks for memory in each way, five times, and says so where it gets none.
@@ -148,6 +155,8 @@ class HostileInputs(InFolder):
                 (["run"], True, (0, b"x", b"")), (["run"], True, (6, b"", line)),
                 (["run"], True, (11, b"", line)), (["table", "order", "0"], False, (2, b"", line)),
                 (["inspect", "rows"], True, (0, b"", b"")),
+                (["prov"], True, (8, b"", line)), (["prov", "depends", "q"], True, (16, b"", line)),
+                (["prov", "depends", "q"], True, (0, b"", b"")), (["prov", "depends"], False, (2, b"", line)),
                 (["inspect", "depends", "q"], True, (0, b"", b"")), (["replay"], True, (9, b"", line))):
             self.assertIsNone(hostile.complaint(words, right, answer), (words, answer))
         for words, right, answer in (
@@ -156,6 +165,7 @@ class HostileInputs(InFolder):
                 (["inspect", "files"], True, (0, b"", b"")), (["run"], True, (0, b"x", line)),
                 (["run"], True, (6, b"x", line)), (["run"], True, (6, b"", line + line)),
                 (["run"], True, (6, b"", b"")), (["run"], True, (-11, b"", b"")),
+                (["prov"], True, (16, b"", line)), (["prov", "depends", "q"], True, (8, b"", line)),
                 (["run"], True, (8, b"", line)), (["run"], True, (None, b"", b""))):
             self.assertIsNotNone(hostile.complaint(words, right, answer), (words, answer))
 
@@ -174,7 +184,9 @@ class HostileInputs(InFolder):
         with mock.patch("hostile.Calls", lambda *_: FakeCalls(answer, asked_here)), \
                 mock.patch("hostile.replays", lambda *_: None), \
                 mock.patch("hostile.migrates", lambda *_: None), \
-                mock.patch("hostile.corpus", lambda: ([document], [document], [made], [made])):
+                mock.patch("hostile.reads", lambda *_: None), \
+                mock.patch("hostile.corpus",
+                           lambda: ([document], [document], [made], [made], [PROVENANCE])):
             hostile.work(job)
         return asked_here
 
@@ -183,6 +195,19 @@ class HostileInputs(InFolder):
         asked_here = self.asked((0, b"x", b""))
         self.assertEqual(len(asked_here), 201)
         self.assertEqual(asked_here, self.asked((6, b"", b"ldv: not a world: shape\n")))
+
+    def test_provenance(self):
+        """Documents are made that are some and that are none, and each answer is compared with the tools."""
+        chance, counts = hostile.random.Random(1), collections.Counter()
+        for _ in range(400):
+            made = hostile_documents.mutated_provenance(chance, PROVENANCE)
+            kinds = [status for status, output in ((0, b"path main\nprocess 0\n"), (10, b""), (16, b""))
+                     if hostile_documents.reads(made, "g", (status, output, b"")) is None]
+            counts.update(kinds)
+            self.assertLessEqual(len(kinds), 1)
+        for status in (0, 10, 16):
+            self.assertGreater(counts[status], 4)
+        self.assertIsNotNone(hostile_documents.reads(PROVENANCE, "g", (0, b"process 0\n", b"")))
 
     def test_packages(self):
         """Packages are made of both versions, with right digests and wrong ones; of runs those at the limits

@@ -130,14 +130,21 @@ class Hints(InFolder):
                 ("SELECT k FROM t WHERE g = pen", 3, "a text would be 'pen'"),
                 ("SELECT k, g FROM t GROUP BY g", 3, "k stands outside aggregates"),
                 ("SELECT k FROM t ORDER BY v", 3, "no answer column is named v"),
-                ("SELECT * FROM t WHERE v = '3'", 4, "= compares v, a number, with a text"),
-                ("SELECT SUM(g) FROM t", 4, "SUM of g, a text"),
+                ("SELECT * FROM t WHERE v = '3'", 4,
+                 "= compares v (a number) with a text; a number has no quotes: 3"),
+                ("SELECT * FROM t WHERE 3 < g", 4, "< compares a number with g (a text)"),
+                ("SELECT * FROM t WHERE v = g", 4, "= compares v (a number) with g (a text)"),
+                ("SELECT * FROM t WHERE v = 'x'", 4, "= compares v (a number) with a text"),
+                ("SELECT SUM(g) FROM t", 4, "SUM of g (a text)"),
+                ("SELECT -g FROM t", 4, "arithmetic with g (a text)"),
+                ("SELECT * FROM t WHERE g AND 1 = 1", 4, "and takes conditions, and g (a text) is none"),
                 ("SELECT COUNT(*) FROM t JOIN u ON t.k = u.k", 4, "SUM(x * 0 + 1)"),
                 ("INSERT INTO t VALUES (1, 'a')", 4, "2 values for 3 columns (k, g, v)"),
                 ("UPDATE t SET v = 'a'", 4, "v is INT")):
             found = judge(text, [], SCHEMAS).finding
             self.assertEqual(found and found.code, code, text)
             self.assertIn(said, found.cause, text)
+            self.assertFalse(found.cause.endswith((",", ";", " ")), found.cause)
         self.assertIsNone(judge("SELECT k FROM t WHERE k = ? LIMIT ?", [UNKNOWN, UNKNOWN], SCHEMAS).finding)
         self.assertEqual(judge("SELECT k, v + 1, g AS x FROM t", [], SCHEMAS).names, ["k", None, "x"])
         self.assertEqual(judge("SELECT * FROM u, t", [], SCHEMAS).names, ["k", "w", "k", "g", "v"])

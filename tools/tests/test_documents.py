@@ -5,6 +5,7 @@ import json
 import os
 import shutil
 import unittest
+from unittest import mock
 
 import check_docs
 import check_page
@@ -193,3 +194,71 @@ class Documents(InFolder):
             check_docs.check_paths(self.folder, "docs/HERE.md", check_docs.Differences())
         self.assertEqual(printed.getvalue(), "docs/HERE.md:1: there is no docs/NONE.md\n"
                                              "docs/HERE.md:1: there is no docs/none\n")
+
+
+class Layout(InFolder):
+    """A small tree of crates: `low`, and `high` over it, which uses a library too."""
+
+    def setUp(self):
+        super().setUp()
+        for folder in ("low/src", "low/specs", "low/out/src", "high/src", "high/specs", "high/proofs/f"):
+            os.makedirs(os.path.join(self.folder, "crates", folder))
+        self.put("crates.txt", "# Part\nlow:\nhigh: low itoa\n")
+        self.put("crates/low/src/lib.rt", "//! Low.\n")
+        self.put("crates/high/src/lib.rt", "use low::add;\nuse itoa::Buffer;\n")
+
+    def differences(self, check):
+        with contextlib.redirect_stdout(io.StringIO()) as printed:
+            check(self.folder, check_docs.Differences())
+        return printed.getvalue()
+
+    def test_uses(self):
+        """What a crate lists is used by a path, in its sources, its specs or its proofs."""
+        self.assertEqual(self.differences(check_docs.check_list), "")
+        self.put("crates/high/src/lib.rt", "// use low::add;\n//! Of low.\nlet x = itoa::Buffer::new();\n")
+        self.assertEqual(self.differences(check_docs.check_list), "crates.txt:3: high uses no low\n")
+        for name in ("specs/Sums.antt", "proofs/f/Answers.antt"):
+            path = self.put("crates/high/" + name, "-- Sums.\nuse Rattle.low.specs.Adding.{added}\n")
+            self.assertEqual(self.differences(check_docs.check_list), "")
+            self.put("crates/high/" + name, "-- use Rattle.low.specs.Sums.{sum}\nuse Rattle.lower.specs\n")
+            self.assertEqual(self.differences(check_docs.check_list), "crates.txt:3: high uses no low\n")
+            os.remove(path)
+
+    def test_order(self):
+        """A crate comes after those that it stands on, and all crates are listed."""
+        self.put("crates.txt", "# Part\nhigh: low itoa\nlow:\nhigher: high\n")
+        self.assertEqual(self.differences(check_docs.check_list),
+                         "crates.txt:2: high comes before low\ncrates.txt:4: higher uses no high\n"
+                         "crates.txt:1: higher is no folder of crates/\n")
+        self.put("crates.txt", "# Part\nlow:\n")
+        self.assertEqual(self.differences(check_docs.check_list),
+                         "crates.txt:1: high is no crate of the list\n")
+
+    def test_lines(self):
+        """Lines of sources and specs have at most 110 columns, but for imports and attributes."""
+        self.assertEqual(self.differences(check_docs.check_lines), "")
+        laid_out = ("use low::{%s};", "pub use low::{%s};", "ghost use Rattle.low.{%s};",
+                    "    #[tactic(auto, using(%s))]", "#![tactic(%s)]")
+        self.put("crates/low/src/lib.rt", "".join(line % ("a" * 120) + "\n" for line in laid_out))
+        self.put("crates/low/specs/Adding.antt", "use Rattle.%s\n%s\n" % ("a" * 120, "λ" * 110))
+        self.put("crates/low/out/src/made.rt", "a" * 200)
+        self.put("crates/high/proofs/f/Answers.antt", "a" * 200)
+        self.assertEqual(self.differences(check_docs.check_lines), "")
+        self.put("crates/low/src/lib.rt", "\n// %s\nlet used = %s;\n" % ("a" * 108, "a" * 120))
+        self.put("crates/low/specs/Adding.antt", "λ" * 111)
+        self.assertEqual(self.differences(check_docs.check_lines), """\
+crates/low/src/lib.rt:2: a line of 111 columns
+crates/low/src/lib.rt:3: a line of 132 columns
+crates/low/specs/Adding.antt:1: a line of 111 columns
+""")
+
+    def test_longer(self):
+        """A file that may have longer lines has just these."""
+        with mock.patch.dict(check_docs.LONGER, {"crates/low/src/lib.rt": 1}):
+            self.put("crates/low/src/lib.rt", "a" * 111)
+            self.assertEqual(self.differences(check_docs.check_lines), "")
+            self.put("crates/low/src/lib.rt", "a" * 111 + "\n" + "b" * 112)
+            self.assertEqual(self.differences(check_docs.check_lines).count("a line of"), 2)
+            self.put("crates/low/src/lib.rt", "a\n")
+            self.assertEqual(self.differences(check_docs.check_lines),
+                             "crates/low/src/lib.rt:1: has 0 longer lines, and LONGER says 1\n")

@@ -59,6 +59,15 @@ ASKED = {
         (NORTH, "INSERT", (102, "north", "ink", 1)),
         (NORTH, "INSERT", (103, "north", "cap", 2)), (NORTH, "UPDATE", (2, "cap")),
         ("0", "SELECT", (4,))],
+    "apart": [("0.0", "SELECT", (sku,)) for sku in ("pen", "ink", "cap")] + [
+        ("0.1", "SELECT", (sku,)) for sku in ("ink", "pen", "nib", "cap")],
+    "handed": [("0.0", "SELECT", ())],
+    # In turn, both look for a free job before one of them takes it.
+    "jobs": [each for job, takes, waits, name in ((1, "0.0", "0.1", "ada"), (2, "0.1", "0.0", "bob"),
+                                                  (3, "0.0", "0.1", "ada"), (4, "0.1", "0.0", "bob"))
+             for other in [{"ada": "bob", "bob": "ada"}[name]]
+             for each in ((takes, "SELECT", ()), (waits, "SELECT", ()), (takes, "UPDATE", (name, job)),
+                          (waits, "UPDATE", (other, job)))] + [("0.0", "SELECT", ()), ("0.1", "SELECT", ())],
     "hours": [("0", "SELECT", (project, "2024-05")) for project in ("bridge", "tower", "harbour")],
 }
 

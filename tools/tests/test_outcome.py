@@ -1,4 +1,5 @@
 """outcome.py."""
+import json
 import os
 
 from ldvtools import outcome
@@ -136,6 +137,59 @@ file bb was removed
         self.assertTrue(tool(outcome,
                              given=many)[1].endswith(b"\n2 of 2 statements were refused\n2 processes ended "
                                                      b"by misuse\n"))
+
+    def test_part(self):
+        """What a process printed, or one file, and nothing else."""
+        self.assertEqual(tool(outcome, "--printed", given=FAMILY), (0, b"total 3\n", ENDS))
+        self.assertEqual(tool(outcome, "--printed", "--process", "0.1", given=FAMILY)[1], "\u00f8\n".encode())
+        words = ["--printed", "--process", "0.0", "--strict"]
+        self.assertEqual(tool(outcome, *words, given=FAMILY), (1, b"", ENDS))
+        self.assertEqual(tool(outcome, "--file", "a", given=FAMILY), (0, b"x\ny", ENDS))
+        raw = b"outcome 1 1\nprocess 0 0 0 0\n\nfile 1 3\nf\n\xff\x00\n\n"
+        self.assertEqual(tool(outcome, "--file", "f", given=raw), (0, b"\xff\x00\n", ""))
+        for words, said in ((["--file", "c"], "the file c isn't there; the run left a"),
+                            (["--file", "bb"], "the file bb was removed; the run left a"),
+                            (["--printed", "--process", "0.2"], "there is no process 0.2"),
+                            (["--csv", "--reply", "9"], "process 0 has 2 replies, and none is 9")):
+            self.assertEqual(tool(outcome, *words, given=FAMILY), (1, b"", f"outcome.py: {said}\n"))
+        for words in (["--printed", "--csv"], ["--file", "a", "--printed"], ["--process", "0"],
+                      ["--folder", "x", "--file", "a"], ["--printed", "--scale", "a=1"]):
+            self.assertEqual(tool(outcome, *words, given=FAMILY)[0], 2, words)
+
+    def test_scale(self):
+        """Whole numbers of hundredths are shown as the decimals that they were."""
+        numbers = (0, 5, -5, 300, -12345, 9223372036854775807)
+        rows = b"".join(b"row 2\nint %d\ntext 1\n7\n" % number for number in numbers)
+        given = b"outcome 1 0\nprocess 0 0 0 1\n\nrows 7\n" + rows + b"row 2\nnull\nint 7\n"
+        for scale, shown in ((2, ["0.00", "0.05", "-0.05", "3.00", "-123.45", "92233720368547758.07"]),
+                             (0, list(map(str, numbers))),
+                             (18, ["0.000000000000000000", "0.000000000000000005", "-0.000000000000000005",
+                                   "0.000000000000000300", "-0.000000000000012345", "9.223372036854775807"])):
+            status, out, err = tool(outcome, "--csv", "--reply", "1", "--scale", f"1={scale}", given=given)
+            self.assertEqual((status, err), (0, ""))
+            self.assertEqual(out.decode(), "".join(f"{text},7\n" for text in shown) + ",7\n")
+        table = tool(outcome, "--scale", "1=2", "--scale", "2=1", given=given)[1].decode()
+        self.assertIn("\n                 -123.45 | \"7\"\n", table)
+        self.assertIn("\n    NULL                 | 0.7\n", table)
+        text = 'sql q "SELECT cents, SUM(cents) FROM t GROUP BY cents"\n'
+        world = self.put("w", json.dumps({"start": ["m"], "files": {"m": text},
+                                          "tables": {"t": {"columns": [["cents", "INT"]]}}}))
+        given = b"outcome 1 0\nprocess 0 0 0 1\n\nrows 1\nrow 2\nint 1250\nint 2500\n"
+        words = ["--world", world, "--scale", "cents=2"]
+        shown = b"cents | 2\n    ------+-----\n    12.50 | 2500\n"
+        self.assertIn(shown, tool(outcome, *words, given=given)[1])
+        self.assertEqual(tool(outcome, *words, "--scale", "2=2", "--csv", given=given)[1].split(b"\n")[-2],
+                         b"12.50,25.00")
+        folder = os.path.join(self.folder, "replies")
+        self.assertEqual(tool(outcome, *words, "--folder", folder, given=given)[0], 0)
+        self.assertEqual(read(f"{folder}/0-1.csv"), b"cents,2\n12.50,2500\n")
+        for words, said in ((["--scale", "cents=2"], "no reply has a column with this head; there are 1, 2; "
+                                                     "--world or --package gives names"),
+                            (["--world", world, "--scale", "euros=2"], "there are 2, cents ("),
+                            (["--scale", "1=19"], "give NAME=N"), (["--scale", "1"], "give NAME=N")):
+            status, out, err = tool(outcome, *words, given=given)
+            self.assertEqual((status, out), (2, b""))
+            self.assertIn(said, err)
 
     def test_statements(self):
         """With its world or its package each reply has its statement and its columns' names."""

@@ -77,6 +77,9 @@ class Pages(PageMaker):
             self.assertEqual([each["text"][:6] for each in shown["statements"]],
                              ["INSERT", "INSERT", "SELECT"])
             self.assertEqual(shown["statements"][2]["columns"], ["name", "2"])
+            # The file may be a new one, which a package doesn't say.
+            self.assertEqual([each[1] for each in shown["touched"][0]["by"]],
+                             ["opened it for writing, empty at first", "wrote it"])
         shown = self.data_of(self.made(orders(2)))
         self.assertEqual((shown["refused"], shown["kind"], shown["tables"]), (1, "excluded", []))
         self.assertEqual(shown["statements"][2]["params"], ["1"])

@@ -177,11 +177,14 @@ class Script(InFolder):
         self.assertEqual((status, err), (
             127, "ldv: the program must be proved and compiled first, and there is no rt to do it\n"))
 
-    def on_terminal(self, *words):
-        """What is written to a terminal that is standard error."""
+    def on_terminal(self, *words, is_input=False):
+        """What is written to a terminal that is standard error, and on demand standard input too."""
         main, other = pty.openpty()
-        subprocess.run([os.path.join(self.root, "ldv"), *words], stdin=subprocess.DEVNULL,
-                       stdout=subprocess.DEVNULL, stderr=other, env=self.env, check=False, cwd=self.folder)
+        if is_input:
+            os.write(main, b"\x04")  # the end of the input
+        subprocess.run([os.path.join(self.root, "ldv"), *words],
+                       stdin=other if is_input else subprocess.DEVNULL, stdout=subprocess.DEVNULL,
+                       stderr=other, env=self.env, check=False, cwd=self.folder)
         os.close(other)
         shown = b""
         try:
@@ -202,6 +205,31 @@ class Script(InFolder):
                          "ldv: usage\nldv: world.json is a file, and the input comes "
                                                                  "from standard input: ldv .. < world.json\n")
         self.assertEqual(self.run_script("walk"), (2, b"", "ldv: usage\n"))
+
+    def test_terminal_words(self):
+        """The second line has the commands of the manual page, which are those of COMMANDS."""
+        self.run_script("version")
+        os.makedirs(os.path.join(self.root, "docs"))
+        shutil.copy(os.path.join(ROOT, check_docs.MANUAL), os.path.join(self.root, "docs"))
+        table = read(os.path.join(ROOT, check_docs.COMMANDS)).decode().partition("\n\n")[2]
+        rows = table.partition("There are no")[0]
+        words = list(dict.fromkeys(re.findall(r"(?m)^\| `([a-z]+)[^`|]*` \| ", rows)))
+        self.assertEqual(words[:3], ["run", "record", "replay"])
+        for given in (["walk"], ["--help"], []):
+            first, second, *rest = self.on_terminal(*given).split("\n")
+            self.assertEqual((first, rest), ("ldv: usage", [""]))
+            found = re.fullmatch("ldv: the first word is one of (.*); the words are in the manual page: "
+                                 f"man -l {re.escape(self.root)}/docs/ldv.1", second)
+            self.assertEqual(sorted(found[1].split(", ")), sorted(words))
+
+    def test_terminal_input(self):
+        """Where the input would come from the terminal, this is said."""
+        self.run_script("version")
+        said = "ldv: the input is read from this terminal; of a file: ldv run < world.json\n"
+        shown = self.on_terminal("run", is_input=True)
+        self.assertIn(said, shown.replace("\x04", "").replace("^D\x08\x08", ""))
+        self.assertNotIn("is read", self.on_terminal("run"))
+        self.assertNotIn("is read", self.on_terminal("walk", is_input=True))
 
     def test_no_program(self):
         status, out, err = command([os.path.join(TOOLS, "check_program.py"), self.folder + "/none"])

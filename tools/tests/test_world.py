@@ -143,15 +143,17 @@ class CsvFiles(InFolder):
         """What looks like decimals with a comma, or like dates that don't compare, is said."""
         err = tool(world, "--csv", self.put("t.csv", 'a;b;c\n1,75;01.02.2024;x\n2;3.2.2024;y\n'),
                    "--delimiter", ";", *ASK)[2]
-        self.assertIn("t.a is TEXT, and looks like decimals with a comma; --decimal , --scale t.a=2", err)
+        self.assertIn("t.a is TEXT, and looks like decimals with a comma, such as '1,75'; --decimal t.a=, "
+                      "--scale t.a=2 carries it", err)
         self.assertIn("t.b is TEXT, and looks like dates such as '01.02.2024'", err)
         self.assertEqual(err.count("looks like"), 2)
         self.assertNotIn("thousands", err)
         for cells, are_thousands in (("1,234 12,500", True), ("999 1,234", True), ("1,234 12,50", False)):
             err = tool(world, "--csv", self.put("t.csv", "a;b\n" + cells.replace(" ", ";x\n") + ";x\n"),
                        "--delimiter", ";", *ASK)[2]
-            self.assertIn("--decimal , --scale t.a=3 carries it as whole numbers", err)
-            rest = "whole numbers, or, if these are thousands, take the separators out first\n"
+            self.assertIn("--decimal t.a=, --scale t.a=3", err)
+            rest = ("; where these are thousands, --thousands t.a=, --kind t.a=INT carries it as whole "
+                    "numbers, where decimals, --decimal t.a=, --scale t.a=3\n")
             self.assertEqual(rest in err, are_thousands, cells)
 
     def test_rounding(self):
@@ -285,9 +287,12 @@ class ScriptsAndFiles(InFolder):
             self.assertEqual(self.script("--a\nSELECT a FROM t;\n" * 3), '# a\nsql q "SELECT a FROM t"\n' * 3)
 
     def test_help(self):
-        """What holds for all CSV files is said."""
-        self.assertIn("--delimiter, --decimal, --encoding and --null hold for\nall CSV files: convert the "
-                      "odd one first.\n", tool(world, "--help")[1].decode())
+        """What holds for all CSV files is said, and what holds for one."""
+        text = tool(world, "--help")[1].decode()
+        self.assertIn("--delimiter, --encoding, --decimal, --thousands and --null hold for all CSV "
+                      "files, or for the "
+                      "one whose table\nis named", text)
+        self.assertIn("--tsv, --skip-blank, --round, --lower and --tidy hold for all files.", text)
 
     def test_files(self):
         script, logo = self.put("go.ldv", "print 1\n"), self.put("logo", b"\x89PNG")

@@ -3,14 +3,14 @@
 use Rattle.std.proofs.Common.{◌≡◌, ℕ, [], sym, ap, ◌∙◌}
 use Rattle.std.specs.Prelude.{Option, Some, None}
 use Rattle.run_model.specs.Core.{Diverged as DivergedAt}
-use Rattle.run_model.specs.LogRun.{log_outcome, log_divergence}
+use Rattle.run_model.specs.LogRun.{log_outcome}
 use Rattle.run_model.specs.OutcomeText.{outcome_text_of}
 use Rattle.run_model.specs.declared.name.ProcName.{ProcName}
 use Rattle.run_model.specs.declared.outcome.Outcome.{Outcome}
 use Rattle.run_model.specs.declared.package.Package.{Package}
 use Rattle.replay_log.specs.Replays.{Comes}
 use Rattle.ldv_top.specs.declared.exit.Exit.TheVariants.{NotEnded, Diverged}
-use Rattle.ldv_top.specs.Due.{Due, refused, done, due_outcome, outcome_due, due_divergence, due_log}
+use Rattle.ldv_top.specs.Due.{refused, done, due_outcome, outcome_due, due_divergence, due_log}
 
 log_due : (budget : ℕ) (p : Package) (outcome : Option Outcome) (divergence : Option DivergedAt)
     → Comes budget p outcome divergence

@@ -15,7 +15,7 @@ use Rattle.ldv_top.specs.DueOfReports.{due_inspect}
 use Rattle.ldv_top.specs.Ends.{Ends, Responds}
 use Rattle.ldv_top.specs.Headline.{IsPackageOf, Recorded}
 use Rattle.ldv_top.specs.Migrated.{Migrated}
-use Rattle.ldv_top.specs.ProvReported.{DocumentLaw}
+use Rattle.ldv_top.specs.ProvReported.{DocumentLaw, numbered_due}
 use Rattle.ldv_top.specs.Reported.{Depends}
 use Rattle.ldv_top.specs.TwoRuns.{AnyJoinedLaw, PairLaw, TwoRunsLaw}
 use Rattle.ldv_top.specs.Words.{command_of, reads}
@@ -28,6 +28,7 @@ use Rattle.ldv_top.specs.declared.exit.Exit.{Exit}
 use Rattle.ldv_top.specs.declared.exit.Exit.TheVariants.{Done, Usage, ReadFault, WriteFault, TooLong}
 use Rattle.ldv_top.specs.declared.exit.Exit.TheVariants.{NotWorld, NotEnded, Damaged, Diverged, NoSuch}
 use Rattle.ldv_top.specs.declared.exit.Exit.TheVariants.{NoMemory, PackageTooLong, NotPrivate, NotProv, Clash}
+use Rattle.ldv_top.proofs.DocumentLaws.{named_same}
 
 -- what was read to the end is all that there was
 pub got_all : (old new : Option (List ℕ)) (got input : List ℕ) → old ≡ Some input → Consumes old new got → IsAtEnd new → got ≡ input
@@ -151,10 +152,10 @@ module _ {Reader Writer : Type 0} (left : Reader → Option (List ℕ)) (read_fa
     reseeded = λ n seed budget w input is told packed private enough. tt;
     migrated = λ input is told done. let never : NoMemory ≡ Done = done in cc;
     depends = λ path input is told done. let never : NoMemory ≡ Done = done in cc;
-    documented = λ p path input is told document. tt;
-    joins = λ n m v w input is told pair. tt;
-    joined = λ which n m budget v w input is told two enough. tt;
-    chosen = λ which budget j input is told any. tt;
+     documented = λ p path input is told document. (named_same p path, tt);
+     joins = λ n m v w input is told pair. tt;
+     joined = λ which n m budget v w input is told two enough. tt;
+     chosen = λ which budget j input is told any. tt;
   }
 
   -- a command that reads nothing
@@ -259,9 +260,11 @@ module _ {Reader Writer : Type 0} (left : Reader → Option (List ℕ)) (read_fa
           reported path input (sym (ap (λ (k : Command). (due_of (Some k) input).exit) (some_same same)) ∙ comes.0);
       documented = λ p path input named told written.
           let same : Some command ≡ Some (ProvDepends path) = sym is ∙ named in
+          let comes : Comes (numbered_due p path) exit (taken sink) (taken sink_after) =
           subst (λ (d : Due). Comes d exit (taken sink) (taken sink_after))
           (ap (λ (k : Command). due_of (Some k) input) (some_same same) ∙ document p path input written)
-          (due input told);
+          (due input told) in
+          (named_same p path, comes);
       joins = λ n m v w input named told both.
           let same : Some command ≡ Some Join = sym is ∙ named in
           subst (λ (d : Due). Comes d exit (taken sink) (taken sink_after))

@@ -7,7 +7,7 @@ use Rattle.ldv_top.specs.Written.{AppendsPart}
 use Rattle.ldv_top.specs.declared.exit.Exit.{Exit}
 use Rattle.ldv_top.specs.declared.exit.Exit.TheVariants.{Done, Usage, ReadFault, WriteFault, TooLong}
 use Rattle.ldv_top.specs.declared.exit.Exit.TheVariants.{NotWorld, NotEnded, Damaged, Diverged, NoSuch}
-use Rattle.ldv_top.specs.declared.exit.Exit.TheVariants.{NoMemory, PackageTooLong, NotPrivate, Clash}
+use Rattle.ldv_top.specs.declared.exit.Exit.TheVariants.{NoMemory, PackageTooLong, NotPrivate, NotProv, Clash}
 
 -- the input is what the source has, where the command reads
 abbrev pub IsInput : Bool → Option (List ℕ) → List ℕ → Type 0
@@ -29,6 +29,7 @@ Comes d NoSuch old new = d.exit ≡ NoSuch
 Comes d (Clash clash) old new = d.exit ≡ Clash clash
 Comes d PackageTooLong old new = d.exit ≡ PackageTooLong
 Comes d NotPrivate old new = d.exit ≡ NotPrivate
+Comes d NotProv old new = d.exit ≡ NotProv
 
 -- an exit after which nothing is written
 abbrev pub IsQuiet : Exit → Type 0

@@ -9,7 +9,6 @@ use Rattle.package_join.specs.declared.joined.Joined.{Joined}
 use Rattle.package_join.specs.declared.joined.Which.{Which}
 use Rattle.package_join.specs.Layout.{joined_spelling}
 use Rattle.package_join.specs.Worlds.{joined_world}
-use Rattle.prov_export.specs.Laws.{depends_by}
 use Rattle.run_model.specs.declared.package.Mode.{Mode}
 use Rattle.run_model.specs.declared.package.Mode.TheVariants.{Excluded}
 use Rattle.run_model.specs.declared.package.Package.{Package}
@@ -24,10 +23,10 @@ use Rattle.ldv_top.specs.declared.exit.Exit.{Exit}
 use Rattle.ldv_top.specs.declared.exit.Exit.TheVariants.{Done, Usage, ReadFault, WriteFault, NoMemory}
 use Rattle.ldv_top.specs.Due.{Due, due_of, due_record, due_spelling, due_world}
 use Rattle.ldv_top.specs.DueOfMigrations.{due_migrate}
-use Rattle.ldv_top.specs.DueOfReports.{due_inspect, item_due}
+use Rattle.ldv_top.specs.DueOfReports.{due_inspect, report_due}
 use Rattle.ldv_top.specs.Headline.{IsPackageOf, Recorded}
 use Rattle.ldv_top.specs.Migrated.{Migrated}
-use Rattle.ldv_top.specs.ProvReported.{IsDocumentOf}
+use Rattle.ldv_top.specs.ProvReported.{IsDocumentOf, named_due, numbered_due}
 use Rattle.ldv_top.specs.Reported.{Depends}
 use Rattle.ldv_top.specs.TwoRuns.{IsJoinOf, IsJoinedInput, IsPair, its_due, its_steps, two_joined}
 use Rattle.ldv_top.specs.Words.{command_of, reads}
@@ -78,8 +77,8 @@ pub record Ends {Reader Writer : Type 0}
   pub headline : (mode : Mode) (n budget : ℕ) (w : World) (input : List ℕ)
       → command_of words ≡ Some (Replay budget) → left source ≡ Some input → IsPackageOf mode n w input
       → steps_by n [] w ≤ budget → Comes (due_world n w) exit (taken sink) (taken sink_after)
-  -- that of the recorded replies is replayed so under every seed, where no path that one of the world's processes
-  -- changes is named by another
+  -- that of the recorded replies is replayed so under every seed, where no path that one of the world's
+  -- processes changes is named by another
   pub reseeded : (n seed budget : ℕ) (w : World) (input : List ℕ)
       → command_of words ≡ Some (ReplaySeed seed budget) → left source ≡ Some input
       → IsPackageOf Excluded n w input → private_test (events_within n w) ≡ true
@@ -90,10 +89,12 @@ pub record Ends {Reader Writer : Type 0}
   -- what a path depends on are the nodes from which a path of the graph leads to it, and no others
   pub depends : (path input : List ℕ) → command_of words ≡ Some (Inspect (DependsOn path))
       → left source ≡ Some input → exit ≡ Done → Depends path input (due_inspect (DependsOn path) input).bytes
-  -- what a package's document says of a path are the nodes that the report on the package names
+  -- what a package's document says of a path are the nodes that the report on the package names, in the same
+  -- order, with processes by their creation numbers
   pub documented : (p : Package) (path input : List ℕ) → command_of words ≡ Some (ProvDepends path)
       → left source ≡ Some input → IsDocumentOf p input
-      → Comes (item_due (depends_by p.events p.steps path)) exit (taken sink) (taken sink_after)
+      → (report_due (DependsOn path) p ≡ named_due p path)
+      × Comes (numbered_due p path) exit (taken sink) (taken sink_after)
   -- the packages of two valid worlds with the same files and tables are joined without a clash
   pub joins : (n m : ℕ) (v w : World) (input : List ℕ) → command_of words ≡ Some Join → left source ≡ Some input
       → IsPair n m v w input

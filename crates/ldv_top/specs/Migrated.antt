@@ -26,6 +26,7 @@ pub record Migrated (input bytes : List ℕ) : Type 0 where
   pub version : version_of bytes ≡ Some Two
   pub again : due_migrate bytes ≡ done bytes
   pub replayed : (budget : ℕ) → due_replay budget bytes ≡ due_replay budget input
-  pub tabled : (name : List ℕ) (step budget : ℕ) → due_table name step budget bytes ≡ due_table name step budget input
+  pub tabled : (name : List ℕ) (step budget : ℕ)
+      → due_table name step budget bytes ≡ due_table name step budget input
   pub reported : (report : Report) → due_inspect report bytes ≡ due_inspect report input
   pub audited : (budget : ℕ) → budget ≤ max_steps → FindsSound budget bytes ↔ FindsSound budget input

@@ -1,5 +1,5 @@
 -- The words of `join`, and of the replay of one of its two runs.
-use Rattle.std.specs.Prelude.{ℕ, List, [], ◌∷◌, codes, ◌&&◌, bytes_eq, if◌then◌else◌, Option, Some, None}
+use Rattle.std.specs.Prelude.{ℕ, List, [], ◌∷◌, codes, bytes_eq, if◌then◌else◌, Option, Some, None}
 use Rattle.std.specs.Prelude.{option_map}
 use Rattle.package_join.specs.declared.joined.Which.{Which}
 use Rattle.package_join.specs.declared.joined.Which.TheVariants.{First, Second}
@@ -18,7 +18,7 @@ which_of number =
     else (if bytes_eq number (codes "2") then Some Second else None)
 
 -- `replay --run K`
-abbrev pub replay_of_run : List ℕ → List ℕ → List ℕ → ℕ → Option Command
-replay_of_run word option number budget =
-    if bytes_eq word (codes "replay") && bytes_eq option (codes "--run")
+abbrev pub replay_of_run : List ℕ → List ℕ → ℕ → Option Command
+replay_of_run word number budget =
+    if bytes_eq word (codes "replay")
     then option_map (λ which. ReplayRun which budget) (which_of number) else None

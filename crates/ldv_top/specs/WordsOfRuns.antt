@@ -1,5 +1,5 @@
 -- The words of `run`, `record`, `replay` and `audit`, and the budget of any command.
-use Rattle.std.specs.Prelude.{ℕ, List, [], ◌∷◌, codes, ◌&&◌, ◌||◌, bytes_eq, if◌then◌else◌, Option, Some, None}
+use Rattle.std.specs.Prelude.{ℕ, List, [], ◌∷◌, codes, ◌&&◌, bytes_eq, if◌then◌else◌, Option, Some, None}
 use Rattle.std.specs.Prelude.{option_and_then}
 use Rattle.ldv_value.specs.Limits.{max_steps, default_steps}
 use Rattle.run_model.specs.declared.package.Mode.TheVariants.{Included, Excluded}
@@ -35,24 +35,22 @@ abbrev pub command_seeded : List ℕ → ℕ → ℕ → Option Command
 command_seeded word budget seed =
     if bytes_eq word (codes "replay") then Some (ReplaySeed seed budget) else None
 
--- with `--seed S` as the words after the first
-abbrev pub seeded : List ℕ → List ℕ → List ℕ → ℕ → Option Command
-seeded word option seed budget =
-    if bytes_eq option (codes "--seed")
-    then option_and_then (command_seeded word budget) (number_within max_seed seed) else None
+-- S of `--seed S`, with the steps that the run may take
+abbrev pub seeded : List ℕ → List ℕ → ℕ → Option Command
+seeded word seed budget = option_and_then (command_seeded word budget) (number_within max_seed seed)
 
--- `--seed S` or `--run K`, after which `--steps N` may follow
-abbrev pub chosen : List ℕ → List ℕ → List ℕ → ℕ → Option Command
-chosen word option number budget =
-    if bytes_eq option (codes "--run") then replay_of_run word option number budget
-    else seeded word option number budget
+-- `--seed S` or `--run K` before `--steps N`
+abbrev pub chosen_within : List ℕ → List ℕ → List ℕ → ℕ → Option Command
+chosen_within word option choice budget =
+    if bytes_eq option (codes "--seed") then seeded word choice budget
+    else (if bytes_eq option (codes "--run") then replay_of_run word choice budget else None)
 
 -- `--seed S`, `--run K` or `--steps N`
 abbrev pub command_with : List ℕ → List ℕ → List ℕ → Option Command
 command_with word option number =
-    if bytes_eq option (codes "--seed") || bytes_eq option (codes "--run")
-    then chosen word option number default_steps
-    else option_and_then (command_named word) (budget_in option number)
+    if bytes_eq option (codes "--seed") then seeded word number default_steps
+    else (if bytes_eq option (codes "--run") then replay_of_run word number default_steps
+    else option_and_then (command_named word) (budget_in option number))
 
 -- by the first word and the others
 abbrev pub run_of : List ℕ → List (List ℕ) → Option Command
@@ -61,6 +59,6 @@ run_of word (flag ∷ []) = command_flagged word flag default_steps
 run_of word (option ∷ number ∷ []) = command_with word option number
 run_of word (flag ∷ option ∷ number ∷ []) =
     option_and_then (command_flagged word flag) (budget_in option number)
-run_of word (option ∷ seed ∷ steps ∷ number ∷ []) =
-    option_and_then (chosen word option seed) (budget_in steps number)
-run_of word (option ∷ seed ∷ steps ∷ number ∷ more ∷ words) = None
+run_of word (option ∷ choice ∷ steps ∷ number ∷ []) =
+    option_and_then (chosen_within word option choice) (budget_in steps number)
+run_of word (option ∷ choice ∷ steps ∷ number ∷ more ∷ words) = None

@@ -5,7 +5,7 @@ ghost use Rattle.ldv_value.specs.Gives.{Gives};
 ghost use Rattle.ldv_value.specs.Limits.{max_steps};
 ghost use Rattle.ldv_top.specs.WordStops.{Stops};
 ghost use Rattle.ldv_top.specs.Words.{IsBounded, command_of, inspect_of};
-ghost use Rattle.ldv_top.specs.WordsOfRuns.{budget_in, chosen, command_flagged, command_named};
+ghost use Rattle.ldv_top.specs.WordsOfRuns.{budget_in, chosen_within, command_flagged, command_named};
 ghost use Rattle.ldv_top.specs.WordsOfRuns.{command_seeded, command_with, run_of, seeded};
 
 use crate::generating::generate_of;
@@ -49,8 +49,8 @@ pub enum Command {
     Record { mode: Mode, budget: u32 },
     /// `replay`: the input is a package, the output the outcome of the world in it.
     Replay { budget: u32 },
-    /// `replay --seed`: the input is a package of recorded replies, the output the outcome of its run under this
-    /// seed.
+    /// `replay --seed`: the input is a package of recorded replies, the output the outcome of its run under
+    /// this seed.
     ReplaySeed { seed: u64, budget: u32 },
     /// `replay --run 1` and `replay --run 2`: the input is a joined package, the output the outcome of the world of
     /// this run.
@@ -143,7 +143,7 @@ fn run_of(word: &str, others: &[String]) -> Option<Command>
             flag.as_str(),
             budget_in(option.as_str(), number.as_str())?,
         ),
-        [option, choice, steps, number] => chosen(
+        [option, choice, steps, number] => chosen_within(
             word,
             option.as_str(),
             choice.as_str(),
@@ -185,42 +185,41 @@ fn command_flagged(word: &str, flag: &str, budget: u32) -> Option<Command>
     }
 }
 
-// With `--seed S` or `--run K`, after which `--steps N` may follow.
-fn chosen(word: &str, option: &str, number: &str, budget: u32) -> Option<Command>
-    requires { budget ≤ max_steps }
-    ensures command { result ≡ chosen word.now option.now number.now budget }
-    ensures bounded { IfSome result (λ command. IsBounded command) }
-{
-    if option == "--run" {
-        replay_of_run(word, option, number, budget)
-    } else {
-        seeded(word, option, number, budget)
-    }
-}
-
 // With `--seed S`, `--run K` or `--steps N`.
 fn command_with(word: &str, option: &str, number: &str) -> Option<Command>
     ensures command { result ≡ command_with word.now option.now number.now }
     ensures bounded { IfSome result (λ command. IsBounded command) }
 {
-    if option == "--seed" || option == "--run" {
-        chosen(word, option, number, DEFAULT_STEPS)
+    if option == "--seed" {
+        seeded(word, number, DEFAULT_STEPS)
+    } else if option == "--run" {
+        replay_of_run(word, number, DEFAULT_STEPS)
     } else {
         command_named(word, budget_in(option, number)?)
     }
 }
 
-// With `--seed S` as the words after the first.
-fn seeded(word: &str, option: &str, seed: &str, budget: u32) -> Option<Command>
+// With `--seed S` or `--run K` before `--steps N`.
+fn chosen_within(word: &str, option: &str, choice: &str, budget: u32) -> Option<Command>
     requires { budget ≤ max_steps }
-    ensures command { result ≡ seeded word.now option.now seed.now budget }
+    ensures command { result ≡ chosen_within word.now option.now choice.now budget }
     ensures bounded { IfSome result (λ command. IsBounded command) }
 {
     if option == "--seed" {
-        command_seeded(word, budget, long_within(MAX_SEED, seed.as_bytes())?)
+        seeded(word, choice, budget)
+    } else if option == "--run" {
+        replay_of_run(word, choice, budget)
     } else {
         None
     }
+}
+
+fn seeded(word: &str, seed: &str, budget: u32) -> Option<Command>
+    requires { budget ≤ max_steps }
+    ensures command { result ≡ seeded word.now seed.now budget }
+    ensures bounded { IfSome result (λ command. IsBounded command) }
+{
+    command_seeded(word, budget, long_within(MAX_SEED, seed.as_bytes())?)
 }
 
 fn command_seeded(word: &str, budget: u32, seed: u64) -> Option<Command>

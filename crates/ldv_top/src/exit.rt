@@ -1,11 +1,8 @@
 //! How the program ends.
 
-ghost use Rattle.std.specs.Prelude.{◌≡◌, ℕ, ◌<◌, ◌≤◌, take, length, OnOk, OnErr};
-ghost use Rattle.std.specs.Io.KnownBytes.{Appends};
-ghost use Rattle.ldv_io.specs.Causes.{Rose};
-ghost use Rattle.ldv_top.specs.Exits.{line_of, status_of};
+ghost use Rattle.std.specs.Prelude.{◌≡◌};
+ghost use Rattle.ldv_top.specs.Exits.{status_of};
 
-use ldv_io::{Sink, WriteStop, write_all};
 use package_join::Clash;
 use package_layout::DamageKind;
 use run_model::ProcName;

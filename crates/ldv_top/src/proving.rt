@@ -1,7 +1,6 @@
 //! `prov`: from its words to its response.
 
-ghost use Rattle.std.specs.Prelude.{◌≡◌, ◌≤◌, ℕ, List as Items, Option as Maybe, Some, length, map};
-ghost use Rattle.std.specs.Prelude.{string_bytes, IfOk, IfSome};
+ghost use Rattle.std.specs.Prelude.{◌≡◌, ◌≤◌, Some, length, map, string_bytes, IfOk};
 ghost use Rattle.ldv_value.specs.Gives.{Gives};
 ghost use Rattle.ldv_value.specs.Limits.{input_limit};
 ghost use Rattle.run_model.specs.ValidTrace.{IsTrace};
@@ -15,12 +14,12 @@ ghost use Rattle.ldv_top.specs.WordsOfProv.{prov_of, prov_depends_named};
 ghost use Rattle.ldv_top.specs.declared.command.Command.TheVariants.{ProvDepends};
 
 use crate::command::Command;
-use crate::reading::read_input;
+use crate::reading::{read_graph, read_input};
 use crate::response::Response;
 use crate::word_stop::WordStop;
 use ldv_value::{Bytes, Utf8, is_path};
 use package_layout::PackageStop;
-use prov_export::{ProvStop, depends_text, read_prov, write_prov};
+use prov_export::{ProvStop, depends_text, write_prov};
 use run_model::Package;
 use std::alloc::{AllocError, Global};
 use trace_graph::Graph;
@@ -32,6 +31,7 @@ pub(crate) fn prov_of(alloc: Global, words: &[String]) -> Result<Command, WordSt
 {
     match words {
         [] => Ok(Command::Prov),
+        [_word] => Err(WordStop::Usage),
         [word, path] => prov_depends_named(alloc, word.as_str(), path.as_str()),
         _ => Err(WordStop::Usage),
     }
@@ -79,7 +79,7 @@ fn written_response(alloc: Global, package: &Package) -> Result<Response, AllocE
     Ok(Response::Written(write_prov(alloc, &graph)?))
 }
 
-/// The response of `prov depends` to an input.
+/// The response of `prov depends` to an input. The path is looked for only in the graph of a document.
 pub(crate) fn prov_depends_response(
     alloc: Global,
     path: &str,
@@ -88,19 +88,26 @@ pub(crate) fn prov_depends_response(
     requires short { length input ≤ input_limit }
     ensures { IfOk result (λ response. response_due response ≡ due_prov_depends path.now input) }
 {
-    match read_prov(alloc, input.as_slice()) {
-        Ok(graph) => item_response(depends_text(alloc, &graph, path)?),
+    match read_graph(alloc, input) {
+        Ok(graph) => sources_response(alloc, &graph, path),
         Err(ProvStop::NotProv) => Ok(Response::NotProv),
         Err(ProvStop::NoMemory) => Err(AllocError),
     }
 }
 
+fn sources_response(alloc: Global, graph: &Graph, path: &str) -> Result<Response, AllocError>
+    ensures { IfOk result (λ response. response_due response ≡ item_due (depends_report graph.now path.now)) }
+{
+    let text = depends_text(alloc, graph, path)?;
+    Ok(item_response(text))
+}
+
 // The lines on a path, which may be no node.
-fn item_response(text: Option<Bytes>) -> Result<Response, AllocError>
-    ensures { IfOk result (λ response. response_due response ≡ item_due text) }
+fn item_response(text: Option<Bytes>) -> Response
+    ensures { response_due result ≡ item_due text }
 {
     match text {
-        Some(text) => Ok(Response::Written(text)),
-        None => Ok(Response::NoSuch),
+        Some(text) => Response::Written(text),
+        None => Response::NoSuch,
     }
 }

@@ -1,18 +1,23 @@
-//! From the input to a world or a package.
+//! From the input to a world, a package or a graph.
 
 ghost use Rattle.std.specs.Prelude.{◌≡◌, Ok, IfOk, IfErr};
+ghost use Rattle.ldv_value.specs.Gives.{Gives};
 ghost use Rattle.package_layout.specs.ReadResult.{ReadsAs, RunsReadAs};
 ghost use Rattle.package_layout.specs.RunPackages.{whole};
 ghost use Rattle.package_layout.specs.Runs.{IsCut};
 ghost use Rattle.package_layout.specs.Valid.{IsSpelled, Valid, reading};
 ghost use Rattle.package_layout.specs.Whole.{IsTyped};
+ghost use Rattle.prov_export.specs.Reading.{prov_reading};
+ghost use Rattle.prov_export.specs.Stopping.{Stops};
 ghost use Rattle.run_model.specs.ValidWorld.{CanRun, ValidWorld};
 ghost use Rattle.world_json.specs.Reading.{world_reading, IsFaultOf};
 
 use ldv_value::Bytes;
 use package_layout::{PackageStop, RunPackage, read_package, read_runs};
+use prov_export::{ProvStop, read_prov};
 use run_model::{Package, World};
 use std::alloc::Global;
+use trace_graph::Graph;
 use world_json::{WorldStop, world_of};
 
 /// The world that the input is a document of. The input isn't kept.
@@ -49,4 +54,11 @@ pub(crate) fn read_runs_of(alloc: Global, input: Bytes) -> Result<RunPackage, Pa
     ensures reading { RunsReadAs result (reading input) }
 {
     read_runs(alloc, input.as_slice())
+}
+
+/// The graph whose document the input is. The input isn't kept.
+pub(crate) fn read_graph(alloc: Global, input: Bytes) -> Result<Graph, ProvStop>
+    ensures { Gives Stops result (prov_reading input) }
+{
+    read_prov(alloc, input.as_slice())
 }

@@ -34,8 +34,8 @@ fn reseeded_response(
     }
 }
 
-/// The response of `replay --seed` to an input. The events of its trace say whether its processes share a path
-/// that one of them changes.
+/// The response of `replay --seed` to an input. The events of its trace say whether its processes share a
+/// path that one of them changes.
 pub(crate) fn replay_seed_response(
     alloc: Global,
     seed: u64,

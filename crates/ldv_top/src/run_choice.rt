@@ -31,13 +31,13 @@ fn which_of(number: &str) -> Option<Which>
     }
 }
 
-/// `replay --run K`, of the words before `--steps`.
-pub(crate) fn replay_of_run(word: &str, option: &str, number: &str, budget: u32) -> Option<Command>
+/// `replay --run K`, with the steps that the run may take.
+pub(crate) fn replay_of_run(word: &str, number: &str, budget: u32) -> Option<Command>
     requires { budget ≤ max_steps }
-    ensures command { result ≡ replay_of_run word.now option.now number.now budget }
+    ensures command { result ≡ replay_of_run word.now number.now budget }
     ensures bounded { IfSome result (λ command. IsBounded command) }
 {
-    if word == "replay" && option == "--run" {
+    if word == "replay" {
         let which = which_of(number)?;
         Some(Command::ReplayRun { which, budget })
     } else {

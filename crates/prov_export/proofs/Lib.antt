@@ -13,6 +13,7 @@ pub mod ReadBack
 pub mod NoFloats
 pub mod Each
 pub mod NameMaps
+pub mod Kept
 pub mod JsonText
 pub mod Dependence
 pub mod TypedTraces

@@ -1,12 +1,13 @@
 -- Names by their places, in a map that grows.
-use Rattle.std.proofs.Common.{◌≡◌, ◌∙◌, sym, ap, refl, ℕ, List, Bool, true, false, cond, Bor}
+use Rattle.std.proofs.Common.{◌≡◌, ◌∙◌, sym, ap, refl, ℕ, List, [], Bool, true, false, cond, Bor}
 use Rattle.std.specs.Prelude.{Option, Some, None, option_map, ◌==◌, codes}
 use Rattle.std.specs.Option.{option_or}
-use Rattle.std.specs.BTreeMap.{BTreeMap, Updates, get}
+use Rattle.std.specs.BTreeMap.{BTreeMap, Updates, get, is_at}
+use Rattle.std.specs.Map.{lookup}
 use Rattle.std.specs.Cmp.{unsigned_tied}
 use Rattle.std.specs.Ordering.{nat_cmp, is_eq}
-use Rattle.std.proofs.lemmas.Bool.{eqb-true, eq-eqb, cases_Bool}
-use Rattle.serde_json.specs.Data.{Data, Members, no_members, member}
+use Rattle.std.proofs.lemmas.Bool.{eqb-true, eq-eqb}
+use Rattle.serde_json.specs.Data.{Data, Members, member}
 use Rattle.prov_export.specs.Names.{names_of}
 use Rattle.prov_export.specs.Reading.{is_number, name_if, named_at, number_at}
 
@@ -22,6 +23,11 @@ put_there m n k v updates q =
     ap (option_map (λ name. name.now)) (updates.0 q)
     ∙ mapped (is_eq (nat_cmp k q)) v (get nat_cmp m q)
     ∙ ap (λ (b : Bool). cond b (Some v.now) (names_of m q)) (unsigned_tied k q)
+
+-- a map with no name
+pub none_at : (m : BTreeMap ℕ (Bor (List ℕ))) → m.entries ≡ [] → (q : ℕ) → names_of m q ≡ None
+none_at m empty q =
+    ap (λ (es : List (ℕ × Bor (List ℕ))). option_map (λ name. name.now) (lookup (is_at (nat_cmp q)) es)) empty
 
 or_none : (o : Option (List ℕ)) → o ≡ option_or o None
 or_none None = refl

@@ -1,5 +1,5 @@
--- What the document of a graph says that a path depends on, in the lines of the report on a package. A document
--- has no names of processes, so they are named by their creation numbers.
+-- What the document of a graph says that a path depends on, in the lines of the report on a package. A
+-- document has no names of processes, so they are named by their creation numbers.
 use Rattle.std.specs.Prelude.{ℕ, List, ◌++◌, codes, position, Option, option_map}
 use Rattle.std.specs.List.{flat_map}
 use Rattle.std.specs.Fmt.{decimal}

@@ -104,7 +104,8 @@ statement_in text =
 
 abbrev pub numbered_in : List ℕ → Option Node
 numbered_in text =
-    rest_or (λ rest. option_map Process (number_in rest)) (after (codes "ldv:process/") text) (statement_in text)
+    rest_or (λ rest. option_map Process (number_in rest)) (after (codes "ldv:process/") text)
+    (statement_in text)
 
 abbrev pub other_in : List ℕ → Option Node
 other_in text = rest_or row_in (after (codes "ldv:row/") text) (numbered_in text)

@@ -15,8 +15,8 @@ use Rattle.prov_export.specs.Dependence.{nodes_report, place_of, depends_report}
 use Rattle.prov_export.specs.Document.{prov_text}
 use Rattle.prov_export.specs.Reading.{prov_reading}
 
--- What every graph in memory meets: texts are UTF-8, and numbers are those of their types. Clauses range over all
--- lists and numbers, so these facts are said here.
+-- What every graph in memory meets: texts are UTF-8, and numbers are those of their types. Clauses range over
+-- all lists and numbers, so these facts are said here.
 abbrev pub TypedNode : Node → Type 0
 TypedNode (Path path) = IsUtf8 path
 TypedNode (Process process) = process < 2 ^ 32
@@ -47,10 +47,11 @@ UniqueLaw = (g h : Parts) → IsTypedGraph g → IsTypedGraph h → WellFormed g
 -- What a path depends on by the last step of a run, in the lines of documents.
 abbrev pub depends_by : List Event → ℕ → List ℕ → Option (List ℕ)
 depends_by events steps path =
-    option_map (λ place. nodes_report (depends_of (graph_of events) place steps)) (place_of (graph_of events) path)
+    option_map (λ place. nodes_report (depends_of (graph_of events) place steps))
+    (place_of (graph_of events) path)
 
--- The document of a trace's graph is read as it, where it is no longer than an input may be, and says of each path
--- what the path depends on by the last step of the run.
+-- The document of a trace's graph is read as it, where it is no longer than an input may be, and says of each
+-- path what the path depends on by the last step of the run.
 abbrev pub TraceLaw : Type 0
 TraceLaw = (start : List ℕ) (steps : ℕ) (events : List Event) → IsTrue (path_test start)
     → ValidTrace start steps events → steps ≤ max_steps → AllByRecursion TypedEvent events

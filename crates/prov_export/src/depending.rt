@@ -12,9 +12,9 @@ use sql_model::Member;
 use std::alloc::{AllocError, Global};
 use trace_graph::{Graph, Node};
 
-/// A line for each node from which information may have got to a path, in the order of the report on a package,
-/// with processes by their creation numbers. None exactly where the path is no node of the graph. `AllocError`
-/// means out of memory only.
+/// A line for each node from which information may have got to a path, in the order of the report on a
+/// package, with processes by their creation numbers. None exactly where the path is no node of the graph.
+/// `AllocError` means out of memory only.
 pub fn depends_text(alloc: Global, graph: &Graph, path: &str) -> Result<Option<Bytes>, AllocError>
     ensures { IfOk result (λ text. text ≡ depends_report graph.now path.now) }
 {

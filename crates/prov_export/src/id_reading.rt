@@ -40,7 +40,10 @@ fn number_in(bytes: &[u8]) -> Option<u32>
 {
     let mut number: u32 = 0;
     for byte in bytes {
-        number = with_digit(number, *byte)?;
+        match with_digit(number, *byte) {
+            Some(more) => number = more,
+            None => return None,
+        }
     }
     Some(number)
 }

@@ -22,7 +22,6 @@ pub(crate) fn name_of<'a>(names: &Names<'a>, place: u128) -> Option<&'a str>
 }
 
 fn put_name<'a>(names: &mut Names<'a>, place: u128, name: &'a str) -> Result<(), AllocError>
-    requires { names_of names.old place ≡ None }
     ensures { OnOk result ((other : ℕ) → names_of names.new other
         ≡ (if place == other then Some name.now else names_of names.old other)) }
 {

@@ -1,6 +1,6 @@
 //! The objects of a document.
 
-ghost use Rattle.std.specs.Prelude.{◌≡◌, option_map};
+ghost use Rattle.std.specs.Prelude.{◌≡◌, ◌<◌, ◌^◌, option_map};
 ghost use Rattle.serde_json.specs.View.{view, members_view};
 ghost use Rattle.prov_export.specs.ObjectRefs.{seen};
 ghost use Rattle.prov_export.specs.Reading.{count, objects_of, node_count, edge_count};
@@ -34,7 +34,8 @@ pub(crate) fn objects_of(document: &Value) -> Option<ObjectRefs<'_>>
 }
 
 fn count(members: &Members) -> u128
-    ensures { result ≡ count (members_view members.now.entries) }
+    ensures count { result ≡ count (members_view members.now.entries) }
+    ensures small { result < 2 ^ 63 }
 {
     members.len() as u128
 }

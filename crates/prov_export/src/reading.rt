@@ -13,7 +13,6 @@ ghost use Rattle.prov_export.specs.Reading.{prov_reading};
 ghost use Rattle.prov_export.specs.Stopping.{Stops};
 
 use crate::edge_reading::edges_in;
-use crate::law::prov_law;
 use crate::node_reading::nodes_in;
 use crate::objects::{ObjectRefs, objects_of};
 use crate::stop::ProvStop;
@@ -94,9 +93,10 @@ fn is_text_of(alloc: Global, graph: &Graph, bytes: &[u8]) -> Result<bool, AllocE
 // A well-formed graph, if its document has that text.
 fn kept_written(alloc: Global, bytes: &[u8], graph: Graph) -> Result<Graph, ProvStop>
     requires { WellFormed graph }
-    ensures { Gives Stops result (kept_as bytes.now graph.entry) }
+    ensures { Gives Stops result (kept_as bytes.now graph) }
 {
-    if is_text_of(alloc, &graph, bytes)? {
+    let same = is_text_of(alloc, &graph, bytes)?;
+    if same {
         Ok(graph)
     } else {
         Err(ProvStop::NotProv)
@@ -104,10 +104,11 @@ fn kept_written(alloc: Global, bytes: &[u8], graph: Graph) -> Result<Graph, Prov
 }
 
 fn kept(alloc: Global, bytes: &[u8], draft: Draft) -> Result<Graph, ProvStop>
-    ensures { Gives Stops result (kept_as bytes.now draft.entry) }
+    ensures { Gives Stops result (kept_as bytes.now draft) }
 {
     let Draft { nodes, edges } = draft;
-    if is_well_formed(alloc, nodes.items(), edges.items())? {
+    let formed = is_well_formed(alloc, nodes.items(), edges.items())?;
+    if formed {
         kept_written(alloc, bytes, Graph::of_parts(nodes, edges))
     } else {
         Err(ProvStop::NotProv)
@@ -130,6 +131,5 @@ pub fn read_prov(alloc: Global, bytes: &[u8]) -> Result<Graph, ProvStop>
     ensures not_prov { result ≡ Err ProvStop.NotProv → (graph : Parts) → IsTypedGraph graph
         → WellFormed graph → prov_text graph ≡ bytes.now → ⊥ }
 {
-    prov_law();
     graph_of(alloc, bytes)
 }

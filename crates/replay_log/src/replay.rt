@@ -78,8 +78,8 @@ pub fn replay_excluded(alloc: Global, package: &Package, budget: u32) -> Result<
     }
 }
 
-/// Runs the files of a package over its recorded replies under another seed, as `replay_excluded` does under the
-/// package's own. The package stays; the run uses a copy.
+/// Runs the files of a package over its recorded replies under another seed, as `replay_excluded` does under
+/// the package's own. The package stays; the run uses a copy.
 pub fn replay_seeded(
     alloc: Global,
     package: &Package,

@@ -5,7 +5,7 @@ use Rattle.run_model.specs.declared.name.ProcName.{ProcName}
 use Rattle.package_layout.specs.declared.damage.DamageKind.TheVariants.{Magic, Digest, Form}
 use Rattle.world_json.specs.declared.fault.WorldFault.TheVariants.{NotJson, Shape, Name, Limit, RowType, NotNull, Key, NoStart, BadScript}
 use Rattle.ldv_top.specs.declared.exit.Exit.{Exit}
-use Rattle.ldv_top.specs.declared.exit.Exit.TheVariants.{Done, Usage, ReadFault, WriteFault, TooLong, NotWorld, NotEnded, Damaged, Diverged, NoSuch, NoMemory, PackageTooLong, NotPrivate}
+use Rattle.ldv_top.specs.declared.exit.Exit.TheVariants.{Done, Usage, ReadFault, WriteFault, TooLong, NotWorld, NotEnded, Damaged, Diverged, NoSuch, NoMemory, PackageTooLong, NotPrivate, NotProv}
 use Rattle.ldv_top.specs.Exits.{status_of, line_of}
 
 -- an exit ends with this status and writes this line
@@ -45,6 +45,9 @@ package_too_long = (refl, refl)
 
 not_private : Ends NotPrivate 14 (codes "ldv: package is not private\n")
 not_private = (refl, refl)
+
+not_prov : Ends NotProv 16 (codes "ldv: not a provenance document\n")
+not_prov = (refl, refl)
 
 -- ---- no world: one status, and the fault in words
 

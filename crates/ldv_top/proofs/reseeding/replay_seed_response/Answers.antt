@@ -1,4 +1,4 @@
-use Rattle.std.proofs.Common.{subst}
+use Rattle.std.proofs.Common.{◌≡◌, subst}
 use Rattle.std.specs.Prelude.{IfOk}
 use Rattle.ldv_value.proofs.Booleans.{and-second}
 use Rattle.ldv_top.specs.declared.response.Response.{Response}
