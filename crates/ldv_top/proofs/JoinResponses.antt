@@ -1,10 +1,12 @@
 -- What is due for two packages and for a joined one, by what was read.
-use Rattle.std.proofs.Common.{◌≡◌, ℕ, ◌≤◌, List, length, sym, ap, ◌∙◌}
-use Rattle.std.specs.Prelude.{Option, Some, None, Result, Ok, Err}
+use Rattle.std.proofs.Common.{◌≡◌, ℕ, ◌≤◌, List, length, refl, sym, ap, true, false}
+use Rattle.std.specs.Prelude.{◌==◌, Some, None, Ok, Err}
+use Rattle.std.specs.Int.{w32}
 use Rattle.ldv_value.specs.Limits.{input_limit}
 use Rattle.run_model.specs.declared.package.Package.{Package}
 use Rattle.package_layout.specs.declared.damage.DamageKind.{DamageKind}
 use Rattle.package_layout.specs.declared.damage.DamageKind.TheVariants.{Form}
+use Rattle.package_layout.specs.Fields.{Found, ◌>>=◌, bytes_at, number_at, sized_at}
 use Rattle.package_layout.specs.Valid.{reading}
 use Rattle.package_join.specs.declared.joined.Joined.{Joined}
 use Rattle.package_join.specs.declared.joined.Which.{Which}
@@ -13,8 +15,38 @@ use Rattle.package_join.specs.Worlds.{joined_world}
 use Rattle.ldv_top.specs.declared.exit.Exit.TheVariants.{Damaged}
 use Rattle.ldv_top.specs.Due.{due_replay_run, due_world, replayed_run}
 use Rattle.ldv_top.specs.DueOfJoins.{due_join, joined_inputs, joined_packages, joined_pair, pair_in}
-use Rattle.ldv_top.specs.DueParts.{Due, due_of_reading, refused}
+use Rattle.ldv_top.specs.DueParts.{due_of_reading, refused}
 use Rattle.ldv_top.proofs.RecordLaws.{not_too_long}
+
+-- ---- the two of the input
+
+abbrev sized_by : ℕ × List ℕ → Found (List ℕ)
+sized_by count = bytes_at count.0 count.1
+
+-- after the number
+pub sized_is : (bytes : List ℕ) (count : ℕ) (rest : List ℕ) → number_at w32 bytes ≡ Some (count, rest) → sized_at bytes ≡ bytes_at count rest
+sized_is bytes count rest is = ap (λ (found : Found ℕ). found >>= sized_by) is
+
+pub not_sized : (bytes : List ℕ) → number_at w32 bytes ≡ None → sized_at bytes ≡ None
+not_sized bytes is = ap (λ (found : Found ℕ). found >>= sized_by) is
+
+pub no_first : (bytes : List ℕ) → sized_at bytes ≡ None → None ≡ pair_in bytes
+no_first bytes is = rw is refl
+
+pub no_second : (bytes first rest : List ℕ) → sized_at bytes ≡ Some (first, rest) → sized_at rest ≡ None → None ≡ pair_in bytes
+no_second bytes first rest one two = rw (one, two) refl
+
+pub both_found : (bytes first rest second last : List ℕ) → sized_at bytes ≡ Some (first, rest) → sized_at rest ≡ Some (second, last)
+    → (length last == 0) ≡ true → Some (first, second) ≡ pair_in bytes
+both_found bytes first rest second last one two ended = rw (one, two, ended) refl
+
+pub bytes_left : (bytes first rest second last : List ℕ) → sized_at bytes ≡ Some (first, rest) → sized_at rest ≡ Some (second, last)
+    → (length last == 0) ≡ false → None ≡ pair_in bytes
+bytes_left bytes first rest second last one two more = rw (one, two, more) refl
+
+pub ruleset pairs = (no_first, no_second, both_found, bytes_left)
+
+-- ---- what is due
 
 pub pair_due : (input first second : List ℕ) → length input ≤ input_limit → Some (first, second) ≡ pair_in input → joined_inputs first second ≡ due_join input
 pair_due input first second short is = rw (not_too_long input short) (ap joined_pair is)

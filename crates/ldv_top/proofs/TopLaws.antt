@@ -152,10 +152,10 @@ module _ {Reader Writer : Type 0} (left : Reader → Option (List ℕ)) (read_fa
     reseeded = λ n seed budget w input is told packed private enough. tt;
     migrated = λ input is told done. let never : NoMemory ≡ Done = done in cc;
     depends = λ path input is told done. let never : NoMemory ≡ Done = done in cc;
-     documented = λ p path input is told document. (named_same p path, tt);
-     joins = λ n m v w input is told pair. tt;
-     joined = λ which n m budget v w input is told two enough. tt;
-     chosen = λ which budget j input is told any. tt;
+    documented = λ p path input is told document. (named_same p path, tt);
+    joins = λ n m v w input is told pair. tt;
+    joined = λ which n m budget v w input is told two enough. tt;
+    chosen = λ which budget j input is told any. tt;
   }
 
   -- a command that reads nothing

@@ -1,11 +1,12 @@
 //! `join`: from two packages to what they are joined to.
 
 ghost use Rattle.std.specs.Prelude.{◌≡◌, ◌≤◌, length, map, string_bytes, IfOk, IfSome, MatchOption, None, Some};
+ghost use Rattle.std.specs.Int.{w32};
 ghost use Rattle.std.specs.Option.{option_map};
 ghost use Rattle.ldv_value.specs.Limits.{input_limit};
 ghost use Rattle.package_join.specs.Joined.{joined_of};
 ghost use Rattle.package_join.specs.Layout.{joined_spelling};
-ghost use Rattle.package_layout.specs.Fields.{sized_at};
+ghost use Rattle.package_layout.specs.Fields.{number_at, sized_at};
 ghost use Rattle.package_layout.specs.Valid.{reading};
 ghost use Rattle.run_model.specs.declared.package.Mode.TheVariants.{Included};
 ghost use Rattle.ldv_top.specs.Due.{response_due, due_spelling};
@@ -33,17 +34,30 @@ pub(crate) fn join_of(words: &[String]) -> Option<Command>
     }
 }
 
+// A number of four bytes, the highest first.
+fn length_in(cursor: &mut Cursor) -> Option<u32>
+    ensures { MatchOption result (number_at w32 cursor.old ≡ None)
+        (λ count. number_at w32 cursor.old ≡ Some (count, cursor.new)) }
+{
+    match cursor.next(4) {
+        None => None,
+        Some(front) => Some(u32::from_be_bytes([front[0], front[1], front[2], front[3]])),
+    }
+}
+
 // Bytes with their number before them. They aren't copied.
 fn sized<'a>(cursor: &mut Cursor<'a>) -> Option<&'a [u8]>
     ensures { MatchOption result (sized_at cursor.old ≡ None)
         (λ front. sized_at cursor.old ≡ Some (front.now, cursor.new)) }
 {
-    let head = cursor.next(4)?;
-    let count = u32::from_be_bytes([head[0], head[1], head[2], head[3]]);
-    cursor.next(count as usize)
+    match length_in(cursor) {
+        None => None,
+        Some(count) => cursor.next(count as usize),
+    }
 }
 
 // Both packages, where the input is made of them and their lengths.
+#[tactic(auto, using(crate::proofs::JoinResponses::pairs))]
 fn pair_in<'a>(input: &'a [u8]) -> Option<(&'a [u8], &'a [u8])>
     ensures { option_map (λ pair. (pair.0.now, pair.1.now)) result ≡ pair_in input.now }
 {
