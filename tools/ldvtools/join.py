@@ -45,13 +45,14 @@ def file_clash(first: Package, second: Package, names: Tuple[str, str]) -> Optio
                      min(len(content), len(other)))
         line = content[:place].count(b"\n") + 1
         return Clash(f"file {escaped(path)}", [
-            f"{names[0]} has {counted(len(content), 'byte')} of it, {names[1]} {counted(len(other), 'byte')}; "
-            f"the first difference is at byte {place}, in line {line}"])
+            f"{names[0]} has {counted(len(content), 'byte')} of it, {names[1]} "
+            f"{counted(len(other), 'byte')}; the first difference is at byte {place}, in line {line}"])
     return None
 
 
 def foreign_text(table: PackedTable) -> str:
-    return "; ".join(f"({', '.join(each.columns)}) refers to {each.parent}" for each in table.foreign) or "none"
+    found = [f"({', '.join(each.columns)}) refers to {each.parent}" for each in table.foreign]
+    return "; ".join(found) or "none"
 
 
 def columns_text(table: PackedTable) -> str:
@@ -93,9 +94,10 @@ def row_clash(first: Package, second: Package, names: Tuple[str, str]) -> Option
         for row in sorted(one.rows, key=lambda row: row.number):
             twin = others.get(row.number)
             if twin is not None and twin.values != row.values:
+                cells = zip(one.names(), row.values, twin.values)
                 return Clash(f"row {one.name} {row.number}", [
                     f"column {name}: {cell(value)} in {names[0]}, {cell(another)} in {names[1]}"
-                    for name, value, another in zip(one.names(), row.values, twin.values) if value != another])
+                    for name, value, another in cells if value != another])
     return None
 
 
@@ -125,9 +127,9 @@ def key_clash(first: Package, second: Package, names: Tuple[str, str]) -> Option
             key = tuple(rows[number].values[place] for place in places)
             if key in seen:
                 shown = ", ".join(f"{column} {cell(value)}" for column, value in zip(table.key, key))
-                return Clash(f"key {name} {number}", [
-                    f"row {seen[key]} of {holders(first, second, name, seen[key], names)} and row {number} of "
-                    f"{holders(first, second, name, number, names)} have the same key: {shown}"])
+                both = " and ".join(f"row {row} of {holders(first, second, name, row, names)}"
+                                    for row in (seen[key], number))
+                return Clash(f"key {name} {number}", [f"{both} have the same key: {shown}"])
             seen[key] = number
     return None
 
@@ -164,7 +166,8 @@ def read_one(name: str) -> Tuple[bytes, Package]:
 
 def work(words: Optional[Sequence[str]]) -> int:
     parser = words_of("join.py", __doc__)
-    parser.add_argument("packages", nargs=2, metavar="PACKAGE", help="an included package; - is standard input")
+    parser.add_argument("packages", nargs=2, metavar="PACKAGE",
+                        help="an included package; - is standard input")
     names = parser.parse_args(words).packages
     if names == ["-", "-"]:
         raise Misused("standard input is only one of them")
@@ -183,3 +186,7 @@ def work(words: Optional[Sequence[str]]) -> int:
 
 def main(words: Optional[Sequence[str]] = None) -> int:
     return command("join.py", work, words, "package")
+
+
+if __name__ == "__main__":
+    sys.exit(main())

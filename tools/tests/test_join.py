@@ -29,10 +29,9 @@ class Joins(InFolder):
         columns = [packages.column("k", "INT NOT NULL"), packages.column("v", "TEXT")]
         rows = rows if rows is not None else [packages.row(0, 1, "a"), packages.row(1, 2, "b")]
         table = packages.table("t", columns, **{"key": [0], "next": 5, "rows": rows, **fields})
+        files = files or [packages.file("main", "exit 0\n"), packages.file("seen", "x\ny\n")]
         trace = [packages.started(), packages.asked(0), packages.ended()]
-        return self.put(name, packages.encode(packages.package(
-            tables=[table], files=files or [packages.file("main", "exit 0\n"), packages.file("seen", "x\ny\n")],
-            trace=trace)))
+        return self.put(name, packages.encode(packages.package(tables=[table], files=files, trace=trace)))
 
     def joined(self, *words):
         return tool(join, *words)
@@ -74,9 +73,10 @@ class Joins(InFolder):
         first = self.made("a")
         second = self.made("b", rows=[packages.row(0, 1, "a"), packages.row(3, 2, "c")])
         self.assertEqual(self.joined(first, second)[2],
-                         f"join.py: clash: key t 3\n  row 1 of {first} and row 3 of {second} have the same key: "
-                         "k 2\n")
-        twin = self.made("c", rows=[packages.row(0, 1, "a"), packages.row(1, 2, "b"), packages.row(2, 1, "d")])
+                         f"join.py: clash: key t 3\n  row 1 of {first} and row 3 of {second} have the same "
+                         "key: k 2\n")
+        rows = [packages.row(0, 1, "a"), packages.row(1, 2, "b"), packages.row(2, 1, "d")]
+        twin = self.made("c", rows=rows)
         self.assertIn(f"row 0 of {first} and {twin} and row 2 of {twin}", self.joined(first, twin)[2])
 
     def test_order(self):

@@ -96,8 +96,8 @@ pub record Ends {Reader Writer : Type 0}
       → (report_due (DependsOn path) p ≡ named_due p path)
       × Comes (numbered_due p path) exit (taken sink) (taken sink_after)
   -- the packages of two valid worlds with the same files and tables are joined without a clash
-  pub joins : (n m : ℕ) (v w : World) (input : List ℕ) → command_of words ≡ Some Join → left source ≡ Some input
-      → IsPair n m v w input
+  pub joins : (n m : ℕ) (v w : World) (input : List ℕ) → command_of words ≡ Some Join
+      → left source ≡ Some input → IsPair n m v w input
       → Comes (due_spelling (joined_spelling (two_joined n m v w))) exit (taken sink) (taken sink_after)
   -- and each run of what they are joined to is replayed as its world is run
   pub joined : (which : Which) (n m budget : ℕ) (v w : World) (input : List ℕ)

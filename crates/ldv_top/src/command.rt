@@ -52,11 +52,11 @@ pub enum Command {
     /// `replay --seed`: the input is a package of recorded replies, the output the outcome of its run under
     /// this seed.
     ReplaySeed { seed: u64, budget: u32 },
-    /// `replay --run 1` and `replay --run 2`: the input is a joined package, the output the outcome of the world of
-    /// this run.
+    /// `replay --run 1` and `replay --run 2`: the input is a joined package, the output the outcome of the
+    /// world of this run.
     ReplayRun { which: Which, budget: u32 },
-    /// `join`: the input is two included packages, each with its length before it, the output the package that
-    /// they are joined to.
+    /// `join`: the input is two included packages, each with its length before it, the output the package
+    /// that they are joined to.
     Join,
     /// `audit`: the input is a package, the output whether it is that of its own world's run.
     Audit { budget: u32 },

@@ -22,7 +22,8 @@ abbrev pub TypedCommonRow : TableRow → Type 0
 TypedCommonRow row = IsU32 row.number × TypedValues row.values
 
 abbrev pub TypedCommonTable : Table → Type 0
-TypedCommonTable t = IsUtf8 t.name × (TypedSchema t.schema × (IsU32 t.next × AllByRecursion TypedCommonRow t.rows))
+TypedCommonTable t = IsUtf8 t.name
+    × (TypedSchema t.schema × (IsU32 t.next × AllByRecursion TypedCommonRow t.rows))
 
 abbrev pub TypedReason : Reason → Type 0
 TypedReason r = IsUtf8 r.table × (IsU32 r.row × IsU32 r.statement)

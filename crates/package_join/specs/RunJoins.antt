@@ -48,7 +48,8 @@ abbrev pub cut_sections : RunJoined → List ℕ
 cut_sections r = common_files_spelling r.files ++ (common_tables_spelling r.tables ++ both_cuts_spelling r)
 
 abbrev pub cut_run_at : List ℕ → Found CutRun
-cut_run_at = made_at (λ r. Some (record { bare = r.0; runs = r.1 })) (both_at bare_run_at (list_at w32 trace_run_at))
+cut_run_at =
+    made_at (λ r. Some (record { bare = r.0; runs = r.1 })) (both_at bare_run_at (list_at w32 trace_run_at))
 
 abbrev pub cut_joined_at : List ℕ → Found RunJoined
 cut_joined_at =

@@ -1,4 +1,5 @@
--- The world of a run of a joined package: it has all tables, all whole files, and the present files of the run.
+-- The world of a run of a joined package: it has all tables, all whole files, and the present files of the
+-- run.
 use Rattle.std.specs.Prelude.{ℕ, List, [], Bool, if◌then◌else◌, Option, Some, None}
 use Rattle.std.specs.List.{filter_map}
 use Rattle.package_join.specs.Types.{File, PackedFile, Table, World}

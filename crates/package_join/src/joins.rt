@@ -36,8 +36,8 @@ impl From<AllocError> for JoinStop {
     }
 }
 
-/// What two valid included packages are joined to. A clash is the first by `clash_of` of `specs/Joined.antt`. Both
-/// are copied: `join_owned` copies neither.
+/// What two valid included packages are joined to. A clash is the first by `clash_of` of
+/// `specs/Joined.antt`. Both are copied: `join_owned` copies neither.
 pub fn join(alloc: Global, a: &Package, b: &Package) -> Result<Joined, JoinStop>
     requires first { Valid a.now }
     requires second { Valid b.now }

@@ -25,8 +25,8 @@ pub fn joined_round_trip_law()
     ensures unique { OneSpellingLaw }
 {}
 
-/// The worlds of both runs of a valid joined package can be run. The function has no body: its contract is the
-/// theorem.
+/// The worlds of both runs of a valid joined package can be run. The function has no body: its contract is
+/// the theorem.
 pub fn joined_runs_law()
     ensures { RunsLaw }
 {}

@@ -26,7 +26,8 @@ use std::alloc::{AllocError, Global};
 /// no events are wanted, take `read_cuts`.
 pub fn read_joined(alloc: Global, bytes: &[u8]) -> Result<Joined, PackageStop>
     ensures found { IfOk result (IsJoinedRead bytes.now) }
-    ensures magic { (result ≡ Err (PackageStop.Damaged DamageKind.Magic)) ↔ (has_joined_magic bytes.now ≡ false) }
+    ensures magic { (result ≡ Err (PackageStop.Damaged DamageKind.Magic))
+        ↔ (has_joined_magic bytes.now ≡ false) }
     ensures digest { (result ≡ Err (PackageStop.Damaged DamageKind.Digest))
         ↔ ((has_joined_magic bytes.now ≡ true) × (¬ HasDigest bytes.now)) }
     ensures form { result ≡ Err (PackageStop.Damaged DamageKind.Form) →

@@ -18,8 +18,8 @@ pub(crate) fn joined_magic() -> &'static [u8]
     b"LDVJOIN1"
 }
 
-/// The one spelling of a joined package. `TooLong` exactly where it has more than 67,108,864 bytes, its digest
-/// counted.
+/// The one spelling of a joined package. `TooLong` exactly where it has more than 67,108,864 bytes, its
+/// digest counted.
 pub fn spell_joined(alloc: Global, joined: &Joined) -> Result<Bytes, SpellStop>
     ensures bytes { IfOk result (λ bytes. bytes ≡ joined_spelling joined.now) }
     ensures within { IfOk result (λ bytes. length bytes ≤ input_limit) }
