@@ -1,7 +1,6 @@
 //! The parts of a joined package, from values to bytes.
 
 ghost use Rattle.std.specs.Prelude.{◌≡◌, ◌++◌, OnOk};
-ghost use Rattle.std.specs.Int.{w32};
 ghost use Rattle.std.specs.List.{flat_map, AllByRecursion};
 ghost use Rattle.package_join.specs.Layout.{bare_run_spelling, both_runs_spelling, common_row_spelling};
 ghost use Rattle.package_join.specs.Layout.{common_rows_spelling, common_table_spelling};

@@ -1,6 +1,6 @@
 //! The files, tables and rows of two packages, merged by path, by name and by number.
 
-ghost use Rattle.std.specs.Prelude.{◌≡◌, IfOk};
+ghost use Rattle.std.specs.Prelude.{◌≡◌};
 ghost use Rattle.std.specs.Option.{option_or};
 
 use crate::merging::{Mergeable, merge_lists};
