@@ -78,7 +78,8 @@ class RefusedMemory(InFolder):
     def test_answers(self):
         status, out, err = self.answered()
         self.assertEqual((status, err), (0, ""))
-        for words in ("record --excluded", "inspect depends f", "inspect why t 3", "table t 8", "gen 2"):
+        for words in ("record --excluded", "inspect depends f", "inspect why t 3", "table t 8", "join",
+                      "replay --run 2", "gen 2"):
             self.assertIn(f"{words}: 3 requests, 0 done without, 0 answered otherwise\n", out.decode())
         status, out, _ = self.answered(other=(0, self.package, b""))
         self.assertEqual(status, 0)

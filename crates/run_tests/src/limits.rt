@@ -63,6 +63,8 @@ fn reads_no_longer_input(rt: HostRuntime) -> Result<(), Fail> {
         "table t 0",
         "inspect rows",
         "migrate",
+        "join",
+        "replay --run 1",
     ] {
         expect_blank(&rt, rt.alloc(), command, 67_108_865, TOO_LONG)?;
     }
