@@ -18,7 +18,7 @@ use Rattle.package_layout.specs.Room.{some_thousands}
 use Rattle.package_layout.specs.Runs.{CountedRun, runs_of, runs_spelling, runs_at, trace_room}
 use Rattle.package_layout.specs.Spelling.{value_spelling, number_spelling, reason_spelling, cells_spelling, schema_spelling, file_spelling}
 use Rattle.package_layout.specs.Typed.{IsU32, TypedValue, TypedValues, TypedFile, TypedEvent}
-use Rattle.package_layout.specs.Version.{Two}
+use Rattle.package_layout.specs.declared.version.Version.TheVariants.{Two}
 use Rattle.package_layout.proofs.Events.{names_law}
 use Rattle.package_layout.proofs.Laws.{IsBytes, IsBytes-rest, IsField, just, always, list_all-always, Uncounted, restate, recount, made_law, then_law, struct_law}
 use Rattle.package_layout.proofs.Numbers.{wide64, number_law, text_law, items_law, long_law, short_list_law}

@@ -1,6 +1,6 @@
 -- What two valid included packages are joined to is valid.
 use Rattle.std.proofs.Common.{◌≡◌, List, refl, sym, ap, ◌∙◌, subst, true, length, ◌&&◌}
-use Rattle.std.specs.Prelude.{Option, Some, None, Ok, ◌==◌, nat_le}
+use Rattle.std.specs.Prelude.{Option, Some, None, Result, Ok, Err, IfOk, ◌==◌, nat_le}
 use Rattle.std.proofs.lemmas.Bool.{and_parts, eqb-true}
 use Rattle.std.proofs.lemmas.List.{nil_from_length}
 use Rattle.ldv_value.specs.Limits.{max_files, max_tables}
@@ -12,8 +12,11 @@ use Rattle.package_join.specs.Types.{Included, Mode, Package}
 use Rattle.package_join.specs.declared.joined.Clash.{Clash}
 use Rattle.package_join.specs.declared.joined.Joined.{Joined}
 use Rattle.package_join.specs.declared.joined.Which.TheVariants.{First, Second}
+use Rattle.package_join.specs.declared.joins.JoinStop.{JoinStop}
 use Rattle.package_join.specs.Joined.{clash_of, joined_of, put_together, run_package, unless_clash}
 use Rattle.package_join.specs.Laws.{IsIncluded, ValidLaw}
+use Rattle.package_join.specs.Parts.{JoinsAs}
+use Rattle.package_join.specs.Picked.{without_logs}
 use Rattle.package_join.specs.Valid.{ValidJoined}
 use Rattle.package_join.proofs.Picks.{pick_law, anew_law}
 
@@ -49,3 +52,9 @@ valid_law a b j va vb ma mb is = by (clash_of a b) refl is
           second = subst Valid (sym picked.second ∙ ap (run_package Second) same) vb;
           same = anew_law a b (included a va ma) (included b vb mb) j is;
         }
+
+-- what copies of both without their logs, which they haven't got, are joined to
+pub copies_joined : (a b first second : Package) (result : Result Joined JoinStop) → Valid a → Valid b → a.mode ≡ Included → b.mode ≡ Included
+    → first ≡ without_logs a → second ≡ without_logs b → JoinsAs result (joined_of first second) → IfOk result (λ j. ValidJoined j)
+copies_joined a b first second (Ok j) va vb ma mb one two due = valid_law a b j va vb ma mb ((λ i. joined_of (sym one i) (sym two i)) ∙ due)
+copies_joined a b first second (Err stop) va vb ma mb one two due = tt

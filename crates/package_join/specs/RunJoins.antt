@@ -1,5 +1,5 @@
 -- Joined packages whose traces are kept as runs, and how they are read: no list of events is made.
-use Rattle.std.specs.Prelude.{◌≡◌, ℕ, List, ◌++◌, length, Bool, ◌&&◌, ◌==◌, bytes_eq, Option, Some, None}
+use Rattle.std.specs.Prelude.{◌≡◌, ℕ, List, ◌++◌, length, ◌&&◌, ◌==◌, bytes_eq, Option, Some, None}
 use Rattle.std.specs.Prelude.{Result, Ok, Err, if◌then◌else◌}
 use Rattle.std.specs.Int.{w32}
 use Rattle.package_layout.specs.declared.damage.DamageKind.{DamageKind}
@@ -8,7 +8,8 @@ use Rattle.package_layout.specs.declared.layout.PackageStop.TheVariants.{Damaged
 use Rattle.package_layout.specs.declared.run_package.RunPackage.{RunPackage}
 use Rattle.package_layout.specs.Fields.{Found, ◌>>=◌, both_at, made_at, list_at, list_spelling}
 use Rattle.package_layout.specs.RunPackages.{run_rules}
-use Rattle.package_layout.specs.Runs.{Run, IsCut, events_in, run_spelling}
+use Rattle.package_layout.specs.declared.run.Run.{Run}
+use Rattle.package_layout.specs.Runs.{events_in, run_spelling}
 use Rattle.package_layout.specs.Runs.{run_at as trace_run_at}
 use Rattle.package_join.specs.Types.{PackedFile, Table}
 use Rattle.package_join.specs.declared.joined.Clash.{Clash}

@@ -10,7 +10,6 @@ ghost use Rattle.package_join.specs.Valid.{ValidJoined};
 use crate::clash::{files_clash, schemas_clash, taken_key, values_clash};
 use crate::copying::copy_package;
 use crate::joined::{Clash, Joined};
-use crate::law::pick_law;
 use crate::merging::merge_lists;
 use crate::parts::{Parts, parts_of};
 use run_model::Package;
@@ -46,7 +45,6 @@ pub fn join(alloc: Global, a: &Package, b: &Package) -> Result<Joined, JoinStop>
     ensures joined { JoinsAs result (joined_of a.now b.now) }
     ensures valid { IfOk result (λ joined. ValidJoined joined) }
 {
-    pick_law();
     let first = copy_package(alloc, a)?;
     let second = copy_package(alloc, b)?;
     join_owned(alloc, first, second)
