@@ -1,12 +1,12 @@
 -- The world of a run of a valid joined package can be run.
 use Rattle.std.proofs.Common.{◌≡◌, ℕ, ◌<◌, ◌≤◌, ◌^◌, Bool, true, false, cond, List, [], ◌∷◌, map, length, Option, Some, None, refl, sym, ap, subst, ◌∙◌, arith, inl, inr, ◌&&◌}
-use Rattle.std.specs.Prelude.{nat_le, nat_lt, bytes_eq, find, slice_get, is_some, option_and_then}
+use Rattle.std.specs.Prelude.{◌==◌, nat_le, nat_lt, bytes_eq, find, is_some, option_and_then}
 use Rattle.std.specs.List.{list_all, filter_map, cons_option, AllByRecursion}
 use Rattle.std.specs.Option.{option_or, option_map}
 use Rattle.std.specs.Ordering.{nat_cmp}
 use Rattle.std.specs.Cmp.Lexicographic.{slice_cmp}
 use Rattle.std.specs.declared.cmp.Ordering.{Ordering}
-use Rattle.std.specs.declared.cmp.Ordering.TheVariants.{Less, Equal}
+use Rattle.std.specs.declared.cmp.Ordering.TheVariants.{Less, Equal, Greater}
 use Rattle.std.proofs.lemmas.Bool.{cases_Bool, le-leb}
 use Rattle.std.proofs.lemmas.Cmp.{nat_cmp_total, nat_list_cmp_total, tied_itself}
 use Rattle.std.proofs.lemmas.Slice.Eq.{bytes_eq-Decides}
@@ -72,15 +72,15 @@ module _ {S X K : Type 0} (f : S → Option X) (key_of : S → K) (key : X → K
     (keeps : (s : S) (x : X) → f s ≡ Some x → key x ≡ key_of s) where
   pub rising_cut : (ss : List S) → Rising key_of key_cmp ss → Rising key key_cmp (filter_map f ss)
   rising_cut [] rises = tt
-  rising_cut (s ∷ ss) rises = by (f s) refl
+  rising_cut (s ∷ ss) rises = by (f s) refl (rising_cut ss rises.1)
     where
-      by : (o : Option X) → f s ≡ o → Rising key key_cmp (cons_option o (filter_map f ss))
-      by None e = rising_cut ss rises.1
-      by (Some x) e = (
+      by : (o : Option X) → f s ≡ o → Rising key key_cmp (filter_map f ss) → Rising key key_cmp (cons_option o (filter_map f ss))
+      by None e rest = rest
+      by (Some x) e rest = (
         λ y is.
             let from = filter_map_in f ss y is in
             (λ i. key_cmp (keeps s x e i) (keeps from.0 y from.1.1 i)) ∙ rises.0 from.0 from.1.0,
-        rising_cut ss rises.1,
+        rest,
       )
 
 -- ---- the files of a world
@@ -142,25 +142,21 @@ module _ (run : JoinedRun) where
   none_later : (word : List ℕ) (files : List PackedFile) → ((g : PackedFile) → IsIn g files → bytes_eq word g.path ≡ false)
       → find (is_at word) (picked files) ≡ None
   none_later word [] none = refl
-  none_later word (g ∷ gs) none = by (is_among g.path run.wholes) (is_among g.path run.presents)
+  none_later word (g ∷ gs) none =
+      by (none g (inl refl)) (is_among g.path run.wholes) (is_among g.path run.presents) (none_later word gs (λ h is. none h (inr is)))
     where
-      later : find (is_at word) (picked gs) ≡ None
-      later = none_later word gs (λ h is. none h (inr is))
-
-      here : bytes_eq word g.path ≡ false
-      here = none g (inl refl)
-
-      by : (x y : Bool) → find (is_at word) (cons_option (cond x (Some g) (cond y (Some (as_present g)) None)) (picked gs)) ≡ None
-      by true y = rw here later
-      by false true = rw here later
-      by false false = later
+      by : bytes_eq word g.path ≡ false → (x y : Bool) → find (is_at word) (picked gs) ≡ None
+          → find (is_at word) (cons_option (cond x (Some g) (cond y (Some (as_present g)) None)) (picked gs)) ≡ None
+      by here true y later = rw here later
+      by here false true later = rw here later
+      by here false false later = later
 
   script_seen : (word : List ℕ) (files : List PackedFile) → Rising path_of (slice_cmp nat_cmp) files
       → is_script_file (find (is_at word) (picked files)) ≡ true → is_some (script_in word (filter_map (world_file run) files)) ≡ true
   script_seen word [] rises rule = absurd cc
   script_seen word (g ∷ gs) rises rule = elim (cases_Bool (bytes_eq word g.path)) [
     | inl hit ↦ at_hit hit (is_among g.path run.wholes) (is_among g.path run.presents) g.content refl rule
-    | inr miss ↦ at_miss miss (is_among g.path run.wholes) (is_among g.path run.presents) (world_file run g) refl rule
+    | inr miss ↦ at_miss miss (is_among g.path run.wholes) (is_among g.path run.presents) (world_file run g) refl (script_seen word gs rises.1) rule
   ]
     where
       others : bytes_eq word g.path ≡ true → (h : PackedFile) → IsIn h gs → bytes_eq word h.path ≡ false
@@ -191,9 +187,10 @@ module _ (run : JoinedRun) where
           let never : false ≡ true = ap is_script_file (sym none) ∙ found in absurd cc
 
       at_miss : bytes_eq word g.path ≡ false → (x y : Bool) (o : Option File) → world_file run g ≡ o
+          → (is_script_file (find (is_at word) (picked gs)) ≡ true → is_some (script_in word (filter_map (world_file run) gs)) ≡ true)
           → is_script_file (find (is_at word) (cons_option (cond x (Some g) (cond y (Some (as_present g)) None)) (picked gs))) ≡ true
           → is_some (script_in word (cons_option o (filter_map (world_file run) gs))) ≡ true
-      at_miss miss x y o e found = passed o e (script_seen word gs rises.1 (skipped x y found))
+      at_miss miss x y o e later found = passed o e (later (skipped x y found))
         where
           skipped : (x y : Bool) → is_script_file (find (is_at word) (cons_option (cond x (Some g) (cond y (Some (as_present g)) None)) (picked gs))) ≡ true
               → is_script_file (find (is_at word) (picked gs)) ≡ true
@@ -281,15 +278,13 @@ own_met p ip t is =
 abbrev number_lower : TableRow → TableRow → Bool
 number_lower a b = nat_lt a.number b.number
 
+is_lower : (lower same : Bool) → cond lower Less (cond same Equal Greater) ≡ Less → lower ≡ true
+is_lower true same e = refl
+is_lower false true e = let never : Equal ≡ Less = e in absurd cc
+is_lower false false e = let never : Greater ≡ Less = e in absurd cc
+
 lower_number : (a b : ℕ) → nat_cmp a b ≡ Less → nat_lt a b ≡ true
-lower_number a b e = elim (cases_Bool (nat_lt a b)) [
-  | inl lower ↦ lower
-  | inr not_lower ↦ let never : Equal ≡ Less = by (nat_lt b a) refl not_lower in cc
-]
-  where
-    by : (o : Bool) → nat_lt b a ≡ o → nat_lt a b ≡ false → Equal ≡ Less
-    by true more no = absurd (rw (no, more) at e)
-    by false less no = rw (no, less) at e
+lower_number a b e = is_lower (nat_lt a b) (a == b) e
 
 first_none : (ts : List Table) → first_of keys_clash ts ≡ None → (t : Table) → IsIn t ts → keys_clash t ≡ None
 first_none [] none t is = absurd is

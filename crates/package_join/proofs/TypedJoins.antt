@@ -35,25 +35,20 @@ map_typed P Q f each (x ∷ xs) all = (each x all.0, map_typed P Q f each xs all
 
 wholes_typed : (files : List PackedFile) → AllByRecursion TypedFile files → TypedTexts (wholes_of files)
 wholes_typed [] typed = tt
-wholes_typed (f ∷ fs) typed = by f.content
+wholes_typed (f ∷ fs) typed = by f.content (wholes_typed fs typed.1)
   where
-    rest : TypedTexts (wholes_of fs)
-    rest = wholes_typed fs typed.1
-
-    by : (content : Option (List ℕ)) → TypedTexts (cons_option (whole_path (record { path = f.path; content = content })) (wholes_of fs))
-    by None = rest
-    by (Some bytes) = (typed.0, rest)
+    by : (content : Option (List ℕ)) → TypedTexts (wholes_of fs)
+        → TypedTexts (cons_option (whole_path (record { path = f.path; content = content })) (wholes_of fs))
+    by None rest = rest
+    by (Some bytes) rest = (typed.0, rest)
 
 presents_typed : (files : List PackedFile) → AllByRecursion TypedFile files → TypedTexts (presents_of files)
 presents_typed [] typed = tt
-presents_typed (f ∷ fs) typed = by f.content
+presents_typed (f ∷ fs) typed = by f.content (presents_typed fs typed.1)
   where
-    rest : TypedTexts (presents_of fs)
-    rest = presents_typed fs typed.1
-
-    by : (content : Option (List ℕ)) → TypedTexts (cons_option (path_unless f.path content) (presents_of fs))
-    by None = (typed.0, rest)
-    by (Some bytes) = rest
+    by : (content : Option (List ℕ)) → TypedTexts (presents_of fs) → TypedTexts (cons_option (path_unless f.path content) (presents_of fs))
+    by None rest = (typed.0, rest)
+    by (Some bytes) rest = rest
 
 reasons_typed : (tables : List PackedTable) → AllByRecursion TypedTable tables → AllByRecursion TypedReason (flat_map table_reasons tables)
 reasons_typed [] typed = tt
