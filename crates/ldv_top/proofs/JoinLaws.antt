@@ -1,15 +1,11 @@
 -- What two packages are joined to is replayed, run by run, as the worlds of both are run.
 use Rattle.std.proofs.Common.{◌≡◌, ℕ, ◌≤◌, ◌<◌, ◌^◌, List, [], ◌++◌, length, refl, sym, ap, ◌∙◌, subst, true, arith, append-nil}
-use Rattle.std.specs.Prelude.{Some, None, Ok}
-use Rattle.ldv_value.specs.FileState.{files_test}
+use Rattle.std.specs.Prelude.{Some, Ok}
 use Rattle.ldv_value.specs.Limits.{input_limit, max_steps}
-use Rattle.sql_model.specs.Tables.{tables_test}
 use Rattle.run_model.proofs.ValidWorlds.{valid_runs}
 use Rattle.run_model.specs.Between.{Between}
-use Rattle.run_model.specs.Package.{package_of}
 use Rattle.run_model.specs.ValidWorld.{ValidWorld}
 use Rattle.run_model.specs.WorldRun.{ends_within, events_within, outcome_within, steps_by}
-use Rattle.run_model.specs.declared.outcome.Outcome.{Outcome}
 use Rattle.run_model.specs.declared.package.Mode.TheVariants.{Included}
 use Rattle.run_model.specs.declared.package.Package.{Package}
 use Rattle.run_model.specs.declared.world.World.{World}
@@ -17,26 +13,24 @@ use Rattle.run_laws.proofs.BudgetLaw.{ended_outcome, enough_outcome}
 use Rattle.run_laws.proofs.EndedLaw.{ended_starts}
 use Rattle.run_laws.specs.Laws.{BetweenLaw, SameRun}
 use Rattle.package_layout.proofs.Numbers.{sized_law}
-use Rattle.package_layout.specs.Fields.{both_at, sized_at, text_spelling}
+use Rattle.package_layout.specs.Fields.{sized_at, text_spelling}
 use Rattle.package_layout.specs.Valid.{Valid, reading}
 use Rattle.package_layout.specs.Whole.{IsTyped, spelling}
 use Rattle.package_join.proofs.TypedJoins.{together_typed}
 use Rattle.package_join.specs.declared.joined.Joined.{Joined}
 use Rattle.package_join.specs.declared.joined.Which.{Which}
 use Rattle.package_join.specs.declared.joined.Which.TheVariants.{First, Second}
-use Rattle.package_join.specs.Joined.{joined_of}
 use Rattle.package_join.specs.Laws.{IsJoined, JoinLaw, NamesItsRows, RoundTripLaw, ValidLaw}
 use Rattle.package_join.specs.Layout.{joined_spelling}
 use Rattle.package_join.specs.Valid.{ValidJoined, joined_reading}
 use Rattle.package_join.specs.Worlds.{joined_world}
 use Rattle.replay_db.proofs.InitialRows.{initial_rows_law}
 use Rattle.replay_db.specs.Worlds.{WorldTablesLaw, ValidPackageLaw, TypedPackageLaw}
-use Rattle.ldv_top.specs.Due.{Due, due_of_run, due_outcome, due_replay_run, due_world, outcome_due}
-use Rattle.ldv_top.specs.DueOfJoins.{due_join, due_joined, joined_inputs, joined_packages, pair_in}
-use Rattle.ldv_top.specs.DueParts.{due_of_reading, due_spelling}
-use Rattle.ldv_top.specs.TwoRuns.{AnyJoinedLaw, AreTwo, IsJoinOf, IsJoinedInput, IsPair, PairLaw, TwoRunsLaw, included_of, its_due, its_steps, two_joined}
+use Rattle.ldv_top.specs.Due.{due_world}
+use Rattle.ldv_top.specs.DueOfJoins.{due_joined, pair_in}
+use Rattle.ldv_top.specs.TwoRuns.{AnyJoinedLaw, AreTwo, PairLaw, TwoRunsLaw, included_of, its_due, its_steps, two_joined}
 use Rattle.ldv_top.proofs.HeadlineLaw.{same_due}
-use Rattle.ldv_top.proofs.JoinResponses.{first_due, pair_due, run_due, second_due}
+use Rattle.ldv_top.proofs.JoinResponses.{both_found, first_due, pair_due, run_due, second_due}
 use Rattle.ldv_top.proofs.ReadBack.{ReadAgain, ShortCounted, read_back}
 
 -- ---- the input of both
@@ -48,7 +42,7 @@ two_read first second one two =
     sized_law.again first (text_spelling second) tt refl (omega (arith, one)) in
     let b : sized_at (text_spelling second ++ []) ≡ Some (second, []) = sized_law.again second [] tt refl (omega (arith, two)) in
     let c : sized_at (text_spelling second) ≡ Some (second, []) = ap sized_at (sym (append-nil (text_spelling second))) ∙ b in
-    rw (a, c) refl
+    sym (both_found (text_spelling first ++ text_spelling second) first (text_spelling second) second [] a c refl)
 
 module _ (again : ReadAgain) (counted : ShortCounted) (valid : ValidPackageLaw) (typed : TypedPackageLaw) (valid_tables : WorldTablesLaw)
     (between : BetweenLaw) (join : JoinLaw) (valid_joined : ValidLaw) (round_trip : RoundTripLaw) where

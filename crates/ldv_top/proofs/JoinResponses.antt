@@ -1,6 +1,6 @@
 -- What is due for two packages and for a joined one, by what was read.
-use Rattle.std.proofs.Common.{◌≡◌, ℕ, ◌≤◌, List, length, refl, sym, ap, true, false}
-use Rattle.std.specs.Prelude.{◌==◌, Some, None, Ok, Err}
+use Rattle.std.proofs.Common.{◌≡◌, ℕ, ◌≤◌, Bool, true, false, cond, List, length, sym, ap, ◌∙◌}
+use Rattle.std.specs.Prelude.{◌==◌, Option, Some, None, Ok, Err}
 use Rattle.std.specs.Int.{w32}
 use Rattle.ldv_value.specs.Limits.{input_limit}
 use Rattle.run_model.specs.declared.package.Package.{Package}
@@ -30,19 +30,43 @@ sized_is bytes count rest is = ap (λ (found : Found ℕ). found >>= sized_by) i
 pub not_sized : (bytes : List ℕ) → number_at w32 bytes ≡ None → sized_at bytes ≡ None
 not_sized bytes is = ap (λ (found : Found ℕ). found >>= sized_by) is
 
+abbrev Pair : Type 0
+Pair = List ℕ × List ℕ
+
+abbrev paired : List ℕ → List ℕ × List ℕ → Found Pair
+paired first second = Some ((first, second.0), second.1)
+
+abbrev next : List ℕ × List ℕ → Found Pair
+next first = sized_at first.1 >>= paired first.0
+
+abbrev kept_if : Bool → Pair → Option Pair
+kept_if ended pair = cond ended (Some pair) None
+
+abbrev ended : Pair × List ℕ → Option Pair
+ended pair = kept_if (length pair.1 == 0) pair.0
+
+-- by the first of them, and by the second
+abbrev by_first : Found (List ℕ) → Option Pair
+by_first found = (found >>= next) >>= ended
+
+abbrev by_second : List ℕ → Found (List ℕ) → Option Pair
+by_second first found = (found >>= paired first) >>= ended
+
 pub no_first : (bytes : List ℕ) → sized_at bytes ≡ None → None ≡ pair_in bytes
-no_first bytes is = rw is refl
+no_first bytes is = sym (ap by_first is)
 
 pub no_second : (bytes first rest : List ℕ) → sized_at bytes ≡ Some (first, rest) → sized_at rest ≡ None → None ≡ pair_in bytes
-no_second bytes first rest one two = rw (one, two) refl
+no_second bytes first rest one two = sym (ap by_first one ∙ ap (by_second first) two)
 
 pub both_found : (bytes first rest second last : List ℕ) → sized_at bytes ≡ Some (first, rest) → sized_at rest ≡ Some (second, last)
     → (length last == 0) ≡ true → Some (first, second) ≡ pair_in bytes
-both_found bytes first rest second last one two ended = rw (one, two, ended) refl
+both_found bytes first rest second last one two none =
+    sym (ap by_first one ∙ ap (by_second first) two ∙ ap (λ (b : Bool). kept_if b (first, second)) none)
 
 pub bytes_left : (bytes first rest second last : List ℕ) → sized_at bytes ≡ Some (first, rest) → sized_at rest ≡ Some (second, last)
     → (length last == 0) ≡ false → None ≡ pair_in bytes
-bytes_left bytes first rest second last one two more = rw (one, two, more) refl
+bytes_left bytes first rest second last one two some =
+    sym (ap by_first one ∙ ap (by_second first) two ∙ ap (λ (b : Bool). kept_if b (first, second)) some)
 
 pub ruleset pairs = (no_first, no_second, both_found, bytes_left)
 

@@ -7,7 +7,6 @@ use Rattle.package_join.specs.declared.joined.Clash.{Clash as TheClash}
 use Rattle.package_join.specs.declared.joined.Joined.{Joined}
 use Rattle.package_join.specs.Joined.{joined_of}
 use Rattle.package_join.specs.Layout.{joined_spelling}
-use Rattle.package_layout.specs.declared.damage.DamageKind.{DamageKind}
 use Rattle.package_layout.specs.declared.damage.DamageKind.TheVariants.{Form}
 use Rattle.package_layout.specs.Fields.{◌>>=◌, both_at, sized_at}
 use Rattle.package_layout.specs.Valid.{reading}

@@ -3,7 +3,6 @@ use Rattle.std.proofs.Common.{◌≡◌, ℕ, Bool, true, false, cond, List, ◌
 use Rattle.std.specs.Prelude.{◌==◌, bytes_eq}
 use Rattle.std.specs.Option.{option_map}
 use Rattle.std.specs.Int.{w32}
-use Rattle.std.specs.List.{flat_map}
 use Rattle.ldv_value.proofs.Booleans.{and-parts}
 use Rattle.ldv_value.proofs.Options.{bind-some, same-some}
 use Rattle.run_model.specs.declared.event.Event.{Event}
@@ -25,9 +24,9 @@ use Rattle.package_join.specs.declared.joined.JoinedRun.{JoinedRun}
 use Rattle.package_join.specs.declared.joined.Which.TheVariants.{First, Second}
 use Rattle.package_join.specs.declared.run_joined.CutRun.{CutRun}
 use Rattle.package_join.specs.declared.run_joined.RunJoined.{RunJoined}
-use Rattle.package_join.specs.Joined.{clash_of, joined_of, put_together, run_package, unless_clash}
-use Rattle.package_join.specs.Layout.{bare_run_at, bare_run_spelling, run_at, run_spelling as whole_run_spelling, common_files_at, common_tables_at, common_files_spelling, common_tables_spelling, joined_at, all_of_joined, joined_sections, with_trace}
-use Rattle.package_join.specs.RunJoins.{whole_run, whole_joined, cut_run_at, cut_joined_at, cut_joined_of, cut_run_spelling, cut_sections, picked_runs, with_runs, if_rejoined, rejoined, rejoined_valid, cut_anew, cut_spelled_so, cuts_in}
+use Rattle.package_join.specs.Joined.{clash_of, joined_of, put_together, unless_clash}
+use Rattle.package_join.specs.Layout.{bare_run_at, bare_run_spelling, run_at, common_files_at, common_tables_at, common_files_spelling, common_tables_spelling, all_of_joined, joined_sections, with_trace}
+use Rattle.package_join.specs.RunJoins.{whole_run, whole_joined, cut_run_at, cut_joined_of, cut_sections, picked_runs, with_runs, if_rejoined, rejoined, cut_anew, cut_spelled_so, cuts_in}
 use Rattle.package_join.specs.Rooms.{joined_room}
 use Rattle.package_join.specs.Valid.{if_joined, joined_anew, spelled_so, joined_in}
 use Rattle.package_join.proofs.LayoutLaws.{all_took}

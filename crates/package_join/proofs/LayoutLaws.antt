@@ -10,7 +10,7 @@ use Rattle.ldv_value.proofs.Booleans.{and-parts, and-from}
 use Rattle.ldv_value.proofs.Options.{bind-some, same-some}
 use Rattle.sql_model.specs.declared.need.Rule.{Rule}
 use Rattle.sql_model.specs.declared.table.Schema.{Schema}
-use Rattle.package_layout.specs.Counts.{IsCountable, CountedList, CountedValue, CountedFile}
+use Rattle.package_layout.specs.Counts.{CountedList, CountedFile}
 use Rattle.package_layout.specs.Events.{names_spelling, names_at}
 use Rattle.package_layout.specs.Fields.{Found, then_at, both_at, number_at, text_spelling, list_spelling, list_at, text_at}
 use Rattle.package_layout.specs.Reading.{value_at, reason_at, cells_at, schema_at, file_at}
@@ -20,7 +20,7 @@ use Rattle.package_layout.specs.Spelling.{value_spelling, number_spelling, reaso
 use Rattle.package_layout.specs.Typed.{IsU32, TypedValue, TypedValues, TypedFile, TypedEvent}
 use Rattle.package_layout.specs.declared.version.Version.TheVariants.{Two}
 use Rattle.package_layout.proofs.Events.{names_law}
-use Rattle.package_layout.proofs.Laws.{IsBytes, IsBytes-rest, IsField, just, always, list_all-always, Uncounted, restate, recount, made_law, then_law, struct_law}
+use Rattle.package_layout.proofs.Laws.{IsBytes, IsBytes-rest, IsField, just, always, list_all-always, restate, recount, made_law, then_law, struct_law}
 use Rattle.package_layout.proofs.Numbers.{wide64, number_law, text_law, items_law, long_law, short_list_law}
 use Rattle.package_layout.proofs.RunFields.{runs_law}
 use Rattle.package_layout.proofs.Tables.{u32_law, reason_law, schema_law, so_many}

@@ -1,6 +1,6 @@
 -- Packages that are taken apart are joined as they are.
 use Rattle.std.proofs.Common.{◌≡◌, ◌∙◌, refl, subst, Option, Some, None}
-use Rattle.std.specs.Prelude.{Result, Ok, Err}
+use Rattle.std.specs.Prelude.{Result, Err}
 use Rattle.std.specs.Option.{option_or}
 use Rattle.package_join.specs.Types.{Package}
 use Rattle.package_join.specs.declared.joined.Clash.{Clash}

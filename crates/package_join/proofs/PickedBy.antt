@@ -1,17 +1,17 @@
 -- What is picked by sets of names and a map of reasons is what the lists of a run pick out.
-use Rattle.std.proofs.Common.{◌≡◌, ℕ, List, [], ◌∷◌, refl, sym, ap, ◌∙◌, Bool, true, false, cond, inl, inr, ◌||◌}
-use Rattle.std.specs.Prelude.{Option, Some, None, map, filter, find, bytes_eq, option_map}
+use Rattle.std.proofs.Common.{◌≡◌, ℕ, List, [], ◌∷◌, refl, sym, ◌∙◌, Bool, true, false, inl, inr, ◌||◌}
+use Rattle.std.specs.Prelude.{Option, map, filter, find, bytes_eq, option_map}
 use Rattle.std.specs.List.{filter_map, cons_option, list_any}
 use Rattle.std.proofs.lemmas.Bool.{cases_Bool}
 use Rattle.std.proofs.lemmas.Slice.Eq.{bytes_eq-Decides}
 use Rattle.sql_model.specs.Scope.{same_text}
 use Rattle.run_model.specs.Slice.{Reason as SliceReason, packed_because}
 use Rattle.slicer.specs.Marks.{row_because, table_because, tables_because}
-use Rattle.package_join.specs.Types.{PackedRow, PackedTable, Table, TableRow}
+use Rattle.package_join.specs.Types.{PackedRow, Table, TableRow}
 use Rattle.package_join.specs.declared.joined.JoinedRun.{JoinedRun}
 use Rattle.package_join.specs.declared.joined.Reason.{Reason}
 use Rattle.package_join.specs.Joined.{is_among, is_reason, packed_by, picked_row, picked_table}
-use Rattle.package_join.specs.Picked.{reason_for, slice_reason}
+use Rattle.package_join.specs.Picked.{reason_for}
 
 -- ---- names
 

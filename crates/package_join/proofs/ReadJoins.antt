@@ -6,7 +6,6 @@ use Rattle.std.proofs.lemmas.List.{length-append}
 use Rattle.std.proofs.lemmas.Slice.Eq.{bytes_eq-Decides}
 use Rattle.ldv_value.proofs.Booleans.{and-parts}
 use Rattle.ldv_value.proofs.Options.{bind-some, same-some}
-use Rattle.ldv_value.specs.Limits.{input_limit}
 use Rattle.sha2.specs.Sha256.{sha256}
 use Rattle.package_layout.specs.declared.damage.DamageKind.{DamageKind}
 use Rattle.package_layout.specs.declared.damage.DamageKind.TheVariants.{Magic, Digest, Form}
@@ -16,10 +15,10 @@ use Rattle.package_layout.specs.declared.layout.PackageStop.{PackageStop}
 use Rattle.package_layout.specs.declared.layout.PackageStop.TheVariants.{Damaged, NoMemory}
 use Rattle.package_layout.specs.Fields.{◌>>=◌, Makes}
 use Rattle.package_layout.specs.Runs.{are_runs}
-use Rattle.package_layout.specs.Valid.{Valid, HasDigest, before_digest, has_digest, middle, valid_test}
+use Rattle.package_layout.specs.Valid.{HasDigest, before_digest, has_digest, middle, valid_test}
 use Rattle.package_layout.proofs.Laws.{IsBytes, IsBytes-take, IsBytes-drop, just}
 use Rattle.package_layout.proofs.Package.{digest_fact, digest_test, true_not_false, not_true}
-use Rattle.package_join.specs.Types.{Included, Package}
+use Rattle.package_join.specs.Types.{Package}
 use Rattle.package_join.specs.declared.joined.Clash.{Clash}
 use Rattle.package_join.specs.declared.joined.Joined.{Joined}
 use Rattle.package_join.specs.declared.joined.Which.TheVariants.{First, Second}

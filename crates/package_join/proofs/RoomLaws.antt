@@ -1,20 +1,19 @@
 -- The format has room for the package of a run where it has room for what was joined.
-use Rattle.std.proofs.Common.{◌≡◌, ℕ, suc, ◌≤◌, ◌<◌, ◌^◌, Bool, true, false, cond, List, [], ◌∷◌, map, length, Option, Some, None, refl, sym, ap, ◌∙◌, arith, ◌&&◌}
-use Rattle.std.specs.Prelude.{◌==◌, filter, find, nat_lt, option_map}
+use Rattle.std.proofs.Common.{◌≡◌, ℕ, suc, ◌≤◌, ◌<◌, ◌^◌, Bool, true, false, cond, List, [], ◌∷◌, map, length, Option, Some, None, refl, ◌∙◌, arith, ◌&&◌}
+use Rattle.std.specs.Prelude.{◌==◌, filter, find, option_map}
 use Rattle.std.specs.List.{list_all, filter_map, cons_option}
-use Rattle.std.proofs.lemmas.Bool.{cases_Bool, ltb-true, lt-ltb}
+use Rattle.std.proofs.lemmas.Bool.{ltb-true, lt-ltb}
 use Rattle.ldv_value.proofs.Booleans.{and-parts, and-from}
-use Rattle.sql_model.specs.declared.table.Schema.{Schema}
 use Rattle.package_layout.specs.Room.{few, key_room, row_room, some_thousands, table_room, log_room}
 use Rattle.package_layout.specs.Runs.{trace_room}
 use Rattle.package_layout.specs.Whole.{has_room, tables_room}
-use Rattle.package_join.specs.Types.{Log, Package, PackedRow, PackedTable, Table, TableRow}
+use Rattle.package_join.specs.Types.{Package, PackedRow, PackedTable, Table, TableRow}
 use Rattle.package_join.specs.declared.joined.Joined.{Joined}
 use Rattle.package_join.specs.declared.joined.JoinedRun.{JoinedRun}
 use Rattle.package_join.specs.declared.joined.Reason.{Reason}
 use Rattle.package_join.specs.declared.joined.Which.{Which}
 use Rattle.package_join.specs.declared.joined.Which.TheVariants.{First, Second}
-use Rattle.package_join.specs.Joined.{is_among, is_reason, packed_by, picked_package, picked_row, picked_table, run_of, run_package}
+use Rattle.package_join.specs.Joined.{is_among, is_reason, packed_by, picked_package, picked_row, picked_table, run_package}
 use Rattle.package_join.specs.Rooms.{common_row_room, common_table_room, common_tables_room, bare_run_room, joined_run_room, joined_room, schema_room}
 
 -- ---- rows

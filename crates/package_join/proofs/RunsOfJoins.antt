@@ -16,34 +16,32 @@ use Rattle.ldv_value.proofs.Lists.{list_all-map}
 use Rattle.ldv_value.specs.FileState.{file_test, file_precedes, files_test, file_at}
 use Rattle.ldv_value.specs.Limits.{file_limit, max_next}
 use Rattle.ldv_value.specs.Names.{path_test}
-use Rattle.ldv_value.specs.Sorted.{is_strictly_sorted, precedes_first, text_precedes}
+use Rattle.ldv_value.specs.Sorted.{is_strictly_sorted, precedes_first}
 use Rattle.std.specs.Ordering.{is_lt}
 use Rattle.script_parse.specs.Script.{script_of}
 use Rattle.script_parse.specs.declared.script.Instr.{Instr}
 use Rattle.sql_model.proofs.UniqueKeys.{unique-clash}
-use Rattle.sql_model.proofs.ValidTables.{TableParts, table-from}
+use Rattle.sql_model.proofs.ValidTables.{table-from}
 use Rattle.sql_model.specs.Changes.{KeyClash, key_clash}
 use Rattle.sql_model.specs.SqlNames.{sql_name_test}
-use Rattle.sql_model.specs.Tables.{is_database, is_described, is_row, is_short, is_valid_table, numbers_test, are_keys_unique, row_values, schema_test, table_precedes, tables_test}
+use Rattle.sql_model.specs.Tables.{is_database, is_described, is_row, is_short, is_valid_table, numbers_test, are_keys_unique, schema_test, table_precedes, tables_test}
 use Rattle.sql_model.specs.declared.table.Schema.{Schema}
 use Rattle.run_model.proofs.StartScripts.{first_script}
 use Rattle.run_model.specs.Between.{IsIn}
 use Rattle.run_model.specs.Package.{own_row, own_table}
-use Rattle.run_model.specs.ValidPackage.{content_rule, file_rule, are_files, is_script, is_script_file, packed_file_precedes, parts_rule, rows_rule, rules, script_rule, table_rule, are_tables, packed_table_precedes, whole_rule}
+use Rattle.run_model.specs.ValidPackage.{content_rule, file_rule, is_script, is_script_file, packed_file_precedes, parts_rule, rows_rule, rules, script_rule, table_rule, packed_table_precedes, whole_rule}
 use Rattle.run_model.specs.ValidWorld.{CanRun}
 use Rattle.package_layout.specs.Valid.{Valid}
 use Rattle.package_layout.specs.Whole.{has_room}
 use Rattle.package_join.specs.Types.{File, Package, PackedFile, PackedRow, PackedTable, Table, TableRow}
-use Rattle.package_join.specs.declared.joined.Clash.{Clash}
 use Rattle.package_join.specs.declared.joined.Joined.{Joined}
 use Rattle.package_join.specs.declared.joined.JoinedRun.{JoinedRun}
 use Rattle.package_join.specs.declared.joined.Which.{Which}
 use Rattle.package_join.specs.declared.joined.Which.TheVariants.{First, Second}
-use Rattle.package_join.specs.Joined.{as_present, both_files, both_rows, both_tables, clash_in, clash_of, clash_of_keys, file_clash, file_cmp, is_among, keys_clash, merged_files, merged_rows, merged_tables, own_tables, picked_file, put_together, rows_clash, run_of, run_package, table_clash, table_cmp}
+use Rattle.package_join.specs.Joined.{as_present, both_files, both_rows, both_tables, clash_in, clash_of, clash_of_keys, file_clash, file_cmp, is_among, keys_clash, merged_files, merged_rows, merged_tables, own_tables, picked_file, put_together, rows_clash, run_package, table_clash, table_cmp}
 use Rattle.package_join.specs.Laws.{IsIncluded, RunsLaw}
 use Rattle.package_join.specs.Merging.{first_clash, first_of}
 use Rattle.package_join.specs.Rooms.{TypedCommonTable}
-use Rattle.package_join.specs.Valid.{ValidJoined}
 use Rattle.package_join.specs.Worlds.{empty_if, joined_world, seen_file, world_file, world_of}
 use Rattle.package_join.proofs.Agreeing.{none_of}
 use Rattle.package_join.proofs.Cuts.{Rising}

@@ -1,6 +1,6 @@
 -- What is joined of two packages in memory has numbers of their types and texts of UTF-8, as these have.
 use Rattle.std.proofs.Common.{◌≡◌, ℕ, List, [], ◌∷◌, ◌++◌, map, Option, Some, None, refl, sym, subst, inl, inr}
-use Rattle.std.specs.List.{filter_map, flat_map, cons_option, AllByRecursion}
+use Rattle.std.specs.List.{flat_map, cons_option, AllByRecursion}
 use Rattle.std.specs.Ordering.{nat_cmp}
 use Rattle.std.specs.Cmp.Lexicographic.{slice_cmp}
 use Rattle.std.specs.Str.{IsUtf8}
@@ -8,9 +8,8 @@ use Rattle.std.proofs.lemmas.Cmp.{nat_cmp_total, nat_list_cmp_total}
 use Rattle.run_model.specs.Between.{IsIn}
 use Rattle.run_model.specs.Package.{own_row, own_table}
 use Rattle.run_model.specs.TypedPackage.{IsTyped, TypedFile, TypedRow, TypedTable}
-use Rattle.package_join.specs.Types.{Package, PackedFile, PackedRow, PackedTable, Table, TableRow}
-use Rattle.package_join.specs.declared.joined.Reason.{Reason}
-use Rattle.package_join.specs.Joined.{both_files, both_rows, both_tables, merged_files, merged_rows, merged_tables, own_tables, path_unless, present_path, presents_of, put_together, row_reason, run_in, table_reasons, whole_path, wholes_of}
+use Rattle.package_join.specs.Types.{Package, PackedFile, PackedTable, Table, TableRow}
+use Rattle.package_join.specs.Joined.{both_files, both_rows, both_tables, merged_files, merged_rows, merged_tables, own_tables, path_unless, presents_of, put_together, row_reason, run_in, table_reasons, whole_path, wholes_of}
 use Rattle.package_join.specs.Rooms.{TypedCommonRow, TypedCommonTable, TypedJoined, TypedJoinedRun, TypedReason, TypedTexts}
 use Rattle.package_join.proofs.MergedLists.{in_merged, IsOf}
 use Rattle.package_join.proofs.PickedFiles.{path_of}

@@ -1,12 +1,12 @@
 -- The format has room for each valid joined package: it is what two packages are joined to.
-use Rattle.std.proofs.Common.{◌≡◌, ℕ, suc, ◌+◌, ◌≤◌, ◌^◌, Bool, true, List, [], ◌∷◌, map, length, Option, Some, None, Ok, refl, sym, ap, subst, ◌∙◌, arith, inl, inr, ◌&&◌}
+use Rattle.std.proofs.Common.{◌≡◌, ℕ, suc, ◌+◌, ◌≤◌, ◌^◌, Bool, true, List, [], ◌∷◌, map, length, Option, Some, None, Ok, refl, sym, ap, ◌∙◌, arith, inl, inr, ◌&&◌}
 use Rattle.std.specs.Prelude.{◌==◌, nat_le, nat_lt}
 use Rattle.std.specs.List.{list_all}
 use Rattle.std.specs.Ordering.{match_ordering, nat_cmp}
 use Rattle.std.specs.Cmp.Lexicographic.{slice_cmp}
 use Rattle.std.specs.declared.cmp.Ordering.{Ordering}
 use Rattle.std.specs.declared.cmp.Ordering.TheVariants.{Less, Equal, Greater}
-use Rattle.std.proofs.lemmas.Bool.{leb-true, lt-ltb, eqb-true, eq-eqb}
+use Rattle.std.proofs.lemmas.Bool.{leb-true, lt-ltb}
 use Rattle.std.proofs.lemmas.Cmp.{nat_cmp_total, nat_list_cmp_total}
 use Rattle.ldv_value.proofs.Booleans.{and-parts, and-from}
 use Rattle.ldv_value.proofs.Lists.{length-map}
@@ -23,7 +23,7 @@ use Rattle.package_join.specs.Types.{Package, PackedRow, PackedTable, Table, Tab
 use Rattle.package_join.specs.declared.joined.Clash.{Clash}
 use Rattle.package_join.specs.declared.joined.Joined.{Joined}
 use Rattle.package_join.specs.declared.joined.Which.TheVariants.{First, Second}
-use Rattle.package_join.specs.Joined.{both_rows, both_tables, clash_of, merged_rows, merged_tables, own_tables, put_together, run_in, run_package, row_cmp, table_cmp, unless_clash}
+use Rattle.package_join.specs.Joined.{both_rows, both_tables, clash_of, merged_rows, merged_tables, own_tables, put_together, run_in, run_package, table_cmp, unless_clash}
 use Rattle.package_join.specs.Laws.{IsIncluded}
 use Rattle.package_join.specs.Merging.{merged}
 use Rattle.package_join.specs.Rooms.{common_row_room, common_table_room, common_tables_room, bare_run_room, joined_run_room, joined_room, schema_room}

@@ -1,7 +1,7 @@
 -- The bytes of a joined package, and how they are read: files and tables as in a package, but a row has no
 -- reason; then the two runs.
 use Rattle.std.specs.Prelude.{ℕ, List, [], ◌++◌, codes, length, Option, Some, None, ◌==◌, if◌then◌else◌}
-use Rattle.std.specs.Int.{w8, w16, w32, w64, to_be_bytes}
+use Rattle.std.specs.Int.{w16, w32, w64, to_be_bytes}
 use Rattle.sha2.specs.Sha256.{sha256}
 use Rattle.package_layout.specs.Events.{names_spelling, names_at}
 use Rattle.package_layout.specs.Fields.{Found, ◌>>=◌, then_at, both_at, made_at, number_at, list_at, text_at}

@@ -1,4 +1,4 @@
-use Rattle.std.proofs.Common.{◌≡◌, ◌+◌, ◌∙◌, List, Bool, true, false, cond, drop, sym, ap}
+use Rattle.std.proofs.Common.{◌≡◌, ◌+◌, ◌∙◌, List, true, false, cond, drop, sym, ap}
 use Rattle.std.specs.BTreeSet.{contains}
 use Rattle.core_parts.proofs.Lists.{drop-step}
 use Rattle.ldv_value.specs.declared.value.Value.{Value}
