@@ -7,8 +7,8 @@
 The inputs are made by mutation of those of the cases in crates/conformance/data and of the documents in
 examples/: bytes of documents, their JSON values, lines of their scripts, bytes of packages with a digest that
 is right again, in their version and in the other one, runs of their traces, nodes, edges and spellings of
-provenance documents, and words. Each call has 8 MiB of
-stack, MIB MiB of memory (default 512) and T seconds (default 20). An answer is as it has to be where
+provenance documents, pairs of packages, sections of joined ones, and words. Each call has 8 MiB of stack, MIB
+MiB of memory (default 512) and T seconds (default 20). An answer is as it has to be where
 
 - the status is one that docs/COMMANDS.md gives for the command, or 2 where the words are none, and no signal
   ended the program;
@@ -17,7 +17,11 @@ stack, MIB MiB of memory (default 512) and T seconds (default 20). An answer is 
 - a world that `run` runs is recorded and replayed to the very bytes that `run` wrote, or the package is too
   long;
 - a provenance document is one, and depends on what it says, exactly as tools/prov.py reads it;
-- what `migrate` writes is of version 2, is written again as it is, and is replayed as its input is.
+- what `migrate` writes is of version 2, is written again as it is, and is replayed as its input is;
+- what `join` writes is what tools/packages_joined.py joins, and its clash is the one that tools/join.py
+  finds;
+- the packages of a world that is run under two seeds are joined, and each run is replayed to the very bytes
+  that `run` wrote.
 
 It prints the number of answers by command and status, and ends with status 1 where one isn't as it has to be;
 that input lies in FOLDER then (default: hostile_inputs). The inputs depend on these words and on the packages
@@ -38,6 +42,7 @@ import tempfile
 import time
 
 from hostile_documents import mutated_provenance, reads
+from hostile_joins import is_joined, joins, judges, mutated_joined, mutated_pair, pair_in
 from hostile_packages import EDGES, in_other_version, mutated_bytes, mutated_package
 
 HERE = os.path.dirname(os.path.abspath(__file__))
@@ -53,9 +58,12 @@ STATUSES = {
     'inspect': {0, 8, 10},
     'migrate': {0, 8, 12},
     'prov': {0, 8},
+    'join': {0, 8, 10, 12, 15},
 }
 DEPENDS = ['prov', 'depends']
 OF_DEPENDS = {0, 10, 16}
+REPLAY_RUN = ['replay', '--run']
+OF_RUN = {0, 7, 8}
 USAGE, NO_MEMORY = 2, 11
 # The words whose output may be empty.
 MAY_BE_EMPTY = (['inspect', 'rows'], ['inspect', 'depends'], DEPENDS)
@@ -77,8 +85,8 @@ def bytes_of(text):
 
 def corpus():
     """Documents and packages of the cases and the examples: of each those that are run, and all. And
-    provenance documents."""
-    good, documents, sound, packages, provenance = [], [], [], [], []
+    provenance documents and joined packages."""
+    good, documents, sound, packages, provenance, joined = [], [], [], [], [], []
     for path in sorted(glob.glob(os.path.join(ROOT, 'crates/conformance/data/*.json'))):
         for case in json.load(open(path, encoding='utf-8')):
             data = bytes_of(case['input'])
@@ -89,6 +97,10 @@ def corpus():
             if case['words'][:2] == DEPENDS:
                 provenance.append(data)
                 continue
+            if case['words'] == ['join'] or case['words'][:2] == REPLAY_RUN:
+                packages += pair_in(data) or []
+                joined += filter(is_joined, (data, bytes_of(case['output'])))
+                continue
             reads_world = case['words'][0] in ('run', 'record')
             (documents if reads_world else packages).append(data)
             if case['status'] == 0:
@@ -97,7 +109,7 @@ def corpus():
         data = open(path, 'rb').read()
         if len(data) <= LONGEST:
             good.append(data)
-    return good, documents, sound, packages, provenance
+    return good, documents, sound, packages, provenance, joined
 
 
 # ---- documents
@@ -258,7 +270,9 @@ def words_of(rng, name):
                              ['depends', 'main'], ['depends', 'q'], ['depends', 'f']))
     elif name == 'prov' and rng.random() < 0.7:
         words += ['depends', rng.choice(('main', 'f', 'g', 'out', 'q'))]
-    elif name not in ('migrate', 'prov') and rng.random() < 0.7:
+    elif name == 'replay' and rng.random() < 0.3:
+        words += ['--run', rng.choice('12')]
+    if name not in ('inspect', 'join', 'migrate', 'prov') and rng.random() < 0.7:
         words += ['--steps', str(rng.choice((1, 2, 10, 1000, 50_000)))]
     # The name of a table is no reserved word.
     right = name in STATUSES and words[:2] != ['table', 'order']
@@ -309,7 +323,8 @@ def complaint(words, right, answer):
     status, output, error = answer
     if status is None:
         return 'no answer in time'
-    own = OF_DEPENDS if words[:2] == DEPENDS else STATUSES[words[0]] if right else None
+    own = (OF_DEPENDS if words[:2] == DEPENDS else OF_RUN if words[:2] == REPLAY_RUN
+           else STATUSES[words[0]] if right else None)
     if status not in (own | {NO_MEMORY} if right else {USAGE}):
         return 'status %r' % status
     if status == 0 and not output and words[:2] not in MAY_BE_EMPTY:
@@ -350,12 +365,27 @@ def migrates(calls, data, package):
     return None if before == after else 'the replay of what migrate wrote differs (status %r)' % after[0]
 
 
+def is_joined_with(rng, calls, data, outcome):
+    """What isn't as it has to be where two runs of a world are joined, the second under another seed, or
+    None."""
+    try:
+        world = json.loads(data)
+    except (ValueError, RecursionError):
+        return None
+    other = json.dumps({**world, 'seed': rng.choice((0, 1, 2 ** 64 - 1, rng.randrange(2 ** 64)))}).encode()
+    answers = [calls.call(['record'], data), calls.call(['run'], other), calls.call(['record'], other)]
+    if any(status != 0 for status, _, _ in answers):
+        return None
+    (_, package, _), (_, other_outcome, _), (_, other_package, _) = answers
+    return joins(calls, package, outcome, other_package, other_outcome)
+
+
 # ---- many
 
 def work(job):
     program, limits, seed, count, keep, names, place = job
     rng = random.Random(seed)
-    good, documents, sound, packages, provenance = corpus()
+    good, documents, sound, packages, provenance, joined = corpus()
     counts, wrong = collections.Counter(), []
     with tempfile.TemporaryDirectory(dir=place) as folder:
         calls = Calls(program, limits, folder)
@@ -371,6 +401,10 @@ def work(job):
                 data = mutated_document(rng, rng.choice(good if whole else documents))
             elif words[:2] == DEPENDS:
                 data = mutated_provenance(rng, rng.choice(provenance))
+            elif words[:2] == REPLAY_RUN:
+                data = mutated_joined(rng, joined)
+            elif name == 'join':
+                data = mutated_pair(rng, sound if whole else packages, packages)
             else:
                 data = package_input(rng, rng.choice(sound if whole else packages))
             if rng.random() < 0.02:
@@ -378,17 +412,23 @@ def work(job):
                 words, right = words_of(rng, name)
             # Drawn before the answer is known, so that the next inputs don't depend on it.
             is_replayed, mode = rng.random() < 0.5, rng.choice(limits['modes'])
+            is_joined_too, other_seed = rng.random() < 0.2, random.Random(rng.random())
             answer = calls.call(words, data)
             said = complaint(words, right, answer)
             if not said and answer[0] == 0 and words == ['run'] and is_replayed:
                 said = replays(calls, data, answer[1], mode)
                 counts['run, record, replay', 0] += 1
+            if not said and answer[0] == 0 and words == ['run'] and is_joined_too:
+                said = is_joined_with(other_seed, calls, data, answer[1])
+                counts['run, join, replay', 0] += 1
+            if not said and words == ['join']:
+                said = judges(data, answer)
             if not said and answer[0] == 0 and words == ['migrate'] and is_replayed:
                 said = migrates(calls, data, answer[1])
                 counts['migrate, replay', 0] += 1
             if not said and right and words[:2] == DEPENDS and answer[0] != NO_MEMORY:
                 said = reads(data, words[2], answer)
-            told = ' '.join(words[:2]) if words[:2] == DEPENDS else words[0] if words else ''
+            told = ' '.join(words[:2]) if words[:2] in (DEPENDS, REPLAY_RUN) else words[0] if words else ''
             counts[told if words and words[0] in STATUSES else 'other', answer[0]] += 1
             if said:
                 os.makedirs(keep, exist_ok=True)

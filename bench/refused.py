@@ -21,6 +21,7 @@ import tempfile
 
 HERE = os.path.dirname(os.path.abspath(__file__))
 sys.path.insert(0, os.path.join(HERE, '..', 'tools'))
+from ldvtools.join import sized                                              # noqa: E402
 from ldvtools.packages import read_package                                   # noqa: E402
 
 SECONDS = 60
@@ -73,6 +74,9 @@ def calls_of(program, world):
                   ['migrate'], *items_of(read_package(included))):
         yield words, included
     yield ['replay'], excluded
+    pair = sized(included) + sized(included)
+    yield ['join'], pair
+    yield ['replay', '--run', '2'], program.requests(['join'], pair)[1]
     yield ['gen', '2'], b''
 
 

@@ -15,6 +15,8 @@
     tools/package.py --sizes world.package                how many bytes each section has
     tools/package.py --byte 812 world.package             what stands at this byte, from 0: where `audit` says
                                                           `unsound 812`, what isn't as its own run has it
+    tools/package.py --rows world.package                 its rows, each with the statement that needed it
+                                                          first and the rule; of a joined package, by run
     tools/package.py --run 2 ..                           of a joined package, the second of its runs
 
 docs/FORMATS.md has the format. Both versions, both kinds and joined packages are read. The digest is
@@ -39,7 +41,7 @@ from .errors import Refused, command, words_of
 from .language import RULE_TEXTS
 from .outcome import read_input, write_out
 from .package_places import byte_lines
-from .packages import Asked, Joined, Package, PackedTable, read_any, read_package
+from .packages import Asked, Joined, Package, PackedRow, PackedTable, read_any, read_package
 from .scripts_of_statements import script_of
 from .values import Row, Value, cell, counted, csv_line, escaped, reply_title, table_lines
 
@@ -79,6 +81,35 @@ def size_lines(package: Union[Package, Joined]) -> Iterator[str]:
     if isinstance(package, Package):
         needed = package.row_bytes + package.sizes["trace"] + package.sizes["logs"]
         yield f"{'rows, trace, logs':<12} {needed:>7}"
+
+
+def reason_of(row: PackedRow) -> str:
+    return f"{row.statement} {row.rule}"
+
+
+def row_table(table: PackedTable, runs: Sequence[str], reasons: Sequence[Dict[int, str]]) -> Iterator[str]:
+    """The rows of a table, each with why each of the runs needs it."""
+    rows: List[Row] = [[row.number, *(why.get(row.number, "-") for why in reasons), *row.values]
+                       for row in table.rows]
+    yield from table_lines(rows, ["row", *runs, *table.names()])
+
+
+def row_lines_of(package: Package) -> Iterator[str]:
+    check_rows(package, "table")
+    for table in package.tables:
+        yield f"{table.name}: {counted(len(table.rows), 'row')}"
+        yield from row_table(table, ["why"], [{row.number: reason_of(row) for row in table.rows}])
+
+
+def joined_row_lines(joined: Joined) -> Iterator[str]:
+    """Each row of a joined package with the runs that need it. Each is needed by one or by both."""
+    packages = joined.run(1), joined.run(2)
+    for table in joined.tables:
+        reasons = [{row.number: reason_of(row) for row in own.rows} if own else {}
+                   for own in (package.table(table.name) for package in packages)]
+        both = len(reasons[0].keys() & reasons[1].keys())
+        yield f"{table.name}: {counted(len(table.rows), 'row')}, {both} of them needed by both runs"
+        yield from row_table(table, ["run 1", "run 2"], reasons)
 
 
 def asked_events(package: Package) -> Iterator[Tuple[int, int, Asked]]:
@@ -299,6 +330,8 @@ def given_words(words: Optional[Sequence[str]]) -> argparse.Namespace:
     what.add_argument("--world", action="store_true", help="a world document of its files and rows")
     what.add_argument("--sizes", action="store_true", help="how many bytes each section has")
     what.add_argument("--byte", metavar="N", type=int, help="what stands at the byte N, from 0")
+    what.add_argument("--rows", action="store_true",
+                      help="the rows, each with the statement that needed it first and the rule why")
     parser.add_argument("--ask", metavar="STATEMENT", action="append", default=[],
                         help="with --world: a statement for its script, which asks these only")
     parser.add_argument("-o", "--output", metavar="FILE",
@@ -334,6 +367,8 @@ def show(data: bytes, given: argparse.Namespace) -> None:
             begin = "" if note.startswith("warning: ") else "note: "
             print(f"package.py: {begin}{note}", file=sys.stderr)
         write_file(world, given.output)
+    elif given.rows:
+        write_out("".join(line + "\n" for line in row_lines_of(package)))
     else:
         write_out("".join(line + "\n" for line in summary(package)))
 
@@ -351,7 +386,8 @@ def work(words: Optional[Sequence[str]]) -> int:
                  or given.world)
     found = read_any(data) if not asks_part and given.run is None else None
     if isinstance(found, Joined):
-        write_out("".join(line + "\n" for line in joined_summary(found)))
+        lines = joined_row_lines(found) if given.rows else joined_summary(found)
+        write_out("".join(line + "\n" for line in lines))
     else:
         show(data, given)
     return 0

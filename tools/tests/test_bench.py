@@ -10,6 +10,7 @@ from unittest import mock
 
 import package_versions
 import packages
+import packages_joined
 
 from ldvtools.errors import Malformed
 from ldvtools.packages import read_package
@@ -21,6 +22,7 @@ from .test_documents import INSTRUCTIONS
 sys.path.append(os.path.join(ROOT, "bench"))
 import hostile                                                               # noqa: E402
 import hostile_documents                                                     # noqa: E402
+import hostile_joins                                                         # noqa: E402
 import hostile_packages                                                      # noqa: E402
 import refused                                                               # noqa: E402
 
@@ -28,6 +30,9 @@ import refused                                                               # n
 PROVENANCE = document_text(Provenance(
     [Node("path", "main"), Node("process", "0"), Node("path", "g")],
     [Edge(0, 1, 0, 0), Edge(1, 2, 1, 1)])).encode()
+# Two runs of a world with rows.
+TWO = read_package(packages.encode(packages.BASES["rows"]))
+JOINED = packages_joined.joined(TWO, TWO._replace(seed=5))
 
 
 # A program that asks for memory in each way, five times, and says so where it gets none.
@@ -73,7 +78,8 @@ class RefusedMemory(InFolder):
     def test_answers(self):
         status, out, err = self.answered()
         self.assertEqual((status, err), (0, ""))
-        for words in ("record --excluded", "inspect depends f", "inspect why t 3", "table t 8", "gen 2"):
+        for words in ("record --excluded", "inspect depends f", "inspect why t 3", "table t 8", "join",
+                      "replay --run 2", "gen 2"):
             self.assertIn(f"{words}: 3 requests, 0 done without, 0 answered otherwise\n", out.decode())
         status, out, _ = self.answered(other=(0, self.package, b""))
         self.assertEqual(status, 0)
@@ -156,6 +162,7 @@ class HostileInputs(InFolder):
                 (["run"], True, (11, b"", line)), (["table", "order", "0"], False, (2, b"", line)),
                 (["inspect", "rows"], True, (0, b"", b"")),
                 (["prov"], True, (8, b"", line)), (["prov", "depends", "q"], True, (16, b"", line)),
+                (["join"], True, (15, b"", line)), (["replay", "--run", "1"], True, (7, b"", line)),
                 (["prov", "depends", "q"], True, (0, b"", b"")), (["prov", "depends"], False, (2, b"", line)),
                 (["inspect", "depends", "q"], True, (0, b"", b"")), (["replay"], True, (9, b"", line))):
             self.assertIsNone(hostile.complaint(words, right, answer), (words, answer))
@@ -166,6 +173,7 @@ class HostileInputs(InFolder):
                 (["run"], True, (6, b"x", line)), (["run"], True, (6, b"", line + line)),
                 (["run"], True, (6, b"", b"")), (["run"], True, (-11, b"", b"")),
                 (["prov"], True, (16, b"", line)), (["prov", "depends", "q"], True, (8, b"", line)),
+                (["replay"], True, (15, b"", line)), (["replay", "--run", "1"], True, (9, b"", line)),
                 (["run"], True, (8, b"", line)), (["run"], True, (None, b"", b""))):
             self.assertIsNotNone(hostile.complaint(words, right, answer), (words, answer))
 
@@ -185,8 +193,10 @@ class HostileInputs(InFolder):
                 mock.patch("hostile.replays", lambda *_: None), \
                 mock.patch("hostile.migrates", lambda *_: None), \
                 mock.patch("hostile.reads", lambda *_: None), \
+                mock.patch("hostile.judges", lambda *_: None), \
+                mock.patch("hostile.is_joined_with", lambda *_: None), \
                 mock.patch("hostile.corpus",
-                           lambda: ([document], [document], [made], [made], [PROVENANCE])):
+                           lambda: ([document], [document], [made], [made], [PROVENANCE], [JOINED])):
             hostile.work(job)
         return asked_here
 
@@ -208,6 +218,65 @@ class HostileInputs(InFolder):
         for status in (0, 10, 16):
             self.assertGreater(counts[status], 4)
         self.assertIsNotNone(hostile_documents.reads(PROVENANCE, "g", (0, b"process 0\n", b"")))
+
+    def test_pairs(self):
+        """Pairs are made that are joined, that clash in each way, and that are none."""
+        chance, counts = hostile.random.Random(1), collections.Counter()
+        names = ("rows", "picked", "plain in runs", "logs")
+        bases = [packages.encode(packages.BASES[name]) for name in names]
+        for _ in range(1000):
+            made = hostile_joins.mutated_pair(chance, bases, bases)
+            pair = hostile_joins.pair_in(made)
+            if pair is None:
+                counts["no pair"] += 1
+                continue
+            try:
+                first, second = map(read_package, pair)
+            except Malformed:
+                counts["no packages"] += 1
+                continue
+            if max(first.event_count(), second.event_count()) > 1000:
+                continue
+            clash = hostile_joins.clash_of(first, second)
+            if clash is None:
+                both = packages_joined.joined(first, second)
+                self.assertIsNone(hostile_joins.judges(made, (0, both, b"")))
+                self.assertIsNotNone(hostile_joins.judges(made, (0, both + b"x", b"")))
+                self.assertIsNotNone(hostile_joins.judges(made, (15, b"", b"ldv: clash: file main\n")))
+            else:
+                said = f"ldv: clash: {clash.name}\n".encode()
+                self.assertIsNone(hostile_joins.judges(made, (15, b"", said)))
+                self.assertIsNotNone(hostile_joins.judges(made, (15, b"", b"ldv: clash: table none\n")))
+                self.assertIsNotNone(hostile_joins.judges(made, (0, b"LDVJOIN1", b"")))
+            counts["joined" if clash is None else clash.name.split(" ")[0]] += 1
+        for each in ("no pair", "no packages", "joined", "file", "table", "row", "key"):
+            self.assertGreater(counts[each], 4, each)
+        self.assertIsNone(hostile_joins.judges(b"", (8, b"", b"ldv: damaged: form\n")))
+        self.assertIsNotNone(hostile_joins.judges(b"", (15, b"", b"ldv: clash: file main\n")))
+
+    def test_joined(self):
+        """Joined packages are made with right digests and wrong ones, and with their runs exchanged."""
+        chance, counts = hostile.random.Random(1), collections.Counter()
+        for _ in range(500):
+            made = hostile_joins.mutated_joined(chance, [JOINED])
+            counts["read" if hostile_joins.is_joined(made) else "not read"] += 1
+            counts["exchanged"] += made == packages_joined.joined(TWO._replace(seed=5), TWO)
+            counts["as it is"] += made == JOINED
+        for each in ("read", "not read", "exchanged", "as it is"):
+            self.assertGreater(counts[each], 4, each)
+
+    def test_joins(self):
+        """Of two runs of a world each has to be replayed as it is run."""
+        answers = {"join": (0, JOINED, b""), "1": (0, b"x", b""), "2": (0, b"y", b"")}
+
+        def told(**others):
+            calls = mock.Mock(call=lambda words, data: {**answers, **others}[words[-1]])
+            return hostile_joins.joins(calls, b"a", b"x", b"b", b"y")
+
+        self.assertIsNone(told())
+        self.assertIsNone(told(join=(12, b"", b"ldv: package longer than 67108864 bytes\n")))
+        self.assertIn("status 15", told(join=(15, b"", b"ldv: clash: key t 1\n")))
+        self.assertIn("run 2", told(**{"2": (0, b"x", b"")}))
 
     def test_packages(self):
         """Packages are made of both versions, with right digests and wrong ones; of runs those at the limits

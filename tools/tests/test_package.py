@@ -210,6 +210,31 @@ table t (k INT NOT NULL, g TEXT, v INT, key k): 2 rows, next row 5
         self.assertIn(b"run 2", tool(package, "--sizes", path)[1])
         self.assertEqual(read_any(read(path)).run(2).tables, second.tables)
 
+    def test_rows(self):
+        """Each row with why it is there; of a joined package, for which of its runs."""
+        self.assertEqual(tool(package, "--rows", self.path), (0, b"""t: 2 rows
+  row | why | k | g        | v
+  ----+-----+---+----------+-----
+    0 | 0 L | 1 | a "x", y | NULL
+    2 | 1 K | 3 | ""       |   -5
+""", ""))
+        first = read_package(read(self.path))
+        rows = [first.tables[0].rows[0]._replace(statement=1, rule="H")]
+        path = self.put("j", version2.joined(first._replace(steps=9), first._replace(
+            tables=[first.tables[0]._replace(rows=rows)])))
+        self.assertEqual(tool(package, "--rows", path), (0, b"""t: 2 rows, 1 of them needed by both runs
+  row | run 1 | run 2 | k | g        | v
+  ----+-------+-------+---+----------+-----
+    0 | 0 L   | 1 H   | 1 | a "x", y | NULL
+    2 | 1 K   | -     | 3 | ""       |   -5
+""", ""))
+        self.assertEqual(tool(package, "--rows", "--run", "2", path)[1].count(b"1 H"), 1)
+        alone = first._replace(tables=[])
+        self.assertIn(b"t: 2 rows, 0 of them needed by both runs",
+                      tool(package, "--rows", self.put("a", version2.joined(alone, first)))[1])
+        replies = packages.encode(packages.package(mode=2))
+        self.assertIn("no table", tool(package, "--rows", given=replies)[2])
+
     def test_statement(self):
         """The rows that a statement needed, with the rule in words."""
         tables = [packages.table("t", [packages.column("k"), packages.column("g", "TEXT")], next=5,

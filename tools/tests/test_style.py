@@ -11,7 +11,7 @@ import ldvtools
 
 from .support import ROOT, TOOLS, InFolder, command, read
 
-COMMANDS = ("world", "outcome", "package", "picture", "check", "page", "diff", "orders", "prov")
+COMMANDS = ("world", "outcome", "package", "picture", "check", "page", "diff", "join", "orders", "prov")
 
 
 def called(words):

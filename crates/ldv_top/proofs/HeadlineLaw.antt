@@ -35,7 +35,7 @@ use Rattle.ldv_top.proofs.SoundLaws.{Written, run_written, version_spelled, soun
 -- ---- runs
 
 -- two worlds with one outcome give the same
-same_due : (n m : ℕ) (v w : World) (outcome : Outcome) → outcome_within n v ≡ Some outcome → outcome_within m w ≡ Some outcome
+pub same_due : (n m : ℕ) (v w : World) (outcome : Outcome) → outcome_within n v ≡ Some outcome → outcome_within m w ≡ Some outcome
     → due_world n v ≡ due_world m w
 same_due n m v w outcome of_v of_w =
     ap (due_outcome n outcome_due) of_v ∙ sym (ap (due_outcome m outcome_due) of_w)

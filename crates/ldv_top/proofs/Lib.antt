@@ -16,3 +16,5 @@ pub mod TopLaws
 pub mod Traces
 pub mod WordLaws
 pub mod WriteLemmas
+pub mod JoinResponses
+pub mod JoinLaws

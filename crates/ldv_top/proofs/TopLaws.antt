@@ -17,15 +17,17 @@ use Rattle.ldv_top.specs.Headline.{IsPackageOf, Recorded}
 use Rattle.ldv_top.specs.Migrated.{Migrated}
 use Rattle.ldv_top.specs.ProvReported.{DocumentLaw, numbered_due}
 use Rattle.ldv_top.specs.Reported.{Depends}
+use Rattle.ldv_top.specs.TwoRuns.{AnyJoinedLaw, PairLaw, TwoRunsLaw}
 use Rattle.ldv_top.specs.Words.{command_of, reads}
 use Rattle.ldv_top.specs.declared.command.Command.{Command}
 use Rattle.ldv_top.specs.declared.command.Command.TheVariants.{Run, Record, Replay, ReplaySeed, Audit, Table}
 use Rattle.ldv_top.specs.declared.command.Command.TheVariants.{Inspect, Generate, Migrate, Prov, ProvDepends}
+use Rattle.ldv_top.specs.declared.command.Command.TheVariants.{Join, ReplayRun}
 use Rattle.ldv_top.specs.declared.command.Report.TheVariants.{Depends as DependsOn}
 use Rattle.ldv_top.specs.declared.exit.Exit.{Exit}
 use Rattle.ldv_top.specs.declared.exit.Exit.TheVariants.{Done, Usage, ReadFault, WriteFault, TooLong}
 use Rattle.ldv_top.specs.declared.exit.Exit.TheVariants.{NotWorld, NotEnded, Damaged, Diverged, NoSuch}
-use Rattle.ldv_top.specs.declared.exit.Exit.TheVariants.{NoMemory, PackageTooLong, NotPrivate, NotProv}
+use Rattle.ldv_top.specs.declared.exit.Exit.TheVariants.{NoMemory, PackageTooLong, NotPrivate, NotProv, Clash}
 use Rattle.ldv_top.proofs.DocumentLaws.{named_same}
 
 -- what was read to the end is all that there was
@@ -50,6 +52,7 @@ complete d (Damaged kind) old new R W out is read write no_read no_write = let e
 complete d (Diverged process index) old new R W out is read write no_read no_write = let e : Diverged process index ≡ Done = sym out ∙ is in cc
 complete d NoSuch old new R W out is read write no_read no_write = let e : NoSuch ≡ Done = sym out ∙ is in cc
 complete d PackageTooLong old new R W out is read write no_read no_write = let e : PackageTooLong ≡ Done = sym out ∙ is in cc
+complete d (Clash clash) old new R W out is read write no_read no_write = let e : Clash clash ≡ Done = sym out ∙ is in cc
 complete d NotPrivate old new R W out is read write no_read no_write = let e : NotPrivate ≡ Done = sym out ∙ is in cc
 complete d NotProv old new R W out is read write no_read no_write = let e : NotProv ≡ Done = sym out ∙ is in cc
 
@@ -59,6 +62,8 @@ due_unread (Run budget) unread given input = let never : true ≡ false = unread
 due_unread (Record mode budget) unread given input = let never : true ≡ false = unread in cc
 due_unread (Replay budget) unread given input = let never : true ≡ false = unread in cc
 due_unread (ReplaySeed seed budget) unread given input = let never : true ≡ false = unread in cc
+due_unread (ReplayRun which budget) unread given input = let never : true ≡ false = unread in cc
+due_unread Join unread given input = let never : true ≡ false = unread in cc
 due_unread (Audit budget) unread given input = let never : true ≡ false = unread in cc
 due_unread (Table name step budget) unread given input = let never : true ≡ false = unread in cc
 due_unread (Inspect report) unread given input = let never : true ≡ false = unread in cc
@@ -74,6 +79,8 @@ too_long_due (Run budget) reading input long = rw long refl
 too_long_due (Record mode budget) reading input long = rw long refl
 too_long_due (Replay budget) reading input long = rw long refl
 too_long_due (ReplaySeed seed budget) reading input long = rw long refl
+too_long_due (ReplayRun which budget) reading input long = rw long refl
+too_long_due Join reading input long = rw long refl
 too_long_due (Audit budget) reading input long = rw long refl
 too_long_due (Table name step budget) reading input long = rw long refl
 too_long_due (Inspect report) reading input long = rw long refl
@@ -118,6 +125,11 @@ module _ {Reader Writer : Type 0} (left : Reader → Option (List ℕ)) (read_fa
     depends = λ path input is told done. let never : Usage ≡ Done = done in cc;
     documented = λ p path input is told document.
         let never : None ≡ Some (ProvDepends path) = sym none ∙ is in cc;
+    joins = λ n m v w input is told pair. let never : None ≡ Some Join = sym none ∙ is in cc;
+    joined = λ which n m budget v w input is told two enough.
+        let never : None ≡ Some (ReplayRun which budget) = sym none ∙ is in cc;
+    chosen = λ which budget j input is told any.
+        let never : None ≡ Some (ReplayRun which budget) = sym none ∙ is in cc;
   }
 
   -- words that are a command, where memory ran out while they were read
@@ -141,6 +153,9 @@ module _ {Reader Writer : Type 0} (left : Reader → Option (List ℕ)) (read_fa
     migrated = λ input is told done. let never : NoMemory ≡ Done = done in cc;
     depends = λ path input is told done. let never : NoMemory ≡ Done = done in cc;
     documented = λ p path input is told document. (named_same p path, tt);
+    joins = λ n m v w input is told pair. tt;
+    joined = λ which n m budget v w input is told two enough. tt;
+    chosen = λ which budget j input is told any. tt;
   }
 
   -- a command that reads nothing
@@ -174,6 +189,11 @@ module _ {Reader Writer : Type 0} (left : Reader → Option (List ℕ)) (read_fa
         depends = λ path input named told done. let never : false ≡ true = sym none_read ∙ ap reads named in cc;
         documented = λ p path input named told document.
             let never : false ≡ true = sym none_read ∙ ap reads named in cc;
+        joins = λ n m v w input named told pair. let never : false ≡ true = sym none_read ∙ ap reads named in cc;
+        joined = λ which n m budget v w input named told two enough.
+            let never : false ≡ true = sym none_read ∙ ap reads named in cc;
+        chosen = λ which budget j input named told any.
+            let never : false ≡ true = sym none_read ∙ ap reads named in cc;
       }
 
   -- a command that reads its input, of which the parts are known
@@ -197,7 +217,7 @@ module _ {Reader Writer : Type 0} (left : Reader → Option (List ℕ)) (read_fa
       → due_replay_seed seed budget input ≡ due_world n w)
       (reported : (path input : List ℕ) → (due_inspect (DependsOn path) input).exit ≡ Done
       → Depends path input (due_inspect (DependsOn path) input).bytes)
-      (document : DocumentLaw) where
+      (document : DocumentLaw) (pair : PairLaw) (two_runs : TwoRunsLaw) (any_joined : AnyJoinedLaw) where
     reads_input : reads (command_of words) ≡ true
     reads_input = ap reads is ∙ reading
 
@@ -245,4 +265,19 @@ module _ {Reader Writer : Type 0} (left : Reader → Option (List ℕ)) (read_fa
           (ap (λ (k : Command). due_of (Some k) input) (some_same same) ∙ document p path input written)
           (due input told) in
           (named_same p path, comes);
+      joins = λ n m v w input named told both.
+          let same : Some command ≡ Some Join = sym is ∙ named in
+          subst (λ (d : Due). Comes d exit (taken sink) (taken sink_after))
+          (ap (λ (k : Command). due_of (Some k) input) (some_same same) ∙ pair n m v w input both)
+          (due input told);
+      joined = λ which n m budget v w input named told two enough.
+          let same : Some command ≡ Some (ReplayRun which budget) = sym is ∙ named in
+          subst (λ (d : Due). Comes d exit (taken sink) (taken sink_after))
+          (ap (λ (k : Command). due_of (Some k) input) (some_same same) ∙ two_runs which n m budget v w input two enough)
+          (due input told);
+      chosen = λ which budget j input named told any.
+          let same : Some command ≡ Some (ReplayRun which budget) = sym is ∙ named in
+          subst (λ (d : Due). Comes d exit (taken sink) (taken sink_after))
+          (ap (λ (k : Command). due_of (Some k) input) (some_same same) ∙ any_joined which budget j input any)
+          (due input told);
     }

@@ -7,7 +7,7 @@ use Rattle.ldv_top.specs.Written.{AppendsPart}
 use Rattle.ldv_top.specs.declared.exit.Exit.{Exit}
 use Rattle.ldv_top.specs.declared.exit.Exit.TheVariants.{Done, Usage, ReadFault, WriteFault, TooLong}
 use Rattle.ldv_top.specs.declared.exit.Exit.TheVariants.{NotWorld, NotEnded, Damaged, Diverged, NoSuch}
-use Rattle.ldv_top.specs.declared.exit.Exit.TheVariants.{NoMemory, PackageTooLong, NotPrivate, NotProv}
+use Rattle.ldv_top.specs.declared.exit.Exit.TheVariants.{NoMemory, PackageTooLong, NotPrivate, NotProv, Clash}
 
 -- the input is what the source has, where the command reads
 abbrev pub IsInput : Bool → Option (List ℕ) → List ℕ → Type 0
@@ -26,6 +26,7 @@ Comes d (NotEnded steps) old new = d.exit ≡ NotEnded steps
 Comes d (Damaged kind) old new = d.exit ≡ Damaged kind
 Comes d (Diverged process index) old new = d.exit ≡ Diverged process index
 Comes d NoSuch old new = d.exit ≡ NoSuch
+Comes d (Clash clash) old new = d.exit ≡ Clash clash
 Comes d PackageTooLong old new = d.exit ≡ PackageTooLong
 Comes d NotPrivate old new = d.exit ≡ NotPrivate
 Comes d NotProv old new = d.exit ≡ NotProv

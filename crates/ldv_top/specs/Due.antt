@@ -10,6 +10,10 @@ use Rattle.run_model.specs.Package.{package_of, own_world}
 use Rattle.run_model.specs.Core.{Diverged as DivergedAt}
 use Rattle.run_model.specs.LogRun.{log_outcome, log_divergence}
 use Rattle.free_order.specs.OtherSeed.{is_free}
+use Rattle.package_join.specs.declared.joined.Joined.{Joined}
+use Rattle.package_join.specs.declared.joined.Which.{Which}
+use Rattle.package_join.specs.Valid.{joined_reading}
+use Rattle.package_join.specs.Worlds.{joined_world}
 use Rattle.package_layout.specs.declared.damage.DamageKind.{DamageKind}
 use Rattle.package_layout.specs.Valid.{reading}
 use Rattle.package_layout.specs.Whole.{spelling}
@@ -21,11 +25,13 @@ use Rattle.ldv_top.specs.declared.response.Response.TheVariants as responses
 use Rattle.ldv_top.specs.declared.command.Command.{Command}
 use Rattle.ldv_top.specs.declared.command.Command.TheVariants.{Run, Record, Replay, ReplaySeed, Audit, Table}
 use Rattle.ldv_top.specs.declared.command.Command.TheVariants.{Inspect, Generate, Migrate, Prov, ProvDepends}
+use Rattle.ldv_top.specs.declared.command.Command.TheVariants.{Join, ReplayRun}
 use Rattle.ldv_top.specs.declared.exit.Exit.TheVariants.{Usage, TooLong, NotWorld, NotEnded, Damaged}
 use Rattle.ldv_top.specs.declared.exit.Exit.TheVariants.{Diverged, NoSuch, PackageTooLong, NotPrivate}
-use Rattle.ldv_top.specs.declared.exit.Exit.TheVariants.{NotProv}
+use Rattle.ldv_top.specs.declared.exit.Exit.TheVariants.{NotProv, Clash}
 use Rattle.ldv_top.specs.DueOfAudits.{due_audit}
 use Rattle.ldv_top.specs.DueOfGenerate.{due_generate}
+use Rattle.ldv_top.specs.DueOfJoins.{due_join}
 use Rattle.ldv_top.specs.DueOfMigrations.{due_migrate}
 use Rattle.ldv_top.specs.DueOfProv.{due_prov, due_prov_depends}
 use Rattle.ldv_top.specs.DueOfReports.{due_inspect}
@@ -100,6 +106,16 @@ reseeded_package seed budget p =
 abbrev pub due_replay_seed : ℕ → ℕ → List ℕ → Due
 due_replay_seed seed budget input = due_of_package (reseeded_package seed budget) input
 
+-- ---- replay of a run: the outcome of its world
+
+abbrev pub replayed_run : Which → ℕ → Result Joined DamageKind → Due
+replayed_run which budget (Ok j) = due_world budget (joined_world which j)
+replayed_run which budget (Err kind) = refused (Damaged kind)
+
+abbrev pub due_replay_run : Which → ℕ → List ℕ → Due
+due_replay_run which budget input = if is_too_long input then refused TooLong
+    else replayed_run which budget (joined_reading input)
+
 -- ---- all commands
 
 abbrev pub due_of : Option Command → List ℕ → Due
@@ -108,6 +124,8 @@ due_of (Some (Run budget)) input = due_run budget input
 due_of (Some (Record mode budget)) input = due_record mode budget input
 due_of (Some (Replay budget)) input = due_replay budget input
 due_of (Some (ReplaySeed seed budget)) input = due_replay_seed seed budget input
+due_of (Some (ReplayRun which budget)) input = due_replay_run which budget input
+due_of (Some Join) input = due_join input
 due_of (Some (Audit budget)) input = due_audit budget input
 due_of (Some (Table name step budget)) input = due_table name step budget input
 due_of (Some (Inspect report)) input = due_inspect report input
@@ -128,6 +146,7 @@ response_due (responses.NotEnded budget) = refused (NotEnded budget)
 response_due (responses.Diverged process index) = refused (Diverged process index)
 response_due (responses.Damaged kind) = refused (Damaged kind)
 response_due responses.NoSuch = refused NoSuch
+response_due (responses.Clash clash) = refused (Clash clash)
 response_due responses.PackageTooLong = refused PackageTooLong
 response_due responses.NotPrivate = refused NotPrivate
 response_due responses.NotProv = refused NotProv

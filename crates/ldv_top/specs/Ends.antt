@@ -5,6 +5,10 @@
 use Rattle.std.specs.Prelude.{◌≡◌, ◌≢◌, ◌⊎◌, ◌↔◌, ◌≤◌, ℕ, List, [], true, false, Option, Some, None}
 use Rattle.std.specs.Io.KnownBytes.{IsAtEnd}
 use Rattle.ldv_io.specs.Causes.{Rose}
+use Rattle.package_join.specs.declared.joined.Joined.{Joined}
+use Rattle.package_join.specs.declared.joined.Which.{Which}
+use Rattle.package_join.specs.Layout.{joined_spelling}
+use Rattle.package_join.specs.Worlds.{joined_world}
 use Rattle.run_model.specs.declared.package.Mode.{Mode}
 use Rattle.run_model.specs.declared.package.Mode.TheVariants.{Excluded}
 use Rattle.run_model.specs.declared.package.Package.{Package}
@@ -13,17 +17,18 @@ use Rattle.run_model.specs.WorldRun.{events_within, steps_by}
 use Rattle.free_order.specs.Private.{private_test}
 use Rattle.ldv_top.specs.Comes.{IsInput, Comes, IsQuiet}
 use Rattle.ldv_top.specs.declared.command.Command.TheVariants.{Record, Replay, ReplaySeed, Inspect, Migrate}
-use Rattle.ldv_top.specs.declared.command.Command.TheVariants.{ProvDepends}
+use Rattle.ldv_top.specs.declared.command.Command.TheVariants.{Join, ProvDepends, ReplayRun}
 use Rattle.ldv_top.specs.declared.command.Report.TheVariants.{Depends as DependsOn}
 use Rattle.ldv_top.specs.declared.exit.Exit.{Exit}
 use Rattle.ldv_top.specs.declared.exit.Exit.TheVariants.{Done, Usage, ReadFault, WriteFault, NoMemory}
-use Rattle.ldv_top.specs.Due.{Due, due_of, due_record, due_world}
+use Rattle.ldv_top.specs.Due.{Due, due_of, due_record, due_spelling, due_world}
 use Rattle.ldv_top.specs.DueOfMigrations.{due_migrate}
 use Rattle.ldv_top.specs.DueOfReports.{due_inspect, report_due}
 use Rattle.ldv_top.specs.Headline.{IsPackageOf, Recorded}
 use Rattle.ldv_top.specs.Migrated.{Migrated}
 use Rattle.ldv_top.specs.ProvReported.{IsDocumentOf, named_due, numbered_due}
 use Rattle.ldv_top.specs.Reported.{Depends}
+use Rattle.ldv_top.specs.TwoRuns.{IsJoinOf, IsJoinedInput, IsPair, its_due, its_steps, two_joined}
 use Rattle.ldv_top.specs.Words.{command_of, reads}
 
 -- What comes of a response that is due, in a sink before and after it is written.
@@ -90,3 +95,16 @@ pub record Ends {Reader Writer : Type 0}
       → left source ≡ Some input → IsDocumentOf p input
       → (report_due (DependsOn path) p ≡ named_due p path)
       × Comes (numbered_due p path) exit (taken sink) (taken sink_after)
+  -- the packages of two valid worlds with the same files and tables are joined without a clash
+  pub joins : (n m : ℕ) (v w : World) (input : List ℕ) → command_of words ≡ Some Join
+      → left source ≡ Some input → IsPair n m v w input
+      → Comes (due_spelling (joined_spelling (two_joined n m v w))) exit (taken sink) (taken sink_after)
+  -- and each run of what they are joined to is replayed as its world is run
+  pub joined : (which : Which) (n m budget : ℕ) (v w : World) (input : List ℕ)
+      → command_of words ≡ Some (ReplayRun which budget) → left source ≡ Some input → IsJoinOf n m v w input
+      → its_steps which n m v w ≤ budget
+      → Comes (its_due which n m v w) exit (taken sink) (taken sink_after)
+  -- of any valid joined package the world of the run is run
+  pub chosen : (which : Which) (budget : ℕ) (j : Joined) (input : List ℕ)
+      → command_of words ≡ Some (ReplayRun which budget) → left source ≡ Some input → IsJoinedInput j input
+      → Comes (due_world budget (joined_world which j)) exit (taken sink) (taken sink_after)

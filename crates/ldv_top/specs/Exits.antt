@@ -2,6 +2,9 @@
 use Rattle.std.specs.Prelude.{ℕ, List, [], ◌++◌, codes, Option, Some, None}
 use Rattle.std.specs.Fmt.{decimal}
 use Rattle.run_model.specs.OutcomeText.{name_text}
+use Rattle.package_join.specs.declared.joined.Clash.{Clash as TheClash}
+use Rattle.package_join.specs.declared.joined.ClashKind.{ClashKind}
+use Rattle.package_join.specs.declared.joined.ClashKind.TheVariants as kinds
 use Rattle.package_layout.specs.declared.damage.DamageKind.{DamageKind}
 use Rattle.package_layout.specs.declared.damage.DamageKind.TheVariants.{Magic, Digest, Form}
 use Rattle.world_json.specs.declared.fault.WorldFault.{WorldFault}
@@ -11,7 +14,8 @@ use Rattle.world_json.specs.declared.fault.WorldFault.TheVariants.{BadScript}
 use Rattle.ldv_top.specs.declared.exit.Exit.{Exit}
 use Rattle.ldv_top.specs.declared.exit.Exit.TheVariants.{Done, Usage, ReadFault, WriteFault, TooLong}
 use Rattle.ldv_top.specs.declared.exit.Exit.TheVariants.{NotWorld, NotEnded, Damaged, Diverged, NoSuch}
-use Rattle.ldv_top.specs.declared.exit.Exit.TheVariants.{NoMemory, PackageTooLong, NotPrivate, NotProv}
+use Rattle.ldv_top.specs.declared.exit.Exit.TheVariants.{NoMemory, PackageTooLong, NotPrivate}
+use Rattle.ldv_top.specs.declared.exit.Exit.TheVariants.{Clash, NotProv}
 
 abbrev pub status_of : Exit → ℕ
 status_of Done = 0
@@ -27,6 +31,7 @@ status_of NoSuch = 10
 status_of NoMemory = 11
 status_of PackageTooLong = 12
 status_of NotPrivate = 14
+status_of (Clash clash) = 15
 status_of NotProv = 16
 
 -- ---- the lines, with their LF
@@ -64,6 +69,7 @@ fixed_line NoMemory = Some (codes "ldv: out of memory\n")
 fixed_line PackageTooLong = Some (codes "ldv: package longer than 67108864 bytes\n")
 fixed_line NotPrivate = Some (codes "ldv: package is not private\n")
 fixed_line NotProv = Some (codes "ldv: not a provenance document\n")
+fixed_line (Clash clash) = None
 
 abbrev pub numbered : List ℕ → ℕ → List ℕ → List ℕ
 numbered head n tail = head ++ decimal n ++ tail
@@ -75,11 +81,28 @@ abbrev pub bad_script_line : WorldFault → List ℕ
 bad_script_line (BadScript n) = numbered (codes "ldv: not a world: bad script line ") n (codes "\n")
 bad_script_line other = []
 
+-- a name may have any bytes but a LF
+abbrev pub named : List ℕ → List ℕ → List ℕ
+named head name = head ++ name ++ codes "\n"
+
+abbrev pub named_row : List ℕ → List ℕ → ℕ → List ℕ
+named_row head name row = head ++ name ++ numbered (codes " ") row (codes "\n")
+
+abbrev pub clash_line_of : ClashKind → List ℕ → ℕ → List ℕ
+clash_line_of kinds.File name row = named (codes "ldv: clash: file ") name
+clash_line_of kinds.Table name row = named (codes "ldv: clash: table ") name
+clash_line_of kinds.Row name row = named_row (codes "ldv: clash: row ") name row
+clash_line_of kinds.Key name row = named_row (codes "ldv: clash: key ") name row
+
+abbrev pub clash_line : TheClash → List ℕ
+clash_line clash = clash_line_of clash.kind clash.name clash.row
+
 abbrev pub numbered_line : Exit → List ℕ
 numbered_line (NotWorld fault) = bad_script_line fault
 numbered_line (NotEnded steps) = numbered (codes "ldv: not ended after ") steps (codes " steps\n")
 numbered_line (Diverged process index) =
     located (codes "ldv: diverged: process ") process.parts (codes " statement ") index (codes "\n")
+numbered_line (Clash clash) = clash_line clash
 numbered_line other = []
 
 abbrev pub line_from : Option (List ℕ) → Exit → List ℕ

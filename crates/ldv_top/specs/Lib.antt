@@ -2,6 +2,7 @@ pub mod Comes
 pub mod Due
 pub mod DueOfAudits
 pub mod DueOfGenerate
+pub mod DueOfJoins
 pub mod DueOfMigrations
 pub mod DueOfProv
 pub mod DueOfReports
@@ -9,6 +10,7 @@ pub mod DueOfTables
 pub mod DueParts
 pub mod Ends
 pub mod Exits
+pub mod TwoRuns
 pub mod Headline
 pub mod Migrated
 pub mod ProvReported
@@ -17,6 +19,7 @@ pub mod WordNumbers
 pub mod WordStops
 pub mod Words
 pub mod WordsOfGenerate
+pub mod WordsOfJoins
 pub mod WordsOfMigrations
 pub mod WordsOfProv
 pub mod WordsOfReports

@@ -5,7 +5,9 @@ use Rattle.ldv_value.specs.Limits.{max_steps, default_steps}
 use Rattle.ldv_top.specs.declared.command.Command.{Command}
 use Rattle.ldv_top.specs.declared.command.Command.TheVariants.{Run, Record, Replay, ReplaySeed, Audit, Table}
 use Rattle.ldv_top.specs.declared.command.Command.TheVariants.{Inspect, Generate, Migrate, Prov, ProvDepends}
+use Rattle.ldv_top.specs.declared.command.Command.TheVariants.{Join, ReplayRun}
 use Rattle.ldv_top.specs.WordsOfGenerate.{generate_of}
+use Rattle.ldv_top.specs.WordsOfJoins.{join_of}
 use Rattle.ldv_top.specs.WordsOfMigrations.{migrate_of}
 use Rattle.ldv_top.specs.WordsOfProv.{prov_of}
 use Rattle.ldv_top.specs.WordsOfReports.{report_of}
@@ -23,7 +25,8 @@ command_of (word ∷ words) =
     else (if bytes_eq word (codes "inspect") then inspect_of words
     else (if bytes_eq word (codes "gen") then generate_of words
     else (if bytes_eq word (codes "migrate") then migrate_of words
-    else (if bytes_eq word (codes "prov") then prov_of words else run_of word words))))
+    else (if bytes_eq word (codes "prov") then prov_of words
+    else (if bytes_eq word (codes "join") then join_of words else run_of word words)))))
 
 -- whether the command reads its input
 abbrev pub reads : Option Command → Bool
@@ -32,6 +35,8 @@ reads (Some (Run budget)) = true
 reads (Some (Record mode budget)) = true
 reads (Some (Replay budget)) = true
 reads (Some (ReplaySeed seed budget)) = true
+reads (Some (ReplayRun which budget)) = true
+reads (Some Join) = true
 reads (Some (Audit budget)) = true
 reads (Some (Table name step budget)) = true
 reads (Some (Inspect report)) = true
@@ -40,12 +45,14 @@ reads (Some Migrate) = true
 reads (Some Prov) = true
 reads (Some (ProvDepends path)) = true
 
--- the steps that a run of the command may take; `inspect`, `migrate` and `prov` make no run
+-- the steps that a run of the command may take; `inspect`, `join`, `migrate` and `prov` make no run
 abbrev pub budget_of : Command → ℕ
 budget_of (Run budget) = budget
 budget_of (Record mode budget) = budget
 budget_of (Replay budget) = budget
 budget_of (ReplaySeed seed budget) = budget
+budget_of (ReplayRun which budget) = budget
+budget_of Join = 0
 budget_of (Audit budget) = budget
 budget_of (Table name step budget) = budget
 budget_of (Inspect report) = 0

@@ -6,6 +6,7 @@ use Rattle.run_model.specs.declared.package.Mode.TheVariants.{Included, Excluded
 use Rattle.ldv_top.specs.declared.command.Command.{Command}
 use Rattle.ldv_top.specs.declared.command.Command.TheVariants.{Run, Record, Replay, ReplaySeed, Audit}
 use Rattle.ldv_top.specs.WordNumbers.{number_within, positive_within}
+use Rattle.ldv_top.specs.WordsOfJoins.{replay_of_run}
 
 -- a command of one word
 abbrev pub command_named : List ℕ → ℕ → Option Command
@@ -38,16 +39,18 @@ command_seeded word budget seed =
 abbrev pub seeded : List ℕ → List ℕ → ℕ → Option Command
 seeded word seed budget = option_and_then (command_seeded word budget) (number_within max_seed seed)
 
--- `--seed S` before `--steps N`
-abbrev pub seeded_within : List ℕ → List ℕ → List ℕ → ℕ → Option Command
-seeded_within word option seed budget =
-    if bytes_eq option (codes "--seed") then seeded word seed budget else None
+-- `--seed S` or `--run K` before `--steps N`
+abbrev pub chosen_within : List ℕ → List ℕ → List ℕ → ℕ → Option Command
+chosen_within word option choice budget =
+    if bytes_eq option (codes "--seed") then seeded word choice budget
+    else (if bytes_eq option (codes "--run") then replay_of_run word choice budget else None)
 
--- `--seed S` or `--steps N`
+-- `--seed S`, `--run K` or `--steps N`
 abbrev pub command_with : List ℕ → List ℕ → List ℕ → Option Command
 command_with word option number =
     if bytes_eq option (codes "--seed") then seeded word number default_steps
-    else option_and_then (command_named word) (budget_in option number)
+    else (if bytes_eq option (codes "--run") then replay_of_run word number default_steps
+    else option_and_then (command_named word) (budget_in option number))
 
 -- by the first word and the others
 abbrev pub run_of : List ℕ → List (List ℕ) → Option Command
@@ -56,6 +59,6 @@ run_of word (flag ∷ []) = command_flagged word flag default_steps
 run_of word (option ∷ number ∷ []) = command_with word option number
 run_of word (flag ∷ option ∷ number ∷ []) =
     option_and_then (command_flagged word flag) (budget_in option number)
-run_of word (option ∷ seed ∷ steps ∷ number ∷ []) =
-    option_and_then (seeded_within word option seed) (budget_in steps number)
-run_of word (option ∷ seed ∷ steps ∷ number ∷ more ∷ words) = None
+run_of word (option ∷ choice ∷ steps ∷ number ∷ []) =
+    option_and_then (chosen_within word option choice) (budget_in steps number)
+run_of word (option ∷ choice ∷ steps ∷ number ∷ more ∷ words) = None

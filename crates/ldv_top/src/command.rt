@@ -5,17 +5,20 @@ ghost use Rattle.ldv_value.specs.Gives.{Gives};
 ghost use Rattle.ldv_value.specs.Limits.{max_steps};
 ghost use Rattle.ldv_top.specs.WordStops.{Stops};
 ghost use Rattle.ldv_top.specs.Words.{IsBounded, command_of, inspect_of};
-ghost use Rattle.ldv_top.specs.WordsOfRuns.{budget_in, command_flagged, command_named, command_seeded};
-ghost use Rattle.ldv_top.specs.WordsOfRuns.{command_with, run_of, seeded, seeded_within};
+ghost use Rattle.ldv_top.specs.WordsOfRuns.{budget_in, chosen_within, command_flagged, command_named};
+ghost use Rattle.ldv_top.specs.WordsOfRuns.{command_seeded, command_with, run_of, seeded};
 
 use crate::generating::generate_of;
 use crate::inspecting::report_of;
+use crate::joining::join_of;
 use crate::migrating::migrate_of;
 use crate::numbers::{long_within, positive_within};
 use crate::proving::prov_of;
+use crate::run_choice::replay_of_run;
 use crate::tabling::table_of;
 use crate::word_stop::WordStop;
 use ldv_value::{DEFAULT_STEPS, MAX_STEPS, Utf8};
+use package_join::Which;
 use run_model::Mode;
 use std::alloc::Global;
 
@@ -49,6 +52,12 @@ pub enum Command {
     /// `replay --seed`: the input is a package of recorded replies, the output the outcome of its run under
     /// this seed.
     ReplaySeed { seed: u64, budget: u32 },
+    /// `replay --run 1` and `replay --run 2`: the input is a joined package, the output the outcome of the
+    /// world of this run.
+    ReplayRun { which: Which, budget: u32 },
+    /// `join`: the input is two included packages, each with its length before it, the output the package
+    /// that they are joined to.
+    Join,
     /// `audit`: the input is a package, the output whether it is that of its own world's run.
     Audit { budget: u32 },
     /// `table`: the input is a package, the output a table of the world in it after a step.
@@ -92,6 +101,8 @@ fn command_of(alloc: Global, word: &str, others: &[String]) -> Result<Command, W
         known(migrate_of(others))
     } else if word == "prov" {
         prov_of(alloc, others)
+    } else if word == "join" {
+        known(join_of(others))
     } else {
         known(run_of(word, others))
     }
@@ -132,10 +143,10 @@ fn run_of(word: &str, others: &[String]) -> Option<Command>
             flag.as_str(),
             budget_in(option.as_str(), number.as_str())?,
         ),
-        [option, seed, steps, number] => seeded_within(
+        [option, choice, steps, number] => chosen_within(
             word,
             option.as_str(),
-            seed.as_str(),
+            choice.as_str(),
             budget_in(steps.as_str(), number.as_str())?,
         ),
         _ => None,
@@ -174,26 +185,30 @@ fn command_flagged(word: &str, flag: &str, budget: u32) -> Option<Command>
     }
 }
 
-// With `--seed S` or `--steps N`.
+// With `--seed S`, `--run K` or `--steps N`.
 fn command_with(word: &str, option: &str, number: &str) -> Option<Command>
     ensures command { result ≡ command_with word.now option.now number.now }
     ensures bounded { IfSome result (λ command. IsBounded command) }
 {
     if option == "--seed" {
         seeded(word, number, DEFAULT_STEPS)
+    } else if option == "--run" {
+        replay_of_run(word, number, DEFAULT_STEPS)
     } else {
         command_named(word, budget_in(option, number)?)
     }
 }
 
-// With `--seed S` before `--steps N`.
-fn seeded_within(word: &str, option: &str, seed: &str, budget: u32) -> Option<Command>
+// With `--seed S` or `--run K` before `--steps N`.
+fn chosen_within(word: &str, option: &str, choice: &str, budget: u32) -> Option<Command>
     requires { budget ≤ max_steps }
-    ensures command { result ≡ seeded_within word.now option.now seed.now budget }
+    ensures command { result ≡ chosen_within word.now option.now choice.now budget }
     ensures bounded { IfSome result (λ command. IsBounded command) }
 {
     if option == "--seed" {
-        seeded(word, seed, budget)
+        seeded(word, choice, budget)
+    } else if option == "--run" {
+        replay_of_run(word, choice, budget)
     } else {
         None
     }

@@ -3,6 +3,7 @@
 ghost use Rattle.std.specs.Prelude.{◌≡◌};
 ghost use Rattle.ldv_top.specs.Exits.{status_of};
 
+use package_join::Clash;
 use package_layout::DamageKind;
 use run_model::ProcName;
 use world_json::WorldFault;
@@ -30,6 +31,8 @@ pub enum Exit {
     Diverged { process: ProcName, index: u32 },
     /// There is no such item.
     NoSuch,
+    /// Two packages that have to be joined differ.
+    Clash(Clash),
     /// Memory ran out.
     NoMemory,
     /// The package would have more than 67,108,864 bytes.
@@ -58,6 +61,7 @@ pub fn status(exit: &Exit) -> u8
             index: _,
         } => 9,
         Exit::NoSuch => 10,
+        Exit::Clash(_) => 15,
         Exit::NoMemory => 11,
         Exit::PackageTooLong => 12,
         Exit::NotPrivate => 14,

@@ -4,12 +4,14 @@ ghost use Rattle.std.specs.Prelude.{◌≡◌, ◌++◌, ◌∷◌, [], option_m
 ghost use Rattle.std.specs.Fmt.{decimal};
 ghost use Rattle.run_model.specs.OutcomeText.{parts_text, name_text};
 ghost use Rattle.ldv_top.specs.Exits.{fixed_fault, damage_line, fixed_line, numbered, located};
-ghost use Rattle.ldv_top.specs.Exits.{bad_script_line, numbered_line, line_of};
+ghost use Rattle.ldv_top.specs.Exits.{bad_script_line, clash_line, clash_line_of, line_of, named, named_row};
+ghost use Rattle.ldv_top.specs.Exits.{numbered_line};
 ghost use Rattle.ldv_top.specs.Written.{Writes};
 
 use crate::exit::Exit;
 use itoa::Buffer;
 use ldv_io::{Sink, WriteStop, write_all};
+use package_join::{Clash, ClashKind};
 use package_layout::DamageKind;
 use world_json::WorldFault;
 
@@ -146,6 +148,7 @@ fn fixed_message(exit: &Exit) -> Option<&'static [u8]>
             index: _,
         } => None,
         Exit::NoSuch => Some(b"ldv: no such item\n"),
+        Exit::Clash(_) => None,
         Exit::NoMemory => Some(b"ldv: out of memory\n"),
         Exit::PackageTooLong => Some(b"ldv: package longer than 67108864 bytes\n"),
         Exit::NotPrivate => Some(b"ldv: package is not private\n"),
@@ -167,6 +170,53 @@ fn write_bad_script<K: Sink>(sink: &mut K, fault: &WorldFault) -> Result<(), Wri
     }
 }
 
+#[tactic(auto, using(crate::proofs::WriteLemmas::write_steps))]
+fn write_head_and_name<K: Sink>(sink: &mut K, head: &[u8], name: &[u8]) -> Result<(), WriteStop>
+    ensures { Writes K.taken K.faults sink.old sink.new (head.now ++ name.now) result }
+{
+    write_bytes(sink, head)?;
+    write_bytes(sink, name)
+}
+
+// A name, which may have any bytes but a LF.
+#[tactic(auto, using(crate::proofs::WriteLemmas::write_steps))]
+fn write_line_of<K: Sink>(sink: &mut K, head: &[u8], name: &[u8]) -> Result<(), WriteStop>
+    ensures { Writes K.taken K.faults sink.old sink.new (named head.now name.now) result }
+{
+    write_head_and_name(sink, head, name)?;
+    write_bytes(sink, b"\n")
+}
+
+#[tactic(auto, using(crate::proofs::WriteLemmas::write_steps))]
+fn write_row_of<K: Sink>(sink: &mut K, head: &[u8], name: &[u8], row: u32) -> Result<(), WriteStop>
+    ensures { Writes K.taken K.faults sink.old sink.new (named_row head.now name.now row) result }
+{
+    write_head_and_name(sink, head, name)?;
+    write_numbered(sink, b" ", row, b"\n")
+}
+
+fn write_clash_of<K: Sink>(
+    sink: &mut K,
+    kind: ClashKind,
+    name: &[u8],
+    row: u32,
+) -> Result<(), WriteStop>
+    ensures { Writes K.taken K.faults sink.old sink.new (clash_line_of kind name.now row) result }
+{
+    match kind {
+        ClashKind::File => write_line_of(sink, b"ldv: clash: file ", name),
+        ClashKind::Table => write_line_of(sink, b"ldv: clash: table ", name),
+        ClashKind::Row => write_row_of(sink, b"ldv: clash: row ", name, row),
+        ClashKind::Key => write_row_of(sink, b"ldv: clash: key ", name, row),
+    }
+}
+
+fn write_clash<K: Sink>(sink: &mut K, clash: &Clash) -> Result<(), WriteStop>
+    ensures { Writes K.taken K.faults sink.old sink.new (clash_line clash.now) result }
+{
+    write_clash_of(sink, clash.kind, clash.name.as_str().as_bytes(), clash.row)
+}
+
 fn write_with_number<K: Sink>(sink: &mut K, exit: &Exit) -> Result<(), WriteStop>
     ensures { Writes K.taken K.faults sink.old sink.new (numbered_line exit.now) result }
 {
@@ -185,6 +235,7 @@ fn write_with_number<K: Sink>(sink: &mut K, exit: &Exit) -> Result<(), WriteStop
             b" statement ",
             *index,
         ),
+        Exit::Clash(clash) => write_clash(sink, clash),
         _ => write_bytes(sink, b""),
     }
 }

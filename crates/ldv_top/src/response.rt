@@ -10,6 +10,7 @@ ghost use Rattle.ldv_top.specs.Due.{response_due, due_world, due_run};
 
 use crate::reading::read_document;
 use ldv_value::Bytes;
+use package_join::Clash;
 use package_layout::DamageKind;
 use replay_db::{EndStop, run_owned};
 use run_model::{Outcome, ProcName, World, outcome_text};
@@ -30,6 +31,8 @@ pub enum Response {
     Diverged(ProcName, u32),
     /// The input is no package.
     Damaged(DamageKind),
+    /// Two packages that have to be joined differ.
+    Clash(Clash),
     /// The package has no such item.
     NoSuch,
     /// The package would have more than 67,108,864 bytes.
@@ -57,7 +60,12 @@ pub(crate) fn ended_response(
     }
 }
 
-fn world_response(alloc: Global, budget: u32, world: World) -> Result<Response, AllocError>
+/// The response of the run of a world.
+pub(crate) fn world_response(
+    alloc: Global,
+    budget: u32,
+    world: World,
+) -> Result<Response, AllocError>
     requires can_run { CanRun world }
     requires bounded { budget ≤ max_steps }
     ensures { IfOk result (λ response. response_due response ≡ due_world budget world) }

@@ -23,6 +23,8 @@ use crate::exit::{Exit, status};
 use crate::generating::generate_response;
 use crate::headline::headline_law;
 use crate::inspecting::inspect_response;
+use crate::join_law::two_runs_law;
+use crate::joining::join_response;
 use crate::messages::exit_line;
 use crate::migrating::migrate_response;
 use crate::proving::{prov_depends_response, prov_response};
@@ -31,6 +33,7 @@ use crate::replay::replay_response;
 use crate::report_law::report_law;
 use crate::reseeding::replay_seed_response;
 use crate::response::{Response, run_response};
+use crate::run_choice::replay_run_response;
 use crate::seed_law::seed_law;
 use crate::tabling::table_response;
 use crate::word_stop::WordStop;
@@ -60,6 +63,7 @@ fn write_response<K: Sink>(sink: &mut K, response: Response) -> Exit
         Response::Diverged(process, index) => Exit::Diverged { process, index },
         Response::Damaged(kind) => Exit::Damaged(kind),
         Response::NoSuch => Exit::NoSuch,
+        Response::Clash(clash) => Exit::Clash(clash),
         Response::PackageTooLong => Exit::PackageTooLong,
         Response::NotPrivate => Exit::NotPrivate,
         Response::NotProv => Exit::NotProv,
@@ -82,6 +86,8 @@ fn respond(alloc: Global, command: Command, input: Bytes) -> Result<Response, Al
         Command::Record { mode, budget } => record_response(alloc, mode, budget, input),
         Command::Replay { budget } => replay_response(alloc, budget, input),
         Command::ReplaySeed { seed, budget } => replay_seed_response(alloc, seed, budget, input),
+        Command::ReplayRun { which, budget } => replay_run_response(alloc, which, budget, input),
+        Command::Join => join_response(alloc, input),
         Command::Audit { budget } => audit_response(alloc, budget, &input),
         Command::Table { name, step, budget } => {
             table_response(alloc, name.as_str(), step, budget, input)
@@ -119,6 +125,11 @@ fn reads(command: &Command) -> bool
         Command::Record { mode: _, budget: _ } => true,
         Command::Replay { budget: _ } => true,
         Command::ReplaySeed { seed: _, budget: _ } => true,
+        Command::ReplayRun {
+            which: _,
+            budget: _,
+        } => true,
+        Command::Join => true,
         Command::Audit { budget: _ } => true,
         Command::Table {
             name: _,
@@ -192,6 +203,7 @@ pub fn ldv<S: Source, K: Sink>(
     report_law();
     seed_law();
     document_law();
+    two_runs_law();
     match read_words(alloc, words) {
         Ok(command) => {
             if reads(&command) {

@@ -31,19 +31,19 @@ use Rattle.package_layout.proofs.Whole.{sections_law, all_again, all_took}
 
 -- ---- tests
 
-digest_fact : (bytes : List ℕ) → has_digest bytes ≡ true → HasDigest bytes
+pub digest_fact : (bytes : List ℕ) → has_digest bytes ≡ true → HasDigest bytes
 digest_fact bytes h =
     let same_test = bytes_eq (drop (length bytes - 32) bytes) (sha256 (before_digest bytes)) in
     let both = and-parts (nat_le 40 (length bytes)) same_test h in
     record { long = leb-true 40 (length bytes) both.0; same = (bytes_eq-Decides (drop (length bytes - 32) bytes) (sha256 (before_digest bytes))).0 both.1 }
 
-digest_test : (bytes : List ℕ) → HasDigest bytes → has_digest bytes ≡ true
+pub digest_test : (bytes : List ℕ) → HasDigest bytes → has_digest bytes ≡ true
 digest_test bytes h = and-from (nat_le 40 (length bytes)) (bytes_eq (drop (length bytes - 32) bytes) (sha256 (before_digest bytes))) (le-leb 40 (length bytes) h.long) ((bytes_eq-Decides (drop (length bytes - 32) bytes) (sha256 (before_digest bytes))).1 h.same)
 
-true_not_false : {Z : Type 0} (b : Bool) → b ≡ true → b ≡ false → Z
+pub true_not_false : {Z : Type 0} (b : Bool) → b ≡ true → b ≡ false → Z
 true_not_false b h k = let e : true ≡ false = sym h ∙ k in cc
 
-not_true : (b : Bool) → ¬ (b ≡ true) → b ≡ false
+pub not_true : (b : Bool) → ¬ (b ≡ true) → b ≡ false
 not_true true h = absurd (h refl)
 not_true false h = refl
 

@@ -91,10 +91,10 @@ pub rule_law : IsField (λ r. to_be_bytes w8 (rule_number r)) Anything always Un
 rule_law = made_law (to_be_bytes w8) (λ n. n < 256) always (number_at w8) Anything always rule_of rule_number (number_law w8 256 wide8)
     (λ r t f. rule_again r) (λ n r t f e. (rule_back n r e, tt, refl))
 
-abbrev Reason : Type 0
+abbrev pub Reason : Type 0
 Reason = ℕ × Rule
 
-reason_law : IsField (λ (p : Reason). reason_spelling p.0 p.1) (λ (p : Reason). IsU32 p.0 × Unit {0}) always Uncounted reason_at
+pub reason_law : IsField (λ (p : Reason). reason_spelling p.0 p.1) (λ (p : Reason). IsU32 p.0 × Unit {0}) always Uncounted reason_at
 reason_law = recount Uncounted (then_law (to_be_bytes w32) IsU32 always (number_at w32) (λ r. to_be_bytes w8 (rule_number r)) Anything (λ a. always) (λ a. rule_at) u32_law (λ a. rule_law)) (λ p n. (tt, tt)) (λ p n. tt)
 
 abbrev RowEnd : Type 0
@@ -103,7 +103,7 @@ RowEnd = Reason × List Value
 abbrev RowParts : Type 0
 RowParts = ℕ × RowEnd
 
-abbrev so_many : ℕ → List Value → Bool
+abbrev pub so_many : ℕ → List Value → Bool
 so_many columns values = (length values == columns) && list_all always values
 
 abbrev end_spelling : RowEnd → List ℕ
@@ -250,7 +250,7 @@ schema_from v s h =
     (and-from (key_room s.key) (foreigns_room s.foreign) b.0 c.0))
     c.1
 
-schema_law : (v : Version) → IsField (schema_spelling v) TypedSchema (schema_fits v) (CountedSchema v) (schema_at v)
+pub schema_law : (v : Version) → IsField (schema_spelling v) TypedSchema (schema_fits v) (CountedSchema v) (schema_at v)
 schema_law v = recount (CountedSchema v) (restate (schema_spelling v) (λ s. AllByRecursion TypedColumn s.columns × TypedKeys (s.key, s.foreign)) TypedSchema (λ s. columns_fit s.columns && keys_fit v (s.key, s.foreign)) (schema_fits v) (schema_at v)
     (struct_law (λ (p : SchemaParts). list_spelling w8 column_spelling p.0 ++ keys_parts v p.1) (λ (p : SchemaParts). AllByRecursion TypedColumn p.0 × TypedKeys p.1) (λ (p : SchemaParts). columns_fit p.0 && keys_fit v p.1) (both_at (list_at w8 column_at) (both_at places_at (foreigns_at v)))
     (λ (p : SchemaParts). record { columns = p.0; key = p.1.0; foreign = p.1.1 }) (λ (s : Schema). (s.columns, (s.key, s.foreign)))

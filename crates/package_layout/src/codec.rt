@@ -13,7 +13,7 @@ use ldv_value::{Bytes, List as Listed};
 use std::alloc::{AllocError, Global};
 
 /// An item that has a spelling.
-pub(crate) trait Encode: Drop {
+pub trait Encode: Drop {
     /// The bytes of an item.
     ghost spelling: { Self → List ℕ };
 
@@ -27,7 +27,7 @@ pub(crate) trait Encode: Drop {
 }
 
 /// An item that is read from the front of bytes.
-pub(crate) trait Decode: Drop {
+pub trait Decode: Drop {
     /// The item at the front of bytes.
     ghost reading: { List ℕ → Found Self };
 
@@ -37,7 +37,7 @@ pub(crate) trait Decode: Drop {
 }
 
 /// Appends items.
-pub(crate) fn encode_items<X: Encode>(items: &Listed<X>, to: &mut Bytes) -> Result<(), AllocError>
+pub fn encode_items<X: Encode>(items: &Listed<X>, to: &mut Bytes) -> Result<(), AllocError>
     ensures bytes { OnOk result (to.new ≡ to.old ++ flat_map X.spelling items.now) }
     ensures typed { OnOk result (AllByRecursion X.typed items.now) }
 {
@@ -48,7 +48,7 @@ pub(crate) fn encode_items<X: Encode>(items: &Listed<X>, to: &mut Bytes) -> Resu
 }
 
 /// Appends a list: the number of its items and the items.
-pub(crate) fn encode_list<X: Encode>(
+pub fn encode_list<X: Encode>(
     width: Width,
     items: &Listed<X>,
     to: &mut Bytes,
@@ -62,7 +62,7 @@ pub(crate) fn encode_list<X: Encode>(
 
 /// Reads a list with the number of its items before it. The list grows with the items that are read, so
 /// a false count can't make it allocate.
-pub(crate) fn decode_list<X: Decode>(
+pub fn decode_list<X: Decode>(
     alloc: Global,
     width: Width,
     cursor: &mut Cursor,
@@ -74,7 +74,7 @@ pub(crate) fn decode_list<X: Decode>(
 }
 
 /// Decodes the given number of items.
-pub(crate) fn decode_items<X: Decode>(
+pub fn decode_items<X: Decode>(
     alloc: Global,
     count: usize,
     cursor: &mut Cursor,

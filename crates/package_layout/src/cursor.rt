@@ -7,7 +7,7 @@ use std::marker::Model;
 
 /// A place in bytes; contracts see the bytes from there on.
 #[derive(Drop)]
-pub(crate) struct Cursor<'a> {
+pub struct Cursor<'a> {
     bytes: &'a [u8],
     at: usize,
 }
@@ -24,21 +24,21 @@ impl<'a> Model for Cursor<'a> {
 
 impl<'a> Cursor<'a> {
     /// All of some bytes.
-    pub(crate) fn of(bytes: &'a [u8]) -> Self
+    pub fn of(bytes: &'a [u8]) -> Self
         ensures { result ≡ bytes.now }
     {
         Cursor { bytes, at: 0 }
     }
 
     /// Whether none is left.
-    pub(crate) fn is_empty(&self) -> bool
+    pub fn is_empty(&self) -> bool
         ensures { result ≡ (length self.now == 0) }
     {
         self.bytes.len() - self.at == 0
     }
 
     /// The given number of next bytes, where so many are left.
-    pub(crate) fn next(&mut self, count: usize) -> Option<&'a [u8]>
+    pub fn next(&mut self, count: usize) -> Option<&'a [u8]>
         ensures { MatchOption result (bytes_at count self.old ≡ None)
             (λ front. bytes_at count self.old ≡ Some (front.now, self.new)) }
     {

@@ -21,7 +21,7 @@ pub(crate) fn with_digest(body: Bytes) -> Result<Bytes, AllocError>
 }
 
 /// Whether bytes are long enough for a magic and a digest, and end with the digest of those before.
-pub(crate) fn has_digest(bytes: &[u8]) -> bool
+pub fn has_digest(bytes: &[u8]) -> bool
     ensures { result ≡ has_digest bytes.now }
 {
     if bytes.len() >= 40 {
@@ -41,7 +41,7 @@ fn ends_with_digest(bytes: &[u8]) -> bool
 }
 
 /// The bytes between the magic and the digest.
-pub(crate) fn middle(bytes: &[u8]) -> &[u8]
+pub fn middle(bytes: &[u8]) -> &[u8]
     requires { 40 ≤ length bytes.now }
     ensures { result.now ≡ middle bytes.now }
 {

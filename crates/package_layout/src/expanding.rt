@@ -25,8 +25,8 @@ pub(crate) fn whole(alloc: Global, package: RunPackage) -> Result<Package, Alloc
     Ok(whole)
 }
 
-// Room for all of them is made at once.
-fn events_in(alloc: Global, runs: Runs) -> Result<Events, AllocError>
+/// All events that runs stand for. Room for them is made at once.
+pub fn events_in(alloc: Global, runs: Runs) -> Result<Events, AllocError>
     requires { list_all is_run runs ≡ true }
     ensures { IfOk result (λ events. events ≡ events_in runs) }
 {

@@ -30,6 +30,10 @@
 //! Each part of the format has three definitions: how it is spelled, what the format has room for, and how
 //! it is read from the front of bytes (`specs/Reading.antt`). `proofs/` ties them: what is spelled is read,
 //! whatever follows, and what is read was spelled so.
+//!
+//! A format of the same fields takes them from here: numbers, texts, lists of items (`Encode`, `Decode`),
+//! schemas, reasons and traces, each against its definition, the digest behind them, and the test of a valid
+//! package.
 #![tactic(auto)]
 
 mod codec;
@@ -64,10 +68,21 @@ mod version;
 mod width;
 mod writing;
 
+pub use codec::{Decode, Encode, decode_items, decode_list, encode_items, encode_list};
+pub use cursor::Cursor;
 pub use damage::DamageKind;
+pub use decode_error::DecodeError;
+pub use digest::{has_digest, middle};
+pub use expanding::events_in;
 pub use law::{round_trip_law, runs_law};
 pub use layout::{PackageStop, SpellStop, read_package, read_runs};
+pub use number::{decode_u16, decode_u32, decode_u64, encode_count, encode_u32, encode_u64};
 pub use run::{Run, Runs};
 pub use run_package::RunPackage;
-pub use spelling::{spell, spell_as, spell_runs};
-pub use version::{Version, version_of};
+pub use spelling::{sealed, spell, spell_as, spell_runs};
+pub use table::{decode_reason, decode_schema, encode_reason, encode_schema};
+pub use text::{decode_text, encode_text};
+pub use validity::is_valid_package;
+pub use version::{Version, first_eight, version_of};
+pub use width::Width;
+pub use writing::encode_trace;

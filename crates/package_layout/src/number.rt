@@ -21,7 +21,8 @@ pub(crate) fn decode_u8(cursor: &mut Cursor) -> Result<u8, DecodeError>
     }
 }
 
-pub(crate) fn decode_u16(cursor: &mut Cursor) -> Result<u16, DecodeError>
+/// A number of two bytes.
+pub fn decode_u16(cursor: &mut Cursor) -> Result<u16, DecodeError>
     ensures { Gives result cursor.new (number_at w16 cursor.old) }
 {
     match cursor.next(2) {
@@ -30,7 +31,8 @@ pub(crate) fn decode_u16(cursor: &mut Cursor) -> Result<u16, DecodeError>
     }
 }
 
-pub(crate) fn decode_u32(cursor: &mut Cursor) -> Result<u32, DecodeError>
+/// A number of four bytes.
+pub fn decode_u32(cursor: &mut Cursor) -> Result<u32, DecodeError>
     ensures { Gives result cursor.new (number_at w32 cursor.old) }
 {
     match cursor.next(4) {
@@ -39,7 +41,8 @@ pub(crate) fn decode_u32(cursor: &mut Cursor) -> Result<u32, DecodeError>
     }
 }
 
-pub(crate) fn decode_u64(cursor: &mut Cursor) -> Result<u64, DecodeError>
+/// A number of eight bytes.
+pub fn decode_u64(cursor: &mut Cursor) -> Result<u64, DecodeError>
     ensures { Gives result cursor.new (number_at w64 cursor.old) }
 {
     match cursor.next(8) {
@@ -61,13 +64,15 @@ pub(crate) fn encode_u8(number: u8, to: &mut Bytes) -> Result<(), AllocError>
     to.push(number)
 }
 
-pub(crate) fn encode_u32(number: u32, to: &mut Bytes) -> Result<(), AllocError>
+/// Appends a number of four bytes.
+pub fn encode_u32(number: u32, to: &mut Bytes) -> Result<(), AllocError>
     ensures { OnOk result (to.new ≡ to.old ++ to_be_bytes w32 number) }
 {
     to.extend(&number.to_be_bytes())
 }
 
-pub(crate) fn encode_u64(number: u64, to: &mut Bytes) -> Result<(), AllocError>
+/// Appends a number of eight bytes.
+pub fn encode_u64(number: u64, to: &mut Bytes) -> Result<(), AllocError>
     ensures { OnOk result (to.new ≡ to.old ++ to_be_bytes w64 number) }
 {
     to.extend(&number.to_be_bytes())
@@ -90,9 +95,9 @@ pub(crate) fn decode_count(width: Width, cursor: &mut Cursor) -> Result<u32, Dec
     }
 }
 
-/// A count in a field of the given width. Where it is too large for the field, its last bytes are
+/// Appends a count in a field of the given width. Where it is too large for the field, its last bytes are
 /// written. In a valid package only one of four bytes can be, and such a package is too long.
-pub(crate) fn encode_count(width: Width, count: usize, to: &mut Bytes) -> Result<(), AllocError>
+pub fn encode_count(width: Width, count: usize, to: &mut Bytes) -> Result<(), AllocError>
     ensures { OnOk result (to.new ≡ to.old ++ to_be_bytes (of_count width) count) }
 {
     let bytes = (count as u64).to_be_bytes();

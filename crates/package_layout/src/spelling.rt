@@ -41,7 +41,7 @@ pub fn spell_as(alloc: Global, package: &Package, version: Version) -> Result<By
     ensures typed { OnOk result (IsTyped «package».now) }
 {
     let body = body_of(alloc, package, version)?;
-    finished(body)
+    sealed(body)
 }
 
 /// The spelling of a package whose trace is kept as runs, in the second version. No list of events is made.
@@ -54,7 +54,7 @@ pub fn spell_runs(alloc: Global, package: &RunPackage) -> Result<Bytes, SpellSto
         input_limit < length (spelling (whole «package».now)) }
 {
     let body = body_of_runs(alloc, package)?;
-    finished(body)
+    sealed(body)
 }
 
 fn body_of(alloc: Global, package: &Package, version: Version) -> Result<Bytes, AllocError>
@@ -75,8 +75,8 @@ fn body_of_runs(alloc: Global, package: &RunPackage) -> Result<Bytes, AllocError
     Ok(bytes)
 }
 
-// What is before a digest, with the digest, where both aren't too long.
-fn finished(body: Bytes) -> Result<Bytes, SpellStop>
+/// What is before a digest, with the digest. `TooLong` exactly where both have more than 67,108,864 bytes.
+pub fn sealed(body: Bytes) -> Result<Bytes, SpellStop>
     ensures bytes { IfOk result (λ bytes. bytes ≡ body ++ sha256 body) }
     ensures within { IfOk result (λ bytes. length bytes ≤ input_limit) }
     ensures too_long { IsErrOf result SpellStop.TooLong → input_limit < length (body ++ sha256 body) }

@@ -130,14 +130,16 @@ impl Encode for PackedRow {
     }
 }
 
-fn encode_reason(statement: u32, rule: Rule, to: &mut Bytes) -> Result<(), AllocError>
+/// Appends why a row is there: the first statement that needed it, and the rule by which it did.
+pub fn encode_reason(statement: u32, rule: Rule, to: &mut Bytes) -> Result<(), AllocError>
     ensures { OnOk result (to.new ≡ to.old ++ reason_spelling statement rule) }
 {
     encode_u32(statement, to)?;
     encode_u8(number_of_rule(rule), to)
 }
 
-fn decode_reason(cursor: &mut Cursor) -> Result<(u32, Rule), DecodeError>
+/// Reads why a row is there.
+pub fn decode_reason(cursor: &mut Cursor) -> Result<(u32, Rule), DecodeError>
     ensures { Gives result cursor.new (reason_at cursor.old) }
 {
     let statement = decode_u32(cursor)?;
@@ -277,7 +279,8 @@ fn decode_places(alloc: Global, count: u8, cursor: &mut Cursor) -> Result<Places
     Ok(places)
 }
 
-fn encode_schema(version: Version, schema: &Schema, to: &mut Bytes) -> Result<(), AllocError>
+/// Appends the columns and the key of a table.
+pub fn encode_schema(version: Version, schema: &Schema, to: &mut Bytes) -> Result<(), AllocError>
     ensures bytes { OnOk result (to.new ≡ to.old ++ schema_spelling version schema.now) }
     ensures typed { OnOk result (TypedSchema schema.now) }
 {
@@ -286,7 +289,8 @@ fn encode_schema(version: Version, schema: &Schema, to: &mut Bytes) -> Result<()
     encode_foreigns(version, &schema.foreign, to)
 }
 
-fn decode_schema(
+/// Reads the columns and the key of a table.
+pub fn decode_schema(
     alloc: Global,
     version: Version,
     cursor: &mut Cursor,

@@ -22,7 +22,8 @@ pub(crate) fn decode_sized(alloc: Global, cursor: &mut Cursor) -> Result<Bytes, 
     }
 }
 
-pub(crate) fn decode_text(alloc: Global, cursor: &mut Cursor) -> Result<Utf8, DecodeError>
+/// A text: the number of its bytes and the bytes, which have to be UTF-8.
+pub fn decode_text(alloc: Global, cursor: &mut Cursor) -> Result<Utf8, DecodeError>
     ensures { Gives result cursor.new (text_at cursor.old) }
 {
     let count = decode_u32(cursor)?;
@@ -49,7 +50,8 @@ pub(crate) fn encode_sized(bytes: &[u8], to: &mut Bytes) -> Result<(), AllocErro
     to.extend(bytes)
 }
 
-pub(crate) fn encode_text(text: &Utf8, to: &mut Bytes) -> Result<(), AllocError>
+/// Appends a text: the number of its bytes and the bytes.
+pub fn encode_text(text: &Utf8, to: &mut Bytes) -> Result<(), AllocError>
     ensures bytes { OnOk result (to.new ≡ to.old ++ text_spelling text.now) }
     ensures typed { OnOk result (IsUtf8 text.now) }
 {

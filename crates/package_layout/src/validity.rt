@@ -24,7 +24,7 @@ use std::alloc::{AllocError, Global};
 
 /// Whether the runs of a package are those of a trace, all of it meets the rules for valid packages, and the
 /// version has all of it. No list of events is made. `AllocError` means out of memory and nothing else.
-pub(crate) fn is_valid_package(
+pub fn is_valid_package(
     alloc: Global,
     version: Version,
     package: &RunPackage,

@@ -51,8 +51,8 @@ fn has_magic(version: Version, bytes: &[u8]) -> bool
     first_eight(bytes) == magic(version)
 }
 
-// The first eight bytes, or all where there are fewer.
-fn first_eight(bytes: &[u8]) -> &[u8]
+/// The first eight bytes, the magic of a format, or all where there are fewer.
+pub fn first_eight(bytes: &[u8]) -> &[u8]
     ensures { result.now ≡ take 8 bytes.now }
 {
     if bytes.len() < 8 { bytes } else { &bytes[..8] }

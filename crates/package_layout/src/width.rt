@@ -2,7 +2,7 @@
 
 /// How many bytes a count has.
 #[derive(Clone, Copy, Debug, PartialEq, Eq)]
-pub(crate) enum Width {
+pub enum Width {
     One,
     Two,
     Four,

@@ -14,7 +14,7 @@ use run_model::Event;
 use std::alloc::AllocError;
 
 /// Appends the spelling of a trace: the number of its runs, and the runs. No event is copied.
-pub(crate) fn encode_trace(events: &[Event], to: &mut Bytes) -> Result<(), AllocError>
+pub fn encode_trace(events: &[Event], to: &mut Bytes) -> Result<(), AllocError>
     ensures bytes { OnOk result (to.new ≡ to.old ++ runs_spelling events.now) }
     ensures typed { OnOk result (AllByRecursion TypedEvent events.now) }
 {

@@ -2,10 +2,11 @@
 use Rattle.std.specs.Prelude.{◌≡◌, refl, ℕ, List, [], ◌∷◌, codes}
 use Rattle.std.specs.Fmt.{digits}
 use Rattle.run_model.specs.declared.name.ProcName.{ProcName}
+use Rattle.package_join.specs.declared.joined.ClashKind.TheVariants as kinds
 use Rattle.package_layout.specs.declared.damage.DamageKind.TheVariants.{Magic, Digest, Form}
 use Rattle.world_json.specs.declared.fault.WorldFault.TheVariants.{NotJson, Shape, Name, Limit, RowType, NotNull, Key, NoStart, BadScript}
 use Rattle.ldv_top.specs.declared.exit.Exit.{Exit}
-use Rattle.ldv_top.specs.declared.exit.Exit.TheVariants.{Done, Usage, ReadFault, WriteFault, TooLong, NotWorld, NotEnded, Damaged, Diverged, NoSuch, NoMemory, PackageTooLong, NotPrivate, NotProv}
+use Rattle.ldv_top.specs.declared.exit.Exit.TheVariants.{Done, Usage, ReadFault, WriteFault, TooLong, NotWorld, NotEnded, Damaged, Diverged, NoSuch, NoMemory, PackageTooLong, NotPrivate, NotProv, Clash}
 use Rattle.ldv_top.specs.Exits.{status_of, line_of}
 
 -- an exit ends with this status and writes this line
@@ -99,3 +100,20 @@ child = record { parts = 0 ∷ 1 ∷ [] }
 diverged : Ends (Diverged child 20) 9 (codes "ldv: diverged: process 0.1 statement 20\n")
 unfolding digits
 diverged = (refl, refl)
+
+-- ---- two packages that can't be joined: one status, and what differs first
+
+file_clash : Ends (Clash (record { kind = kinds.File; name = codes "data/a b.csv"; row = 0 })) 15 (codes "ldv: clash: file data/a b.csv\n")
+file_clash = (refl, refl)
+
+table_clash : Ends (Clash (record { kind = kinds.Table; name = codes "orders"; row = 0 })) 15 (codes "ldv: clash: table orders\n")
+table_clash = (refl, refl)
+
+-- with the number of the row
+row_clash : Ends (Clash (record { kind = kinds.Row; name = codes "t"; row = 0 })) 15 (codes "ldv: clash: row t 0\n")
+unfolding digits
+row_clash = (refl, refl)
+
+key_clash : Ends (Clash (record { kind = kinds.Key; name = codes "t"; row = 12 })) 15 (codes "ldv: clash: key t 12\n")
+unfolding digits
+key_clash = (refl, refl)

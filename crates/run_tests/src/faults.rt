@@ -203,6 +203,31 @@ fn one_call_on_recorded_replies_fails(rt: HostRuntime) -> Result<(), Fail> {
     Ok(())
 }
 
+// A package with its length before it, in the last four of eight bytes.
+fn append_sized(pair: &mut Vec<u8>, package: &[u8]) -> Result<(), AllocError> {
+    let length = (package.len() as u64).to_be_bytes();
+    pair.extend_from_slice(&length[4..])?;
+    pair.extend_from_slice(package)
+}
+
+// The input of `join` for a package and the same again.
+fn twice(alloc: Global, package: &[u8]) -> Result<Vec<u8>, AllocError> {
+    let mut pair = Vec::new(alloc);
+    append_sized(&mut pair, package)?;
+    append_sized(&mut pair, package)?;
+    Ok(pair)
+}
+
+#[test]
+fn one_call_on_two_packages_fails(rt: HostRuntime) -> Result<(), Fail> {
+    let package = written(&rt, rt.alloc(), "record", ASKING)?;
+    let pair = twice(rt.alloc(), package.as_slice())?;
+    every_call(&rt, rt.alloc(), "join", pair.as_slice())?;
+    let joined = written(&rt, rt.alloc(), "join", pair.as_slice())?;
+    every_call(&rt, rt.alloc(), "replay --run 2", joined.as_slice())?;
+    Ok(())
+}
+
 // ---- calls that aren't made
 
 // The calls after the last one fail, and no more: the input has 44 bytes.

@@ -24,6 +24,8 @@ mod faults;
 #[cfg(test)]
 mod graphs;
 #[cfg(test)]
+mod joins;
+#[cfg(test)]
 mod limits;
 #[cfg(test)]
 mod lineages;

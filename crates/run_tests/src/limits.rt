@@ -68,6 +68,8 @@ fn reads_no_longer_input(rt: HostRuntime) -> Result<(), Fail> {
         "migrate",
         "prov",
         "prov depends f",
+        "join",
+        "replay --run 1",
     ] {
         expect_blank(&rt, rt.alloc(), command, 67_108_865, TOO_LONG)?;
     }

@@ -8,7 +8,8 @@
 //! - the rows are exactly those whose first version is in the graph, and to which no edge from a statement
 //!   leads.
 //!
-//! `slice_files` gives the files alone, of any events.
+//! `slice_files` gives the files alone, of any events. Sets of names, first reasons by table and row, and the
+//! tables that are packed by both are lent to `package_join`.
 //!
 //! Files come from the events, rows from the graph, and the events only give each row its reason. The rows
 //! that statements needed so far are bits. Of each statement the rows that are new are taken, and united with
@@ -28,4 +29,7 @@ mod row_set;
 mod tables;
 mod united;
 
+pub use names::{NameSet, add_all, has};
 pub use needed::{Sliced, slice, slice_files};
+pub use reasons::{Reasons, RowReasons, Why, note_need};
+pub use tables::pack_tables;

@@ -12,10 +12,10 @@ use std::alloc::{AllocError, Global};
 use std::collections::BTreeMap;
 
 /// A set of names.
-pub(crate) type NameSet = BTreeMap<String, ()>;
+pub type NameSet = BTreeMap<String, ()>;
 
 /// Whether a name is in the set.
-pub(crate) fn has(names: &NameSet, name: &Utf8) -> bool
+pub fn has(names: &NameSet, name: &Utf8) -> bool
     ensures { result ≡ has_name names.now name.now }
 {
     names.contains_key(name.as_str())
@@ -34,7 +34,8 @@ pub(crate) fn add(alloc: Global, names: &mut NameSet, name: &Utf8) -> Result<(),
     Ok(())
 }
 
-fn add_all(alloc: Global, names: &mut NameSet, more: &[Utf8]) -> Result<(), AllocError>
+/// Puts names into the set.
+pub fn add_all(alloc: Global, names: &mut NameSet, more: &[Utf8]) -> Result<(), AllocError>
     ensures { OnOk result ((q : List ℕ) → has_name names.new q
         ≡ (has_name names.old q || list_any (λ name. same_text name q) more.now)) }
 {

@@ -20,16 +20,16 @@ use std::collections::BTreeMap;
 
 /// The statement that needs a row, and its rule.
 #[derive(Clone, Copy)]
-pub(crate) struct Why {
-    pub(crate) statement: u32,
-    pub(crate) rule: Rule,
+pub struct Why {
+    pub statement: u32,
+    pub rule: Rule,
 }
 
 /// The first reason for each row of a table, by number.
-pub(crate) type RowReasons = BTreeMap<u32, Why>;
+pub type RowReasons = BTreeMap<u32, Why>;
 
 /// The first reason for each row, by table and number. A table's name is copied once.
-pub(crate) type Reasons = BTreeMap<String, RowReasons>;
+pub type Reasons = BTreeMap<String, RowReasons>;
 
 // Notes a row of a table, if it isn't there.
 fn note_row(rows: &mut RowReasons, row: u32, why: Why) -> Result<(), AllocError>
@@ -68,8 +68,8 @@ fn note_table(
     Ok(())
 }
 
-// Notes a row that a statement needs, if it isn't there.
-fn note_need(
+/// Notes a row that a statement needs, if it isn't there.
+pub fn note_need(
     alloc: Global,
     reasons: &mut Reasons,
     statement: u32,

@@ -94,7 +94,8 @@ fn push_named(
     }
 }
 
-fn pack_tables(
+/// The tables that are among the names, with the rows that have reasons.
+pub fn pack_tables(
     alloc: Global,
     names: &NameSet,
     reasons: &Reasons,

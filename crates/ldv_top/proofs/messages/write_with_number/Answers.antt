@@ -12,3 +12,6 @@ returns-in-Diverged g c =
     writes_same
     (ap (λ (parts : List ℕ). located (codes "ldv: diverged: process ") parts (codes " statement ") c.in-Diverged.index (codes "\n")) c.items.ensures ∙ ap numbered_line (sym c.in-Diverged.is))
     c.write_located.ensures
+
+pub returns-in-Clash : goal.returns-in-Clash
+returns-in-Clash g c = writes_same (ap numbered_line (sym c.in-Clash.is)) c.write_clash.ensures

@@ -16,6 +16,7 @@ returns-then-reads g c =
     c.args.sink.now c.run_command.new.sink c.run_command.result
     called.read_fault called.write_fault called.due called.recorded called.migrated called.unwritten called.all_read called.not_usage
     c.headline_law.ensures.replayed c.seed_law.ensures c.report_law.ensures c.document_law.ensures
+    c.two_runs_law.ensures.pair c.two_runs_law.ensures.replayed c.two_runs_law.ensures.any
 
 pub returns-else-reads : goal.returns-else-reads
 returns-else-reads g c =

@@ -1,5 +1,5 @@
 use Rattle.package_layout.proofs.Package.{too_long_is, within_limit}
-use Rattle.package_layout.proofs.spelling.finished.Goals as goal
+use Rattle.package_layout.proofs.spelling.sealed.Goals as goal
 
 pub returns-then-len-clause-too_long : goal.returns-then-len-clause-too_long
 returns-then-len-clause-too_long c = λ _. too_long_is c.args.body c.len.result c.len.ensures c.if-len.true

@@ -1,0 +1,100 @@
+-- What is due for two packages and for a joined one, by what was read.
+use Rattle.std.proofs.Common.{◌≡◌, ℕ, ◌≤◌, Bool, true, false, cond, List, length, sym, ap, ◌∙◌}
+use Rattle.std.specs.Prelude.{◌==◌, Option, Some, None, Ok, Err}
+use Rattle.std.specs.Int.{w32}
+use Rattle.ldv_value.specs.Limits.{input_limit}
+use Rattle.run_model.specs.declared.package.Package.{Package}
+use Rattle.package_layout.specs.declared.damage.DamageKind.{DamageKind}
+use Rattle.package_layout.specs.declared.damage.DamageKind.TheVariants.{Form}
+use Rattle.package_layout.specs.Fields.{Found, ◌>>=◌, bytes_at, number_at, sized_at}
+use Rattle.package_layout.specs.Valid.{reading}
+use Rattle.package_join.specs.declared.joined.Joined.{Joined}
+use Rattle.package_join.specs.declared.joined.Which.{Which}
+use Rattle.package_join.specs.Valid.{joined_reading}
+use Rattle.package_join.specs.Worlds.{joined_world}
+use Rattle.ldv_top.specs.declared.exit.Exit.TheVariants.{Damaged}
+use Rattle.ldv_top.specs.Due.{due_replay_run, due_world, replayed_run}
+use Rattle.ldv_top.specs.DueOfJoins.{due_join, joined_inputs, joined_packages, joined_pair, pair_in}
+use Rattle.ldv_top.specs.DueParts.{due_of_reading, refused}
+use Rattle.ldv_top.proofs.RecordLaws.{not_too_long}
+
+-- ---- the two of the input
+
+abbrev sized_by : ℕ × List ℕ → Found (List ℕ)
+sized_by count = bytes_at count.0 count.1
+
+-- after the number
+pub sized_is : (bytes : List ℕ) (count : ℕ) (rest : List ℕ) → number_at w32 bytes ≡ Some (count, rest) → sized_at bytes ≡ bytes_at count rest
+sized_is bytes count rest is = ap (λ (found : Found ℕ). found >>= sized_by) is
+
+pub not_sized : (bytes : List ℕ) → number_at w32 bytes ≡ None → sized_at bytes ≡ None
+not_sized bytes is = ap (λ (found : Found ℕ). found >>= sized_by) is
+
+abbrev Pair : Type 0
+Pair = List ℕ × List ℕ
+
+abbrev paired : List ℕ → List ℕ × List ℕ → Found Pair
+paired first second = Some ((first, second.0), second.1)
+
+abbrev next : List ℕ × List ℕ → Found Pair
+next first = sized_at first.1 >>= paired first.0
+
+abbrev kept_if : Bool → Pair → Option Pair
+kept_if ended pair = cond ended (Some pair) None
+
+abbrev ended : Pair × List ℕ → Option Pair
+ended pair = kept_if (length pair.1 == 0) pair.0
+
+-- by the first of them, and by the second
+abbrev by_first : Found (List ℕ) → Option Pair
+by_first found = (found >>= next) >>= ended
+
+abbrev by_second : List ℕ → Found (List ℕ) → Option Pair
+by_second first found = (found >>= paired first) >>= ended
+
+pub no_first : (bytes : List ℕ) → sized_at bytes ≡ None → None ≡ pair_in bytes
+no_first bytes is = sym (ap by_first is)
+
+pub no_second : (bytes first rest : List ℕ) → sized_at bytes ≡ Some (first, rest) → sized_at rest ≡ None → None ≡ pair_in bytes
+no_second bytes first rest one two = sym (ap by_first one ∙ ap (by_second first) two)
+
+pub both_found : (bytes first rest second last : List ℕ) → sized_at bytes ≡ Some (first, rest) → sized_at rest ≡ Some (second, last)
+    → (length last == 0) ≡ true → Some (first, second) ≡ pair_in bytes
+both_found bytes first rest second last one two none =
+    sym (ap by_first one ∙ ap (by_second first) two ∙ ap (λ (b : Bool). kept_if b (first, second)) none)
+
+pub bytes_left : (bytes first rest second last : List ℕ) → sized_at bytes ≡ Some (first, rest) → sized_at rest ≡ Some (second, last)
+    → (length last == 0) ≡ false → None ≡ pair_in bytes
+bytes_left bytes first rest second last one two some =
+    sym (ap by_first one ∙ ap (by_second first) two ∙ ap (λ (b : Bool). kept_if b (first, second)) some)
+
+pub ruleset pairs = (no_first, no_second, both_found, bytes_left)
+
+-- ---- what is due
+
+pub pair_due : (input first second : List ℕ) → length input ≤ input_limit → Some (first, second) ≡ pair_in input → joined_inputs first second ≡ due_join input
+pair_due input first second short is = rw (not_too_long input short) (ap joined_pair is)
+
+pub no_pair_due : (input : List ℕ) → length input ≤ input_limit → None ≡ pair_in input → refused (Damaged Form) ≡ due_join input
+no_pair_due input short is = rw (not_too_long input short) (ap joined_pair is)
+
+pub first_due : (a : Package) (first second : List ℕ) → reading first ≡ Ok a → due_of_reading (joined_packages a) (reading second) ≡ joined_inputs first second
+first_due a first second is = sym (ap (due_of_reading (λ (p : Package). due_of_reading (joined_packages p) (reading second))) is)
+
+pub first_damaged : (kind : DamageKind) (first second : List ℕ) → reading first ≡ Err kind → refused (Damaged kind) ≡ joined_inputs first second
+first_damaged kind first second is = sym (ap (due_of_reading (λ (p : Package). due_of_reading (joined_packages p) (reading second))) is)
+
+pub second_due : (a b : Package) (second : List ℕ) → reading second ≡ Ok b → joined_packages a b ≡ due_of_reading (joined_packages a) (reading second)
+second_due a b second is = sym (ap (due_of_reading (joined_packages a)) is)
+
+pub second_damaged : (a : Package) (kind : DamageKind) (second : List ℕ) → reading second ≡ Err kind
+    → refused (Damaged kind) ≡ due_of_reading (joined_packages a) (reading second)
+second_damaged a kind second is = sym (ap (due_of_reading (joined_packages a)) is)
+
+pub run_due : (which : Which) (budget : ℕ) (j : Joined) (input : List ℕ) → length input ≤ input_limit → joined_reading input ≡ Ok j
+    → due_world budget (joined_world which j) ≡ due_replay_run which budget input
+run_due which budget j input short is = rw (not_too_long input short) (sym (ap (replayed_run which budget) is))
+
+pub run_damaged : (which : Which) (budget : ℕ) (kind : DamageKind) (input : List ℕ) → length input ≤ input_limit → joined_reading input ≡ Err kind
+    → refused (Damaged kind) ≡ due_replay_run which budget input
+run_damaged which budget kind input short is = rw (not_too_long input short) (sym (ap (replayed_run which budget) is))

@@ -1,0 +1,138 @@
+//! `join`: from two packages to what they are joined to.
+
+ghost use Rattle.std.specs.Prelude.{◌≡◌, ◌≤◌, length, map, string_bytes, IfOk, IfSome, MatchOption, None, Some};
+ghost use Rattle.std.specs.Int.{w32};
+ghost use Rattle.std.specs.Option.{option_map};
+ghost use Rattle.ldv_value.specs.Limits.{input_limit};
+ghost use Rattle.package_join.specs.Joined.{joined_of};
+ghost use Rattle.package_join.specs.Layout.{joined_spelling};
+ghost use Rattle.package_layout.specs.Fields.{number_at, sized_at};
+ghost use Rattle.package_layout.specs.Valid.{reading};
+ghost use Rattle.run_model.specs.declared.package.Mode.TheVariants.{Included};
+ghost use Rattle.ldv_top.specs.Due.{response_due, due_spelling};
+ghost use Rattle.ldv_top.specs.DueOfJoins.{due_join, due_joined, joined_inputs, joined_packages, pair_in};
+ghost use Rattle.ldv_top.specs.DueParts.{due_of_reading};
+ghost use Rattle.ldv_top.specs.Words.{IsBounded};
+ghost use Rattle.ldv_top.specs.WordsOfJoins.{join_of};
+
+use crate::command::Command;
+use crate::response::Response;
+use ldv_value::Bytes;
+use package_join::{JoinStop, Joined, join_owned, spell_joined};
+use package_layout::{Cursor, DamageKind, PackageStop, SpellStop, read_package};
+use run_model::{Mode, Package};
+use std::alloc::{AllocError, Global};
+
+/// The command that the words after `join` are.
+pub(crate) fn join_of(words: &[String]) -> Option<Command>
+    ensures command { result ≡ join_of (map string_bytes words.now) }
+    ensures bounded { IfSome result (λ command. IsBounded command) }
+{
+    match words {
+        [] => Some(Command::Join),
+        _ => None,
+    }
+}
+
+// A number of four bytes, the highest first.
+fn length_in(cursor: &mut Cursor) -> Option<u32>
+    ensures { MatchOption result (number_at w32 cursor.old ≡ None)
+        (λ count. number_at w32 cursor.old ≡ Some (count, cursor.new)) }
+{
+    match cursor.next(4) {
+        None => None,
+        Some(front) => Some(u32::from_be_bytes([front[0], front[1], front[2], front[3]])),
+    }
+}
+
+// Bytes with their number before them. They aren't copied.
+fn sized<'a>(cursor: &mut Cursor<'a>) -> Option<&'a [u8]>
+    ensures { MatchOption result (sized_at cursor.old ≡ None)
+        (λ front. sized_at cursor.old ≡ Some (front.now, cursor.new)) }
+{
+    match length_in(cursor) {
+        None => None,
+        Some(count) => cursor.next(count as usize),
+    }
+}
+
+// Both packages, where the input is made of them and their lengths.
+#[tactic(auto, using(crate::proofs::JoinResponses::pairs))]
+fn pair_in<'a>(input: &'a [u8]) -> Option<(&'a [u8], &'a [u8])>
+    ensures { option_map (λ pair. (pair.0.now, pair.1.now)) result ≡ pair_in input.now }
+{
+    let mut cursor = Cursor::of(input);
+    let first = sized(&mut cursor)?;
+    let second = sized(&mut cursor)?;
+    if cursor.is_empty() {
+        Some((first, second))
+    } else {
+        None
+    }
+}
+
+/// The response of `join` to an input.
+pub(crate) fn join_response(alloc: Global, input: Bytes) -> Result<Response, AllocError>
+    requires short { length input ≤ input_limit }
+    ensures { IfOk result (λ response. response_due response ≡ due_join input) }
+{
+    match pair_in(input.as_slice()) {
+        Some((first, second)) => inputs_response(alloc, first, second),
+        None => Ok(Response::Damaged(DamageKind::Form)),
+    }
+}
+
+fn inputs_response(alloc: Global, first: &[u8], second: &[u8]) -> Result<Response, AllocError>
+    ensures { IfOk result (λ response. response_due response ≡ joined_inputs first.now second.now) }
+{
+    match read_package(alloc, first) {
+        Ok(a) => second_response(alloc, a, second),
+        Err(PackageStop::Damaged(kind)) => Ok(Response::Damaged(kind)),
+        Err(PackageStop::NoMemory) => Err(AllocError),
+    }
+}
+
+fn second_response(alloc: Global, a: Package, second: &[u8]) -> Result<Response, AllocError>
+    ensures { IfOk result (λ response. response_due response
+        ≡ due_of_reading (joined_packages a) (reading second.now)) }
+{
+    match read_package(alloc, second) {
+        Ok(b) => packages_response(alloc, a, b),
+        Err(PackageStop::Damaged(kind)) => Ok(Response::Damaged(kind)),
+        Err(PackageStop::NoMemory) => Err(AllocError),
+    }
+}
+
+// Both have to have the needed rows.
+fn packages_response(alloc: Global, a: Package, b: Package) -> Result<Response, AllocError>
+    ensures { IfOk result (λ response. response_due response ≡ joined_packages a b) }
+{
+    match a.mode {
+        Mode::Included => match b.mode {
+            Mode::Included => joined_response(alloc, a, b),
+            Mode::Excluded => Ok(Response::NoSuch),
+        },
+        Mode::Excluded => Ok(Response::NoSuch),
+    }
+}
+
+fn joined_response(alloc: Global, a: Package, b: Package) -> Result<Response, AllocError>
+    ensures { IfOk result (λ response. response_due response ≡ due_joined (joined_of a b)) }
+{
+    match join_owned(alloc, a, b) {
+        Ok(joined) => spelled_response(alloc, &joined),
+        Err(JoinStop::Clash(clash)) => Ok(Response::Clash(clash)),
+        Err(JoinStop::NoMemory) => Err(AllocError),
+    }
+}
+
+#[tactic(auto, using(crate::proofs::RecordLaws::spelling_ends))]
+fn spelled_response(alloc: Global, joined: &Joined) -> Result<Response, AllocError>
+    ensures { IfOk result (λ response. response_due response ≡ due_spelling (joined_spelling joined.now)) }
+{
+    match spell_joined(alloc, joined) {
+        Ok(bytes) => Ok(Response::Written(bytes)),
+        Err(SpellStop::TooLong) => Ok(Response::PackageTooLong),
+        Err(SpellStop::NoMemory) => Err(AllocError),
+    }
+}

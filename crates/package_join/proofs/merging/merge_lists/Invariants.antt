@@ -1,0 +1,10 @@
+use Rattle.std.proofs.Common.{◌≡◌, ◌+◌, ◌++◌, length}
+use Rattle.package_join.specs.Merging.{merged, queued}
+use Rattle.package_join.proofs.merging.merge_lists.Given as goal
+
+abbrev pub invariant-loop-left : goal.invariant-loop-left
+invariant-loop-left g l =
+    l.made ++ merged g.X.Mergeable.key_cmp g.X.Mergeable.both (queued l.left l.xs) (queued l.right l.ys) ≡ merged g.X.Mergeable.key_cmp g.X.Mergeable.both l.fn.first l.fn.second
+
+abbrev pub decreases-loop-left : goal.decreases-loop-left
+decreases-loop-left g l = length (queued l.left l.xs) + length (queued l.right l.ys)

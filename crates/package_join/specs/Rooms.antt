@@ -1,0 +1,106 @@
+-- What every joined package in memory meets, what the layout has room for, and whose counts of four bytes fit
+-- their fields.
+use Rattle.std.specs.Prelude.{ℕ, ◌<◌, ◌^◌, List, length, Bool, ◌&&◌, ◌==◌}
+use Rattle.std.specs.List.{list_all, AllByRecursion}
+use Rattle.std.specs.Str.{IsUtf8}
+use Rattle.sql_model.specs.declared.table.Schema.{Schema}
+use Rattle.package_layout.specs.Counts.{IsCountable, CountedList, CountedValue, CountedColumn, CountedFile}
+use Rattle.package_layout.specs.Room.{few, some_thousands, key_room}
+use Rattle.package_layout.specs.Runs.{CountedRun, runs_of, trace_room}
+use Rattle.package_layout.specs.Typed.{IsU32, TypedValues, TypedColumn, TypedFile, TypedEvent}
+use Rattle.package_join.specs.Types.{Table, TableRow}
+use Rattle.package_join.specs.declared.joined.Joined.{Joined}
+use Rattle.package_join.specs.declared.joined.JoinedRun.{JoinedRun}
+use Rattle.package_join.specs.declared.joined.Reason.{Reason}
+
+-- ---- in memory
+
+abbrev pub TypedSchema : Schema → Type 0
+TypedSchema s = AllByRecursion TypedColumn s.columns
+
+abbrev pub TypedCommonRow : TableRow → Type 0
+TypedCommonRow row = IsU32 row.number × TypedValues row.values
+
+abbrev pub TypedCommonTable : Table → Type 0
+TypedCommonTable t = IsUtf8 t.name
+    × (TypedSchema t.schema × (IsU32 t.next × AllByRecursion TypedCommonRow t.rows))
+
+abbrev pub TypedReason : Reason → Type 0
+TypedReason r = IsUtf8 r.table × (IsU32 r.row × IsU32 r.statement)
+
+abbrev pub TypedTexts : List (List ℕ) → Type 0
+TypedTexts = AllByRecursion IsUtf8
+
+abbrev pub TypedNeeds : JoinedRun → Type 0
+TypedNeeds run = TypedTexts run.wholes
+    × (TypedTexts run.presents × (TypedTexts run.tables × AllByRecursion TypedReason run.reasons))
+
+abbrev pub TypedRunNumbers : JoinedRun → Type 0
+TypedRunNumbers run = (run.seed < 2 ^ 64) × (IsU32 run.steps × TypedNeeds run)
+
+abbrev pub TypedBareRun : JoinedRun → Type 0
+TypedBareRun run = TypedTexts run.start × TypedRunNumbers run
+
+abbrev pub TypedJoinedRun : JoinedRun → Type 0
+TypedJoinedRun run = TypedBareRun run × AllByRecursion TypedEvent run.events
+
+abbrev pub TypedJoined : Joined → Type 0
+TypedJoined j = AllByRecursion TypedFile j.files
+    × (AllByRecursion TypedCommonTable j.tables × (TypedJoinedRun j.first × TypedJoinedRun j.second))
+
+-- ---- counts of one and two bytes
+
+abbrev pub schema_room : Schema → Bool
+schema_room s = few s.columns && key_room s.key
+
+abbrev pub common_row_room : ℕ → TableRow → Bool
+common_row_room columns row = length row.values == columns
+
+abbrev pub common_table_room : Table → Bool
+common_table_room t = schema_room t.schema && list_all (common_row_room (length t.schema.columns)) t.rows
+
+abbrev pub common_tables_room : List Table → Bool
+common_tables_room tables = some_thousands tables && list_all common_table_room tables
+
+abbrev pub bare_run_room : JoinedRun → Bool
+bare_run_room run = some_thousands run.start && some_thousands run.tables
+
+abbrev pub joined_run_room : JoinedRun → Bool
+joined_run_room run = bare_run_room run && trace_room run.events
+
+abbrev pub joined_room : Joined → Bool
+joined_room j = common_tables_room j.tables && (joined_run_room j.first && joined_run_room j.second)
+
+-- ---- counts of four bytes
+
+abbrev pub CountedSchema : Schema → Type 0
+CountedSchema s = AllByRecursion CountedColumn s.columns
+
+abbrev pub CountedCommonRow : TableRow → Type 0
+CountedCommonRow row = AllByRecursion CountedValue row.values
+
+abbrev pub CountedCommonTable : Table → Type 0
+CountedCommonTable t = IsCountable t.name × (CountedSchema t.schema × CountedList CountedCommonRow t.rows)
+
+abbrev pub CountedReason : Reason → Type 0
+CountedReason r = IsCountable r.table
+
+abbrev pub CountedTexts : List (List ℕ) → Type 0
+CountedTexts = AllByRecursion IsCountable
+
+abbrev pub CountedPaths : List (List ℕ) → Type 0
+CountedPaths = CountedList IsCountable
+
+abbrev pub CountedNeeds : JoinedRun → Type 0
+CountedNeeds run = CountedPaths run.wholes
+    × (CountedPaths run.presents × (CountedTexts run.tables × CountedList CountedReason run.reasons))
+
+abbrev pub CountedBareRun : JoinedRun → Type 0
+CountedBareRun run = CountedTexts run.start × CountedNeeds run
+
+abbrev pub CountedJoinedRun : JoinedRun → Type 0
+CountedJoinedRun run = CountedBareRun run × CountedList CountedRun (runs_of run.events)
+
+abbrev pub CountedJoined : Joined → Type 0
+CountedJoined j = CountedList CountedFile j.files
+    × (AllByRecursion CountedCommonTable j.tables × (CountedJoinedRun j.first × CountedJoinedRun j.second))

@@ -1,0 +1,158 @@
+//! The package of a run, picked out of what was joined.
+
+ghost use Rattle.std.specs.Prelude.{◌≡◌, ◌++◌, ℕ, List as Items, [], IfOk, OnOk, map, filter};
+ghost use Rattle.std.specs.List.{filter_map};
+ghost use Rattle.std.specs.Option.{option_or};
+ghost use Rattle.slicer.specs.Marks.{has_name, reason_at};
+ghost use Rattle.package_join.specs.Joined.{as_present, is_among, picked_file, picked_package, picked_table};
+ghost use Rattle.package_join.specs.Joined.{run_package};
+ghost use Rattle.package_join.specs.Picked.{file_by, need_for, reason_for, reason_if};
+
+use crate::copying::{copy_events, copy_file};
+use crate::joined::{Joined, JoinedRun, Reason, Reasons, Which};
+use ldv_value::{List, Names};
+use run_model::{Mode, Package, PackedFile, PackedFiles, PackedTables};
+use slicer::{NameSet, Reasons as FirstReasons, add_all, has, note_need, pack_tables};
+use sql_model::{Member, Need, Tables};
+use std::alloc::{AllocError, Global};
+
+/// The package of a run: the files, tables and rows that it needs, each row with its reason.
+pub fn run_of(alloc: Global, joined: &Joined, which: Which) -> Result<Package, AllocError>
+    ensures { IfOk result (λ p. p ≡ run_package which joined.now) }
+{
+    match which {
+        Which::First => picked_package(alloc, &joined.first, &joined.files, &joined.tables),
+        Which::Second => picked_package(alloc, &joined.second, &joined.files, &joined.tables),
+    }
+}
+
+/// What the lists of a run pick out of files and tables.
+pub(crate) fn picked_package(
+    alloc: Global,
+    run: &JoinedRun,
+    files: &PackedFiles,
+    tables: &Tables,
+) -> Result<Package, AllocError>
+    ensures { IfOk result (λ p. p ≡ picked_package run.now files.now tables.now) }
+{
+    Ok(Package {
+        mode: Mode::Included,
+        start: run.start.copy()?,
+        seed: run.seed,
+        steps: run.steps,
+        files: picked_files(alloc, run, files)?,
+        tables: picked_tables(alloc, run, tables)?,
+        logs: List::new(alloc),
+        events: copy_events(alloc, run.events.items())?,
+    })
+}
+
+/// The set of these names, or paths.
+#[tactic(auto, using(crate::proofs::PickedBy::set_of_names))]
+pub(crate) fn name_set(alloc: Global, names: &Names) -> Result<NameSet, AllocError>
+    ensures { IfOk result (λ set. (q : Items ℕ) → has_name set q ≡ is_among q names.now) }
+{
+    let mut set = NameSet::new(alloc);
+    add_all(alloc, &mut set, names.items())?;
+    Ok(set)
+}
+
+fn picked_files(
+    alloc: Global,
+    run: &JoinedRun,
+    files: &PackedFiles,
+) -> Result<PackedFiles, AllocError>
+    ensures { IfOk result (λ picked. picked ≡ filter_map (picked_file run.now) files.now) }
+{
+    let wholes = name_set(alloc, &run.wholes)?;
+    let presents = name_set(alloc, &run.presents)?;
+    files_by(alloc, &wholes, &presents, files.items())
+}
+
+fn files_by(
+    alloc: Global,
+    wholes: &NameSet,
+    presents: &NameSet,
+    files: &[PackedFile],
+) -> Result<PackedFiles, AllocError>
+    ensures { IfOk result (λ picked.
+        picked ≡ filter_map (file_by (has_name wholes.now) (has_name presents.now)) files.now) }
+{
+    let mut picked = PackedFiles::new(alloc);
+    for file in files {
+        picked.push_some(file_by(wholes, presents, file)?)?;
+    }
+    Ok(picked)
+}
+
+fn file_by(
+    wholes: &NameSet,
+    presents: &NameSet,
+    file: &PackedFile,
+) -> Result<Option<PackedFile>, AllocError>
+    ensures { IfOk result (λ picked.
+        picked ≡ file_by (has_name wholes.now) (has_name presents.now) file.now) }
+{
+    if has(wholes, &file.path) {
+        Ok(Some(copy_file(file)?))
+    } else if has(presents, &file.path) {
+        Ok(Some(as_present(file)?))
+    } else {
+        Ok(None)
+    }
+}
+
+fn as_present(file: &PackedFile) -> Result<PackedFile, AllocError>
+    ensures { IfOk result (λ present. present ≡ as_present file.now) }
+{
+    Ok(PackedFile {
+        path: file.path.copy()?,
+        content: None,
+    })
+}
+
+// Each table and each reason is looked up once.
+fn picked_tables(
+    alloc: Global,
+    run: &JoinedRun,
+    tables: &Tables,
+) -> Result<PackedTables, AllocError>
+    ensures { IfOk result (λ picked. picked ≡ map (picked_table run.now)
+        (filter (λ table. is_among table.name run.now.tables) tables.now)) }
+{
+    let names = name_set(alloc, &run.tables)?;
+    let reasons = first_reasons(alloc, &run.reasons)?;
+    pack_tables(alloc, &names, &reasons, tables.items())
+}
+
+fn first_reasons(alloc: Global, reasons: &Reasons) -> Result<FirstReasons, AllocError>
+    ensures { IfOk result (λ first. (table : Items ℕ) (row : ℕ)
+        → reason_at first table row ≡ reason_for reasons.now table row) }
+{
+    let mut first = FirstReasons::new(alloc);
+    for reason in reasons.items() {
+        note_reason(alloc, &mut first, reason)?;
+    }
+    Ok(first)
+}
+
+fn note_reason(alloc: Global, first: &mut FirstReasons, reason: &Reason) -> Result<(), AllocError>
+    ensures { OnOk result ((table : Items ℕ) (row : ℕ) → reason_at first.new table row
+        ≡ option_or (reason_at first.old table row) (reason_if reason.now table row)) }
+{
+    let need = need_of(reason)?;
+    note_need(alloc, first, reason.statement, &need)
+}
+
+fn need_of(reason: &Reason) -> Result<Need, AllocError>
+    ensures { IfOk result (λ need. need ≡ need_for reason.now) }
+{
+    Ok(Need {
+        member: Member {
+            table: reason.table.copy()?,
+            row: reason.row,
+            version: 0,
+        },
+        rule: reason.rule,
+    })
+}

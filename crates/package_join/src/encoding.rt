@@ -1,0 +1,167 @@
+//! The parts of a joined package, from values to bytes.
+
+ghost use Rattle.std.specs.Prelude.{◌≡◌, ◌++◌, OnOk};
+ghost use Rattle.std.specs.List.{flat_map, AllByRecursion};
+ghost use Rattle.package_join.specs.Layout.{bare_run_spelling, both_runs_spelling, common_row_spelling};
+ghost use Rattle.package_join.specs.Layout.{common_rows_spelling, common_table_spelling};
+ghost use Rattle.package_join.specs.Layout.{common_tables_spelling, joined_sections, needs_spelling};
+ghost use Rattle.package_join.specs.Layout.{numbers_spelling, run_spelling};
+ghost use Rattle.package_join.specs.Rooms.{TypedBareRun, TypedCommonRow, TypedCommonTable, TypedJoined};
+ghost use Rattle.package_join.specs.Rooms.{TypedJoinedRun, TypedNeeds, TypedRunNumbers};
+ghost use Rattle.package_join.specs.RunJoins.{both_cuts_spelling, cut_run_spelling, cut_sections};
+
+use crate::joined::{Joined, JoinedRun, Reason};
+use crate::run_joined::{CutRun, RunJoined};
+use ldv_value::Bytes;
+use package_layout::{
+    Encode, Version, Width, encode_count, encode_items, encode_list, encode_reason, encode_schema,
+    encode_text, encode_trace, encode_u32, encode_u64,
+};
+use sql_model::{Table, TableRow, TableRows, Tables};
+use std::alloc::AllocError;
+
+fn encode_common_row(row: &TableRow, to: &mut Bytes) -> Result<(), AllocError>
+    ensures bytes { OnOk result (to.new ≡ to.old ++ common_row_spelling row.now) }
+    ensures typed { OnOk result (TypedCommonRow row.now) }
+{
+    row.number.encode(to)?;
+    encode_items(&row.values, to)
+}
+
+fn encode_common_rows(rows: &TableRows, to: &mut Bytes) -> Result<(), AllocError>
+    ensures bytes { OnOk result (to.new ≡ to.old ++ common_rows_spelling rows.now) }
+    ensures typed { OnOk result (AllByRecursion TypedCommonRow rows.now) }
+{
+    encode_count(Width::Four, rows.len(), to)?;
+    encode_each_row(rows, to)
+}
+
+fn encode_each_row(rows: &TableRows, to: &mut Bytes) -> Result<(), AllocError>
+    ensures bytes { OnOk result (to.new ≡ to.old ++ flat_map common_row_spelling rows.now) }
+    ensures typed { OnOk result (AllByRecursion TypedCommonRow rows.now) }
+{
+    for row in rows.items() {
+        encode_common_row(row, to)?;
+    }
+    Ok(())
+}
+
+fn encode_common_table(table: &Table, to: &mut Bytes) -> Result<(), AllocError>
+    ensures bytes { OnOk result (to.new ≡ to.old ++ common_table_spelling table.now) }
+    ensures typed { OnOk result (TypedCommonTable table.now) }
+{
+    encode_text(&table.name, to)?;
+    encode_schema(Version::Two, &table.schema, to)?;
+    table.next.encode(to)?;
+    encode_common_rows(&table.rows, to)
+}
+
+fn encode_common_tables(tables: &Tables, to: &mut Bytes) -> Result<(), AllocError>
+    ensures bytes { OnOk result (to.new ≡ to.old ++ common_tables_spelling tables.now) }
+    ensures typed { OnOk result (AllByRecursion TypedCommonTable tables.now) }
+{
+    encode_count(Width::Two, tables.len(), to)?;
+    encode_each_table(tables, to)
+}
+
+fn encode_each_table(tables: &Tables, to: &mut Bytes) -> Result<(), AllocError>
+    ensures bytes { OnOk result (to.new ≡ to.old ++ flat_map common_table_spelling tables.now) }
+    ensures typed { OnOk result (AllByRecursion TypedCommonTable tables.now) }
+{
+    for table in tables.items() {
+        encode_common_table(table, to)?;
+    }
+    Ok(())
+}
+
+impl Encode for Reason {
+    ghost use Rattle.package_join.specs.Layout.{named_reason_spelling};
+    ghost use Rattle.package_join.specs.Rooms.{TypedReason};
+
+    ghost spelling = { named_reason_spelling };
+
+    ghost typed = { TypedReason };
+
+    fn encode(&self, to: &mut Bytes) -> Result<(), AllocError> {
+        encode_text(&self.table, to)?;
+        self.row.encode(to)?;
+        encode_reason(self.statement, self.rule, to)
+    }
+}
+
+fn encode_needs(run: &JoinedRun, to: &mut Bytes) -> Result<(), AllocError>
+    ensures bytes { OnOk result (to.new ≡ to.old ++ needs_spelling run.now) }
+    ensures typed { OnOk result (TypedNeeds run.now) }
+{
+    encode_list(Width::Four, &run.wholes, to)?;
+    encode_list(Width::Four, &run.presents, to)?;
+    encode_list(Width::Two, &run.tables, to)?;
+    encode_list(Width::Four, &run.reasons, to)
+}
+
+fn encode_run_numbers(run: &JoinedRun, to: &mut Bytes) -> Result<(), AllocError>
+    ensures bytes { OnOk result (to.new ≡ to.old ++ numbers_spelling run.now) }
+    ensures typed { OnOk result (TypedRunNumbers run.now) }
+{
+    encode_u64(run.seed, to)?;
+    encode_u32(run.steps, to)?;
+    encode_needs(run, to)
+}
+
+fn encode_bare_run(run: &JoinedRun, to: &mut Bytes) -> Result<(), AllocError>
+    ensures bytes { OnOk result (to.new ≡ to.old ++ bare_run_spelling run.now) }
+    ensures typed { OnOk result (TypedBareRun run.now) }
+{
+    encode_list(Width::Two, &run.start, to)?;
+    encode_run_numbers(run, to)
+}
+
+fn encode_run(run: &JoinedRun, to: &mut Bytes) -> Result<(), AllocError>
+    ensures bytes { OnOk result (to.new ≡ to.old ++ run_spelling run.now) }
+    ensures typed { OnOk result (TypedJoinedRun run.now) }
+{
+    encode_bare_run(run, to)?;
+    encode_trace(run.events.items(), to)
+}
+
+fn encode_both_runs(joined: &Joined, to: &mut Bytes) -> Result<(), AllocError>
+    ensures bytes { OnOk result (to.new ≡ to.old ++ both_runs_spelling joined.now) }
+    ensures typed { OnOk result (TypedJoinedRun joined.now.first × TypedJoinedRun joined.now.second) }
+{
+    encode_run(&joined.first, to)?;
+    encode_run(&joined.second, to)
+}
+
+/// Appends all of a joined package between its magic and its digest.
+pub(crate) fn encode_joined(joined: &Joined, to: &mut Bytes) -> Result<(), AllocError>
+    ensures bytes { OnOk result (to.new ≡ to.old ++ joined_sections joined.now) }
+    ensures typed { OnOk result (TypedJoined joined.now) }
+{
+    encode_list(Width::Four, &joined.files, to)?;
+    encode_common_tables(&joined.tables, to)?;
+    encode_both_runs(joined, to)
+}
+
+fn encode_cut_run(run: &CutRun, to: &mut Bytes) -> Result<(), AllocError>
+    ensures { OnOk result (to.new ≡ to.old ++ cut_run_spelling run.now) }
+{
+    encode_bare_run(&run.bare, to)?;
+    encode_list(Width::Four, &run.runs, to)
+}
+
+fn encode_both_cuts(joined: &RunJoined, to: &mut Bytes) -> Result<(), AllocError>
+    ensures { OnOk result (to.new ≡ to.old ++ both_cuts_spelling joined.now) }
+{
+    encode_cut_run(&joined.first, to)?;
+    encode_cut_run(&joined.second, to)
+}
+
+/// The same of one whose traces are kept as runs.
+pub(crate) fn encode_cut_joined(joined: &RunJoined, to: &mut Bytes) -> Result<(), AllocError>
+    ensures bytes { OnOk result (to.new ≡ to.old ++ cut_sections joined.now) }
+    ensures typed { OnOk result (AllByRecursion TypedCommonTable joined.now.tables) }
+{
+    encode_list(Width::Four, &joined.files, to)?;
+    encode_common_tables(&joined.tables, to)?;
+    encode_both_cuts(joined, to)
+}

@@ -1,0 +1,110 @@
+//! Two packages, joined.
+
+ghost use Rattle.std.specs.Prelude.{◌≡◌, IfOk};
+ghost use Rattle.package_layout.specs.Valid.{Valid};
+ghost use Rattle.run_model.specs.declared.package.Mode.{Mode};
+ghost use Rattle.package_join.specs.Joined.{joined_of};
+ghost use Rattle.package_join.specs.Parts.{JoinsAs, early_clash, joined_after, joined_parts, late_joined};
+ghost use Rattle.package_join.specs.Valid.{ValidJoined};
+
+use crate::clash::{files_clash, schemas_clash, taken_key, values_clash};
+use crate::copying::copy_package;
+use crate::joined::{Clash, Joined};
+use crate::merging::merge_lists;
+use crate::parts::{Parts, parts_of};
+use run_model::Package;
+use std::alloc::{AllocError, Global};
+
+/// Why two packages aren't joined.
+#[derive(Drop)]
+pub enum JoinStop {
+    /// They differ in this.
+    Clash(Clash),
+    /// Out of memory.
+    NoMemory,
+}
+
+impl From<AllocError> for JoinStop {
+    ghost use Rattle.std.specs.Prelude.{◌≡◌};
+    ghost use Rattle.package_join.specs.declared.joins.JoinStop.TheVariants.{NoMemory};
+
+    ghost from_gives = { λ _ stop. stop ≡ NoMemory };
+
+    fn from(_error: AllocError) -> Self {
+        JoinStop::NoMemory
+    }
+}
+
+/// What two valid included packages are joined to. A clash is the first by `clash_of` of
+/// `specs/Joined.antt`. Both are copied: `join_owned` copies neither.
+pub fn join(alloc: Global, a: &Package, b: &Package) -> Result<Joined, JoinStop>
+    requires first { Valid a.now }
+    requires second { Valid b.now }
+    requires first_included { a.now.mode ≡ Mode.Included }
+    requires second_included { b.now.mode ≡ Mode.Included }
+    ensures joined { JoinsAs result (joined_of a.now b.now) }
+    ensures valid { IfOk result (λ joined. ValidJoined joined) }
+{
+    let first = copy_package(alloc, a)?;
+    let second = copy_package(alloc, b)?;
+    join_owned(alloc, first, second)
+}
+
+/// What two valid included packages are joined to, in their own memory: values and events are moved. A clash
+/// is the first by `clash_of` of `specs/Joined.antt`.
+#[tactic(auto, using(crate::proofs::PartLaws::parts_joined))]
+pub fn join_owned(alloc: Global, a: Package, b: Package) -> Result<Joined, JoinStop>
+    ensures { JoinsAs result (joined_of a b) }
+{
+    let first = parts_of(alloc, a)?;
+    let second = parts_of(alloc, b)?;
+    join_parts(alloc, first, second)
+}
+
+fn join_parts(alloc: Global, first: Parts, second: Parts) -> Result<Joined, JoinStop>
+    ensures { JoinsAs result (joined_parts first second) }
+{
+    let clash = early_clash(&first, &second)?;
+    join_after(alloc, clash, first, second)
+}
+
+fn early_clash(first: &Parts, second: &Parts) -> Result<Option<Clash>, AllocError>
+    ensures { IfOk result (λ clash. clash ≡ early_clash first.now second.now) }
+{
+    match files_clash(first.files.items(), second.files.items())? {
+        Some(clash) => Ok(Some(clash)),
+        None => match schemas_clash(first.tables.items(), second.tables.items())? {
+            Some(clash) => Ok(Some(clash)),
+            None => values_clash(first.tables.items(), second.tables.items()),
+        },
+    }
+}
+
+fn join_after(
+    alloc: Global,
+    clash: Option<Clash>,
+    first: Parts,
+    second: Parts,
+) -> Result<Joined, JoinStop>
+    ensures { JoinsAs result (joined_after clash first second) }
+{
+    match clash {
+        Some(clash) => Err(JoinStop::Clash(clash)),
+        None => late_joined(alloc, first, second),
+    }
+}
+
+fn late_joined(alloc: Global, first: Parts, second: Parts) -> Result<Joined, JoinStop>
+    ensures { JoinsAs result (late_joined first second) }
+{
+    let tables = merge_lists(alloc, first.tables, second.tables)?;
+    match taken_key(alloc, tables.items())? {
+        Some(clash) => Err(JoinStop::Clash(clash)),
+        None => Ok(Joined {
+            files: merge_lists(alloc, first.files, second.files)?,
+            tables,
+            first: first.run,
+            second: second.run,
+        }),
+    }
+}

@@ -1,0 +1,134 @@
+//! Whether what was read is what the packages of its runs are joined to. No list of events is made.
+
+ghost use Rattle.std.specs.Prelude.{◌≡◌, IfOk};
+ghost use Rattle.std.specs.List.{AllByRecursion};
+ghost use Rattle.package_layout.specs.Fields.{Makes};
+ghost use Rattle.package_join.specs.Rooms.{TypedCommonTable};
+ghost use Rattle.package_join.specs.declared.joined.Which.TheVariants.{First, Second};
+ghost use Rattle.package_join.specs.RunJoins.{cut_anew, cut_spelled_so, cuts_in, picked_run, picked_runs};
+ghost use Rattle.package_join.specs.RunJoins.{rejoined, rejoined_valid, with_runs};
+
+use crate::choosing::picked_package;
+use crate::decoding::decode_all;
+use crate::encoding::encode_cut_joined;
+use crate::joined::Joined;
+use crate::joins::{JoinStop, join_owned};
+use crate::run_joined::{CutRun, RunJoined};
+use ldv_value::Bytes;
+use package_layout::{DecodeError, RunPackage, Runs, is_valid_package};
+use run_model::PackedFiles;
+use sql_model::Tables;
+use std::alloc::{AllocError, Global};
+
+// The packages of both runs.
+#[derive(Drop)]
+struct Pair {
+    first: RunPackage,
+    second: RunPackage,
+}
+
+fn picked_run(
+    alloc: Global,
+    run: CutRun,
+    files: &PackedFiles,
+    tables: &Tables,
+) -> Result<RunPackage, AllocError>
+    ensures { IfOk result (λ p. p ≡ picked_run run files.now tables.now) }
+{
+    let CutRun { bare, runs } = run;
+    let bare = picked_package(alloc, &bare, files, tables)?;
+    Ok(RunPackage { bare, runs })
+}
+
+fn picked_pair(alloc: Global, joined: RunJoined) -> Result<Pair, AllocError>
+    ensures first { IfOk result (λ pair. pair.first ≡ picked_runs First joined) }
+    ensures second { IfOk result (λ pair. pair.second ≡ picked_runs Second joined) }
+{
+    let RunJoined {
+        files,
+        tables,
+        first,
+        second,
+    } = joined;
+    Ok(Pair {
+        first: picked_run(alloc, first, &files, &tables)?,
+        second: picked_run(alloc, second, &files, &tables)?,
+    })
+}
+
+fn with_runs(first: Runs, second: Runs, joined: Joined) -> RunJoined
+    ensures { result ≡ with_runs first second joined }
+{
+    let Joined {
+        files,
+        tables,
+        first: one,
+        second: two,
+    } = joined;
+    RunJoined {
+        files,
+        tables,
+        first: CutRun {
+            bare: one,
+            runs: first,
+        },
+        second: CutRun {
+            bare: two,
+            runs: second,
+        },
+    }
+}
+
+fn rejoined(alloc: Global, a: RunPackage, b: RunPackage) -> Result<RunJoined, DecodeError>
+    ensures { Makes result (rejoined a b) }
+{
+    match join_owned(alloc, a.bare, b.bare) {
+        Ok(joined) => Ok(with_runs(a.runs, b.runs, joined)),
+        Err(JoinStop::Clash(_)) => Err(DecodeError::Malformed),
+        Err(JoinStop::NoMemory) => Err(DecodeError::NoMemory),
+    }
+}
+
+fn rejoined_valid(alloc: Global, a: RunPackage, b: RunPackage) -> Result<RunJoined, DecodeError>
+    ensures { Makes result (rejoined_valid a b) }
+{
+    if !is_valid_package(alloc, &a)? {
+        return Err(DecodeError::Malformed);
+    }
+    if !is_valid_package(alloc, &b)? {
+        return Err(DecodeError::Malformed);
+    }
+    rejoined(alloc, a, b)
+}
+
+fn cut_anew(alloc: Global, joined: RunJoined) -> Result<RunJoined, DecodeError>
+    ensures { Makes result (cut_anew joined) }
+{
+    let Pair { first, second } = picked_pair(alloc, joined)?;
+    rejoined_valid(alloc, first, second)
+}
+
+fn spelled_so(alloc: Global, bytes: &[u8], joined: RunJoined) -> Result<RunJoined, DecodeError>
+    ensures so { Makes result (cut_spelled_so bytes.now joined) }
+    ensures typed { IfOk result (λ r. AllByRecursion TypedCommonTable r.tables) }
+{
+    let mut made = Bytes::new(alloc);
+    encode_cut_joined(&joined, &mut made)?;
+    if made.as_slice() == bytes {
+        Ok(joined)
+    } else {
+        Err(DecodeError::Malformed)
+    }
+}
+
+/// The valid joined package whose sections these bytes are. What its runs pick out is joined anew, and has to
+/// be spelled by the same bytes: so no list of it has to be looked at.
+pub(crate) fn cuts_in(alloc: Global, bytes: &[u8]) -> Result<RunJoined, DecodeError>
+    ensures cuts { Makes result (cuts_in bytes.now) }
+    // The numbers of its tables are those of their types.
+    ensures typed { IfOk result (λ r. AllByRecursion TypedCommonTable r.tables) }
+{
+    let read = decode_all(alloc, bytes)?;
+    let anew = cut_anew(alloc, read)?;
+    spelled_so(alloc, bytes, anew)
+}

@@ -1,0 +1,152 @@
+//! From bytes to joined packages.
+
+ghost use Rattle.std.specs.Prelude.{◌≡◌, ◌↔◌, true, false, Err, IfOk, IfSome};
+ghost use Rattle.std.specs.List.{AllByRecursion};
+ghost use Rattle.package_layout.specs.Runs.{are_runs};
+ghost use Rattle.package_layout.specs.Valid.{HasDigest, has_digest};
+ghost use Rattle.package_join.specs.Rooms.{TypedCommonTable};
+ghost use Rattle.package_join.specs.RunJoins.{CutsReadAs, JoinedReadsAs, whole_joined, whole_run};
+ghost use Rattle.package_join.specs.Valid.{IsJoinedRead, IsNoJoined, digested_reading};
+ghost use Rattle.package_join.specs.Valid.{has_joined_magic, joined_damage_before, joined_reading};
+
+use crate::joined::{Joined, JoinedRun};
+use crate::judging::cuts_in;
+use crate::run_joined::{CutRun, RunJoined};
+use crate::spelling::joined_magic;
+use package_layout::{
+    DamageKind, DecodeError, PackageStop, events_in, first_eight, has_digest, middle,
+};
+use std::alloc::{AllocError, Global};
+
+/// The valid joined package that bytes spell. They are `Damaged` where there is none: by `Magic` where they
+/// begin otherwise, else by `Digest` where they are too short for a digest or end with another one, else by
+/// `Form`.
+///
+/// Lists of its events are made last, once all else is judged. They may be far larger than the bytes: where
+/// no events are wanted, take `read_cuts`.
+pub fn read_joined(alloc: Global, bytes: &[u8]) -> Result<Joined, PackageStop>
+    ensures found { IfOk result (IsJoinedRead bytes.now) }
+    ensures magic { (result ≡ Err (PackageStop.Damaged DamageKind.Magic))
+        ↔ (has_joined_magic bytes.now ≡ false) }
+    ensures digest { (result ≡ Err (PackageStop.Damaged DamageKind.Digest))
+        ↔ ((has_joined_magic bytes.now ≡ true) × (¬ HasDigest bytes.now)) }
+    ensures form { result ≡ Err (PackageStop.Damaged DamageKind.Form) →
+        HasDigest bytes.now × IsNoJoined bytes.now }
+    // The same as one function of the bytes.
+    ensures reading { JoinedReadsAs result (joined_reading bytes.now) }
+{
+    answer(alloc, bytes)
+}
+
+/// The same joined package, with its traces kept as runs. It takes memory by the bytes that are read, and
+/// none by the number of events. The answers are those of `read_joined`.
+pub fn read_cuts(alloc: Global, bytes: &[u8]) -> Result<RunJoined, PackageStop>
+    ensures found { IfOk result (λ r. IsJoinedRead bytes.now (whole_joined r)) }
+    // The numbers of its tables are those of their types.
+    ensures typed { IfOk result (λ r. AllByRecursion TypedCommonTable r.tables) }
+    ensures reading { CutsReadAs result (joined_reading bytes.now) }
+{
+    cuts_answer(alloc, bytes)
+}
+
+fn answer(alloc: Global, bytes: &[u8]) -> Result<Joined, PackageStop>
+    ensures due { JoinedReadsAs result (joined_reading bytes.now) }
+    ensures at_once { IfSome (joined_damage_before bytes.now)
+        (λ kind. result ≡ Err (PackageStop.Damaged kind)) }
+{
+    match cuts_answer(alloc, bytes) {
+        Ok(joined) => whole_answer(alloc, joined),
+        Err(stop) => Err(stop),
+    }
+}
+
+fn whole_answer(alloc: Global, joined: RunJoined) -> Result<Joined, PackageStop>
+    requires first { are_runs joined.first.runs ≡ true }
+    requires second { are_runs joined.second.runs ≡ true }
+    ensures ok { IfOk result (λ j. j ≡ whole_joined joined) }
+    ensures err { (stop : PackageStop) → result ≡ Err stop → stop ≡ PackageStop.NoMemory }
+{
+    match whole_joined(alloc, joined) {
+        Ok(joined) => Ok(joined),
+        Err(_) => Err(PackageStop::NoMemory),
+    }
+}
+
+fn whole_joined(alloc: Global, joined: RunJoined) -> Result<Joined, AllocError>
+    requires first { are_runs joined.first.runs ≡ true }
+    requires second { are_runs joined.second.runs ≡ true }
+    ensures { IfOk result (λ j. j ≡ whole_joined joined) }
+{
+    let RunJoined {
+        files,
+        tables,
+        first,
+        second,
+    } = joined;
+    Ok(Joined {
+        files,
+        tables,
+        first: whole_run(alloc, first)?,
+        second: whole_run(alloc, second)?,
+    })
+}
+
+#[tactic(auto, using(package_layout::proofs::Runs::are_all_runs))]
+fn whole_run(alloc: Global, run: CutRun) -> Result<JoinedRun, AllocError>
+    requires { are_runs run.runs ≡ true }
+    ensures { IfOk result (λ made. made ≡ whole_run run) }
+{
+    let CutRun { bare, runs } = run;
+    let mut whole = bare;
+    whole.events = events_in(alloc, runs)?;
+    Ok(whole)
+}
+
+fn cuts_answer(alloc: Global, bytes: &[u8]) -> Result<RunJoined, PackageStop>
+    ensures due { CutsReadAs result (joined_reading bytes.now) }
+    ensures at_once { IfSome (joined_damage_before bytes.now)
+        (λ kind. result ≡ Err (PackageStop.Damaged kind)) }
+    ensures first { IfOk result (λ r. are_runs r.first.runs ≡ true) }
+    ensures second { IfOk result (λ r. are_runs r.second.runs ≡ true) }
+    ensures typed { IfOk result (λ r. AllByRecursion TypedCommonTable r.tables) }
+{
+    if has_joined_magic(bytes) {
+        digested_answer(alloc, bytes)
+    } else {
+        Err(PackageStop::Damaged(DamageKind::Magic))
+    }
+}
+
+fn has_joined_magic(bytes: &[u8]) -> bool
+    ensures { result ≡ has_joined_magic bytes.now }
+{
+    first_eight(bytes) == joined_magic()
+}
+
+fn digested_answer(alloc: Global, bytes: &[u8]) -> Result<RunJoined, PackageStop>
+    ensures due { CutsReadAs result (digested_reading bytes.now) }
+    ensures at_once { has_digest bytes.now ≡ false → result ≡ Err (PackageStop.Damaged DamageKind.Digest) }
+    ensures first { IfOk result (λ r. are_runs r.first.runs ≡ true) }
+    ensures second { IfOk result (λ r. are_runs r.second.runs ≡ true) }
+    ensures typed { IfOk result (λ r. AllByRecursion TypedCommonTable r.tables) }
+{
+    if has_digest(bytes) {
+        middle_answer(alloc, bytes)
+    } else {
+        Err(PackageStop::Damaged(DamageKind::Digest))
+    }
+}
+
+fn middle_answer(alloc: Global, bytes: &[u8]) -> Result<RunJoined, PackageStop>
+    requires { has_digest bytes.now ≡ true }
+    ensures due { CutsReadAs result (digested_reading bytes.now) }
+    ensures first { IfOk result (λ r. are_runs r.first.runs ≡ true) }
+    ensures second { IfOk result (λ r. are_runs r.second.runs ≡ true) }
+    ensures typed { IfOk result (λ r. AllByRecursion TypedCommonTable r.tables) }
+{
+    match cuts_in(alloc, middle(bytes)) {
+        Ok(joined) => Ok(joined),
+        Err(DecodeError::Malformed) => Err(PackageStop::Damaged(DamageKind::Form)),
+        Err(DecodeError::NoMemory) => Err(PackageStop::NoMemory),
+    }
+}

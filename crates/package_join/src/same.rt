@@ -1,0 +1,71 @@
+//! Whether schemas, or the contents of a file, are the same.
+
+ghost use Rattle.std.specs.Prelude.{◌≡◌, not};
+ghost use Rattle.std.specs.Cmp.Lexicographic.{pointwise};
+ghost use Rattle.sql_model.specs.Keys.{same_values};
+ghost use Rattle.package_join.specs.Joined.{tables_differ};
+ghost use Rattle.package_join.specs.Same.{contents_differ, same_column, same_schema};
+
+use ldv_value::{Bytes, Values};
+use sql_model::{Column, Schema, Table, compare_values};
+
+/// Whether both are whole, with different bytes.
+pub(crate) fn contents_differ(a: &Option<Bytes>, b: &Option<Bytes>) -> bool
+    ensures { result ≡ contents_differ a.now b.now }
+{
+    match a {
+        None => false,
+        Some(bytes) => match b {
+            None => false,
+            Some(others) => bytes.as_slice() != others.as_slice(),
+        },
+    }
+}
+
+/// Whether two tables have different schemas or next numbers.
+pub(crate) fn tables_differ(a: &Table, b: &Table) -> bool
+    ensures { result ≡ tables_differ a.now b.now }
+{
+    !(same_schema(&a.schema, &b.schema) && a.next == b.next)
+}
+
+/// Whether two rows have different values.
+pub(crate) fn values_differ(a: &Values, b: &Values) -> bool
+    ensures { result ≡ not (same_values a.now b.now) }
+{
+    !compare_values(a.items(), b.items()).is_eq()
+}
+
+fn same_schema(a: &Schema, b: &Schema) -> bool
+    ensures { result ≡ same_schema a.now b.now }
+{
+    same_columns(a.columns.items(), b.columns.items()) && a.key.items() == b.key.items()
+}
+
+fn same_columns(a: &[Column], b: &[Column]) -> bool
+    ensures { result ≡ pointwise same_column a.now b.now }
+{
+    let mut left = a;
+    let mut right = b;
+    loop {
+        match left {
+            [] => return right.is_empty(),
+            [first, rest @ ..] => match right {
+                [] => return false,
+                [second, more @ ..] => {
+                    if !same_column(first, second) {
+                        return false;
+                    }
+                    left = rest;
+                    right = more;
+                }
+            },
+        }
+    }
+}
+
+fn same_column(a: &Column, b: &Column) -> bool
+    ensures { result ≡ same_column a.now b.now }
+{
+    a.name.is_same(&b.name) && a.text == b.text && a.not_null == b.not_null
+}

@@ -1,0 +1,41 @@
+//! From joined packages to bytes.
+
+ghost use Rattle.std.specs.Prelude.{◌≡◌, ◌≤◌, ◌<◌, IfOk, OnOk, IsErrOf, length};
+ghost use Rattle.ldv_value.specs.Limits.{input_limit};
+ghost use Rattle.package_join.specs.Layout.{joined_body, joined_magic, joined_spelling};
+ghost use Rattle.package_join.specs.Rooms.{TypedJoined};
+
+use crate::encoding::encode_joined;
+use crate::joined::Joined;
+use ldv_value::Bytes;
+use package_layout::{SpellStop, sealed};
+use std::alloc::{AllocError, Global};
+
+/// What a joined package begins with.
+pub(crate) fn joined_magic() -> &'static [u8]
+    ensures { result.now ≡ joined_magic }
+{
+    b"LDVJOIN1"
+}
+
+/// The one spelling of a joined package. `TooLong` exactly where it has more than 67,108,864 bytes, its
+/// digest counted.
+pub fn spell_joined(alloc: Global, joined: &Joined) -> Result<Bytes, SpellStop>
+    ensures bytes { IfOk result (λ bytes. bytes ≡ joined_spelling joined.now) }
+    ensures within { IfOk result (λ bytes. length bytes ≤ input_limit) }
+    ensures too_long { IsErrOf result SpellStop.TooLong → input_limit < length (joined_spelling joined.now) }
+    // What every joined package in memory meets, and a law over all of them asks for.
+    ensures typed { OnOk result (TypedJoined joined.now) }
+{
+    let body = body_of(alloc, joined)?;
+    sealed(body)
+}
+
+fn body_of(alloc: Global, joined: &Joined) -> Result<Bytes, AllocError>
+    ensures bytes { IfOk result (λ bytes. bytes ≡ joined_body joined.now) }
+    ensures typed { OnOk result (TypedJoined joined.now) }
+{
+    let mut bytes = Bytes::of_slice(alloc, joined_magic())?;
+    encode_joined(joined, &mut bytes)?;
+    Ok(bytes)
+}

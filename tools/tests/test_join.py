@@ -1,0 +1,110 @@
+"""join.py, over packages that packages.py spells and over those of the cases."""
+import packages
+
+from ldvtools import join
+from ldvtools.packages import read_package
+
+from .support import InFolder, read, tool
+from .test_check import cases
+
+
+def sized(data):
+    return len(data).to_bytes(4, "big") + data
+
+
+def pair_in(data):
+    """The two packages in an input of `ldv join`; None where it isn't made of them and their lengths."""
+    found = []
+    while len(found) < 2 and len(data) >= 4 + int.from_bytes(data[:4], "big"):
+        end = 4 + int.from_bytes(data[:4], "big")
+        found.append(data[4:end])
+        data = data[end:]
+    return None if data or len(found) < 2 else found
+
+
+class Joins(InFolder):
+    """Two packages that differ in one thing."""
+
+    def made(self, name, start="main", files=None, rows=None, **fields):
+        columns = [packages.column("k", "INT NOT NULL"), packages.column("v", "TEXT")]
+        rows = rows if rows is not None else [packages.row(0, 1, "a"), packages.row(1, 2, "b")]
+        table = packages.table("t", columns, **{"key": [0], "next": 5, "rows": rows, **fields})
+        files = files or [packages.file("main", "exit 0\n"), packages.file("seen", "x\ny\n")]
+        trace = [packages.started(), packages.asked(0), packages.ended()]
+        return self.put(name, packages.encode(packages.package(tables=[table], files=files, trace=trace)))
+
+    def joined(self, *words):
+        return tool(join, *words)
+
+    def test_input(self):
+        """The input has each package with its length before it."""
+        first, second = self.made("a"), self.made("b", rows=[packages.row(1, 2, "b")])
+        self.assertEqual(self.joined(first, second), (0, sized(read(first)) + sized(read(second)), ""))
+
+    def test_file(self):
+        files = [packages.file("main", "exit 0\n"), packages.file("seen", "x\nz\n")]
+        first, second = self.made("a"), self.made("b", files=files)
+        status, out, err = self.joined(first, second)
+        self.assertEqual((status, out), (1, b""))
+        self.assertEqual(err, f"join.py: clash: file seen\n  {first} has 4 bytes of it, {second} 4 bytes; "
+                              "the first difference is at byte 2, in line 2\n")
+
+    def test_present_file(self):
+        """A file that only one has whole doesn't clash."""
+        files = [packages.file("main", "exit 0\n"), packages.file("seen")]
+        self.assertEqual(self.joined(self.made("a"), self.made("b", files=files))[0], 0)
+
+    def test_table(self):
+        """Columns, key and next number are named where they differ; a table comes before its rows."""
+        first, second = self.made("a"), self.made("b", next=7, key=[], rows=[packages.row(0, 1, "other")])
+        self.assertEqual(self.joined(first, second)[2],
+                         f"join.py: clash: table t\n  key: k in {first}, none in {second}\n"
+                         f"  next row number: 5 in {first}, 7 in {second}\n")
+
+    def test_row(self):
+        """The columns that differ, with the values of both."""
+        first = self.made("a")
+        second = self.made("b", rows=[packages.row(1, 2, None), packages.row(3, 1, "a")])
+        self.assertEqual(self.joined(first, second)[2],
+                         f"join.py: clash: row t 1\n  column v: b in {first}, NULL in {second}\n")
+
+    def test_key(self):
+        """Keys are judged over the rows of both, and it is said which of the two has a row."""
+        first = self.made("a")
+        second = self.made("b", rows=[packages.row(0, 1, "a"), packages.row(3, 2, "c")])
+        self.assertEqual(self.joined(first, second)[2],
+                         f"join.py: clash: key t 3\n  row 1 of {first} and row 3 of {second} have the same "
+                         "key: k 2\n")
+        rows = [packages.row(0, 1, "a"), packages.row(1, 2, "b"), packages.row(2, 1, "d")]
+        twin = self.made("c", rows=rows)
+        self.assertIn(f"row 0 of {first} and {twin} and row 2 of {twin}", self.joined(first, twin)[2])
+
+    def test_order(self):
+        """Files are looked at before tables, and these before rows."""
+        files = [packages.file("main", "exit 1\n")]
+        second = self.made("b", files=files, next=7, rows=[packages.row(0, 9, "a")])
+        self.assertIn("clash: file main", self.joined(self.made("a"), second)[2])
+        second = self.made("b", next=7, rows=[packages.row(0, 9, "a")])
+        self.assertIn("clash: table t", self.joined(self.made("a"), second)[2])
+
+    def test_no_packages(self):
+        first = self.made("a")
+        self.assertEqual(self.joined(first, self.put("n", b"no package"))[0], 1)
+        self.assertIn("standard input", self.joined("-", "-")[2])
+        self.assertEqual(self.joined(first)[0], 2)
+        replies = self.put("r", packages.encode(packages.package(mode=2)))
+        self.assertIn("recorded replies", self.joined(first, replies)[2])
+
+    def test_cases(self):
+        """The clash is the one that the program has to name, and what doesn't clash has none."""
+        named = 0
+        joined = 0
+        for words, data, status, _, error in cases():
+            pair = pair_in(data) if words == ["join"] else None
+            if pair is None or status not in (0, 15):
+                continue
+            clash = join.clash_of(*map(read_package, pair))
+            self.assertEqual(f"ldv: clash: {clash.name}\n" if clash else "", error)
+            named += clash is not None
+            joined += clash is None
+        self.assertGreater(min(named, joined), 4)
