@@ -9,6 +9,8 @@ ROOT is the top of a checkout, by default that of this script. Checked are
   these by a path, and that the folders of crates/ are the crates that it lists;
 - the lines of sources and specs: that they have at most 110 columns, but for imports and attributes, which
   rt fmt lays out, and a few that have yet to be broken;
+- the names of functions and definitions: that none is a bare participle or adjective, but for those that
+  tools/bare_names.txt lists (check_names.py says which names are bare);
 - the tables of crates in docs/ARCHITECTURE.md against crates.txt: the crates in their order, what each stands
   on, and the libraries of the kit; and that its entry function and its first definition are where it says;
 - the boxes in docs/ARCHITECTURE.md against the parts of crates.txt;
@@ -29,6 +31,8 @@ import os
 import re
 import sys
 from typing import Dict, Iterator, List, Optional, Set, Tuple, Union
+
+import check_names
 
 CRATES = 'crates.txt'
 ARCHITECTURE = 'docs/ARCHITECTURE.md'
@@ -405,6 +409,7 @@ def main(words: List[str]) -> int:
     differ = Differences()
     check_crates(root, differ)
     check_lines(root, differ)
+    check_names.check_names(root, differ.add)
     for document in documents(root):
         check_paths(root, document, differ)
     check_definitions(root, differ)
