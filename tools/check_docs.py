@@ -19,6 +19,9 @@ ROOT is the top of a checkout, by default that of this script. Checked are
 - each path in a document that begins with a folder of this repository or with a crate, such as
   `crates/ldv_top/specs/Due.antt` or `ldv_top/specs/Due.antt`;
 - the tables of docs/DEFINITIONS.md: that each name is defined in the file of its row;
+- the tables of docs/GUARANTEES.md: that each crate is there, that the functions and types of the last cells
+  are those of the crate, and that what stands in brackets behind a function is in its contract, as the name
+  of a clause or as a definition that it cites, or is a field of such a definition;
 - the manual page docs/ldv.1: that it has the commands of docs/COMMANDS.md, and its statuses with their
   messages;
 - that CHANGELOG.md, README.md, the manual page and tools/pyproject.toml have one version.
@@ -38,6 +41,7 @@ CRATES = 'crates.txt'
 ARCHITECTURE = 'docs/ARCHITECTURE.md'
 README = 'README.md'
 DEFINITIONS = 'docs/DEFINITIONS.md'
+GUARANTEES = 'docs/GUARANTEES.md'
 COMMANDS = 'docs/COMMANDS.md'
 MANUAL = 'docs/ldv.1'
 CHANGELOG = 'CHANGELOG.md'
@@ -340,6 +344,76 @@ def check_definitions(root: str, differ: Differences) -> None:
                 differ.add(DEFINITIONS, number, f'{name} is not defined in {" ".join(files)}')
 
 
+# ---- guarantees
+
+SECTION = re.compile(r'#+ \[`(\w+)`\]')
+# A function or a type, with the clauses of its contract or the definitions that this cites.
+PROMISE = re.compile(r'`(?:(\w+)::)?(\w+)`(?: \(((?:`\w+`(?:, )?)+)\))?')
+SIGNATURE = re.compile(r'( *)(?:pub(?:\([^)]*\))? )?(?:const )?fn (\w+)')
+TYPE = re.compile(r'^(?:pub )?(?:struct|enum|trait|type) (\w+)', re.M)
+RECORD = re.compile(r'^pub record (\w+).*?(?=^\S|\Z)', re.M | re.S)
+FIELD = re.compile(r'^  pub (\w+) :', re.M)
+
+
+def contracts_in(text: str) -> Iterator[Tuple[str, str]]:
+    """The functions of a source, each with the text from its signature to its body."""
+    lines = text.splitlines()
+    for number, line in enumerate(lines):
+        found = SIGNATURE.match(line)
+        if not found:
+            continue
+        end = number + 1
+        ends = re.compile(found[1] + r'[{}]|.*\bfn ')
+        while end < len(lines) and not lines[end - 1].endswith((') {', '> {')) and not ends.match(lines[end]):
+            end += 1
+        yield found[2], '\n'.join(lines[number:end])
+
+
+def promises_of(root: str, crate: str) -> Tuple[Dict[str, str], Set[str], Dict[str, Set[str]]]:
+    """The contracts of a crate's functions by name, its types, and the fields of its records of specs."""
+    contracts: Dict[str, str] = {}
+    types: Set[str] = set()
+    for file in files_of(root, crate, ('src',)):
+        text = read(root, file)
+        types |= set(TYPE.findall(text))
+        for name, contract in contracts_in(text):
+            contracts[name] = contracts.get(name, '') + '\n' + contract
+    fields: Dict[str, Set[str]] = {}
+    for file in files_of(root, crate, ('specs',)):
+        for record in RECORD.finditer(read(root, file)):
+            fields[record[1]] = set(FIELD.findall(record[0]))
+    return contracts, types, fields
+
+
+def check_promise(contract: str, fields: Dict[str, Set[str]], names: List[str]) -> List[str]:
+    """The names that are no clause of a contract, nothing that it cites, and no field of that."""
+    words = set(re.findall(r'\w+', contract))
+    known = words.union(*(fields[word] for word in words if word in fields))
+    return [name for name in names if name not in known]
+
+
+def check_guarantees(root: str, differ: Differences) -> None:
+    text = read(root, GUARANTEES)
+    crate, sections = '', {}
+    for number, line in enumerate(text.splitlines(), 1):
+        if line.startswith('#'):
+            found = SECTION.match(line)
+            crate = found[1] if found else ''
+        sections[number] = crate
+    for name in sorted(set(crates_in(root)) - set(codes(text.replace('\n', ' ')))):
+        differ.add(GUARANTEES, 1, f'{name} is missing')
+    known = {name: promises_of(root, name) for name in set(sections.values()) & set(crates_in(root))}
+    for number, cells, _ in tables(text):
+        if sections[number] not in known or len(cells) != 3:
+            continue
+        contracts, types, fields = known[sections[number]]
+        for type_name, name, names in PROMISE.findall(cells[2]):
+            for missing in [n for n in (type_name, name) if n and n not in types and n not in contracts]:
+                differ.add(GUARANTEES, number, f'{sections[number]} has no {missing}')
+            for missing in check_promise(contracts.get(name, ''), fields, codes(names)):
+                differ.add(GUARANTEES, number, f'the contract of {name} has no {missing}')
+
+
 # ---- the manual page
 
 def listed_commands(text: str) -> Tuple[Listed, Listed]:
@@ -413,6 +487,7 @@ def main(words: List[str]) -> int:
     for document in documents(root):
         check_paths(root, document, differ)
     check_definitions(root, differ)
+    check_guarantees(root, differ)
     check_manual(root, differ)
     check_version(root, differ)
     return 1 if differ.count else 0
