@@ -14,6 +14,8 @@ ROOT is the top of a checkout, by default that of this script. Checked are
 - the tables of crates in docs/ARCHITECTURE.md against crates.txt: the crates in their order, what each stands
   on, and the libraries of the kit; and that its entry function and its first definition are where it says;
 - the boxes in docs/ARCHITECTURE.md against the parts of crates.txt;
+- its table of meanings: that what it names are files of specs, and that each file of specs that the sources
+  or the specs of another crate cite is among them;
 - that README.md names each library of the kit among what is trusted;
 - each relative link of each document, with its heading where it names one;
 - each path in a document that begins with a folder of this repository or with a crate, such as
@@ -241,9 +243,42 @@ def check_entry(root: str, number: int, crate: str, cell: str, differ: Differenc
             differ.add(ARCHITECTURE, number, f'{file} has no function {word}')
 
 
+# A module of specs in a path of antt.
+CITED = re.compile(r'\bRattle\.(\w+)\.specs\.([A-Z]\w*)')
+
+
+def cited_specs(root: str, crates: Dict[str, List[str]]) -> Dict[str, Dict[str, str]]:
+    """Of each crate the files of specs that sources or specs of others cite, with the first that does."""
+    cited: Dict[str, Dict[str, str]] = {}
+    for crate in crates:
+        for file in files_of(root, crate, ('src', 'specs')):
+            for name, module in CITED.findall(COMMENT.sub('', read(root, file))):
+                if name != crate:
+                    cited.setdefault(name, {}).setdefault(module, file)
+    return cited
+
+
+def check_meanings(root: str, crates: Dict[str, List[str]], differ: Differences) -> None:
+    """A row names files of specs, or says that all are meaning but those that it names."""
+    cited = cited_specs(root, crates)
+    for number, cells, head in tables(read(root, ARCHITECTURE)):
+        if head[0] != 'Specs of':
+            continue
+        crate = codes(cells[0])[0]
+        named = set(codes(cells[1]) + codes(cells[2]))
+        for name in sorted(named):
+            if not exists(root, f'crates/{crate}/specs/{name}.antt'):
+                differ.add(ARCHITECTURE, number, f'there is no crates/{crate}/specs/{name}.antt')
+        if cells[1].startswith('all but'):
+            named = set(cited.get(crate, {})) - set(codes(cells[1]))
+        for name in sorted(set(cited.get(crate, {})) - named - {'Types'}):
+            differ.add(ARCHITECTURE, number, f'{cited[crate][name]} cites {name} of {crate}')
+
+
 def check_crates(root: str, differ: Differences) -> None:
     check_list(root, differ)
     check_boxes(root, differ)
+    check_meanings(root, crates_in(root), differ)
     crates = crates_in(root)
     rows = [row for row in tables(read(root, ARCHITECTURE)) if row[2][0] == 'Crate']
     listed = [codes(cells[0])[0] for _, cells, _ in rows]
