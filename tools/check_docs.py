@@ -6,7 +6,8 @@
 ROOT is the top of a checkout, by default that of this script. Checked are
 
 - crates.txt: that a crate comes after those that it stands on, that its sources, specs or proofs use each of
-  these by a path, and that the folders of crates/ are the crates that it lists;
+  these by a path, that no chain of crates is longer than eight, and that the folders of crates/ are the
+  crates that it lists;
 - the lines of sources and specs: that they have at most 110 columns, but for imports and attributes, which
   rt fmt lays out, and a few that have yet to be broken;
 - the names of functions and definitions: that none is a bare participle or adjective, but for those that
@@ -55,6 +56,9 @@ PATH = re.compile(r'(?<![\w./-])(?:%s)/[\w./+*-]*' % '|'.join(re.escape(f) for f
 CRATE_PATH = re.compile(r'(?<![\w./-])\w+/(?:src|specs|proofs|must-fail)/[\w./+*-]*')
 # A path with such a mark stands for several, or for one that a build makes.
 PLACEHOLDER = re.compile(r'\*|\bNAME\b|/out\b|[A-Z]{3,}\b(?!\.md)')
+
+# How many crates may stand on one another.
+LONGEST = 8
 
 COMMENT = re.compile(r'^\s*(?://|--).*$', re.M)
 # The first name of a path in antt, and in Rust.
@@ -164,12 +168,15 @@ def used_by(root: str, crate: str) -> Set[str]:
 
 def check_list(root: str, differ: Differences) -> None:
     crates = crates_in(root)
-    seen: Set[str] = set()
+    # Of each crate that came before, how long the longest chain is that ends with it.
+    chains: Dict[str, int] = {}
     for number, name, uses in [line for lines in parts_in(root).values() for line in lines]:
         for use in uses:
-            if use in crates and use not in seen:
+            if use in crates and use not in chains:
                 differ.add(CRATES, number, f'{name} comes before {use}')
-        seen.add(name)
+        chains[name] = 1 + max((chains.get(use, 0) for use in uses), default=0)
+        if chains[name] > LONGEST:
+            differ.add(CRATES, number, f'{name} ends a chain of {chains[name]} crates')
         for use in sorted(set(uses) - used_by(root, name)):
             differ.add(CRATES, number, f'{name} uses no {use}')
     folders = {f for f in os.listdir(os.path.join(root, 'crates')) if exists(root, f'crates/{f}/src')}

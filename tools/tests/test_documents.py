@@ -261,6 +261,14 @@ class Layout(InFolder):
         self.assertEqual(self.differences(check_docs.check_list),
                          "crates.txt:1: high is no crate of the list\n")
 
+    def test_chains(self):
+        """No chain of crates is longer than eight; libraries of the kit don't count."""
+        lines = ["c1: itoa"] + [f"c{n}: c{n - 1} c1" for n in range(2, 11)]
+        self.put("crates.txt", "# Part\n" + "\n".join(lines) + "\n")
+        found = [line for line in self.differences(check_docs.check_list).splitlines() if "chain" in line]
+        self.assertEqual(found, ["crates.txt:10: c9 ends a chain of 9 crates",
+                                 "crates.txt:11: c10 ends a chain of 10 crates"])
+
     def test_meanings(self):
         """A file of specs that another crate's sources or specs cite is named in the row of its crate."""
         os.makedirs(os.path.join(self.folder, "docs"))
