@@ -1,7 +1,7 @@
 #!/usr/bin/env python3
 """Looks for names that are a bare participle or adjective, which break the naming rule of the Rattle kit.
 
-    tools/check_names.py [--list] [ROOT]
+    tools/check_names.py [--drop] [--add] [ROOT]
 
 A function says what it gives or does (`count_of`, not `held`), and a fact that an adjective or a participle
 names has a verb before it (`IsSorted`, not `Sorted`). A name is bare where each of its words is a participle,
@@ -10,10 +10,11 @@ the public definitions of specs.
 
 tools/bare_names.txt has those that stand today, a line for each crate, folder and name, and as comments why
 some of them stay. It may only get shorter: a bare name that it doesn't have is a difference, and so is one
-that it has and that is gone. --list prints what it would have, without the comments, for a name that has
-to move from one crate to another.
+that it has and that is gone. --drop takes off what is gone. --add puts on what is new, for a name that moves
+from one crate to another, or for a branch that began before the list did.
 
-tools/check_docs.py calls it. It prints a line for each difference, and ends with status 1 where there is one.
+tools/check_docs.py calls it. It prints a line for each difference that is left, and ends with status 1 where
+there is one.
 """
 from __future__ import annotations
 
@@ -132,6 +133,19 @@ def listed_names(root: str) -> Dict[Name, int]:
     return names
 
 
+def rewrite_list(root: str, drop: bool, add: bool) -> None:
+    """Takes the names off that are gone, puts those on that are new, and keeps all remarks."""
+    found, listed = bare_names(root), listed_names(root)
+    with open(os.path.join(root, LIST), encoding='utf-8') as file:
+        lines = file.read().splitlines()
+    kept = {name: lines[number - 1] for name, number in listed.items() if not drop or name in found}
+    if add:
+        kept.update((name, ' '.join(name)) for name in found if name not in listed)
+    head = [line for line in lines if line.startswith('#')]
+    with open(os.path.join(root, LIST), 'w', encoding='utf-8') as file:
+        file.write(''.join(line + '\n' for line in head + [kept[name] for name in sorted(kept)]))
+
+
 def check_names(root: str, add: Callable[[str, int, str], None]) -> None:
     """Calls `add` with the file, the line and the text of each difference."""
     found, listed = bare_names(root), listed_names(root)
@@ -146,13 +160,11 @@ def main(words: List[str]) -> int:
     options: Set[str] = {word for word in words if word.startswith('--')}
     roots = [word for word in words if word not in options]
     root = roots[0] if roots else os.path.dirname(os.path.dirname(os.path.abspath(__file__)))
-    if options - {'--list'} or len(roots) > 1:
+    if options - {'--drop', '--add'} or len(roots) > 1:
         print(__doc__, file=sys.stderr)
         return 2
     if options:
-        for name in sorted(bare_names(root)):
-            print(' '.join(name))
-        return 0
+        rewrite_list(root, '--drop' in options, '--add' in options)
     differences: List[str] = []
     check_names(root, lambda file, line, text: differences.append(f'{file}:{line}: {text}'))
     print('\n'.join(differences), end='\n' if differences else '')

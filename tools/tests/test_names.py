@@ -3,7 +3,7 @@ import os
 
 import check_names
 
-from .support import InFolder, tool
+from .support import InFolder, read, tool
 
 SOURCE = """//! Low.
 
@@ -37,6 +37,15 @@ pub record IsSorted : Type 0 where
 pub data Held : Type 0 where
 """
 
+STANDING = """low specs Held  # it stays
+low specs Sorted
+low specs added
+low specs all_extended
+low src held
+low src looked_up
+low src sooner
+"""
+
 
 class Names(InFolder):
     """A crate `low` with some names, of which the list has some."""
@@ -53,7 +62,7 @@ class Names(InFolder):
         self.list("")
 
     def list(self, text):
-        self.put(check_names.LIST, text)
+        return self.put(check_names.LIST, text)
 
     def test_bare(self):
         """A bare name is a participle or an adjective, whatever adverb stands beside it."""
@@ -80,10 +89,7 @@ crates/low/src/lib.rt:17: sooner is a bare participle or adjective: say what it 
 
     def test_list(self):
         """What is listed may stand; what is listed and gone has to leave the list."""
-        out = tool(check_names, "--list", self.folder)[1].decode()
-        self.assertEqual(out, "low specs Held\nlow specs Sorted\nlow specs added\nlow specs all_extended\n"
-                              "low src held\nlow src looked_up\nlow src sooner\n")
-        self.list("# Names.\n" + out.replace("Held", "Held  # it stays"))
+        self.list(f"# Names.\n{STANDING}")
         self.assertEqual(tool(check_names, self.folder)[:2], (0, b""))
         self.put("crates/low/src/lib.rt", SOURCE.replace("fn held", "fn held_rows"))
         self.assertEqual(tool(check_names, self.folder)[:2],
@@ -92,6 +98,20 @@ crates/low/src/lib.rt:17: sooner is a bare participle or adjective: say what it 
         status, out, _ = tool(check_names, self.folder)
         self.assertEqual((status, out.count(b"\n")), (1, 1))
         self.assertTrue(out.startswith(b"crates/low/src/lib.rt:18: joined is a bare "), out)
+
+    def test_rewritten(self):
+        """--drop takes off what is gone, --add puts on what is new, and both keep the other lines."""
+        path = self.list(f"# Names.\n{STANDING}")
+        self.put("crates/low/src/lib.rt", SOURCE.replace("fn held", "fn made"))
+        self.assertEqual(tool(check_names, "--drop", self.folder)[0], 1)
+        dropped = f"# Names.\n{STANDING}".replace("low src held\n", "")
+        self.assertEqual(read(path).decode(), dropped)
+        self.assertEqual(tool(check_names, "--add", self.folder)[:2], (0, b""))
+        added = dropped.replace("low src looked_up\n", "low src looked_up\nlow src made\n")
+        self.assertEqual(read(path).decode(), added)
+        self.put("crates/low/src/lib.rt", SOURCE)
+        self.assertEqual(tool(check_names, "--drop", "--add", self.folder)[:2], (0, b""))
+        self.assertEqual(read(path).decode(), f"# Names.\n{STANDING}")
 
     def test_words(self):
         self.assertEqual(tool(check_names, "--other")[0], 2)
