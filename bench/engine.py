@@ -24,7 +24,6 @@ RUNS = 3
 POINTS = 100000
 INSERTS = 300000
 CHILDLESS = 100000
-NOT_BUILT = 13
 
 
 # ---- tables: name, columns, and the row of a number from 1
@@ -209,8 +208,7 @@ def best(words, source, target, runs):
 
 
 def measure_ldv(ldv, folder, case, size, runs):
-    """Seconds of all and of the load, MiB of all and of the load, and what was found;
-    None where it isn't run yet."""
+    """Seconds of all and of the load, MiB of all and of the load, and what was found."""
     tables, statements = CASES[case]
     world, outcome = os.path.join(folder, 'world'), os.path.join(folder, 'outcome')
     write_world(world, 'exit 0', tables, size)
@@ -219,8 +217,6 @@ def measure_ldv(ldv, folder, case, size, runs):
         sys.exit(f'engine: {ldv} ended with {status}')
     write_world(world, script_of(statements, size), tables, size)
     status, total, memory = best([ldv, 'run'], world, outcome, runs)
-    if status == NOT_BUILT:
-        return None
     if status:
         sys.exit(f'engine: {case}: {ldv} ended with {status}')
     return total, load, memory, load_memory, found_in(outcome)
@@ -308,9 +304,6 @@ def ratio(a, b):
 
 
 def show(case, size, ours, theirs):
-    if ours is None:
-        print(f'{case:12s} {size:8d}   not run yet')
-        return
     total, load_time, memory, load_memory, found = ours
     their_total, their_load, their_memory, their_found = theirs
     if found != their_found:

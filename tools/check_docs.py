@@ -6,17 +6,25 @@
 ROOT is the top of a checkout, by default that of this script. Checked are
 
 - crates.txt: that a crate comes after those that it stands on, that its sources, specs or proofs use each of
-  these by a path, and that the folders of crates/ are the crates that it lists;
+  these by a path, that no chain of crates is longer than eight, and that the folders of crates/ are the
+  crates that it lists;
 - the lines of sources and specs: that they have at most 110 columns, but for imports and attributes, which
   rt fmt lays out, and a few that have yet to be broken;
+- the names of functions and definitions: that none is a bare participle or adjective, but for those that
+  tools/bare_names.txt lists (check_names.py says which names are bare);
 - the tables of crates in docs/ARCHITECTURE.md against crates.txt: the crates in their order, what each stands
   on, and the libraries of the kit; and that its entry function and its first definition are where it says;
 - the boxes in docs/ARCHITECTURE.md against the parts of crates.txt;
+- its table of meanings: that what it names are files of specs, and that each file of specs that the sources
+  or the specs of another crate cite is among them;
 - that README.md names each library of the kit among what is trusted;
 - each relative link of each document, with its heading where it names one;
 - each path in a document that begins with a folder of this repository or with a crate, such as
   `crates/ldv_top/specs/Due.antt` or `ldv_top/specs/Due.antt`;
 - the tables of docs/DEFINITIONS.md: that each name is defined in the file of its row;
+- the tables of docs/GUARANTEES.md: that each crate is there, that the functions and types of the last cells
+  are those of the crate, and that what stands in brackets behind a function is in its contract, as the name
+  of a clause or as a definition that it cites, or is a field of such a definition;
 - the manual page docs/ldv.1: that it has the commands of docs/COMMANDS.md, and its statuses with their
   messages;
 - that CHANGELOG.md, README.md, the manual page and tools/pyproject.toml have one version.
@@ -30,10 +38,13 @@ import re
 import sys
 from typing import Dict, Iterator, List, Optional, Set, Tuple, Union
 
+import check_names
+
 CRATES = 'crates.txt'
 ARCHITECTURE = 'docs/ARCHITECTURE.md'
 README = 'README.md'
 DEFINITIONS = 'docs/DEFINITIONS.md'
+GUARANTEES = 'docs/GUARANTEES.md'
 COMMANDS = 'docs/COMMANDS.md'
 MANUAL = 'docs/ldv.1'
 CHANGELOG = 'CHANGELOG.md'
@@ -45,6 +56,9 @@ PATH = re.compile(r'(?<![\w./-])(?:%s)/[\w./+*-]*' % '|'.join(re.escape(f) for f
 CRATE_PATH = re.compile(r'(?<![\w./-])\w+/(?:src|specs|proofs|must-fail)/[\w./+*-]*')
 # A path with such a mark stands for several, or for one that a build makes.
 PLACEHOLDER = re.compile(r'\*|\bNAME\b|/out\b|[A-Z]{3,}\b(?!\.md)')
+
+# How many crates may stand on one another.
+LONGEST = 8
 
 COMMENT = re.compile(r'^\s*(?://|--).*$', re.M)
 # The first name of a path in antt, and in Rust.
@@ -154,12 +168,15 @@ def used_by(root: str, crate: str) -> Set[str]:
 
 def check_list(root: str, differ: Differences) -> None:
     crates = crates_in(root)
-    seen: Set[str] = set()
+    # Of each crate that came before, how long the longest chain is that ends with it.
+    chains: Dict[str, int] = {}
     for number, name, uses in [line for lines in parts_in(root).values() for line in lines]:
         for use in uses:
-            if use in crates and use not in seen:
+            if use in crates and use not in chains:
                 differ.add(CRATES, number, f'{name} comes before {use}')
-        seen.add(name)
+        chains[name] = 1 + max((chains.get(use, 0) for use in uses), default=0)
+        if chains[name] > LONGEST:
+            differ.add(CRATES, number, f'{name} ends a chain of {chains[name]} crates')
         for use in sorted(set(uses) - used_by(root, name)):
             differ.add(CRATES, number, f'{name} uses no {use}')
     folders = {f for f in os.listdir(os.path.join(root, 'crates')) if exists(root, f'crates/{f}/src')}
@@ -233,9 +250,42 @@ def check_entry(root: str, number: int, crate: str, cell: str, differ: Differenc
             differ.add(ARCHITECTURE, number, f'{file} has no function {word}')
 
 
+# A module of specs in a path of antt.
+CITED = re.compile(r'\bRattle\.(\w+)\.specs\.([A-Z]\w*)')
+
+
+def cited_specs(root: str, crates: Dict[str, List[str]]) -> Dict[str, Dict[str, str]]:
+    """Of each crate the files of specs that sources or specs of others cite, with the first that does."""
+    cited: Dict[str, Dict[str, str]] = {}
+    for crate in crates:
+        for file in files_of(root, crate, ('src', 'specs')):
+            for name, module in CITED.findall(COMMENT.sub('', read(root, file))):
+                if name != crate:
+                    cited.setdefault(name, {}).setdefault(module, file)
+    return cited
+
+
+def check_meanings(root: str, crates: Dict[str, List[str]], differ: Differences) -> None:
+    """A row names files of specs, or says that all are meaning but those that it names."""
+    cited = cited_specs(root, crates)
+    for number, cells, head in tables(read(root, ARCHITECTURE)):
+        if head[0] != 'Specs of':
+            continue
+        crate = codes(cells[0])[0]
+        named = set(codes(cells[1]) + codes(cells[2]))
+        for name in sorted(named):
+            if not exists(root, f'crates/{crate}/specs/{name}.antt'):
+                differ.add(ARCHITECTURE, number, f'there is no crates/{crate}/specs/{name}.antt')
+        if cells[1].startswith('all but'):
+            named = set(cited.get(crate, {})) - set(codes(cells[1]))
+        for name in sorted(set(cited.get(crate, {})) - named - {'Types'}):
+            differ.add(ARCHITECTURE, number, f'{cited[crate][name]} cites {name} of {crate}')
+
+
 def check_crates(root: str, differ: Differences) -> None:
     check_list(root, differ)
     check_boxes(root, differ)
+    check_meanings(root, crates_in(root), differ)
     crates = crates_in(root)
     rows = [row for row in tables(read(root, ARCHITECTURE)) if row[2][0] == 'Crate']
     listed = [codes(cells[0])[0] for _, cells, _ in rows]
@@ -336,6 +386,76 @@ def check_definitions(root: str, differ: Differences) -> None:
                 differ.add(DEFINITIONS, number, f'{name} is not defined in {" ".join(files)}')
 
 
+# ---- guarantees
+
+SECTION = re.compile(r'#+ \[`(\w+)`\]')
+# A function or a type, with the clauses of its contract or the definitions that this cites.
+PROMISE = re.compile(r'`(?:(\w+)::)?(\w+)`(?: \(((?:`\w+`(?:, )?)+)\))?')
+SIGNATURE = re.compile(r'( *)(?:pub(?:\([^)]*\))? )?(?:const )?fn (\w+)')
+TYPE = re.compile(r'^(?:pub )?(?:struct|enum|trait|type) (\w+)', re.M)
+RECORD = re.compile(r'^pub record (\w+).*?(?=^\S|\Z)', re.M | re.S)
+FIELD = re.compile(r'^  pub (\w+) :', re.M)
+
+
+def contracts_in(text: str) -> Iterator[Tuple[str, str]]:
+    """The functions of a source, each with the text from its signature to its body."""
+    lines = text.splitlines()
+    for number, line in enumerate(lines):
+        found = SIGNATURE.match(line)
+        if not found:
+            continue
+        end = number + 1
+        ends = re.compile(found[1] + r'[{}]|.*\bfn ')
+        while end < len(lines) and not lines[end - 1].endswith((') {', '> {')) and not ends.match(lines[end]):
+            end += 1
+        yield found[2], '\n'.join(lines[number:end])
+
+
+def promises_of(root: str, crate: str) -> Tuple[Dict[str, str], Set[str], Dict[str, Set[str]]]:
+    """The contracts of a crate's functions by name, its types, and the fields of its records of specs."""
+    contracts: Dict[str, str] = {}
+    types: Set[str] = set()
+    for file in files_of(root, crate, ('src',)):
+        text = read(root, file)
+        types |= set(TYPE.findall(text))
+        for name, contract in contracts_in(text):
+            contracts[name] = contracts.get(name, '') + '\n' + contract
+    fields: Dict[str, Set[str]] = {}
+    for file in files_of(root, crate, ('specs',)):
+        for record in RECORD.finditer(read(root, file)):
+            fields[record[1]] = set(FIELD.findall(record[0]))
+    return contracts, types, fields
+
+
+def check_promise(contract: str, fields: Dict[str, Set[str]], names: List[str]) -> List[str]:
+    """The names that are no clause of a contract, nothing that it cites, and no field of that."""
+    words = set(re.findall(r'\w+', contract))
+    known = words.union(*(fields[word] for word in words if word in fields))
+    return [name for name in names if name not in known]
+
+
+def check_guarantees(root: str, differ: Differences) -> None:
+    text = read(root, GUARANTEES)
+    crate, sections = '', {}
+    for number, line in enumerate(text.splitlines(), 1):
+        if line.startswith('#'):
+            found = SECTION.match(line)
+            crate = found[1] if found else ''
+        sections[number] = crate
+    for name in sorted(set(crates_in(root)) - set(codes(text.replace('\n', ' ')))):
+        differ.add(GUARANTEES, 1, f'{name} is missing')
+    known = {name: promises_of(root, name) for name in set(sections.values()) & set(crates_in(root))}
+    for number, cells, _ in tables(text):
+        if sections[number] not in known or len(cells) != 3:
+            continue
+        contracts, types, fields = known[sections[number]]
+        for type_name, name, names in PROMISE.findall(cells[2]):
+            for missing in [n for n in (type_name, name) if n and n not in types and n not in contracts]:
+                differ.add(GUARANTEES, number, f'{sections[number]} has no {missing}')
+            for missing in check_promise(contracts.get(name, ''), fields, codes(names)):
+                differ.add(GUARANTEES, number, f'the contract of {name} has no {missing}')
+
+
 # ---- the manual page
 
 def listed_commands(text: str) -> Tuple[Listed, Listed]:
@@ -405,9 +525,11 @@ def main(words: List[str]) -> int:
     differ = Differences()
     check_crates(root, differ)
     check_lines(root, differ)
+    check_names.check_names(root, differ.add)
     for document in documents(root):
         check_paths(root, document, differ)
     check_definitions(root, differ)
+    check_guarantees(root, differ)
     check_manual(root, differ)
     check_version(root, differ)
     return 1 if differ.count else 0

@@ -261,6 +261,33 @@ class Layout(InFolder):
         self.assertEqual(self.differences(check_docs.check_list),
                          "crates.txt:1: high is no crate of the list\n")
 
+    def test_chains(self):
+        """No chain of crates is longer than eight; libraries of the kit don't count."""
+        lines = ["c1: itoa"] + [f"c{n}: c{n - 1} c1" for n in range(2, 11)]
+        self.put("crates.txt", "# Part\n" + "\n".join(lines) + "\n")
+        found = [line for line in self.differences(check_docs.check_list).splitlines() if "chain" in line]
+        self.assertEqual(found, ["crates.txt:10: c9 ends a chain of 9 crates",
+                                 "crates.txt:11: c10 ends a chain of 10 crates"])
+
+    def test_meanings(self):
+        """A file of specs that another crate's sources or specs cite is named in the row of its crate."""
+        os.makedirs(os.path.join(self.folder, "docs"))
+        self.put("crates/low/specs/Adding.antt", "use Rattle.low.specs.Digits.{digits}\n")
+        self.put("crates/low/specs/Digits.antt", "")
+        self.put("crates/high/proofs/f/Answers.antt", "use Rattle.low.specs.Digits.{digits}\n")
+        high = "crates/high/specs/Sums.antt"
+        self.put(high, "-- use Rattle.low.specs.Digits.{digits}\nuse Rattle.low.specs.Adding.{added}\n"
+                       "use Rattle.low.specs.Types.{N}\n")
+        for meaning, made, found in (("`Adding`", "", ""), ("`Digits`", "`Adding`", ""),
+                                     ("all but `Digits`", "", ""), ("", "", f"{high} cites Adding of low\n"),
+                                     ("all but `Adding`", "", f"{high} cites Adding of low\n"),
+                                     ("`Adding` `Sums`", "", "there is no crates/low/specs/Sums.antt\n")):
+            self.put(check_docs.ARCHITECTURE, "| Specs of | Meaning | Made of |\n|---|---|---|\n"
+                                              f"| `low` | {meaning} | {made} |\n")
+            differences = self.differences(
+                lambda root, differ: check_docs.check_meanings(root, check_docs.crates_in(root), differ))
+            self.assertEqual(differences, found and "docs/ARCHITECTURE.md:3: " + found, meaning)
+
     def test_lines(self):
         """Lines of sources and specs have at most 110 columns, but for imports and attributes."""
         self.assertEqual(self.differences(check_docs.check_lines), "")
