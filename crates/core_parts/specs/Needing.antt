@@ -1,8 +1,10 @@
 -- Lists of needed rows, sorted by table and number, as one.
-use Rattle.std.specs.Prelude.{◌≡◌, ◌+◌, ◌<◌, List, [], ◌∷◌, length}
+use Rattle.std.specs.Prelude.{◌≡◌, ◌+◌, ◌-◌, ◌<◌, List, [], ◌∷◌, ◌++◌, length, Bool, false, slice_get}
+use Rattle.std.specs.Prelude.{if◌then◌else◌}
+use Rattle.std.specs.Option.{option_map_or}
 use Rattle.std.specs.declared.cmp.Ordering.{Ordering}
 use Rattle.std.specs.declared.cmp.Ordering.TheVariants.{Less, Equal, Greater}
-use Rattle.std.specs.Ordering.{nat_cmp, ordering_then}
+use Rattle.std.specs.Ordering.{nat_cmp, ordering_then, is_eq}
 use Rattle.std.specs.Cmp.Lexicographic.{slice_cmp}
 use Rattle.core_parts.specs.Types.{Member, Need, Rule}
 use Rattle.core_parts.specs.declared.needs.Next.{Next}
@@ -13,6 +15,9 @@ need_by rule member = record { member = member; rule = rule }
 -- by table, then by number
 abbrev pub member_order : Member → Member → Ordering
 member_order a b = ordering_then (slice_cmp nat_cmp a.table b.table) (nat_cmp a.row b.row)
+
+abbrev pub need_order : Need → Need → Ordering
+need_order a b = member_order a.member b.member
 
 -- a need before, in place of, or after the first of others, which are sorted; `more` unites what follows it
 abbrev pub united_by : Ordering → Need → (List Need → List Need) → Need → List Need → List Need → List Need
@@ -36,6 +41,23 @@ sorted_once [] = []
 sorted_once (need ∷ needs) = united (need ∷ []) (sorted_once needs)
 
 -- ---- on the way
+
+-- a need is of the row of the last of some
+abbrev pub is_last_row : Need → List Need → Bool
+is_last_row need needs =
+    option_map_or (λ last. is_eq (need_order last need)) (slice_get needs (length needs - 1)) false
+
+-- needs with one more, unless it is of the row of the last
+abbrev pub with_other : Need → List Need → List Need
+with_other need needs = if is_last_row need needs then needs else needs ++ need ∷ []
+
+abbrev pub others_onto : List Need → List Need → List Need
+others_onto made [] = made
+others_onto made (need ∷ needs) = others_onto (with_other need made) needs
+
+-- of needs of one row that follow one another, the first
+abbrev pub once_each : List Need → List Need
+once_each needs = others_onto [] needs
 
 -- two lists are at their end
 abbrev pub IsLast : List Need → List Need → Type 0

@@ -12,7 +12,8 @@
 //!   (`specs/Masking.antt`). `constant_of` has the value of an expression that names no column
 //!   (`specs/Constants.antt`); `is_column` and `is_equal_test` tell comparisons of columns
 //!   (`specs/Equality.antt`);
-//! - `needed_by` and `united` are lists of needed rows, sorted by table and number (`specs/Needing.antt`);
+//! - `needed_by`, `sorted_once` and `united` make lists of needed rows, sorted by table and number
+//!   (`specs/Needing.antt`);
 //! - `Refs` is a list of references, which contracts see as the list of what they refer to, and `RefsBy` has
 //!   such lists under keys (`specs/Listing.antt`);
 //! - `ByOrder` is a reference to a value or to the values of a row, as a key of a set or a map;
@@ -20,7 +21,8 @@
 //!
 //! The lemmas on places and lists that proofs above use are in `proofs/Places.antt`, `proofs/Names.antt`,
 //! `proofs/Lists.antt` and `proofs/Listings.antt`, those on conditions in `proofs/Agree.antt`,
-//! `proofs/Equalities.antt`, `proofs/ConjunctLaws.antt`, `proofs/FixingLaws.antt` and `proofs/MaskLaws.antt`.
+//! `proofs/Equalities.antt`, `proofs/ConjunctLaws.antt`, `proofs/FixingLaws.antt` and `proofs/MaskLaws.antt`,
+//! and those on lists of needed rows in `proofs/RowLists.antt`.
 #![tactic(auto)]
 
 mod by_order;

@@ -1,7 +1,9 @@
 //! Lists of needed rows, sorted by table and number.
 
-ghost use Rattle.std.specs.Prelude.{◌≡◌, [], ◌∷◌, map, IfOk, MatchOption};
-ghost use Rattle.core_parts.specs.Needing.{need_by, sorted_once, united, member_order, IsLast, IsNext};
+ghost use Rattle.std.specs.Prelude.{◌≡◌, [], ◌∷◌, map, IfOk, MatchOption, OnOk};
+ghost use Rattle.core_parts.specs.Needing.{need_by, need_order, member_order, sorted_once, united};
+ghost use Rattle.core_parts.specs.Needing.{is_last_row, once_each, with_other, IsLast, IsNext};
+ghost use Rattle.sql_model.specs.Sorting.{sorted_by};
 
 use ldv_value::{CopyItem, List};
 use sql_model::{Member, Members, Need, Needs, Rule};
@@ -32,22 +34,48 @@ pub fn needed_by(rule: Rule, members: Members) -> Result<Needs, AllocError>
 pub fn sorted_once(alloc: Global, needs: Needs) -> Result<Needs, AllocError>
     ensures { IfOk result (λ made. made ≡ sorted_once needs) }
 {
+    let ordered = sorted(needs)?;
+    let made = once_each(alloc, ordered)?;
+    Ok(made)
+}
+
+// Needs sorted by table and number; those of one row keep their order.
+fn sorted(needs: Needs) -> Result<Needs, AllocError>
+    ensures { IfOk result (λ made. made ≡ sorted_by need_order needs) }
+{
     let mut items = needs.into_vec();
     items.sort_by(|a, b| member_order(&a.member, &b.member))?;
-    let mut made = List::with_capacity(alloc, items.len())?;
-    for need in items {
-        if is_other(made.items(), &need) {
-            made.push(need)?;
-        }
+    Ok(List::of_vec(items))
+}
+
+// Of needs of one row that follow one another, the first.
+fn once_each(alloc: Global, needs: Needs) -> Result<Needs, AllocError>
+    ensures { IfOk result (λ made. made ≡ once_each needs) }
+{
+    let mut made = List::with_capacity(alloc, needs.len())?;
+    for need in needs.into_vec() {
+        add_other(&mut made, need)?;
     }
     Ok(made)
 }
 
-// Whether a need is of another row than the last one.
-fn is_other(needs: &[Need], need: &Need) -> bool {
+// Adds a need, unless it is of the row of the last.
+fn add_other(needs: &mut Needs, need: Need) -> Result<(), AllocError>
+    ensures { OnOk result (needs.new ≡ with_other need needs.old) }
+{
+    if is_last_row(needs.items(), &need) {
+        return Ok(());
+    }
+    needs.push(need)
+}
+
+// Whether a need is of the row of the last of some.
+fn is_last_row(needs: &[Need], need: &Need) -> bool
+    ensures { result ≡ is_last_row need.now needs.now }
+{
     match needs.last() {
-        None => true,
-        Some(last) => member_order(&last.member, &need.member).is_ne(),
+        None => false,
+        Some(last) => member_order(&last.member, &need.member).is_eq(),
     }
 }
 

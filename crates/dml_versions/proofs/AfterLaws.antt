@@ -1,23 +1,29 @@
 -- What a change of a store returns and leaves, by what refuses it.
-use Rattle.std.proofs.Common.{◌≡◌, ℕ, ◌<◌, ◌≤◌, List, map, refl, ap, sym, ◌∙◌, subst, arith, Option, Some, None}
+use Rattle.std.proofs.Common.{◌≡◌, ℕ, ◌<◌, ◌≤◌, List, ◌++◌, map, refl, ap, sym, ◌∙◌, subst, arith, Option, Some, None}
 use Rattle.sql_model.proofs.Equations.{reply_is, need_is, made_is, updated_is, after_is}
 use Rattle.sql_model.specs.Changes.{or_else, change_refusal}
-use Rattle.sql_model.specs.Needs.{needs_by, sorted_needs, made_unless, updated_unless, versions_after, read_of}
+use Rattle.sql_model.specs.Needs.{matched_rows, parent_rows, needs_by, sorted_needs, made_unless, updated_unless, versions_after, read_of}
 use Rattle.sql_model.specs.Refusals.{check_refusal}
 use Rattle.sql_model.specs.Scope.{catalog_of}
-use Rattle.sql_model.specs.Statements.{target, refusal_of, reply_or, after_unless}
+use Rattle.sql_model.specs.Statements.{target, reference_refusal, refusal_of, reply_or, after_unless}
 use Rattle.table_store.specs.Histories.{tables_now, AreKeptBefore}
 use Rattle.dml_versions.specs.Changing.{IsWhole, IsStoreAfter}
-use Rattle.dml_versions.specs.Types.{SqlRefusal, Statement, StoreHistory, Table}
+use Rattle.dml_versions.specs.Types.{Need, SqlRefusal, Statement, StoreHistory, Table}
 use Rattle.dml_versions.specs.Versions.{versions_now}
 use Rattle.dml_versions.specs.declared.change.Change.{Change}
 
--- an accepted statement is refused by its rows alone
+-- an accepted statement is refused by its rows and by references alone
 pub refusal-is : (s : Statement) (db : List Table) (o : Option Table) → check_refusal s (catalog_of db) ≡ None → target s db ≡ o
-    → refusal_of (Some s) db ≡ change_refusal s (catalog_of db) o
+    → refusal_of (Some s) db ≡ or_else (change_refusal s (catalog_of db) o) (reference_refusal s (catalog_of db) o db)
 refusal-is s db o check found =
-    ap (λ (r : Option SqlRefusal). or_else r (change_refusal s (catalog_of db) (target s db))) check
-    ∙ ap (change_refusal s (catalog_of db)) found
+    λ j. or_else (or_else (check j) (change_refusal s (catalog_of db) (found j))) (reference_refusal s (catalog_of db) (found j) db)
+
+-- the rows that a statement matches and their parents, at their versions
+abbrev pub all_needed : Statement → StoreHistory → List Need
+all_needed s store =
+    map (read_of (versions_now store))
+    (sorted_needs (matched_rows s (catalog_of (tables_now store)) (target s (tables_now store))
+    ++ parent_rows s (catalog_of (tables_now store)) (target s (tables_now store)) (tables_now store)))
 
 module _ (s : Statement) (store : StoreHistory) (refusal : Option SqlRefusal) (is : refusal_of (Some s) (tables_now store) ≡ refusal) where
   abbrev db : List Table

@@ -12,8 +12,7 @@ use Rattle.sql_model.specs.Kinds.{names_in}
 use Rattle.sql_model.specs.Places.{places_of, checked_statement, checked_unless}
 use Rattle.sql_model.specs.Refusals.{is_missing, insert_names, insert_lacks_column, insert_clashes, update_clashes, row_fits, target_columns, set_fits, pick_fits, check_refusal, unresolved}
 use Rattle.sql_model.specs.Scope.{InScope, is_table, table_at, catalog_of, schema_at, columns_of, has_column, own_scope, resolves}
-use Rattle.sql_model.specs.Tables.{is_valid_table, are_distinct, table_precedes}
-use Rattle.ldv_value.specs.Sorted.{is_strictly_sorted}
+use Rattle.sql_model.specs.Tables.{is_valid_table, are_distinct}
 use Rattle.dml_versions.specs.Changing.{IsCheckedOver}
 use Rattle.sql_model.specs.Tables.{AreWellFormed}
 use Rattle.dml_versions.specs.Making.{ArePlain}

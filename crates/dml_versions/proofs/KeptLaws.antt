@@ -1,9 +1,10 @@
 -- What a change returns where its lists are kept, and where they aren't.
 use Rattle.std.proofs.Common.{◌≡◌, ℕ, List, [], refl, ap, sym, ◌∙◌, Some, Bool, true, false, IsTrue}
 use Rattle.ldv_value.proofs.Booleans.{true≢false}
-use Rattle.dml_versions.specs.Changing.{IsChange, IsWhole, refused_by, refused_change, told}
-use Rattle.dml_versions.specs.Needing.{with_key_rows}
-use Rattle.dml_versions.specs.Types.{Need, RowHistory, Statement, StoreHistory, NotNull, KeyTaken, Full}
+use Rattle.sql_model.specs.Needs.{Versions}
+use Rattle.dml_versions.specs.Changing.{IsChange, IsWhole, refused_by, refused_change, reply_alone, told}
+use Rattle.dml_versions.specs.Needing.{with_key_rows, with_child_row}
+use Rattle.dml_versions.specs.Types.{Need, RowHistory, Statement, StoreHistory, NotNull, KeyTaken, Full, NoParent, HasChild}
 use Rattle.dml_versions.specs.declared.change.Change.{Change}
 use Rattle.table_store.specs.declared.stop.StoreStop.{StoreStop}
 use Rattle.table_store.specs.declared.stop.StoreStop.TheVariants as stop
@@ -30,59 +31,111 @@ told-change s false store whole change is same = record {
   needs = λ kept. absurd (true≢false (sym kept));
 }
 
--- a refusal over some needs, and the one over others
-pub record IsRefusedOver (name : List ℕ) (slots : List RowHistory) (needs others : List Need) (at : StoreStop)
-    (change : Change) : Type 0 where
+-- ---- refusals over some needs, and over others
+
+-- the matched rows, where a refusal needs these alone
+abbrev pub SameOwn : StoreStop → List Need → List Need → Type 0
+SameOwn stop.NotNull needs others = needs ≡ others
+SameOwn (stop.KeyTaken earlier later key) needs others = needs ≡ others
+SameOwn stop.Full needs others = Unit {0}
+SameOwn (stop.NoParent table key) needs others = Unit {0}
+SameOwn (stop.HasChild table row key) needs others = Unit {0}
+SameOwn stop.NoMemory needs others = Unit {0}
+
+pub same-own : (at : StoreStop) (needs others : List Need) → needs ≡ others → SameOwn at needs others
+same-own stop.NotNull needs others same = same
+same-own (stop.KeyTaken earlier later key) needs others same = same
+same-own stop.Full needs others same = tt
+same-own (stop.NoParent table key) needs others same = tt
+same-own (stop.HasChild table row key) needs others same = tt
+same-own stop.NoMemory needs others same = tt
+
+-- with parents, where a refusal needs these too
+abbrev pub SameAll : StoreStop → List Need → List Need → Type 0
+SameAll stop.NotNull all others = Unit {0}
+SameAll (stop.KeyTaken earlier later key) all others = Unit {0}
+SameAll stop.Full all others = Unit {0}
+SameAll (stop.NoParent table key) all others = all ≡ others
+SameAll (stop.HasChild table row key) all others = all ≡ others
+SameAll stop.NoMemory all others = Unit {0}
+
+pub record IsRefusedOver (versions : Versions) (name : List ℕ) (slots : List RowHistory) (needs others all all_others : List Need)
+    (at : StoreStop) (change : Change) : Type 0 where
   pub whole : Change
-  pub is : refused_change name slots others at ≡ Some whole
+  pub is : refused_change versions name slots others all_others at ≡ Some whole
   pub reply : change.reply ≡ whole.reply
   pub made : change.made ≡ whole.made
-  pub needs_are : needs ≡ others → change.needs ≡ whole.needs
+  pub needs_are : SameOwn at needs others → SameAll at all all_others → change.needs ≡ whole.needs
 
 some_is : (a b : Change) → Some a ≡ Some b → b ≡ a
 some_is a b is = cc
 
-pub refused-over : (name : List ℕ) (slots : List RowHistory) (needs others : List Need) (at : StoreStop) (change : Change)
-    → refused_change name slots needs at ≡ Some change → IsRefusedOver name slots needs others at change
-refused-over name slots needs others stop.NotNull change is =
-    let same = some_is (refused_by NotNull needs) change is in
-    record {
-      whole = refused_by NotNull others;
-      is = refl;
-      reply = ap (λ (c : Change). c.reply) same;
-      made = ap (λ (c : Change). c.made) same;
-      needs_are = λ over. ap (λ (c : Change). c.needs) same ∙ over;
-    }
-refused-over name slots needs others (stop.KeyTaken earlier later key) change is =
-    let same = some_is (refused_by (KeyTaken name key) (with_key_rows name slots earlier later needs)) change is in
-    record {
-      whole = refused_by (KeyTaken name key) (with_key_rows name slots earlier later others);
-      is = refl;
-      reply = ap (λ (c : Change). c.reply) same;
-      made = ap (λ (c : Change). c.made) same;
-      needs_are = λ over. ap (λ (c : Change). c.needs) same ∙ ap (with_key_rows name slots earlier later) over;
-    }
-refused-over name slots needs others stop.Full change is =
-    let same = some_is (refused_by Full []) change is in
-    record {
-      whole = refused_by Full [];
-      is = refl;
-      reply = ap (λ (c : Change). c.reply) same;
-      made = ap (λ (c : Change). c.made) same;
-      needs_are = λ over. ap (λ (c : Change). c.needs) same;
-    }
-refused-over name slots needs others stop.NoMemory change is = cc
+module _ (versions : Versions) (name : List ℕ) (slots : List RowHistory) (needs others all all_others : List Need) where
+  pub refused-over : (at : StoreStop) (change : Change) → refused_change versions name slots needs all at ≡ Some change
+      → IsRefusedOver versions name slots needs others all all_others at change
+  refused-over stop.NotNull change is =
+      let same = some_is (refused_by NotNull needs) change is in
+      record {
+        whole = refused_by NotNull others;
+        is = refl;
+        reply = ap (λ (c : Change). c.reply) same;
+        made = ap (λ (c : Change). c.made) same;
+        needs_are = λ own more. ap (λ (c : Change). c.needs) same ∙ own;
+      }
+  refused-over (stop.KeyTaken earlier later key) change is =
+      let same = some_is (refused_by (KeyTaken name key) (with_key_rows name slots earlier later needs)) change is in
+      record {
+        whole = refused_by (KeyTaken name key) (with_key_rows name slots earlier later others);
+        is = refl;
+        reply = ap (λ (c : Change). c.reply) same;
+        made = ap (λ (c : Change). c.made) same;
+        needs_are = λ own more. ap (λ (c : Change). c.needs) same ∙ ap (with_key_rows name slots earlier later) own;
+      }
+  refused-over stop.Full change is =
+      let same = some_is (refused_by Full []) change is in
+      record {
+        whole = refused_by Full [];
+        is = refl;
+        reply = ap (λ (c : Change). c.reply) same;
+        made = ap (λ (c : Change). c.made) same;
+        needs_are = λ own more. ap (λ (c : Change). c.needs) same;
+      }
+  refused-over (stop.NoParent table key) change is =
+      let same = some_is (refused_by (NoParent table key) all) change is in
+      record {
+        whole = refused_by (NoParent table key) all_others;
+        is = refl;
+        reply = ap (λ (c : Change). c.reply) same;
+        made = ap (λ (c : Change). c.made) same;
+        needs_are = λ own more. ap (λ (c : Change). c.needs) same ∙ more;
+      }
+  refused-over (stop.HasChild table row key) change is =
+      let same = some_is (refused_by (HasChild table key) (with_child_row versions table row all)) change is in
+      record {
+        whole = refused_by (HasChild table key) (with_child_row versions table row all_others);
+        is = refl;
+        reply = ap (λ (c : Change). c.reply) same;
+        made = ap (λ (c : Change). c.made) same;
+        needs_are = λ own more. ap (λ (c : Change). c.needs) same ∙ ap (with_child_row versions table row) more;
+      }
+  refused-over stop.NoMemory change is = cc
 
--- a refusal over needs that are there where they are kept
-pub refused-told : (s : Statement) (keep : Bool) (store : StoreHistory) (name : List ℕ) (slots : List RowHistory)
-    (needs others : List Need) (at : StoreStop) (change : Change)
-    (over : IsRefusedOver name slots needs others at change) → (IsTrue keep → needs ≡ others)
-    → IsWhole s store over.whole → IsChange s keep store change
-refused-told s keep store name slots needs others at change over same is = record {
-  reply = over.reply ∙ is.reply;
-  made = λ kept. over.made ∙ is.made;
-  needs = λ kept. over.needs_are (same kept) ∙ is.needs;
-}
+  -- a refusal over needs that are there where they are kept
+  pub refused-told : (s : Statement) (keep : Bool) (store : StoreHistory) (at : StoreStop) (change : Change)
+      → (over : IsRefusedOver versions name slots needs others all all_others at change)
+      → (IsTrue keep → SameOwn at needs others) → (IsTrue keep → SameAll at all all_others)
+      → IsWhole s store over.whole → IsChange s keep store change
+  refused-told s keep store at change over own more is = record {
+    reply = over.reply ∙ is.reply;
+    made = λ kept. over.made ∙ is.made;
+    needs = λ kept. over.needs_are (own kept) (more kept) ∙ is.needs;
+  }
+
+-- what is told of a change with needs that are there where they are kept
+pub told-over : (keep : Bool) (of : List Need → Change) → ((a b : List Need) → (of a).reply ≡ (of b).reply) → (needs others : List Need)
+    → (IsTrue keep → needs ≡ others) → told keep (of needs) ≡ told keep (of others)
+told-over true of same needs others are = ap of (are refl)
+told-over false of same needs others are = ap reply_alone (same needs others)
 
 -- the needs of a change that is told
 pub told-needs : (keep : Bool) (whole change : Change) → change ≡ told keep whole → IsTrue keep → change.needs ≡ whole.needs

@@ -13,6 +13,7 @@ pub mod MatchLaws
 pub mod MatchedChange
 pub mod NeedLaws
 pub mod NumberLaws
+pub mod ReferLaws
 pub mod RefuseLaws
 pub mod StandingLaws
 pub mod TableLaws

@@ -19,11 +19,11 @@ use Rattle.dml_versions.specs.Types.{Column, Expr, Set, TableRow, Update, Value}
 -- ---- places of what passes a test
 
 module _ {X : Type 0} (p : X → Bool) where
-  here : (x : X) (xs : List X) → p x ≡ true → position p (x ∷ xs) ≡ Some 0
-  here x xs hit = rw hit (ap (λ (b : Bool). cond b (Some 0) None) (lt-ltb 0 (length (x ∷ xs)) (omega arith)))
+  pub position-here : (x : X) (xs : List X) → p x ≡ true → position p (x ∷ xs) ≡ Some 0
+  position-here x xs hit = rw hit (ap (λ (b : Bool). cond b (Some 0) None) (lt-ltb 0 (length (x ∷ xs)) (omega arith)))
 
-  later : (x : X) (xs : List X) → p x ≡ false → position p (x ∷ xs) ≡ option_map suc (position p xs)
-  later x xs miss = elim (cases_lt (position_or_len p xs) (length xs)) [
+  pub position-later : (x : X) (xs : List X) → p x ≡ false → position p (x ∷ xs) ≡ option_map suc (position p xs)
+  position-later x xs miss = elim (cases_lt (position_or_len p xs) (length xs)) [
     | inl within ↦
         let out : nat_lt (1 + position_or_len p xs) (length (x ∷ xs)) ≡ true = lt-ltb (1 + position_or_len p xs) (length (x ∷ xs)) (omega (arith, within)) in
         let in_ : nat_lt (position_or_len p xs) (length xs) ≡ true = lt-ltb (position_or_len p xs) (length xs) within in
@@ -48,9 +48,9 @@ none_there (Some (suc k)) = refl
 at_place : {X : Type 0} (p : X → Bool) (xs : List X) → option_and_then (slice_get xs) (position p xs) ≡ find p xs
 at_place p [] = none_there (position p [])
 at_place p (x ∷ xs) = elim (cases-bool (p x)) [
-  | inl hit ↦ ap (option_and_then (slice_get (x ∷ xs))) (here p x xs hit) ∙ sym (ap (λ (b : Bool). cond b (Some x) (find p xs)) hit)
+  | inl hit ↦ ap (option_and_then (slice_get (x ∷ xs))) (position-here p x xs hit) ∙ sym (ap (λ (b : Bool). cond b (Some x) (find p xs)) hit)
   | inr miss ↦
-      ap (option_and_then (slice_get (x ∷ xs))) (later p x xs miss)
+      ap (option_and_then (slice_get (x ∷ xs))) (position-later p x xs miss)
       ∙ after_first x xs (position p xs)
       ∙ at_place p xs
       ∙ sym (ap (λ (b : Bool). cond b (Some x) (find p xs)) miss)
@@ -65,10 +65,10 @@ beside p [] ys = by ys
 beside p (x ∷ xs) [] = none_there (position p (x ∷ xs))
 beside p (x ∷ xs) (y ∷ ys) = elim (cases-bool (p x)) [
   | inl hit ↦
-      ap (option_and_then (slice_get (y ∷ ys))) (here p x xs hit)
+      ap (option_and_then (slice_get (y ∷ ys))) (position-here p x xs hit)
       ∙ sym (ap (λ (b : Bool). option_map (λ both. both.1) (cond b (Some (x, y)) (find (λ both. p both.0) (zip xs ys)))) hit)
   | inr miss ↦
-      ap (option_and_then (slice_get (y ∷ ys))) (later p x xs miss)
+      ap (option_and_then (slice_get (y ∷ ys))) (position-later p x xs miss)
       ∙ after_first y ys (position p xs)
       ∙ beside p xs ys
       ∙ sym (ap (λ (b : Bool). option_map (λ both. both.1) (cond b (Some (x, y)) (find (λ both. p both.0) (zip xs ys)))) miss)

@@ -3,21 +3,20 @@ use Rattle.std.proofs.Common.{◌≡◌, ◌∙◌, ap, sym, ℕ, List, map, len
 use Rattle.std.specs.List.{AllByRecursion}
 use Rattle.ldv_value.proofs.Lists.{length-map}
 use Rattle.sql_model.specs.Changes.{matched}
-use Rattle.sql_model.specs.Needs.{matched_row, matched_rows, next_member, members_made, made_unless, sorted_needs, needs_by, read_of}
+use Rattle.sql_model.specs.Needs.{next_member, members_made, made_unless, sorted_needs, needs_by, read_of}
 use Rattle.sql_model.specs.Scope.{catalog_of, table_at}
 use Rattle.sql_model.specs.Statements.{refusal_of, accepted_reply, matched_count}
 use Rattle.table_store.specs.Histories.{tables_now, table_now, history_at, last_next}
 use Rattle.table_store.specs.RowOrder.{AreInOrder}
 use Rattle.dml_versions.proofs.AfterLaws.{change-by}
-use Rattle.dml_versions.proofs.MatchLaws.{made-is, needs-is}
-use Rattle.dml_versions.proofs.NeedLaws.{needs-matched}
+use Rattle.dml_versions.proofs.MatchLaws.{made-is}
 use Rattle.dml_versions.proofs.NumberLaws.{AreSorted}
 use Rattle.dml_versions.proofs.StandingLaws.{Stands}
 use Rattle.dml_versions.proofs.TableLaws.{table-now, history-name}
 use Rattle.dml_versions.specs.Changing.{IsWhole, matched_change}
 use Rattle.dml_versions.specs.Finding.{found_row}
-use Rattle.dml_versions.specs.Needing.{need_found, made_found}
-use Rattle.dml_versions.specs.Types.{Statement, Changed, Table, TableRow, StoreHistory, TableHistory}
+use Rattle.dml_versions.specs.Needing.{made_found}
+use Rattle.dml_versions.specs.Types.{Need, Statement, Changed, Table, TableRow, StoreHistory, TableHistory}
 use Rattle.dml_versions.specs.Versions.{versions_now}
 use Rattle.dml_versions.specs.declared.found.Found.{Found}
 
@@ -32,9 +31,9 @@ module _ (store : StoreHistory) (s : Statement) (name : List ℕ) (table : Table
   module _ (replies : accepted_reply s db ≡ Changed (matched_count s (catalog_of db) (table_at name db)))
       (makes : made_unless None (versions_now store) (Some s) db ≡ members_made (versions_now store) s (catalog_of db) (table_at name db))
       (members : members_made (versions_now store) s (catalog_of db) (Some t) ≡ map (next_member (versions_now store) t) (matched s (catalog_of db) t))
-      (wants : needs_by None s db ≡ matched_rows s (catalog_of db) (table_at name db))
       (rows : List TableRow) (rows_is : matched s (catalog_of db) t ≡ rows) (sorted : AreSorted rows) (stand : AllByRecursion (λ row. Stands table.slots row.number) rows)
-      (refused_not : refusal_of (Some s) db ≡ None) (found : List Found) (found_is : found ≡ map (found_row table.slots) rows) where
+      (refused_not : refusal_of (Some s) db ≡ None) (found : List Found) (found_is : found ≡ map (found_row table.slots) rows)
+      (needs : List Need) (needs_are : needs ≡ map (read_of (versions_now store)) (sorted_needs (needs_by None s db))) where
     target_is : table_at name db ≡ Some t
     target_is = table-now name store table there
 
@@ -55,16 +54,9 @@ module _ (store : StoreHistory) (s : Statement) (name : List ℕ) (table : Table
         ∙ members
         ∙ ap (map (next_member (versions_now store) t)) rows_is
 
-    needs_are : sorted_needs (needs_by None s db) ≡ map (matched_row t) rows
-    needs_are =
-        ap sorted_needs wants
-        ∙ ap (λ (o : Option Table). sorted_needs (matched_rows s (catalog_of db) o)) target_is
-        ∙ ap (λ (l : List TableRow). sorted_needs (map (matched_row t) l)) rows_is
-        ∙ needs-matched t rows sorted
-
-    pub matched-change : IsWhole s store (matched_change name found)
+    pub matched-change : IsWhole s store (matched_change name found needs)
     matched-change =
-        change-by s store None refused_not (matched_change name found)
+        change-by s store None refused_not (matched_change name found needs)
         (sym reply_is)
         (ap (map (made_found name)) found_is ∙ made-is store name table there order t named rows stand ∙ sym made_is)
-        (ap (map (need_found name)) found_is ∙ needs-is store name table there order t named rows stand ∙ ap (map (read_of (versions_now store))) (sym needs_are))
+        needs_are

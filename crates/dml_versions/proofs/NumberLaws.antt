@@ -1,7 +1,7 @@
 -- Rows in the order of their numbers: what is found and tested by a number.
-use Rattle.std.proofs.Common.{◌≡◌, ◌==◌, ◌≢◌, ℕ, inl, inr, Bool, true, false, ◌||◌, not, cond, List, [], ◌∷◌, map, refl, ap, sym, ◌∙◌, arith, Option, Some, None, eq-eqb}
+use Rattle.std.proofs.Common.{◌≡◌, ◌==◌, ◌≢◌, ℕ, inl, inr, Bool, true, false, ◌||◌, not, cond, List, [], ◌∷◌, map, refl, ap, sym, ◌∙◌, subst, arith, Option, Some, None, eq-eqb}
 use Rattle.std.specs.Prelude.{filter, find, nat_lt, unwrap_or, if◌then◌else◌}
-use Rattle.std.specs.List.{list_any, list_all}
+use Rattle.std.specs.List.{list_any, list_all, AllByRecursion}
 use Rattle.std.proofs.lemmas.Bool.{ne_eqb, ltb-true, lt-ltb}
 use Rattle.ldv_value.proofs.Booleans.{and-parts, or-true}
 use Rattle.ldv_value.proofs.Cases.{cases-bool}
@@ -168,4 +168,31 @@ module _ (test : TableRow → Bool) where
             ∙ ap (λ (b : Bool). cond (not b) (row ∷ filter (others numbers) rows) (filter (others numbers) rows)) (none_among row test rows after)
             ∙ ap (λ (l : List TableRow). row ∷ l) more
             ∙ sym (ap (λ (b : Bool). cond (not b) (row ∷ filter kept rows) (filter kept rows)) miss)
+      ]
+
+  -- the rows that pass a test are those whose numbers theirs are
+  skip_one : (row : TableRow) (numbers : List ℕ) (rows : List TableRow) → list_all (precedes row) rows ≡ true
+      → AllByRecursion (λ one. is_among numbers one ≡ test one) rows
+      → AllByRecursion (λ one. is_among (row.number ∷ numbers) one ≡ test one) rows
+  skip_one row numbers [] after all = tt
+  skip_one row numbers (next ∷ rows) after all =
+      let both = and-parts (precedes row next) (list_all (precedes row) rows) after in
+      let other : (row.number == next.number) ≡ false = ne_eqb row.number next.number (apart row next both.0) in
+      (ap (λ (b : Bool). b || is_among numbers next) other ∙ all.0, skip_one row numbers rows both.1 all.1)
+
+  pub among-some : (rows : List TableRow) → AreSorted rows → AllByRecursion (λ one. is_among (numbers_of rows) one ≡ test one) rows
+  among-some [] sorted = tt
+  among-some (row ∷ rows) sorted =
+      let after = after-first row rows sorted in
+      let numbers : List ℕ = numbers_of rows in
+      let more = among-some rows (others-sorted row rows sorted) in
+      elim (cases-bool (test row)) [
+        | inl hit ↦
+            let all : numbers_of (row ∷ rows) ≡ row.number ∷ numbers = ap (λ (b : Bool). map (λ one. one.number) (cond b (row ∷ filter test rows) (filter test rows))) hit in
+            subst (λ (l : List ℕ). AllByRecursion (λ one. is_among l one ≡ test one) (row ∷ rows)) (sym all)
+            (ap (λ (b : Bool). b || is_among numbers row) (eq-eqb row.number row.number refl) ∙ sym hit, skip_one row numbers rows after more)
+        | inr miss ↦
+            let all : numbers_of (row ∷ rows) ≡ numbers = ap (λ (b : Bool). map (λ one. one.number) (cond b (row ∷ filter test rows) (filter test rows))) miss in
+            subst (λ (l : List ℕ). AllByRecursion (λ one. is_among l one ≡ test one) (row ∷ rows)) (sym all)
+            (none_among row test rows after ∙ sym miss, more)
       ]

@@ -1,31 +1,37 @@
 -- What a change returns that the store refuses.
-use Rattle.std.proofs.Common.{◌≡◌, ◌==◌, ℕ, ◌<◌, List, [], ◌∷◌, ◌++◌, map, refl, ap, sym, ◌∙◌, subst, Option, Some, None, Bool, true, false, inl, inr}
+use Rattle.std.proofs.Common.{◌≡◌, ◌≢◌, ℕ, ◌<◌, List, [], ◌∷◌, ◌++◌, map, refl, ap, sym, ◌∙◌, subst, Option, Some, None, Bool, true, false, inl, inr, append_assoc}
 use Rattle.std.specs.Prelude.{filter, Err, if◌then◌else◌}
-use Rattle.std.specs.List.{list_any}
-use Rattle.std.specs.Option.{option_map, option_or}
-use Rattle.ldv_value.proofs.Cases.{cases-bool}
-use Rattle.ldv_value.proofs.SameBytes.{nat_eq-true}
+use Rattle.std.specs.Option.{option_map, option_or, option_to_list}
+use Rattle.core_parts.proofs.RowLists.{Rises, needs_rise, read_with, read_last}
+use Rattle.core_parts.specs.Needing.{sorted_once, united}
+use Rattle.ldv_value.proofs.Options.{none-some}
+use Rattle.ldv_value.specs.Sorted.{is_strictly_sorted}
 use Rattle.sql_model.specs.Changes.{KeyClash, lacks_value, key_clash, changed, is_full, key_refusal, refusal_if, or_else, matched}
 use Rattle.sql_model.specs.Keys.{values_at}
-use Rattle.sql_model.specs.Needs.{NeededRow, matched_row, matched_rows, key_row, key_rows, clash_rows, stood, sorted_needs, read_of}
+use Rattle.sql_model.specs.Needs.{NeededRow, Versions, needed_row, needed_by, matched_row, matched_rows, key_row, key_rows, parent_rows, child_row, child_rows, clash_rows, stood, sorted_needs, read_of}
+use Rattle.sql_model.specs.QueryAnswer.{Origin}
+use Rattle.sql_model.specs.References.{Missing, Orphan, first_missing, is_changed, first_orphan, parents_needed}
 use Rattle.sql_model.specs.Refusals.{check_refusal}
 use Rattle.sql_model.specs.Scope.{catalog_of}
 use Rattle.sql_model.specs.Statements.{target, refusal_of}
+use Rattle.sql_model.specs.Tables.{table_precedes}
 use Rattle.table_store.specs.Histories.{tables_now, table_now, history_at, last_next}
 use Rattle.table_store.specs.RowOrder.{AreInOrder}
 use Rattle.table_store.specs.Stops.{stop_if, key_stop, stood_number, StopsAs}
 use Rattle.table_store.specs.declared.stop.StoreStop.{StoreStop}
 use Rattle.table_store.specs.declared.stop.StoreStop.TheVariants as stop
-use Rattle.dml_versions.proofs.AfterLaws.{refusal-is, change-by, after-refused}
+use Rattle.dml_versions.proofs.AfterLaws.{all_needed, refusal-is, change-by, after-refused}
+use Rattle.dml_versions.proofs.KeptLaws.{SameOwn, SameAll}
 use Rattle.dml_versions.proofs.MatchLaws.{AllStand, versions-are, needs-is}
 use Rattle.dml_versions.proofs.NeedLaws.{added, needs-matched, needs-refused}
 use Rattle.dml_versions.proofs.NumberLaws.{AreSorted}
-use Rattle.dml_versions.proofs.StandingLaws.{Stands, all-stand}
+use Rattle.dml_versions.proofs.ReferLaws.{or-case, or-nothing, refs_stop, refs_refusal, refs-none, refs-null, refs-key, refs-full, refs-parent, refs-child, IsChild, orphan-there, row-there}
+use Rattle.dml_versions.proofs.StandingLaws.{Stands, number-stands}
 use Rattle.dml_versions.proofs.TableLaws.{history-name}
-use Rattle.dml_versions.specs.Changing.{IsWhole, IsStoreAfter, refused_change, refused_by}
+use Rattle.dml_versions.specs.Changing.{IsWhole, IsStoreAfter, IsChildThere, refused_change, refused_by}
 use Rattle.dml_versions.specs.Finding.{found_row, version_of}
-use Rattle.dml_versions.specs.Needing.{need_found, key_need, put_some, with_key_rows}
-use Rattle.dml_versions.specs.Types.{Need, K, Statement, Refused, SqlRefusal, NotNull, KeyTaken, Full, Table, TableRow, Value, StoreHistory, TableHistory}
+use Rattle.dml_versions.specs.Needing.{need_found, key_need, put_some, with_key_rows, with_child_row, IsRowThere}
+use Rattle.dml_versions.specs.Types.{Need, K, P, C, Statement, Refused, SqlRefusal, NotNull, KeyTaken, Full, NoParent, HasChild, Table, TableRow, Value, StoreHistory, TableHistory}
 use Rattle.dml_versions.specs.Versions.{versions_now}
 use Rattle.dml_versions.specs.declared.change.Change.{Change}
 
@@ -60,6 +66,30 @@ not-full t true clash full is = cc
 not-full t false None true is = cc
 not-full t false None false is = refl
 not-full t false (Some clash) full is = cc
+
+pub own-parent : (t : Table) (lacks : Bool) (clash : Option KeyClash) (full : Bool) (table : List ℕ) (key : List Value)
+    → stop_by t lacks clash full ≡ Some (stop.NoParent table key) → ⊥
+own-parent t true clash full table key is = cc
+own-parent t false None true table key is = cc
+own-parent t false None false table key is = cc
+own-parent t false (Some clash) full table key is = cc
+
+pub own-child : (t : Table) (lacks : Bool) (clash : Option KeyClash) (full : Bool) (table : List ℕ) (row : ℕ) (key : List Value)
+    → stop_by t lacks clash full ≡ Some (stop.HasChild table row key) → ⊥
+own-child t true clash full table row key is = cc
+own-child t false None true table row key is = cc
+own-child t false None false table row key is = cc
+own-child t false (Some clash) full table row key is = cc
+
+-- without a cause no two rows have one key
+pub no-clash-by : (t : Table) (lacks : Bool) (clash : Option KeyClash) (full : Bool) → stop_by t lacks clash full ≡ None → clash ≡ None
+no-clash-by t true clash full is = cc
+no-clash-by t false None full is = refl
+no-clash-by t false (Some clash) full is = cc
+
+-- then what references refuse
+abbrev pub due_by : Table → Bool → Option KeyClash → Bool → Option Missing → Option Orphan → Option StoreStop
+due_by t lacks clash full missing orphan = option_or (stop_by t lacks clash full) (refs_stop missing orphan)
 
 -- two rows of one key, with the numbers of those that stood
 record IsClash (t : Table) (clash : Option KeyClash) (earlier later : Option ℕ) (key : List Value) : Type 0 where
@@ -99,23 +129,107 @@ module _ (store : StoreHistory) (s : Statement) (name : List ℕ) (table : Table
   abbrev full : Bool
   full = is_full s t
 
+  abbrev missing : Option Missing
+  missing = first_missing s (catalog_of db) t db
+
+  abbrev orphan : Option Orphan
+  orphan = first_orphan s (catalog_of db) t db
+
+  abbrev own : Option StoreStop
+  own = stop_by t lacks clash full
+
+  abbrev refs : Option StoreStop
+  refs = refs_stop missing orphan
+
   named : t.name ≡ name
   named = history-name name store table there
 
-  refusal_of_rows : refusal_of (Some s) db ≡ refusal_by t lacks clash full
+  refusal_of_rows : refusal_of (Some s) db ≡ or_else (refusal_by t lacks clash full) (refs_refusal missing orphan)
   refusal_of_rows = refusal-is s db (Some t) check target_is
 
-  pub not-refused : stop_by t lacks clash full ≡ None → refusal_of (Some s) db ≡ None
-  not-refused is = refusal_of_rows ∙ by_none t lacks clash full is
+  own_refuses : (r : SqlRefusal) → refusal_by t lacks clash full ≡ Some r → refusal_of (Some s) db ≡ Some r
+  own_refuses r is = refusal_of_rows ∙ ap (λ (o : Option SqlRefusal). or_else o (refs_refusal missing orphan)) is
+
+  refs_refuse : own ≡ None → (r : Option SqlRefusal) → refs_refusal missing orphan ≡ r → refusal_of (Some s) db ≡ r
+  refs_refuse none r is =
+      refusal_of_rows
+      ∙ ap (λ (o : Option SqlRefusal). or_else o (refs_refusal missing orphan)) (by_none t lacks clash full none)
+      ∙ is
+
+  pub not-refused : due_by t lacks clash full missing orphan ≡ None → refusal_of (Some s) db ≡ None
+  not-refused is =
+      let both = or-nothing own refs is in
+      refs_refuse both.0 None (refs-none missing orphan both.1)
+
+  -- ---- which cause it is
+
+  own_null : option_or own refs ≡ Some stop.NotNull → own ≡ Some stop.NotNull
+  own_null is = elim (or-case own refs stop.NotNull is) [
+    | inl mine ↦ mine
+    | inr others ↦ absurd (refs-null missing orphan others.1)
+  ]
+
+  own_key : (earlier later : Option ℕ) (key : List Value) → option_or own refs ≡ Some (stop.KeyTaken earlier later key)
+      → own ≡ Some (stop.KeyTaken earlier later key)
+  own_key earlier later key is = elim (or-case own refs (stop.KeyTaken earlier later key) is) [
+    | inl mine ↦ mine
+    | inr others ↦ absurd (refs-key missing orphan earlier later key others.1)
+  ]
+
+  own_full : option_or own refs ≡ Some stop.Full → own ≡ Some stop.Full
+  own_full is = elim (or-case own refs stop.Full is) [
+    | inl mine ↦ mine
+    | inr others ↦ absurd (refs-full missing orphan others.1)
+  ]
+
+  refs_parent : (of : List ℕ) (key : List Value) → option_or own refs ≡ Some (stop.NoParent of key)
+      → (own ≡ None) × (refs ≡ Some (stop.NoParent of key))
+  refs_parent of key is = elim (or-case own refs (stop.NoParent of key) is) [
+    | inl mine ↦ absurd (own-parent t lacks clash full of key mine)
+    | inr others ↦ others
+  ]
+
+  refs_child : (of : List ℕ) (row : ℕ) (key : List Value) → option_or own refs ≡ Some (stop.HasChild of row key)
+      → (own ≡ None) × (refs ≡ Some (stop.HasChild of row key))
+  refs_child of row key is = elim (or-case own refs (stop.HasChild of row key) is) [
+    | inl mine ↦ absurd (own-child t lacks clash full of row key mine)
+    | inr others ↦ others
+  ]
+
+  -- a child row that refuses is there
+  pub child-there : is_strictly_sorted table_precedes db ≡ true → (X : Type 0) (at : StoreStop)
+      → StopsAs {X = X} (due_by t lacks clash full missing orphan) (Err at) → IsChildThere db at
+  child-there sorted X stop.NotNull stops = tt
+  child-there sorted X (stop.KeyTaken earlier later key) stops = tt
+  child-there sorted X stop.Full stops = tt
+  child-there sorted X (stop.NoParent of key) stops = tt
+  child-there sorted X (stop.HasChild of row key) stops =
+      let c = refs-child missing orphan of row key (refs_child of row key stops).1 in
+      let found = row-there c.orphan.table c.orphan.row db sorted
+      (orphan-there db (is_changed s (catalog_of db)) t (changed s (catalog_of db) t) c.orphan c.is) in
+      subst (λ (n : List ℕ). IsRowThere db n row) c.table_is (subst (λ (r : ℕ). IsRowThere db c.orphan.table r) c.row_is found)
+  child-there sorted X stop.NoMemory stops = tt
+
+  -- the lists on which a refusal hangs
+  pub same-own-by : (needs others : List Need) → ((x : StoreStop) → own ≡ Some x → needs ≡ others) → (X : Type 0) (at : StoreStop)
+      → StopsAs {X = X} (due_by t lacks clash full missing orphan) (Err at) → SameOwn at needs others
+  same-own-by needs others same X stop.NotNull stops = same stop.NotNull (own_null stops)
+  same-own-by needs others same X (stop.KeyTaken earlier later key) stops = same (stop.KeyTaken earlier later key) (own_key earlier later key stops)
+  same-own-by needs others same X stop.Full stops = tt
+  same-own-by needs others same X (stop.NoParent of key) stops = tt
+  same-own-by needs others same X (stop.HasChild of row key) stops = tt
+  same-own-by needs others same X stop.NoMemory stops = tt
+
+  pub same-all-by : (all others : List Need) → (own ≡ None → all ≡ others) → (X : Type 0) (at : StoreStop)
+      → StopsAs {X = X} (due_by t lacks clash full missing orphan) (Err at) → SameAll at all others
+  same-all-by all others same X stop.NotNull stops = tt
+  same-all-by all others same X (stop.KeyTaken earlier later key) stops = tt
+  same-all-by all others same X stop.Full stops = tt
+  same-all-by all others same X (stop.NoParent of key) stops = same (refs_parent of key stops).0
+  same-all-by all others same X (stop.HasChild of row key) stops = same (refs_child of row key stops).0
+  same-all-by all others same X stop.NoMemory stops = tt
 
   -- ---- the rows of a refused key
-
-  any_stands : (number : ℕ) (rows : List TableRow) → AllStand store name table there order rows → list_any (λ old. old.number == number) rows ≡ true → Stands table.slots number
-  any_stands number [] all is = cc
-  any_stands number (row ∷ rows) all is = elim (cases-bool (row.number == number)) [
-    | inl hit ↦ subst (λ (n : ℕ). Stands table.slots n) (nat_eq-true row.number number hit) all.0
-    | inr miss ↦ any_stands number rows all.1 (rw miss at is)
-  ]
 
   stood_need : (row : TableRow) → option_map (key_need name table.slots) (stood_number t row) ≡ option_map (λ (n : ℕ). read_of (versions_now store) (record { table = t.name; row = n; rule = K })) (stood_number t row)
   stood_need row = by (stood t row) refl
@@ -124,7 +238,7 @@ module _ (store : StoreHistory) (s : Statement) (name : List ℕ) (table : Table
           ≡ option_map (λ (n : ℕ). read_of (versions_now store) (record { table = t.name; row = n; rule = K })) (if b then Some row.number else None)
       by false is = refl
       by true is =
-          let s : Stands table.slots row.number = any_stands row.number t.rows (all-stand table.slots (last_next table.nexts) order) is in
+          let s : Stands table.slots row.number = number-stands table.slots (last_next table.nexts) order row.number is in
           let version : version_of table.slots row.number ≡ versions_now store t.name row.number =
           versions-are store name table there order row.number s ∙ ap (λ (n : List ℕ). versions_now store n row.number) (sym named) in
           λ j. Some (record { member = record { table = sym named j; row = row.number; version = version j }; rule = K })
@@ -139,22 +253,43 @@ module _ (store : StoreHistory) (s : Statement) (name : List ℕ) (table : Table
     abbrev needs : List Need
     needs = map (need_found name) (map (found_row table.slots) rows)
 
+    abbrev mine : List NeededRow
+    mine = matched_rows s (catalog_of db) (target s db)
+
+    abbrev parents : List NeededRow
+    parents = parent_rows s (catalog_of db) (target s db) db
+
     needs_are : needs ≡ map (read_of (versions_now store)) (sorted_needs (map (matched_row t) rows))
     needs_are = needs-is store name table there order t named rows stand ∙ ap (map (read_of (versions_now store))) (sym (needs-matched t rows sorted))
 
-    matched_are : matched_rows s (catalog_of db) (target s db) ≡ map (matched_row t) rows
+    matched_are : mine ≡ map (matched_row t) rows
     matched_are = ap (matched_rows s (catalog_of db)) target_is ∙ ap (map (matched_row t)) rows_are
 
-    null_change : stop_by t lacks clash full ≡ Some stop.NotNull → IsWhole s store (refused_by NotNull needs)
-    null_change is = change-by s store (Some NotNull) (refusal_of_rows ∙ by_null t lacks clash full is) (refused_by NotNull needs) refl refl
-        (needs_are ∙ ap (λ (l : List NeededRow). map (read_of (versions_now store)) (sorted_needs l)) (sym matched_are))
+    pub own-needs : needs ≡ map (read_of (versions_now store)) (sorted_needs mine)
+    own-needs = needs_are ∙ ap (λ (l : List NeededRow). map (read_of (versions_now store)) (sorted_needs l)) (sym matched_are)
 
-    full_change : stop_by t lacks clash full ≡ Some stop.Full → IsWhole s store (refused_by Full [])
-    full_change is = change-by s store (Some Full) (refusal_of_rows ∙ by_full t lacks clash full is) (refused_by Full []) refl refl refl
+    -- the matched rows and the parents of new ones
+    pub all-needs : (origins : List Origin) → parents_needed s (catalog_of db) t db ≡ origins
+        → united needs (sorted_once (map (read_of (versions_now store)) (map (needed_by P) origins)))
+        ≡ all_needed s store
+    all-needs origins is =
+        ap (λ (l : List Need). united l (sorted_once (map (read_of (versions_now store)) (map (needed_by P) origins))))
+        (needs-is store name table there order t named rows stand)
+        ∙ read_with (versions_now store) (map (matched_row t) rows) (map (needed_by P) origins)
+        (subst Rises (needs-matched t rows sorted) (needs_rise (map (matched_row t) rows)))
+        ∙ ap (λ (l : List NeededRow). map (read_of (versions_now store)) (sorted_needs l))
+        (λ j. sym matched_are j
+        ++ sym (ap (λ (o : Option Table). parent_rows s (catalog_of db) o db) target_is ∙ ap (map (needed_by P)) is) j)
+
+    null_change : own ≡ Some stop.NotNull → IsWhole s store (refused_by NotNull needs)
+    null_change is = change-by s store (Some NotNull) (own_refuses NotNull (by_null t lacks clash full is)) (refused_by NotNull needs) refl refl own-needs
+
+    full_change : own ≡ Some stop.Full → IsWhole s store (refused_by Full [])
+    full_change is = change-by s store (Some Full) (own_refuses Full (by_full t lacks clash full is)) (refused_by Full []) refl refl refl
 
     key_needs : (clash_is : KeyClash) → clash ≡ Some clash_is
         → with_key_rows name table.slots (stood_number t clash_is.earlier) (stood_number t clash_is.later) needs
-        ≡ map (read_of (versions_now store)) (sorted_needs (matched_rows s (catalog_of db) (target s db) ++ key_rows s (catalog_of db) (target s db)))
+        ≡ map (read_of (versions_now store)) (sorted_needs (mine ++ key_rows s (catalog_of db) (target s db)))
     key_needs two is =
         keys_are two needs
         ∙ ap (λ (l : List Need). added t.name (versions_now store) (stood_number t two.earlier) (added t.name (versions_now store) (stood_number t two.later) l)) needs_are
@@ -162,30 +297,91 @@ module _ (store : StoreHistory) (s : Statement) (name : List ℕ) (table : Table
         ∙ ap (λ (l : List NeededRow). map (read_of (versions_now store)) (sorted_needs l))
         (λ j. sym matched_are j ++ sym (ap (key_rows s (catalog_of db)) target_is ∙ ap (λ (o : Option KeyClash). map (key_row t) (filter (stood t) (clash_rows o))) is) j)
 
-    key_change : (earlier later : Option ℕ) (key : List Value) → stop_by t lacks clash full ≡ Some (stop.KeyTaken earlier later key)
+    key_change : (earlier later : Option ℕ) (key : List Value) → own ≡ Some (stop.KeyTaken earlier later key)
         → IsWhole s store (refused_by (KeyTaken name key) (with_key_rows name table.slots earlier later needs))
     key_change earlier later key is =
         let both = by_key t lacks clash full earlier later key is in
         let c = both.0 in
-        change-by s store (Some (KeyTaken t.name key)) (refusal_of_rows ∙ both.1) (refused_by (KeyTaken name key) (with_key_rows name table.slots earlier later needs))
+        change-by s store (Some (KeyTaken t.name key)) (own_refuses (KeyTaken t.name key) both.1) (refused_by (KeyTaken name key) (with_key_rows name table.slots earlier later needs))
         (ap (λ (n : List ℕ). Refused (KeyTaken n key)) (sym named)) refl
         ((λ j. with_key_rows name table.slots (c.earlier_is j) (c.later_is j) needs) ∙ key_needs c.rows c.is)
 
     some_is : (a b : Change) → Some a ≡ Some b → a ≡ b
     some_is a b is = cc
 
-    pub refused-change : (X : Type 0) (at : StoreStop) (change : Change) → StopsAs {X = X} (stop_by t lacks clash full) (Err at) → refused_change name table.slots needs at ≡ Some change
-        → IsWhole s store change
-    refused-change X stop.NotNull change stops is = subst (IsWhole s store) (some_is (refused_by NotNull needs) change is) (null_change stops)
-    refused-change X (stop.KeyTaken earlier later key) change stops is =
-        subst (IsWhole s store) (some_is (refused_by (KeyTaken name key) (with_key_rows name table.slots earlier later needs)) change is) (key_change earlier later key stops)
-    refused-change X stop.Full change stops is = subst (IsWhole s store) (some_is (refused_by Full []) change is) (full_change stops)
-    refused-change X stop.NoMemory change stops is = cc
+    -- ---- with all that is needed
 
-    pub refused-after : (X : Type 0) (at : StoreStop) (change : Change) → StopsAs {X = X} (stop_by t lacks clash full) (Err at) → refused_change name table.slots needs at ≡ Some change
-        → (time : ℕ) (new : StoreHistory) → store.time < time → new ≡ store → IsStoreAfter s time store new
-    refused-after X stop.NotNull change stops is time new later same = after-refused s time store new NotNull (refusal_of_rows ∙ by_null t lacks clash full stops) later same
-    refused-after X (stop.KeyTaken earlier later key) change stops is time new after same =
-        after-refused s time store new (KeyTaken t.name key) (refusal_of_rows ∙ (by_key t lacks clash full earlier later key stops).1) after same
-    refused-after X stop.Full change stops is time new later same = after-refused s time store new Full (refusal_of_rows ∙ by_full t lacks clash full stops) later same
-    refused-after X stop.NoMemory change stops is time new later same = cc
+    module _ (all : List Need) (all_are : own ≡ None → all ≡ all_needed s store) where
+      parent_change : (of : List ℕ) (key : List Value) → own ≡ None → refs ≡ Some (stop.NoParent of key)
+          → IsWhole s store (refused_by (NoParent of key) all)
+      parent_change of key none is =
+          change-by s store (Some (NoParent of key)) (refs_refuse none (Some (NoParent of key)) (refs-parent missing orphan of key is))
+          (refused_by (NoParent of key) all) refl refl (all_are none)
+
+      child_needs : (of : List ℕ) (row : ℕ) (key : List Value) → own ≡ None → IsChild missing orphan of row key
+          → with_child_row (versions_now store) of row all
+          ≡ map (read_of (versions_now store)) (sorted_needs (mine ++ (parents ++ child_rows s (catalog_of db) (target s db) db)))
+      child_needs of row key none c =
+          let child : NeededRow = needed_row C of row in
+          let rows_is : child_rows s (catalog_of db) (target s db) db ≡ child ∷ [] =
+          ap (λ (o : Option Table). child_rows s (catalog_of db) o db) target_is
+          ∙ ap (λ (o : Option Orphan). option_to_list (option_map child_row o)) c.is
+          ∙ (λ j. needed_row C (c.table_is j) (c.row_is j) ∷ []) in
+          ap (λ (ns : List Need). united ns (read_of (versions_now store) child ∷ [])) (all_are none)
+          ∙ read_last (versions_now store) (mine ++ parents) child
+          ∙ ap (λ (l : List NeededRow). map (read_of (versions_now store)) (sorted_needs l))
+          (append_assoc mine parents (child ∷ []) ∙ ap (λ (l : List NeededRow). mine ++ (parents ++ l)) (sym rows_is))
+
+      child_change : (of : List ℕ) (row : ℕ) (key : List Value) → own ≡ None → refs ≡ Some (stop.HasChild of row key)
+          → IsWhole s store (refused_by (HasChild of key) (with_child_row (versions_now store) of row all))
+      child_change of row key none is =
+          let c = refs-child missing orphan of row key is in
+          change-by s store (Some (HasChild of key)) (refs_refuse none (Some (HasChild of key)) c.refusal)
+          (refused_by (HasChild of key) (with_child_row (versions_now store) of row all)) refl refl (child_needs of row key none c)
+
+      pub refused-change : (X : Type 0) (at : StoreStop) (change : Change) → StopsAs {X = X} (due_by t lacks clash full missing orphan) (Err at)
+          → refused_change (versions_now store) name table.slots needs all at ≡ Some change → IsWhole s store change
+      refused-change X stop.NotNull change stops is =
+          subst (IsWhole s store) (some_is (refused_by NotNull needs) change is) (null_change (own_null stops))
+      refused-change X (stop.KeyTaken earlier later key) change stops is =
+          subst (IsWhole s store) (some_is (refused_by (KeyTaken name key) (with_key_rows name table.slots earlier later needs)) change is)
+          (key_change earlier later key (own_key earlier later key stops))
+      refused-change X stop.Full change stops is =
+          subst (IsWhole s store) (some_is (refused_by Full []) change is) (full_change (own_full stops))
+      refused-change X (stop.NoParent of key) change stops is =
+          let due = refs_parent of key stops in
+          subst (IsWhole s store) (some_is (refused_by (NoParent of key) all) change is) (parent_change of key due.0 due.1)
+      refused-change X (stop.HasChild of row key) change stops is =
+          let due = refs_child of row key stops in
+          subst (IsWhole s store) (some_is (refused_by (HasChild of key) (with_child_row (versions_now store) of row all)) change is)
+          (child_change of row key due.0 due.1)
+      refused-change X stop.NoMemory change stops is = cc
+
+  -- ---- what is left
+
+  refused_by_some : (X : Type 0) (at : StoreStop) → at ≢ stop.NoMemory → StopsAs {X = X} (due_by t lacks clash full missing orphan) (Err at)
+      → (r : SqlRefusal) × (refusal_of (Some s) db ≡ Some r)
+  refused_by_some X stop.NotNull known stops = (NotNull, own_refuses NotNull (by_null t lacks clash full (own_null stops)))
+  refused_by_some X (stop.KeyTaken earlier later key) known stops =
+      (KeyTaken t.name key, own_refuses (KeyTaken t.name key) (by_key t lacks clash full earlier later key (own_key earlier later key stops)).1)
+  refused_by_some X stop.Full known stops = (Full, own_refuses Full (by_full t lacks clash full (own_full stops)))
+  refused_by_some X (stop.NoParent of key) known stops =
+      let due = refs_parent of key stops in
+      (NoParent of key, refs_refuse due.0 (Some (NoParent of key)) (refs-parent missing orphan of key due.1))
+  refused_by_some X (stop.HasChild of row key) known stops =
+      let due = refs_child of row key stops in
+      (HasChild of key, refs_refuse due.0 (Some (HasChild of key)) (refs-child missing orphan of row key due.1).refusal)
+  refused_by_some X stop.NoMemory known stops = absurd (known refl)
+
+  known_by : (versions : Versions) (needs all : List Need) (at : StoreStop) (change : Change)
+      → refused_change versions name table.slots needs all at ≡ Some change → at ≢ stop.NoMemory
+  known_by versions needs all at change is none =
+      none-some change (sym (ap (refused_change versions name table.slots needs all) none) ∙ is)
+
+  pub refused-after : (X : Type 0) (at : StoreStop) (versions : Versions) (needs all : List Need) (change : Change)
+      → StopsAs {X = X} (due_by t lacks clash full missing orphan) (Err at)
+      → refused_change versions name table.slots needs all at ≡ Some change
+      → (time : ℕ) (new : StoreHistory) → store.time < time → new ≡ store → IsStoreAfter s time store new
+  refused-after X at versions needs all change stops is time new later same =
+      let r = refused_by_some X at (known_by versions needs all at change is) stops in
+      after-refused s time store new r.0 r.1 later same

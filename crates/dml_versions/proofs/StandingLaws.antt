@@ -1,10 +1,11 @@
 -- Rows that stand, by their numbers.
-use Rattle.std.proofs.Common.{◌≡◌, ℕ, ◌<◌, inl, inr, Bool, true, List, [], ◌∷◌, length, get_or, refl, ap, sym, ◌∙◌, subst, Option, Some, None, is_some}
-use Rattle.std.specs.Prelude.{filter, unwrap_or}
-use Rattle.std.specs.List.{AllByRecursion}
+use Rattle.std.proofs.Common.{◌≡◌, ◌==◌, ℕ, ◌<◌, inl, inr, Bool, true, false, List, [], ◌∷◌, length, get_or, refl, ap, sym, ◌∙◌, subst, Option, Some, None, is_some}
+use Rattle.std.specs.Prelude.{filter, unwrap_or, ◌-◌, if◌then◌else◌}
+use Rattle.std.specs.List.{list_any, AllByRecursion}
 use Rattle.ldv_value.proofs.Cases.{cases-bool}
 use Rattle.ldv_value.proofs.Lists.{all-weaker}
-use Rattle.row_version.specs.History.{current}
+use Rattle.ldv_value.proofs.SameBytes.{nat_eq-true}
+use Rattle.row_version.specs.History.{current, version}
 use Rattle.table_store.specs.Histories.{RowHistory, no_history, row_of, row_now, rows_now, history_of_row, version_now}
 use Rattle.table_store.specs.RowOrder.{AreInOrder}
 use Rattle.table_store.proofs.StandingRows.{InSlot, all-in-slots, number-is}
@@ -29,6 +30,15 @@ version-is slots number s =
     same : unwrap_or (version_now (Some s.row)) 0 ≡ updates s.row.changes
     same = rw s.now refl
 
+-- a row with a version was updated as often
+updated_if : (there : Bool) (n m v : ℕ) → (if there then Some n else None) ≡ Some v → (if there then n else m) ≡ v
+updated_if true n m v is = cc
+updated_if false n m v is = cc
+
+pub updates-are : (row : Option RowHistory) (v : ℕ) → version_now row ≡ Some v → updates_of row ≡ v
+updates-are None v is = cc
+updates-are (Some row) v is = updated_if (is_some (current row.changes)) (version row.changes) (version row.changes - 1) v is
+
 module _ (slots : List RowHistory) (next : ℕ) (order : AreInOrder slots next) where
   stands_by : (h : RowHistory) → history_of_row h.number slots ≡ Some h → (row : TableRow) → row_now h ≡ Some row → Stands slots row.number
   stands_by h found row is = by (current h.changes) refl
@@ -49,6 +59,18 @@ module _ (slots : List RowHistory) (next : ℕ) (order : AreInOrder slots next) 
   all-stand =
       all-weaker (InSlot slots) (λ (row : TableRow). Stands slots row.number) (λ row s. stands_at s.slot s.within row s.now)
       (rows_now slots) (all-in-slots slots)
+
+  -- so does the row of a number that some row there has
+  pub number-stands : (number : ℕ) → list_any (λ (row : TableRow). row.number == number) (rows_now slots) ≡ true → Stands slots number
+  number-stands number is = among (rows_now slots) all-stand is
+    where
+      among : (rows : List TableRow) → AllByRecursion (λ row. Stands slots row.number) rows
+          → list_any (λ (row : TableRow). row.number == number) rows ≡ true → Stands slots number
+      among [] all wrong = cc
+      among (row ∷ rows) all there = elim (cases-bool (row.number == number)) [
+        | inl hit ↦ subst (λ (n : ℕ). Stands slots n) (nat_eq-true row.number number hit) all.0
+        | inr miss ↦ among rows all.1 (rw miss at there)
+      ]
 
 -- what holds of all rows holds of those that pass a test
 pub all-filter : {X : Type 0} (P : X → Type 0) (test : X → Bool) (xs : List X) → AllByRecursion P xs → AllByRecursion P (filter test xs)

@@ -1,42 +1,46 @@
 -- What an UPDATE returns and leaves, from the rows that were found.
-use Rattle.std.proofs.Common.{◌≡◌, ◌==◌, ℕ, ◌+◌, ◌<◌, ◌≤◌, List, [], ◌∷◌, map, length, refl, ap, sym, ◌∙◌, subst, arith, Option, Some, None, Bool, true, false}
-use Rattle.std.specs.Prelude.{filter, zip, Err, if◌then◌else◌, ◌&&◌}
-use Rattle.std.specs.List.{list_any, list_all, AllByRecursion}
-use Rattle.std.specs.Option.{option_or, option_and_then}
+use Rattle.std.proofs.Common.{◌≡◌, ◌==◌, ℕ, ◌+◌, ◌<◌, ◌≤◌, List, [], ◌∷◌, inl, map, length, refl, ap, sym, ◌∙◌, subst, arith, Option, Some, None, Bool, true, false}
+use Rattle.std.specs.Prelude.{filter, zip, Err, if◌then◌else◌, ◌&&◌, is_none, IfSome}
+use Rattle.std.specs.List.{flat_map, list_any, list_all, AllByRecursion}
+use Rattle.std.specs.Option.{option_map, option_or, option_and_then}
+use Rattle.core_parts.specs.Needing.{sorted_once, united}
 use Rattle.std.proofs.lemmas.Bool.Decides.{Decides-eqb}
 use Rattle.ldv_value.proofs.Booleans.{and-parts, and-from}
-use Rattle.ldv_value.proofs.Lists.{map-map, list_all-map, list_all-filter, list_all-weaker, list_any-map, list_any-false}
+use Rattle.ldv_value.proofs.Lists.{map-map, list_all-map, list_all-filter, list_all-weaker, list_any-map, list_any-false, all-weaker}
 use Rattle.ldv_value.proofs.Options.{option_or-none}
 use Rattle.ldv_value.proofs.SameBytes.{bytes_eq-itself}
-use Rattle.ldv_value.specs.Sorted.{is_strictly_sorted}
 use Rattle.sql_laws.proofs.NewRows.{all_first, updated_kinds, updated_length}
 use Rattle.sql_model.proofs.Databases.{sorted_of_database}
 use Rattle.sql_model.proofs.ValidTables.{table-parts, kinds-fits}
-use Rattle.sql_model.specs.Changes.{matched_in, matched, changed, after_update, updated_row, updated_values, with_rows, has_null, new_rows, lacks_value, key_clash}
+use Rattle.sql_model.specs.Changes.{is_matched, matched_in, matched, changed, after_update, updated_row, updated_values, with_rows, has_null, new_rows, lacks_value, key_clash}
 use Rattle.sql_model.specs.Needs.{updated_unless, updated_in, updated_origin, versions_after, is_row_of}
+use Rattle.sql_model.specs.References.{Missing, Orphan, first_missing, first_orphan, first_in, is_changed, is_lost, children, orphans_of, parents_needed, parents_of, tables_after}
 use Rattle.sql_model.specs.Refusals.{check_refusal, set_fits}
 use Rattle.sql_model.specs.Scope.{InScope, same_text, table_at, catalog_of, own_scope}
 use Rattle.sql_model.specs.Statements.{refusal_of, after_unless}
-use Rattle.sql_model.specs.Tables.{is_valid_table, table_precedes, has_kind, fits, each_value, is_row}
+use Rattle.sql_model.specs.Tables.{is_valid_table, has_kind, fits, each_value, is_row}
 use Rattle.table_store.specs.Histories.{tables_now, table_now, history_at, rows_now, last_next, changed_at, replaced, rewritten, AreKeptBefore, history_of_row}
+use Rattle.table_store.specs.Referring.{parent_stop, child_stop, missing_stop, orphan_stop, is_of, replace_refusal, with_put, are_apart, parents_in_db, CanBePut}
 use Rattle.table_store.specs.RowOrder.{AreInOrder}
-use Rattle.table_store.specs.Stops.{with_replaced, with_changed, are_sorted_rows, all_stood, have_shape, has_shape, values_of, replace_stop, stop_if, key_stop, StopsAs}
+use Rattle.table_store.specs.Stops.{is_among, with_replaced, with_changed, are_sorted_rows, all_stood, have_shape, has_shape, values_of, replace_stop, stop_if, key_stop, StopsAs}
 use Rattle.table_store.specs.declared.stop.StoreStop.{StoreStop}
 use Rattle.table_store.specs.declared.stop.StoreStop.TheVariants as stop
-use Rattle.dml_versions.proofs.AfterLaws.{after-by}
+use Rattle.dml_versions.proofs.AfterLaws.{all_needed, after-by}
 use Rattle.dml_versions.proofs.CheckLaws.{found-valid, found-distinct, sets-fit}
+use Rattle.dml_versions.proofs.KeptLaws.{SameAll}
 use Rattle.dml_versions.proofs.MatchLaws.{rows-sorted, same-changed, matched-stand}
 use Rattle.dml_versions.proofs.MatchedChange.{matched-change}
-use Rattle.dml_versions.proofs.NumberLaws.{AreSorted, replaced-some, made-sorted, some-sorted, made-in}
-use Rattle.dml_versions.proofs.RefuseLaws.{stop_by, not-refused, refused-change, refused-after}
+use Rattle.dml_versions.proofs.NumberLaws.{AreSorted, replaced-some, made-sorted, some-sorted, made-in, among-some}
+use Rattle.dml_versions.proofs.ReferLaws.{or-nothing, refs_stop, children-same, others-agree, put-replaced}
+use Rattle.dml_versions.proofs.RefuseLaws.{stop_by, due_by, not-refused, no-clash-by, child-there, same-all-by, all-needs, refused-change, refused-after}
 use Rattle.dml_versions.proofs.StandingLaws.{Stands}
 use Rattle.dml_versions.proofs.TableLaws.{table-now, scope-is, history-name, schema-now}
 use Rattle.dml_versions.proofs.VersionLaws.{updates-rewritten, versions-changed}
-use Rattle.dml_versions.specs.Changing.{IsWhole, IsStoreAfter, matched_change, refused_change}
+use Rattle.dml_versions.specs.Changing.{IsWhole, IsStoreAfter, IsChildThere, matched_change, refused_change}
 use Rattle.sql_model.specs.Tables.{AreWellFormed}
 use Rattle.dml_versions.specs.Finding.{scope_in, test_in, found_row, row_of}
-use Rattle.dml_versions.specs.Needing.{need_found}
-use Rattle.dml_versions.specs.Types.{Statement, TheUpdate, Update, Column, Table, TableRow, StoreHistory, TableHistory}
+use Rattle.dml_versions.specs.Needing.{need_found, parent_needs, HaveParents}
+use Rattle.dml_versions.specs.Types.{Need, Statement, TheUpdate, Update, Column, Table, TableRow, StoreHistory, TableHistory}
 use Rattle.dml_versions.specs.Versions.{versions_now, updates_of}
 use Rattle.dml_versions.specs.declared.change.Change.{Change}
 use Rattle.dml_versions.specs.declared.found.Found.{Found}
@@ -138,6 +142,77 @@ module _ (store : StoreHistory) (update : Update) (table : TableHistory) (there 
       (λ j. option_or (stop_if (list_any (has_null columns) (sym new_is j)) stop.NotNull) (key_stop t (key_clash (replaced_is j))))
       ∙ ap (option_or (stop_if (lacks_value s (catalog_of db) t) stop.NotNull)) (sym (option_or-none (key_stop t (key_clash (changed s (catalog_of db) t)))))
 
+  changed_tables : with_changed update.table (with_replaced new) db ≡ tables_after s (catalog_of db) db
+  changed_tables =
+      same-changed (with_replaced new) (changed s (catalog_of db)) update.table t replaced_is db target_is
+      (sorted_of_database db formed.database)
+
+  named : t.name ≡ update.table
+  named = history-name update.table store table there
+
+  abbrev missing : Option Missing
+  missing = first_missing s (catalog_of db) t db
+
+  abbrev orphan : Option Orphan
+  orphan = first_orphan s (catalog_of db) t db
+
+  abbrev own : Option StoreStop
+  own = stop_by t (lacks_value s (catalog_of db) t) (key_clash (changed s (catalog_of db) t)) false
+
+  -- the rows that it leaves alone
+  of_test : (row : TableRow) → is_of new row ≡ is_among (map (λ (one : TableRow). one.number) old) row
+  of_test row =
+      list_any-map (λ (r : TableRow). r.number == row.number) make old
+      ∙ sym (list_any-map (λ (n : ℕ). n == row.number) (λ (r : TableRow). r.number) old)
+
+  of_changed : AllByRecursion (λ row. is_of new row ≡ is_changed s (catalog_of db) row) t.rows
+  of_changed =
+      all-weaker (λ (row : TableRow). is_among (map (λ (one : TableRow). one.number) old) row ≡ test row) (λ row. is_of new row ≡ is_changed s (catalog_of db) row)
+      (λ row is. of_test row ∙ is ∙ ap (λ (l : List InScope). is_matched l update.pick row) (sym own_is))
+      t.rows (among-some test t.rows sorted_all)
+
+  others_are : children (is_of new) t.name db ≡ children (is_changed s (catalog_of db)) t.name db
+  others_are =
+      children-same (is_of new) (is_changed s (catalog_of db)) t.name t
+      (others-agree (is_of new) (is_changed s (catalog_of db)) t.rows of_changed)
+      db (ap (λ (n : List ℕ). table_at n db) named ∙ target_is) (sorted_of_database db formed.database)
+
+  missing_is : missing_stop t.schema.foreign new (with_changed t.name (with_replaced new) db) ≡ option_map parent_stop missing
+  missing_is =
+      ap (λ (n : List ℕ). missing_stop t.schema.foreign new (with_changed n (with_replaced new) db)) named
+      ∙ (λ j. missing_stop t.schema.foreign (sym new_is j) (changed_tables j))
+
+  orphan_is : orphan_stop (is_of new) t (with_replaced new t) db ≡ option_map child_stop orphan
+  orphan_is =
+      λ j. option_map child_stop (first_in (flat_map (orphans_of t.name (is_lost t.schema.key t.rows (replaced_is j).rows)) (others_are j)))
+
+  due_new : replace_refusal new db t ≡ due_by t (lacks_value s (catalog_of db) t) (key_clash (changed s (catalog_of db) t)) false missing orphan
+  due_new = λ j. option_or (stop_is j) (option_or (missing_is j) (orphan_is j))
+
+  -- ---- the parents of its new values
+
+  stood_all : all_stood new t ≡ true
+  stood_all = made-in make (λ row. refl) test t.rows
+
+  put_is : with_put new t ≡ changed s (catalog_of db) t
+  put_is = put-replaced new t stood_all ∙ replaced_is
+
+  apart : key_clash (changed s (catalog_of db) t) ≡ None → are_apart new t ≡ true
+  apart none = ap (λ (u : Table). is_none (key_clash u)) put_is ∙ ap is_none none
+
+  origins_are : parents_needed s (catalog_of db) t db ≡ parents_in_db new db t
+  origins_are =
+      (λ j. parents_of db
+      (same-changed (changed s (catalog_of db)) (with_put new) update.table t (sym put_is) db target_is (sorted_of_database db formed.database) j)
+      t.schema.foreign (new_is j))
+      ∙ ap (λ (n : List ℕ). parents_of db (with_changed n (with_put new) db) t.schema.foreign new) (sym named)
+
+  abbrev whole : List Need
+  whole = all_needed s store
+
+  abbrev whole_own : List Need
+  whole_own = map (need_found update.table) (map (found_row table.slots) old)
+
   -- ---- what is given to the store
 
   module _ (found : List Found) (rows : List TableRow) (found_is : found ≡ map (found_row table.slots) old) (rows_are : rows ≡ map make (map row_of found)) where
@@ -155,20 +230,43 @@ module _ (store : StoreHistory) (update : Update) (table : TableHistory) (there 
     pub update-stand : all_stood rows t ≡ true
     update-stand = ap (λ (l : List TableRow). all_stood l t) rows_is ∙ made-in make (λ row. refl) test t.rows
 
-    due_is : option_and_then (replace_stop rows) (table_at update.table db) ≡ stop_by t (lacks_value s (catalog_of db) t) (key_clash (changed s (catalog_of db) t)) false
-    due_is = ap (option_and_then (replace_stop rows)) target_is ∙ ap (λ (l : List TableRow). replace_stop l t) rows_is ∙ stop_is
+    pub update-put : IfSome (table_at update.table db) (CanBePut rows)
+    update-put = subst (λ (o : Option Table). IfSome o (CanBePut rows)) (sym target_is) (inl (update-stand, update-sorted))
+
+    pub update-due : option_and_then (replace_refusal rows db) (table_at update.table db)
+        ≡ due_by t (lacks_value s (catalog_of db) t) (key_clash (changed s (catalog_of db) t)) false missing orphan
+    update-due =
+        ap (option_and_then (replace_refusal rows db)) target_is
+        ∙ ap (λ (l : List TableRow). replace_refusal l db t) rows_is
+        ∙ due_new
+
+    pub update-own : (needs : List Need) → needs ≡ map (need_found update.table) found → needs ≡ whole_own
+    update-own needs is = is ∙ ap (map (need_found update.table)) found_is
+
+    pub update-needs : (needs all : List Need) → needs ≡ map (need_found update.table) found → HaveParents store update.table rows needs all
+        → own ≡ None → all ≡ whole
+    update-needs needs all needs_is have fine =
+        let are : are_apart new t ≡ true → all ≡ united needs (sorted_once (parent_needs store new t)) =
+        subst (λ (l : List TableRow). are_apart l t ≡ true → all ≡ united needs (sorted_once (parent_needs store l t))) rows_is
+        (subst (λ (o : Option Table). IfSome o (λ u. are_apart rows u ≡ true → all ≡ united needs (sorted_once (parent_needs store rows u)))) target_is have) in
+        are (apart (no-clash-by t (lacks_value s (catalog_of db) t) (key_clash (changed s (catalog_of db) t)) false fine))
+        ∙ ap (λ (l : List Need). united l (sorted_once (parent_needs store new t))) (update-own needs needs_is)
+        ∙ all-needs store s update.table table there order target_is check old old_is old_sorted old_stand (parents_in_db new db t) origins_are
 
     -- ---- nothing refuses it
 
-    module _ (fine : option_and_then (replace_stop rows) (table_at update.table db) ≡ None) where
+    module _ (fine : option_and_then (replace_refusal rows db) (table_at update.table db) ≡ None) where
+      none_due : due_by t (lacks_value s (catalog_of db) t) (key_clash (changed s (catalog_of db) t)) false missing orphan ≡ None
+      none_due = sym update-due ∙ fine
+
       refused_not : refusal_of (Some s) db ≡ None
-      refused_not = not-refused store s update.table table there order target_is check (sym due_is ∙ fine)
+      refused_not = not-refused store s update.table table there order target_is check none_due
 
-      named : t.name ≡ update.table
-      named = history-name update.table store table there
+      pub update-fine : own ≡ None
+      update-fine = (or-nothing own (refs_stop missing orphan) none_due).0
 
-      pub update-change : IsWhole s store (matched_change update.table found)
-      update-change = matched-change store s update.table table there order refl refl refl refl old old_is old_sorted old_stand refused_not found found_is
+      pub update-change : IsWhole s store (matched_change update.table found whole)
+      update-change = matched-change store s update.table table there order refl refl refl old old_is old_sorted old_stand refused_not found found_is whole refl
 
       tables_are : with_changed update.table (with_replaced rows) db ≡ after_unless None (Some s) db
       tables_are =
@@ -217,16 +315,21 @@ module _ (store : StoreHistory) (update : Update) (table : TableHistory) (there 
 
     -- ---- the store refuses it
 
-    module _ (X : Type 0) (at : StoreStop) (change : Change) (stops : StopsAs {X = X} (option_and_then (replace_stop rows) (table_at update.table db)) (Err at))
-        (made : refused_change update.table table.slots (map (need_found update.table) found) at ≡ Some change) where
-      stops_by : StopsAs {X = X} (stop_by t (lacks_value s (catalog_of db) t) (key_clash (changed s (catalog_of db) t)) false) (Err at)
-      stops_by = subst (λ (o : Option StoreStop). StopsAs {X = X} o (Err at)) due_is stops
+    module _ (X : Type 0) (at : StoreStop) (stops : StopsAs {X = X} (option_and_then (replace_refusal rows db) (table_at update.table db)) (Err at)) where
+      stops_by : StopsAs {X = X} (due_by t (lacks_value s (catalog_of db) t) (key_clash (changed s (catalog_of db) t)) false missing orphan) (Err at)
+      stops_by = subst (λ (o : Option StoreStop). StopsAs {X = X} o (Err at)) update-due stops
 
-      made_by : refused_change update.table table.slots (map (need_found update.table) (map (found_row table.slots) old)) at ≡ Some change
-      made_by = ap (λ (l : List Found). refused_change update.table table.slots (map (need_found update.table) l) at) (sym found_is) ∙ made
+      pub update-child : IsChildThere db at
+      update-child = child-there store s update.table table there order target_is check (sorted_of_database db formed.database) X at stops_by
 
-      pub update-refused : IsWhole s store change
-      update-refused = refused-change store s update.table table there order target_is check old old_is old_sorted old_stand X at change stops_by made_by
+      pub update-refused : (change : Change) → refused_change (versions_now store) update.table table.slots whole_own whole at ≡ Some change → IsWhole s store change
+      update-refused change made =
+          refused-change store s update.table table there order target_is check old old_is old_sorted old_stand whole (λ none. refl) X at change stops_by made
 
-      pub update-kept : (time : ℕ) (after : StoreHistory) → store.time < time → after ≡ store → IsStoreAfter s time store after
-      update-kept time after later same = refused-after store s update.table table there order target_is check old old_is old_sorted old_stand X at change stops_by made_by time after later same
+      pub update-same : (all : List Need) → (own ≡ None → all ≡ whole) → SameAll at all whole
+      update-same all same = same-all-by store s update.table table there order target_is check all whole same X at stops_by
+
+      pub update-kept : (needs all : List Need) (change : Change) → refused_change (versions_now store) update.table table.slots needs all at ≡ Some change
+          → (time : ℕ) (after : StoreHistory) → store.time < time → after ≡ store → IsStoreAfter s time store after
+      update-kept needs all change made time after later same =
+          refused-after store s update.table table there order target_is check X at (versions_now store) needs all change stops_by made time after later same

@@ -1,7 +1,7 @@
 -- What INSERT, UPDATE and DELETE return over a store, and what they make of it.
 use Rattle.std.specs.Prelude.{◌≡◌, ℕ, ◌≤◌, List, [], map, length, Bool, true, false, IsTrue, Option, Some, None, Ok}
 use Rattle.sql_model.specs.Changes.{numbered, new_values, updated_row}
-use Rattle.sql_model.specs.Needs.{need_of, made_by, updated_rows, versions_after, read_of}
+use Rattle.sql_model.specs.Needs.{Versions, need_of, made_by, updated_rows, versions_after, read_of}
 use Rattle.sql_model.specs.Places.{checked_of}
 use Rattle.sql_model.specs.Scope.{catalog_of}
 use Rattle.sql_model.specs.Statements.{reply_of, after}
@@ -10,9 +10,8 @@ use Rattle.table_store.specs.declared.stop.StoreStop.{StoreStop}
 use Rattle.table_store.specs.declared.stop.StoreStop.TheVariants as stop
 use Rattle.dml_versions.specs.Finding.{scope_in, test_in, row_of, found_from}
 use Rattle.dml_versions.specs.Holding.{IsHeld}
-use Rattle.dml_versions.specs.Needing.{need_found, made_found, made_new, with_key_rows, with_parent_rows}
-use Rattle.dml_versions.specs.Needing.{with_child_row}
-use Rattle.dml_versions.specs.Types.{Checked, Expr, Member, Need, Reply, Changed, Refused, SqlRefusal}
+use Rattle.dml_versions.specs.Needing.{made_found, made_new, with_key_rows, with_child_row, IsRowThere}
+use Rattle.dml_versions.specs.Types.{Checked, Expr, Need, Reply, Changed, Refused, SqlRefusal}
 use Rattle.dml_versions.specs.Types.{NotNull, KeyTaken, Full, NoParent, HasChild}
 use Rattle.dml_versions.specs.Types.{Statement, TheQuery, TheInsert, TheUpdate, TheDelete, Insert, Update}
 use Rattle.dml_versions.specs.Types.{Table, TableRow}
@@ -86,37 +85,47 @@ pub record AreFound (name : List ℕ) (pick : Option Expr) (store : StoreHistory
   pub held : IsHeld store.time table
   pub found_is : found ≡ found_from (test_in table pick) table.slots 0
 
--- where nothing refuses a change of matched rows, of whose new values these are the parents
-abbrev pub matched_change : List ℕ → List Found → List Member → Change
-matched_change name found parents = record {
+-- where nothing refuses a change of matched rows that needs some rows
+abbrev pub matched_change : List ℕ → List Found → List Need → Change
+matched_change name found needs = record {
   reply = Changed (length found);
   made = map (made_found name) found;
-  needs = with_parent_rows parents (map (need_found name) found);
+  needs = needs;
 }
 
--- where nothing refuses new rows, of which these are the parents
-abbrev pub inserted_change : List ℕ → ℕ → List (List Value) → List Member → Change
-inserted_change name next rows parents = record {
+-- where nothing refuses new rows that need some rows
+abbrev pub inserted_change : List ℕ → ℕ → List (List Value) → List Need → Change
+inserted_change name next rows needs = record {
   reply = Changed (length rows);
   made = map (made_new name) (numbered next rows);
-  needs = with_parent_rows parents [];
+  needs = needs;
 }
 
 abbrev pub refused_by : SqlRefusal → List Need → Change
 refused_by refusal needs = record { reply = Refused refusal; made = []; needs = needs }
 
--- where the store refuses a change that needs matched rows and parents; nothing is said where memory is out
+-- where the store refuses a change that needs matched rows and, with parents, all of these; nothing is said
+-- where memory is out
 abbrev pub refused_change :
-    StoreHistory → List ℕ → List RowHistory → List Need → List Member → StoreStop → Option Change
-refused_change store name slots needs parents stop.NotNull = Some (refused_by NotNull needs)
-refused_change store name slots needs parents (stop.KeyTaken earlier later key) =
+    Versions → List ℕ → List RowHistory → List Need → List Need → StoreStop → Option Change
+refused_change versions name slots needs all stop.NotNull = Some (refused_by NotNull needs)
+refused_change versions name slots needs all (stop.KeyTaken earlier later key) =
     Some (refused_by (KeyTaken name key) (with_key_rows name slots earlier later needs))
-refused_change store name slots needs parents stop.Full = Some (refused_by Full [])
-refused_change store name slots needs parents (stop.NoParent table key) =
-    Some (refused_by (NoParent table key) (with_parent_rows parents needs))
-refused_change store name slots needs parents (stop.HasChild table row key) =
-    Some (refused_by (HasChild table key) (with_child_row store table row (with_parent_rows parents needs)))
-refused_change store name slots needs parents stop.NoMemory = None
+refused_change versions name slots needs all stop.Full = Some (refused_by Full [])
+refused_change versions name slots needs all (stop.NoParent table key) =
+    Some (refused_by (NoParent table key) all)
+refused_change versions name slots needs all (stop.HasChild table row key) =
+    Some (refused_by (HasChild table key) (with_child_row versions table row all))
+refused_change versions name slots needs all stop.NoMemory = None
+
+-- a child row that refuses is there
+abbrev pub IsChildThere : List Table → StoreStop → Type 0
+IsChildThere db stop.NotNull = Unit {0}
+IsChildThere db (stop.KeyTaken earlier later key) = Unit {0}
+IsChildThere db stop.Full = Unit {0}
+IsChildThere db (stop.NoParent table key) = Unit {0}
+IsChildThere db (stop.HasChild table row key) = IsRowThere db table row
+IsChildThere db stop.NoMemory = Unit {0}
 
 -- the rows that an UPDATE matches, and what it makes of them
 pub record ArePrepared (update : Update) (store : StoreHistory) (found : List Found) (rows : List TableRow)

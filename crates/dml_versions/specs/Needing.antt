@@ -1,10 +1,16 @@
 -- The rows that a change needs and the versions that it makes, from the rows that were found.
-use Rattle.std.specs.Prelude.{ℕ, ◌+◌, ◌==◌, map, nat_lt, List, [], ◌∷◌, Option, Some, None, if◌then◌else◌}
+use Rattle.std.specs.Prelude.{◌≡◌, ℕ, ◌+◌, ◌==◌, map, nat_lt, List, [], ◌∷◌, true, Option, Some, None, IfSome}
+use Rattle.std.specs.Prelude.{if◌then◌else◌}
 use Rattle.std.specs.Option.{option_map}
-use Rattle.dml_versions.specs.Finding.{version_of}
 use Rattle.core_parts.specs.Needing.{need_by, sorted_once, united}
-use Rattle.table_store.specs.Referring.{version_at}
-use Rattle.dml_versions.specs.Types.{Member, Need, L, K, P, C, RowHistory, StoreHistory, TableRow}
+use Rattle.sql_model.specs.Needs.{Versions, needed_by, needed_row, read_of}
+use Rattle.sql_model.specs.Scope.{table_at}
+use Rattle.table_store.specs.Histories.{tables_now}
+use Rattle.table_store.specs.Referring.{are_apart, parents_in_db}
+use Rattle.table_store.specs.Stops.{has_number}
+use Rattle.dml_versions.specs.Finding.{version_of}
+use Rattle.dml_versions.specs.Types.{Member, Need, L, K, P, C, RowHistory, StoreHistory, Table, TableRow}
+use Rattle.dml_versions.specs.Versions.{versions_now}
 use Rattle.dml_versions.specs.declared.found.Found.{Found}
 
 -- ---- matched rows
@@ -55,10 +61,25 @@ with_key_rows name slots earlier later needs =
 abbrev pub with_parent_rows : List Member → List Need → List Need
 with_parent_rows parents needs = united needs (sorted_once (map (need_by P) parents))
 
--- a row of any table, at its version in a store
-abbrev pub child_need : StoreHistory → List ℕ → ℕ → Need
-child_need store table row = need_by C (member_at table row (version_at store table row))
+-- the needs of the parents of rows of a table, once these are put
+abbrev pub parent_needs : StoreHistory → List TableRow → Table → List Need
+parent_needs store rows own =
+    map (read_of (versions_now store)) (map (needed_by P) (parents_in_db rows (tables_now store) own))
+
+-- needs with these beside them, where no two rows have one key then
+abbrev pub HaveParents : StoreHistory → List ℕ → List TableRow → List Need → List Need → Type 0
+HaveParents store name rows needs all = IfSome (table_at name (tables_now store))
+    (λ own. are_apart rows own ≡ true → all ≡ united needs (sorted_once (parent_needs store rows own)))
+
+-- a table has a row of a number
+pub record IsRowThere (db : List Table) (name : List ℕ) (number : ℕ) : Type 0 where
+  pub table : Table
+  pub found : table_at name db ≡ Some table
+  pub has : has_number table number ≡ true
+
+abbrev pub child_need : Versions → List ℕ → ℕ → Need
+child_need versions table row = read_of versions (needed_row C table row)
 
 -- needs, and the child row that is needed beside them
-abbrev pub with_child_row : StoreHistory → List ℕ → ℕ → List Need → List Need
-with_child_row store table row needs = united needs (child_need store table row ∷ [])
+abbrev pub with_child_row : Versions → List ℕ → ℕ → List Need → List Need
+with_child_row versions table row needs = united needs (child_need versions table row ∷ [])

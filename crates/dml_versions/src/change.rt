@@ -2,22 +2,20 @@
 
 ghost use Rattle.std.specs.Prelude.{◌≡◌, ◌+◌, ◌<◌, ◌^◌, Some, IfOk, length, map, nat_lt, false};
 ghost use Rattle.std.specs.List.{AllByRecursion};
-ghost use Rattle.std.specs.Option.{option_and_then};
 ghost use Rattle.ldv_value.specs.Limits.{max_next};
 ghost use Rattle.dml_versions.specs.Changing.{matched_change, inserted_change, refused_change};
-ghost use Rattle.dml_versions.specs.Changing.{refused_by, reply_alone, told};
-ghost use Rattle.dml_versions.specs.Needing.{made_new, need_found, with_parent_rows};
-ghost use Rattle.dml_versions.specs.Types.{Member};
-ghost use Rattle.table_store.specs.Histories.{history_at};
+ghost use Rattle.dml_versions.specs.Changing.{refused_by, reply_alone, told, IsChildThere};
+ghost use Rattle.dml_versions.specs.Needing.{made_new};
+ghost use Rattle.dml_versions.specs.Versions.{versions_now};
+ghost use Rattle.table_store.specs.Histories.{tables_now};
 ghost use Rattle.sql_model.specs.Changes.{numbered};
 
 use crate::found::FoundRows;
 use crate::needs::{made_new, made_of, with_child_row, with_key_rows};
-use crate::tables::table_of;
 use ldv_value::{List, MAX_NEXT, RowList, Utf8};
 use sql_model::{Members, Needs, Reply, SqlRefusal};
 use std::alloc::{AllocError, Global};
-use table_store::{Store, StoreStop};
+use table_store::{Store, StoreStop, TableStore};
 
 /// The reply to a statement, the versions that it made, and the rows that it needed at their versions, both
 /// lists sorted by table and row number. Where they aren't kept, the lists may be anything.
@@ -47,9 +45,7 @@ fn matched_lists(
     needs: Needs,
 ) -> Result<Change, AllocError>
     requires { AllByRecursion (λ row. row.version + 1 < 2 ^ 32) found.now }
-    ensures { IfOk result (λ change. (parents : List Member)
-        → needs ≡ with_parent_rows parents (map (need_found name.now) found.now)
-        → change ≡ matched_change name.now found.now parents) }
+    ensures { IfOk result (λ change. change ≡ matched_change name.now found.now needs) }
 {
     Ok(Change {
         reply: Reply::Changed(found.len() as u64),
@@ -68,9 +64,7 @@ pub(crate) fn matched_change(
     keep: bool,
 ) -> Result<Change, AllocError>
     requires { AllByRecursion (λ row. row.version + 1 < 2 ^ 32) found.now }
-    ensures { IfOk result (λ change. (parents : List Member)
-        → needs ≡ with_parent_rows parents (map (need_found name.now) found.now)
-        → change ≡ told keep (matched_change name.now found.now parents)) }
+    ensures { IfOk result (λ change. change ≡ told keep (matched_change name.now found.now needs)) }
 {
     if keep {
         matched_lists(alloc, name, found, needs)
@@ -88,8 +82,7 @@ fn inserted_lists(
     needs: Needs,
 ) -> Result<Change, AllocError>
     ensures { IfOk result (λ change. nat_lt max_next (next + length rows.now) ≡ false
-        → (parents : List Member) → needs ≡ with_parent_rows parents []
-        → change ≡ inserted_change name.now next rows.now parents) }
+        → change ≡ inserted_change name.now next rows.now needs) }
 {
     Ok(Change {
         reply: Reply::Changed(rows.len() as u64),
@@ -109,8 +102,7 @@ pub(crate) fn inserted_change(
     keep: bool,
 ) -> Result<Change, AllocError>
     ensures { IfOk result (λ change. nat_lt max_next (next + length rows.now) ≡ false
-        → (parents : List Member) → needs ≡ with_parent_rows parents []
-        → change ≡ told keep (inserted_change name.now next rows.now parents)) }
+        → change ≡ told keep (inserted_change name.now next rows.now needs)) }
 {
     if keep {
         inserted_lists(alloc, name, next, rows, needs)
@@ -135,13 +127,13 @@ fn made_within(alloc: Global, name: &Utf8, next: u32, rows: &RowList) -> Result<
 pub(crate) fn refused_change(
     store: &Store,
     name: &Utf8,
+    table: &TableStore,
     needs: Needs,
     all: Needs,
     stop: StoreStop,
 ) -> Result<Change, AllocError>
-    ensures { IfOk result (λ change. (parents : List Member) → all ≡ with_parent_rows parents needs
-        → option_and_then (λ table. refused_change store.now name.now table.slots needs parents stop)
-        (history_at name.now store.now) ≡ Some change) }
+    ensures { IfOk result (λ change. IsChildThere (tables_now store.now) stop
+        → refused_change (versions_now store.now) name.now table.now.slots needs all stop ≡ Some change) }
 {
     let alloc = needs.allocator();
     match stop {
@@ -152,7 +144,6 @@ pub(crate) fn refused_change(
             key,
         } => {
             let table_name = name.copy()?;
-            let table = table_of(store, name);
             let needs = with_key_rows(name, table, earlier, later, needs)?;
             let refusal = SqlRefusal::KeyTaken {
                 table: table_name,
@@ -162,13 +153,11 @@ pub(crate) fn refused_change(
         }
         StoreStop::Full => Ok(refused_by(alloc, SqlRefusal::Full, List::new(alloc))),
         StoreStop::NoParent { table, key } => {
-            let refusal = SqlRefusal::NoParent { table, key };
-            Ok(refused_by(alloc, refusal, all))
+            Ok(refused_by(alloc, SqlRefusal::NoParent { table, key }, all))
         }
         StoreStop::HasChild { table, row, key } => {
             let needs = with_child_row(store, &table, row, all)?;
-            let refusal = SqlRefusal::HasChild { table, key };
-            Ok(refused_by(alloc, refusal, needs))
+            Ok(refused_by(alloc, SqlRefusal::HasChild { table, key }, needs))
         }
         StoreStop::NoMemory => Err(AllocError),
     }

@@ -52,7 +52,9 @@ pub fn delete(
                 made: _made,
                 needs,
             } = change;
-            let refused = refused_change(store, &delete.table, List::new(alloc), needs, stop)?;
+            let table = table_of(store, &delete.table);
+            let none = List::new(alloc);
+            let refused = refused_change(store, &delete.table, table, none, needs, stop)?;
             Ok(refused)
         }
     }

@@ -1,13 +1,18 @@
 //! INSERT.
 
-ghost use Rattle.std.specs.Prelude.{◌≡◌, ◌<◌, IfOk, OnOk, OnErr};
+ghost use Rattle.std.specs.Prelude.{◌≡◌, ◌+◌, ◌<◌, [], false, length, nat_lt, Some, IfOk, IsTrue, OnOk, OnErr};
+ghost use Rattle.std.specs.Option.{option_map};
+ghost use Rattle.ldv_value.specs.Limits.{max_next};
 ghost use Rattle.dml_versions.specs.Changing.{IsInsert, IsCheckedOver, IsChange, IsStoreAfter};
 ghost use Rattle.dml_versions.specs.Changing.{AreNewRows};
+ghost use Rattle.dml_versions.specs.Needing.{HaveParents};
 ghost use Rattle.dml_versions.specs.Types.{TheInsert};
+ghost use Rattle.sql_model.specs.Changes.{numbered};
+ghost use Rattle.sql_model.specs.Scope.{table_at};
 ghost use Rattle.table_store.specs.Histories.{tables_now};
 
 use crate::change::{Change, inserted_change, refused_change};
-use crate::needs::{numbered_rows, parents_of, with_parent_rows};
+use crate::needs::{numbered_rows, parents_with};
 use crate::rows::new_rows;
 use crate::statements::insert_of;
 use crate::tables::table_of;
@@ -49,7 +54,9 @@ pub fn insert(
                 made: _made,
                 needs,
             } = change;
-            let refused = refused_change(store, &insert.table, List::new(alloc), needs, stop)?;
+            let table = table_of(store, &insert.table);
+            let none = List::new(alloc);
+            let refused = refused_change(store, &insert.table, table, none, needs, stop)?;
             Ok(refused)
         }
     }
@@ -63,13 +70,39 @@ fn inserted_needs(
     next: u32,
     rows: &RowList,
     keep: bool,
-) -> Result<Needs, AllocError> {
-    if !keep || rows.len() > (MAX_NEXT - next) as usize {
+) -> Result<Needs, AllocError>
+    requires next { option_map (λ table. table.next) (table_at insert.now.table (tables_now store.now))
+        ≡ Some next }
+    ensures { IfOk result (λ needs. IsTrue keep → nat_lt max_next (next + length rows.now) ≡ false
+        → HaveParents store.now insert.now.table (numbered next rows.now) [] needs) }
+{
+    if keep {
+        within_needs(alloc, insert, store, next, rows)
+    } else {
+        Ok(List::new(alloc))
+    }
+}
+
+// Their parents, where the numbers of the rows are within the limit.
+fn within_needs(
+    alloc: Global,
+    insert: &Insert,
+    store: &Store,
+    next: u32,
+    rows: &RowList,
+) -> Result<Needs, AllocError>
+    requires next { option_map (λ table. table.next) (table_at insert.now.table (tables_now store.now))
+        ≡ Some next }
+    ensures { IfOk result (λ needs. nat_lt max_next (next + length rows.now) ≡ false
+        → HaveParents store.now insert.now.table (numbered next rows.now) [] needs) }
+{
+    if rows.len() > (MAX_NEXT - next) as usize {
         return Ok(List::new(alloc));
     }
-    let numbered = numbered_rows(alloc, rows, next)?;
-    let parents = parents_of(store, &insert.table, &numbered, keep)?;
-    with_parent_rows(&List::new(alloc), parents)
+    let given = numbered_rows(alloc, rows, next)?;
+    let none = List::new(alloc);
+    let needs = parents_with(store, &insert.table, &given, &none)?;
+    Ok(needs)
 }
 
 // The values of the new rows.

@@ -15,8 +15,10 @@
 //! The way of a change: `finding` finds the rows for which WHERE is True, by the table's key where WHERE
 //! compares each of its columns by `=` with a constant (`keys`), and else among the rows that pass the tests
 //! of single columns that WHERE makes (`tested`, `specs/Testing.antt`); `rows` or `updates` makes the new
-//! values, `needs` the lists, all before the store changes; `inserting`, `updating` and `deleting` put them
-//! together.
+//! values, `needs` the lists with the parents of new values, all before the store changes; `inserting`,
+//! `updating` and `deleting` put them together. Where the store refuses a change, it is as it was, and `change`
+//! says what is needed then. `proofs/RefuseLaws.antt` and `proofs/ReferLaws.antt` say that the causes of the
+//! store are those of the statement.
 #![tactic(auto)]
 
 mod change;

@@ -1,6 +1,6 @@
 //! The rows that a change needs, and the versions that it makes.
 
-ghost use Rattle.std.specs.Prelude.{◌≡◌, ◌==◌, ◌+◌, ◌<◌, ◌≤◌, ◌^◌, false, true, map, length, slice_get};
+ghost use Rattle.std.specs.Prelude.{◌≡◌, ◌==◌, ◌+◌, ◌<◌, ◌≤◌, ◌^◌, false, map, length, slice_get};
 ghost use Rattle.std.specs.Prelude.{IfOk, IfSome, IsSome, IsTrue};
 ghost use Rattle.std.specs.Prelude.{nat_le};
 ghost use Rattle.std.specs.List.{AllByRecursion, position_or_len};
@@ -9,10 +9,11 @@ ghost use Rattle.sql_model.specs.Changes.{numbered};
 ghost use Rattle.dml_versions.specs.Finding.{version_of};
 ghost use Rattle.dml_versions.specs.Needing.{need_found, made_found, made_new, number_found, key_need};
 ghost use Rattle.dml_versions.specs.Needing.{put_need, put_some, with_key_rows, with_parent_rows};
-ghost use Rattle.dml_versions.specs.Needing.{with_child_row};
+ghost use Rattle.dml_versions.specs.Needing.{child_need, with_child_row, HaveParents, IsRowThere};
+ghost use Rattle.dml_versions.specs.Versions.{versions_now};
 ghost use Rattle.sql_model.specs.Scope.{table_at};
 ghost use Rattle.table_store.specs.Histories.{tables_now};
-ghost use Rattle.table_store.specs.Referring.{are_apart, CanBePut, parents_now};
+ghost use Rattle.table_store.specs.Referring.{CanBePut};
 
 use crate::found::FoundRows;
 use core_parts::{needed_by, sorted_once, united};
@@ -195,32 +196,50 @@ fn has_row_at(needs: &[Need], place: usize, row: u32) -> bool
     }
 }
 
-/// The parents of rows of a table, once these are put, where lists are kept.
-pub(crate) fn parents_of(
+/// Needs, and those of the parents of rows of a table, once these are put, where lists are kept.
+pub(crate) fn with_parents(
     store: &Store,
     name: &Utf8,
     rows: &TableRows,
+    needs: &Needs,
     keep: bool,
-) -> Result<Members, AllocError>
+) -> Result<Needs, AllocError>
     requires there { IsSome (table_at name.now (tables_now store.now)) }
     requires put { IfSome (table_at name.now (tables_now store.now)) (CanBePut rows.now) }
-    ensures { IfOk result (λ members. IsTrue keep → IfSome (table_at name.now (tables_now store.now))
-        (λ own. are_apart rows.now own ≡ true → members ≡ parents_now store.now rows.now own)) }
+    ensures { IfOk result (λ all. IsTrue keep → HaveParents store.now name.now rows.now needs.now all) }
 {
     if keep {
-        store.parents_of(name.as_str(), rows)
+        parents_with(store, name, rows, needs)
     } else {
-        Ok(List::new(rows.allocator()))
+        Ok(List::new(needs.allocator()))
     }
 }
 
-/// Needs with the parent rows that are needed beside them.
-pub(crate) fn with_parent_rows(needs: &Needs, parents: Members) -> Result<Needs, AllocError>
+/// Needs, and those of the parents of rows of a table, once these are put.
+pub(crate) fn parents_with(
+    store: &Store,
+    name: &Utf8,
+    rows: &TableRows,
+    needs: &Needs,
+) -> Result<Needs, AllocError>
+    requires there { IsSome (table_at name.now (tables_now store.now)) }
+    requires put { IfSome (table_at name.now (tables_now store.now)) (CanBePut rows.now) }
+    ensures { IfOk result (HaveParents store.now name.now rows.now needs.now) }
+{
+    let parents = store.parents_of(name.as_str(), rows)?;
+    let all = with_parent_rows(needs, parents)?;
+    Ok(all)
+}
+
+// Needs with the parent rows that are needed beside them.
+fn with_parent_rows(needs: &Needs, parents: Members) -> Result<Needs, AllocError>
     ensures { IfOk result (λ all. all ≡ with_parent_rows parents needs.now) }
 {
     let alloc = needs.allocator();
-    let others = sorted_once(alloc, needed_by(Rule::P, parents)?)?;
-    united(alloc, needs.items(), others.items())
+    let wanted = needed_by(Rule::P, parents)?;
+    let others = sorted_once(alloc, wanted)?;
+    let all = united(alloc, needs.items(), others.items())?;
+    Ok(all)
 }
 
 /// Needs with the child row that is needed beside them.
@@ -230,19 +249,44 @@ pub(crate) fn with_child_row(
     row: u32,
     needs: Needs,
 ) -> Result<Needs, AllocError>
-    requires { IsSome (table_at table.now (tables_now store.now)) }
-    ensures { IfOk result (λ all. all ≡ with_child_row store.now table.now row needs) }
+    ensures { IfOk result (λ all. IsRowThere (tables_now store.now) table.now row
+        → all ≡ with_child_row (versions_now store.now) table.now row needs) }
 {
     let alloc = needs.allocator();
-    let child = Need {
+    let child = child_need(store, table, row)?;
+    let mut others = List::with_capacity(alloc, 1)?;
+    others.push(child)?;
+    let all = united(alloc, needs.items(), others.items())?;
+    Ok(all)
+}
+
+// The need of a child row.
+fn child_need(store: &Store, table: &Utf8, row: u32) -> Result<Need, AllocError>
+    ensures { IfOk result (λ need. IsRowThere (tables_now store.now) table.now row
+        → need ≡ child_need (versions_now store.now) table.now row) }
+{
+    Ok(Need {
         member: Member {
             table: table.copy()?,
             row,
-            version: store.version(table.as_str(), row).unwrap_or(0),
+            version: version_in(store, table, row),
         },
         rule: Rule::C,
-    };
-    united(alloc, needs.items(), &[child])
+    })
+}
+
+// The version of a row of a table.
+fn version_in(store: &Store, table: &Utf8, row: u32) -> u32
+    ensures { IsRowThere (tables_now store.now) table.now row
+        → result ≡ versions_now store.now table.now row }
+{
+    match store.table(table.as_str()) {
+        None => 0,
+        Some(held) => {
+            held.tell_order();
+            version_of(held, row)
+        }
+    }
 }
 
 /// Copies of new rows with their numbers, from `next` on.

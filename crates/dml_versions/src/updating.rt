@@ -9,7 +9,7 @@ ghost use Rattle.table_store.specs.Histories.{tables_now};
 use crate::change::{Change, matched_change, refused_change};
 use crate::finding::found_rows;
 use crate::found::FoundRows;
-use crate::needs::{needs_of, parents_of, with_parent_rows};
+use crate::needs::{needs_of, with_parents};
 use crate::places::update_places;
 use crate::statements::update_of;
 use crate::tables::table_of;
@@ -43,8 +43,7 @@ pub fn update(
     let prepared = prepare(checked, update, store)?;
     let Prepared { found, rows } = prepared;
     let needs = needs_of(alloc, &update.table, &found, keep)?;
-    let parents = parents_of(store, &update.table, &rows, keep)?;
-    let all = with_parent_rows(&needs, parents)?;
+    let all = with_parents(store, &update.table, &rows, &needs, keep)?;
     let change = matched_change(alloc, &update.table, &found, all, keep)?;
     let name = update.table.as_str();
     match store.replace_all(name, rows, time) {
@@ -55,7 +54,8 @@ pub fn update(
                 made: _made,
                 needs: all,
             } = change;
-            let refused = refused_change(store, &update.table, needs, all, stop)?;
+            let table = table_of(store, &update.table);
+            let refused = refused_change(store, &update.table, table, needs, all, stop)?;
             Ok(refused)
         }
     }

@@ -1,9 +1,10 @@
 -- What a statement is answered, and what is recorded of it, by the definitions of databases.
-use Rattle.std.proofs.Common.{◌≡◌, ◌∙◌, sym, ap, subst, refl, ℕ, List, [], ◌∷◌, ◌++◌, map, Bool, true, false, Option, Some, None, IsTrue, inl, inr}
+use Rattle.std.proofs.Common.{◌≡◌, ◌∙◌, sym, ap, subst, refl, ℕ, suc, length, List, [], ◌∷◌, ◌++◌, map, Bool, true, false, Option, Some, None, IsTrue, inl, inr}
 use Rattle.std.specs.Prelude.{Ok, Err, filter, find, if◌then◌else◌}
 use Rattle.std.specs.List.{flat_map}
 use Rattle.std.proofs.lemmas.Bool.{cases_Bool}
 use Rattle.std.proofs.lemmas.List.{map-append}
+use Rattle.ldv_value.proofs.Lists.{map-map}
 use Rattle.core_parts.specs.Checking.{IsQuery}
 use Rattle.dml_versions.proofs.CheckLaws.{accepted}
 use Rattle.dml_versions.specs.Changing.{IsChange, IsCheckedOver, IsStoreAfter}
@@ -11,26 +12,28 @@ use Rattle.sql_model.specs.Tables.{AreWellFormed}
 use Rattle.dml_versions.specs.Versions.{versions_now, updates_of, updates_in}
 use Rattle.dml_versions.specs.declared.change.Change.{Change}
 use Rattle.query_eval.specs.Stored.{table_names}
-use Rattle.run_model.specs.SqlDatabase.{unchanged, lists_of, answer_of, sql_base}
+use Rattle.run_model.specs.SqlDatabase.{SqlDatabase, unchanged, db_after, lists_of, answer_of, sql_base}
 use Rattle.run_model.specs.Database.{Gives, asked_by}
 use Rattle.run_model.specs.declared.database.Asker.{Asker}
 use Rattle.sql_model.specs.Texts.{statement_of}
 use Rattle.sql_engine.proofs.NeedLaws.{needs_are}
 use Rattle.sql_engine.proofs.StoreLaws.{answer_named, hidden_named, sorted_names}
 use Rattle.sql_engine.specs.Answering.{IsAnswer, IsAnswered, hidden_lineage}
-use Rattle.sql_engine.specs.Asking.{database, lists_in, IsDone, IsTold, refused, done_of}
-use Rattle.sql_engine.specs.Listing.{names_table, needs_of}
-use Rattle.sql_engine.specs.Types.{Catalog, Checked, H, L, Member, Need, Query, Rows, SqlRefusal, Statement, StoreHistory, Syntax, Table, TheQuery, TheInsert, TheUpdate, TheDelete, Value}
+use Rattle.sql_engine.specs.Asking.{database, lists_in, IsDone, IsOutcome, refused, done_of}
+use Rattle.sql_engine.specs.Listing.{is_in, names_first, tables_asked, needs_of}
+use Rattle.sql_laws.proofs.DatabaseLaws.{database_law}
+use Rattle.sql_engine.specs.Types.{Catalog, Checked, H, L, Member, Need, Query, Reply, Rows, SqlRefusal, Statement, StoreHistory, Syntax, Table, TheQuery, TheInsert, TheUpdate, TheDelete, Value}
 use Rattle.sql_engine.specs.declared.answered.Answered.{Answered}
 use Rattle.sql_engine.specs.declared.done.Done.{Done}
-use Rattle.sql_model.proofs.Equations.{reply_is, need_is, made_is, updated_is, after_is}
+use Rattle.sql_model.proofs.Equations.{reply_is, need_is, made_is, updated_is, after_is, table_schema}
 use Rattle.sql_model.specs.Changes.{or_else, change_refusal}
-use Rattle.sql_model.specs.Needs.{NeededRow, need_of, needs_by, sorted_needs, needed_by, hidden_rows, sums_up, asked_tables, is_named, table_name, made_unless, updated_unless, versions_after, read_of}
+use Rattle.sql_model.specs.ForeignKeys.{with_parents}
+use Rattle.sql_model.specs.Needs.{NeededRow, Versions, need_of, needs_by, sorted_needs, needed_by, hidden_rows, sums_up, first_names, asked_names, is_asked, asked_tables, table_name, made_by, made_unless, updated_unless, versions_after, read_of}
 use Rattle.sql_model.specs.QueryAnswer.{answer, cut, lineage_of, rejected}
-use Rattle.sql_model.specs.Refusals.{check_refusal}
+use Rattle.sql_model.specs.Refusals.{check_refusal, tables_of}
 use Rattle.sql_model.specs.Places.{checked_of, checked_statement, checked_unless}
 use Rattle.sql_model.specs.Scope.{catalog_of}
-use Rattle.sql_model.specs.Statements.{refusal_of, reply_or, target, after, after_unless}
+use Rattle.sql_model.specs.Statements.{reference_refusal, refusal_of, reply_of, reply_or, target, after_unless}
 use Rattle.table_store.specs.Histories.{added, is_history, is_of_number, tables_now}
 use Rattle.table_store.specs.StoreView.{started}
 use Rattle.table_store.specs.TableView.{begun}
@@ -38,17 +41,49 @@ use Rattle.sql_model.specs.declared.table.TableRow.{TableRow}
 
 -- ---- tables
 
-names_of : (s : Statement) (db : List Table) → filter (names_table s) (map table_name db) ≡ map table_name (filter (is_named s) db)
-names_of s [] = refl
-names_of s (t ∷ db) = elim (cases_Bool (is_named s t)) [
-  | inl hit ↦ rw hit (ap (λ (l : List (List ℕ)). t.name ∷ l) (names_of s db))
-  | inr miss ↦ rw miss (names_of s db)
+names_of : (names : List (List ℕ)) (db : List Table) → filter (is_in names) (map table_name db) ≡ map table_name (filter (is_asked names) db)
+names_of names [] = refl
+names_of names (t ∷ db) = elim (cases_Bool (is_asked names t)) [
+  | inl hit ↦ rw hit (ap (λ (l : List (List ℕ)). t.name ∷ l) (names_of names db))
+  | inr miss ↦ rw miss (names_of names db)
 ]
 
--- the names that a statement names
-pub told : (s : Statement) (keep : Bool) (store : StoreHistory) (tables : List (List ℕ))
-    → (IsTrue keep → tables ≡ filter (names_table s) (catalog_of (tables_now store)).names) → IsTold s keep store tables
-told s keep store tables are kept = are kept ∙ names_of s (tables_now store)
+module _ (s : Statement) (versions : Versions) (db : List Table) (needs : List Need) (are : needs ≡ map (read_of versions) (need_of (Some s) db)) where
+  first_are : names_first s needs ≡ first_names s db
+  first_are =
+      ap (λ (l : List Need). tables_of s ++ map (λ (need : Need). need.member.table) l) are
+      ∙ ap (λ (l : List (List ℕ)). tables_of s ++ l) (map-map (λ (need : Need). need.member.table) (read_of versions) (need_of (Some s) db))
+
+  -- the tables by the rows that are needed
+  pub asked_are : tables_asked s needs (catalog_of db) ≡ asked_tables (Some s) db
+  asked_are =
+      ap (λ (names : List (List ℕ)). filter (is_in (with_parents names (catalog_of db))) (map table_name db)) first_are
+      ∙ names_of (asked_names s db) db
+
+-- a statement leaves the names and schemas
+pub same_catalog : (s : Statement) (keep : Bool) (old new : StoreHistory) (change : Change) → AreWellFormed (tables_now old)
+    → IsOutcome s keep old new change → catalog_of (tables_now new) ≡ catalog_of (tables_now old)
+same_catalog s keep old new change formed is =
+    ap catalog_of (ap (λ (d : SqlDatabase). d.tables) is.after)
+    ∙ (database_law (Some s) (tables_now old) formed.database formed.distinct).catalog
+
+pub paired : (db : List Table) → length (map table_name db) ≡ length (map table_schema db)
+paired [] = refl
+paired (t ∷ db) = ap suc (paired db)
+
+-- what is recorded of a statement, from what it gives
+pub outcome_done : (s : Statement) (keep : Bool) (old new : StoreHistory) (change : Change) (tables : List (List ℕ))
+    → IsOutcome s keep old new change → (IsTrue keep → tables ≡ tables_asked s change.needs (catalog_of (tables_now old)))
+    → IsDone (Some s) keep old new (done_of change tables)
+outcome_done s keep old new change tables is told = record {
+  reply = is.reply;
+  after = is.after;
+  lists = λ kept j. record {
+    tables = (told kept ∙ asked_are s (versions_now old) (tables_now old) change.needs (is.needs kept)) j;
+    reads = is.needs kept j;
+    made = is.made kept j;
+  };
+}
 
 -- ---- where nothing changes
 
@@ -57,63 +92,63 @@ module _ (statement : Option Statement) (store : StoreHistory) (refusal : Option
   abbrev db : List Table
   db = tables_now store
 
-  -- the reply, the tables and the lists, by what refuses it
-  pub done_by : (keep : Bool) (done : Done)
-      → done.reply ≡ reply_or refusal statement db
-      → after_unless refusal statement db ≡ db
-      → updated_unless refusal statement db ≡ []
-      → (IsTrue keep → done.tables ≡ asked_tables statement db)
-      → (IsTrue keep → done.reads ≡ map (read_of (versions_now store)) (need_of statement db))
-      → done.made ≡ made_unless refusal (versions_now store) statement db
-      → IsDone statement keep store store done
-  done_by keep done reply same none tables reads made = record {
-    reply = reply ∙ sym (reply_is statement db ∙ ap (λ (r : Option SqlRefusal). reply_or r statement db) is);
-    after = sym (λ j. record {
-      tables = (after_is statement db ∙ ap (λ (r : Option SqlRefusal). after_unless r statement db) is ∙ same) j;
-      versions = versions_after ((updated_is statement db ∙ ap (λ (r : Option SqlRefusal). updated_unless r statement db) is ∙ none) j) (versions_now store);
-    });
-    lists = λ kept j. record {
-      tables = tables kept j;
-      reads = reads kept j;
-      made = (made ∙ sym (made_is (versions_now store) statement db ∙ ap (λ (r : Option SqlRefusal). made_unless r (versions_now store) statement db) is)) j;
-    };
-  }
+  reply_by : reply_of statement db ≡ reply_or refusal statement db
+  reply_by = reply_is statement db ∙ ap (λ (r : Option SqlRefusal). reply_or r statement db) is
+
+  after_by : after_unless refusal statement db ≡ db → updated_unless refusal statement db ≡ [] → database store ≡ db_after statement (database store)
+  after_by same none = sym (λ j. record {
+    tables = (after_is statement db ∙ ap (λ (r : Option SqlRefusal). after_unless r statement db) is ∙ same) j;
+    versions = versions_after ((updated_is statement db ∙ ap (λ (r : Option SqlRefusal). updated_unless r statement db) is ∙ none) j) (versions_now store);
+  })
+
+  made_by_refusal : made_by (versions_now store) statement db ≡ made_unless refusal (versions_now store) statement db
+  made_by_refusal = made_is (versions_now store) statement db ∙ ap (λ (r : Option SqlRefusal). made_unless r (versions_now store) statement db) is
 
 -- ---- refusals
 
-module _ (s : Statement) (store : StoreHistory) (keep : Bool) (tables : List (List ℕ)) (refusal : SqlRefusal)
+module _ (s : Statement) (store : StoreHistory) (keep : Bool) (refusal : SqlRefusal)
     (is : check_refusal s (catalog_of (tables_now store)) ≡ Some refusal)
-    (none : needs_by (Some refusal) s (tables_now store) ≡ []) (known : IsTold s keep store tables) where
+    (none : needs_by (Some refusal) s (tables_now store) ≡ []) where
   refusal_is : refusal_of (Some s) (tables_now store) ≡ Some refusal
-  refusal_is = ap (λ (r : Option SqlRefusal). or_else r (change_refusal s (catalog_of (tables_now store)) (target s (tables_now store)))) is
+  refusal_is = ap (λ (r : Option SqlRefusal). or_else (or_else r (change_refusal s (catalog_of (tables_now store)) (target s (tables_now store))))
+      (reference_refusal s (catalog_of (tables_now store)) (target s (tables_now store)) (tables_now store))) is
 
   -- what the schemas refuse
-  pub refused_done : IsDone (Some s) keep store store (refused refusal tables)
-  refused_done =
-      done_by (Some s) store (Some refusal) refusal_is keep (refused refusal tables) refl refl refl known
-      (λ kept. sym (ap (map (read_of (versions_now store)))
-      (need_is (Some s) (tables_now store)
-      ∙ ap (λ (r : Option SqlRefusal). sorted_needs (needs_by r s (tables_now store))) refusal_is
-      ∙ ap sorted_needs none)))
-      refl
+  pub refused_outcome : IsOutcome s keep store store (refused refusal)
+  refused_outcome = record {
+    reply = sym (reply_by (Some s) store (Some refusal) refusal_is);
+    after = after_by (Some s) store (Some refusal) refusal_is refl refl;
+    needs = λ kept. sym (ap (map (read_of (versions_now store)))
+        (need_is (Some s) (tables_now store)
+        ∙ ap (λ (r : Option SqlRefusal). sorted_needs (needs_by r s (tables_now store))) refusal_is
+        ∙ ap sorted_needs none));
+    made = λ kept. sym (made_by_refusal (Some s) store (Some refusal) refusal_is);
+  }
 
 -- what no statement is
-pub syntax_done : (store : StoreHistory) (keep : Bool) → IsDone None keep store store (refused Syntax [])
-syntax_done store keep =
-    done_by None store (Some Syntax) refl keep (refused Syntax []) refl refl refl (λ kept. refl)
-    (λ kept. sym (ap (map (read_of (versions_now store))) (need_is None (tables_now store)))) refl
+pub syntax_done : (store : StoreHistory) (keep : Bool) → IsDone None keep store store (done_of (refused Syntax) [])
+syntax_done store keep = record {
+  reply = sym (reply_by None store (Some Syntax) refl);
+  after = after_by None store (Some Syntax) refl refl refl;
+  lists = λ kept j. record {
+    tables = [];
+    reads = map (read_of (versions_now store)) (sym (need_is None (tables_now store)) j);
+    made = sym (made_by_refusal None store (Some Syntax) refl) j;
+  };
+}
 
 -- ---- queries
 
-module _ (query : Query) (store : StoreHistory) (keep : Bool) (tables : List (List ℕ)) (made : Answered)
+module _ (query : Query) (store : StoreHistory) (keep : Bool) (made : Answered)
     (check : check_refusal (TheQuery query) (catalog_of (tables_now store)) ≡ None)
-    (formed : AreWellFormed (tables_now store)) (known : IsTold (TheQuery query) keep store tables)
+    (formed : AreWellFormed (tables_now store))
     (is : IsAnswer store keep query made) where
   abbrev tables_here : List Table
   tables_here = tables_now store
 
   query_refusal : refusal_of (Some (TheQuery query)) tables_here ≡ None
-  query_refusal = ap (λ (r : Option SqlRefusal). or_else r (change_refusal (TheQuery query) (catalog_of tables_here) (target (TheQuery query) tables_here))) check
+  query_refusal = ap (λ (r : Option SqlRefusal). or_else (or_else r (change_refusal (TheQuery query) (catalog_of tables_here) (target (TheQuery query) tables_here)))
+      (reference_refusal (TheQuery query) (catalog_of tables_here) (target (TheQuery query) tables_here) tables_here)) check
 
   cut_by : (sums : Bool) → map (needed_by H) (if sums then lineage_of (cut query tables_here) else [])
       ≡ (if sums then map (needed_by H) (lineage_of (cut query tables_here)) else [])
@@ -136,46 +171,48 @@ module _ (query : Query) (store : StoreHistory) (keep : Bool) (tables : List (Li
       ∙ sym (need_is (Some (TheQuery query)) tables_here
       ∙ ap (λ (r : Option SqlRefusal). sorted_needs (needs_by r (TheQuery query) tables_here)) query_refusal))
 
-  pub query_done : IsDone (Some (TheQuery query)) keep store store
-      (record { reply = Rows made.rows; tables = tables; reads = needs_of (table_names store) made.lineage made.hidden; made = [] })
-  query_done =
-      done_by (Some (TheQuery query)) store None query_refusal keep
-      (record { reply = Rows made.rows; tables = tables; reads = needs_of (table_names store) made.lineage made.hidden; made = [] })
-      (ap Rows is.rows) refl refl known (λ kept. reads_by keep kept is) refl
+  pub query_outcome : IsOutcome (TheQuery query) keep store store
+      (record { reply = Rows made.rows; made = []; needs = needs_of (table_names store) made.lineage made.hidden })
+  query_outcome = record {
+    reply = ap Rows is.rows ∙ sym (reply_by (Some (TheQuery query)) store None query_refusal);
+    after = after_by (Some (TheQuery query)) store None query_refusal refl refl;
+    needs = λ kept. reads_by keep kept is;
+    made = λ kept. sym (made_by_refusal (Some (TheQuery query)) store None query_refusal);
+  }
 
 -- ---- changes
 
-pub change_done : (s : Statement) (store new : StoreHistory) (keep : Bool) (time : ℕ) (tables : List (List ℕ)) (change : Change)
-    → IsChange s keep store change → IsStoreAfter s time store new → IsTold s keep store tables
-    → IsDone (Some s) keep store new (done_of change tables)
-change_done s store new keep time tables change is after known = record {
+pub change_outcome : (s : Statement) (store new : StoreHistory) (keep : Bool) (time : ℕ) (change : Change)
+    → IsChange s keep store change → IsStoreAfter s time store new → IsOutcome s keep store new change
+change_outcome s store new keep time change is after = record {
   reply = is.reply;
   after = λ j. record { tables = after.tables j; versions = after.versions j };
-  lists = λ kept j. record { tables = known kept j; reads = is.needs kept j; made = is.made kept j };
+  needs = is.needs;
+  made = is.made;
 }
 
 -- ---- a query that was checked
 
-pub asked_query_done : (checked : Checked) (store : StoreHistory) (keep : Bool) (tables : List (List ℕ)) (made : Answered)
+pub asked_query_outcome : (checked : Checked) (store : StoreHistory) (keep : Bool) (made : Answered)
     → IsQuery checked.statement → IsCheckedOver (tables_now store) checked → AreWellFormed (tables_now store)
-    → IsAnswered checked store keep made → IsTold checked.statement keep store tables
-    → IsDone (Some checked.statement) keep store store
-    (record { reply = Rows made.rows; tables = tables; reads = needs_of (table_names store) made.lineage made.hidden; made = [] })
-asked_query_done checked store keep tables made kind over formed is known = by checked.statement refl kind known
+    → IsAnswered checked store keep made
+    → IsOutcome checked.statement keep store store
+    (record { reply = Rows made.rows; made = []; needs = needs_of (table_names store) made.lineage made.hidden })
+asked_query_outcome checked store keep made kind over formed is = by checked.statement refl kind
   where
     catalog : Catalog
     catalog = catalog_of (tables_now store)
 
-    by : (s : Statement) → checked.statement ≡ s → IsQuery s → IsTold s keep store tables
-        → IsDone (Some s) keep store store
-        (record { reply = Rows made.rows; tables = tables; reads = needs_of (table_names store) made.lineage made.hidden; made = [] })
-    by (TheQuery query) same kind known =
-        query_done query store keep tables made
-        (ap (λ (s : Statement). check_refusal s catalog) (sym same) ∙ accepted (tables_now store) checked over) formed known
+    by : (s : Statement) → checked.statement ≡ s → IsQuery s
+        → IsOutcome s keep store store
+        (record { reply = Rows made.rows; made = []; needs = needs_of (table_names store) made.lineage made.hidden })
+    by (TheQuery query) same kind =
+        query_outcome query store keep made
+        (ap (λ (s : Statement). check_refusal s catalog) (sym same) ∙ accepted (tables_now store) checked over) formed
         (is query (record { checked_is = ap (λ (s : Statement). checked_of s catalog) (sym same) ∙ over; database = formed.database }))
-    by (TheInsert insert) same kind known = absurd kind
-    by (TheUpdate update) same kind known = absurd kind
-    by (TheDelete delete) same kind known = absurd kind
+    by (TheInsert insert) same kind = absurd kind
+    by (TheUpdate update) same kind = absurd kind
+    by (TheDelete delete) same kind = absurd kind
 
 -- what a check refuses
 pub refused_by_check : (s : Statement) (catalog : Catalog) (refusal : SqlRefusal) → checked_of s catalog ≡ Err refusal
@@ -198,26 +235,19 @@ checked_over s db catalog checked same is =
     by (Some refusal) is = cc
 
 -- the same of a catalog that is that of the tables
-pub refused_over : (s : Statement) (store : StoreHistory) (keep : Bool) (tables : List (List ℕ)) (refusal : SqlRefusal) (catalog : Catalog)
+pub refused_over : (s : Statement) (store : StoreHistory) (keep : Bool) (refusal : SqlRefusal) (catalog : Catalog)
     → catalog ≡ catalog_of (tables_now store) → checked_of s catalog ≡ Err refusal → needs_by (Some refusal) s (tables_now store) ≡ []
-    → IsTold s keep store tables → IsDone (Some s) keep store store (refused refusal tables)
-refused_over s store keep tables refusal catalog same is none known =
-    refused_done s store keep tables refusal
-    (refused_by_check s (catalog_of (tables_now store)) refusal (ap (checked_of s) (sym same) ∙ is)) none known
-
--- the names of the catalog are those of the tables
-pub told_over : (s : Statement) (keep : Bool) (store : StoreHistory) (tables : List (List ℕ)) (catalog : Catalog)
-    → catalog ≡ catalog_of (tables_now store) → (IsTrue keep → tables ≡ filter (names_table s) catalog.names) → IsTold s keep store tables
-told_over s keep store tables catalog same are =
-    told s keep store tables (λ kept. are kept ∙ ap (λ (c : Catalog). filter (names_table s) c.names) same)
+    → IsOutcome s keep store store (refused refusal)
+refused_over s store keep refusal catalog same is none =
+    refused_outcome s store keep refusal
+    (refused_by_check s (catalog_of (tables_now store)) refusal (ap (checked_of s) (sym same) ∙ is)) none
 
 -- a part in place of an equal one
-pub same_parts : (statement : Option Statement) (keep : Bool) (old new : StoreHistory) (done : Done) (tables : List (List ℕ)) (reads : List Need) (made : List Member)
-    → tables ≡ done.tables → reads ≡ done.reads → made ≡ done.made → IsDone statement keep old new done
-    → IsDone statement keep old new (record { reply = done.reply; tables = tables; reads = reads; made = made })
-same_parts statement keep old new done tables reads made same_tables same_reads same_made is =
-    subst (λ (d : Done). IsDone statement keep old new d)
-    (λ j. record { reply = done.reply; tables = sym same_tables j; reads = sym same_reads j; made = sym same_made j }) is
+pub same_needs : (s : Statement) (keep : Bool) (old new : StoreHistory) (reply : Reply) (made : List Member) (needs others : List Need)
+    → needs ≡ others → IsOutcome s keep old new (record { reply = reply; made = []; needs = others }) → made ≡ []
+    → IsOutcome s keep old new (record { reply = reply; made = made; needs = needs })
+same_needs s keep old new reply made needs others same is none =
+    subst (IsOutcome s keep old new) (λ j. record { reply = reply; made = sym none j; needs = sym same j }) is
 
 -- ---- a store at its start
 

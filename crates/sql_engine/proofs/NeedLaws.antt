@@ -1,5 +1,5 @@
 -- The rows that are listed for two sets are the needed rows of the lineages for which the sets stand.
-use Rattle.std.proofs.Common.{◌≡◌, ◌∙◌, sym, ap, subst, refl, ℕ, zero, suc, ◌<◌, List, [], ◌∷◌, ◌++◌, map, length, Bool, true, false, Option, Some, None, is_some, ◌&&◌, ◌||◌, inl, inr, T, cond, arith}
+use Rattle.std.proofs.Common.{◌≡◌, ◌∙◌, sym, ap, refl, ℕ, suc, List, [], ◌∷◌, ◌++◌, map, length, Bool, true, false, Some, None, is_some, ◌&&◌, ◌||◌, inl, inr, T, cond, arith}
 use Rattle.std.specs.Prelude.{nat_lt, if◌then◌else◌}
 use Rattle.std.specs.List.{list_any, AllByRecursion}
 use Rattle.std.specs.List.Sorted.{IsStrictlySortedBy}
@@ -13,6 +13,8 @@ use Rattle.std.proofs.lemmas.Bool.{cases_Bool}
 use Rattle.std.proofs.lemmas.Bool.Decides.{nat_tests}
 use Rattle.std.proofs.lemmas.Cmp.{tied_itself}
 use Rattle.std.proofs.lemmas.List.{append-nil}
+use Rattle.core_parts.specs.Needing.{need_by, united}
+use Rattle.core_parts.proofs.RowLists.{IsBefore, Rises, sorted_united, read_united}
 use Rattle.ldv_value.proofs.Booleans.{or-right, t-first, t-second}
 use Rattle.ldv_value.proofs.Orderings.{t-less}
 use Rattle.ldv_value.proofs.SameBytes.{bytes_eq-true}
@@ -21,9 +23,8 @@ use Rattle.lineage.specs.StandsFor.{origin_at, StandsFor}
 use Rattle.lineage.proofs.Laws.{row_total, same_row}
 use Rattle.lineage.proofs.Listed.{members-sorted}
 use Rattle.lineage.proofs.Origins.{stands-named}
-use Rattle.sql_engine.specs.Listing.{need_by, needs_of, united}
+use Rattle.sql_engine.specs.Listing.{needs_of}
 use Rattle.sql_engine.specs.Types.{L, H, Rule}
-use Rattle.sql_engine.proofs.RowLists.{IsBefore, Rises, sorted_united, read_united}
 use Rattle.sql_laws.proofs.NeedsLaws.{needs_law}
 use Rattle.sql_model.specs.Needs.{NeededRow, Versions, needed_by, sorted_needs, read_of}
 use Rattle.sql_model.specs.Origins.{is_origin, has_origin, SameSet, Needing}

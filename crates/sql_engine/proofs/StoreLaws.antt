@@ -1,48 +1,42 @@
 -- The tables and versions of a store as a statement sees them.
-use Rattle.std.proofs.Common.{◌≡◌, ◌∙◌, sym, ap, subst, refl, ℕ, List, [], ◌∷◌, map, Bool, true, false, Option, Some, None, is_some, inl, inr}
+use Rattle.std.proofs.Common.{◌≡◌, ◌∙◌, sym, ap, refl, ℕ, List, [], ◌∷◌, map, Bool, true, false, Option, Some, None, inl, inr}
 use Rattle.std.specs.Prelude.{find, ◌-◌, ◌||◌, if◌then◌else◌}
 use Rattle.std.specs.List.{list_any, list_all, flat_map, AllByRecursion}
 use Rattle.std.specs.List.Sorted.{IsStrictlySortedBy}
 use Rattle.std.specs.Cmp.Lexicographic.{slice_cmp}
 use Rattle.std.specs.Ordering.{nat_cmp}
 use Rattle.std.proofs.lemmas.Bool.{cases_Bool}
-use Rattle.dml_versions.specs.Versions.{versions_now, updates_of, updates_in}
+use Rattle.dml_versions.proofs.StandingLaws.{updates-are}
+use Rattle.dml_versions.specs.Versions.{versions_now, updates_in}
 use Rattle.ldv_value.proofs.Booleans.{and-parts, or-right}
 use Rattle.ldv_value.proofs.SameBytes.{bytes_eq-true, bytes_eq-itself}
 use Rattle.query_eval.proofs.StoredLaws.{names-sorted}
 use Rattle.query_eval.specs.Stored.{table_names, version_in, TellVersions}
-use Rattle.row_version.specs.History.{current, version}
 use Rattle.sql_engine.proofs.NeedLaws.{AreNamedIn}
 use Rattle.sql_engine.specs.Answering.{hidden_lineage}
 use Rattle.sql_engine.specs.Types.{Query, StoreHistory, Table}
 use Rattle.sql_laws.proofs.ItemLists.{all_append}
 use Rattle.sql_laws.proofs.NeedsSound.{answer_good, each_rejected, others_good}
+use Rattle.sql_laws.proofs.TableNames.{less-differs, table-trans}
 use Rattle.sql_model.proofs.Databases.{sorted_of_database}
+use Rattle.sql_model.proofs.SortedLists.{sorted-all, sorted-tail}
+use Rattle.sql_engine.specs.Taking.{AreDistinct}
 use Rattle.sql_model.specs.Needs.{sums_up}
 use Rattle.sql_model.specs.QueryAnswer.{Origin, answer, cut, lineage_of, rejected}
 use Rattle.sql_model.specs.Scope.{same_text, is_table, table_at, rows_of}
-use Rattle.sql_model.specs.Tables.{is_database, is_valid_table, table_precedes}
+use Rattle.sql_model.specs.Tables.{is_database, table_precedes}
 use Rattle.ldv_value.specs.Sorted.{is_strictly_sorted}
-use Rattle.table_store.specs.Histories.{RowHistory, TableHistory, history_at, history_of_row, tables_now, version_now}
+use Rattle.table_store.specs.Histories.{TableHistory, history_at, history_of_row, tables_now}
 use Rattle.sql_model.specs.declared.table.TableRow.{TableRow}
 
 -- ---- versions
-
--- a row that stands was updated as often as it changed
-stands : (there : Bool) (n m v : ℕ) → (if there then Some n else None) ≡ Some v → (if there then n else m) ≡ v
-stands true n m v is = cc
-stands false n m v is = cc
-
-updated : (row : Option RowHistory) (v : ℕ) → version_now row ≡ Some v → updates_of row ≡ v
-updated None v is = cc
-updated (Some row) v is = stands (is_some (current row.changes)) (version row.changes) (version row.changes - 1) v is
 
 pub tell_versions : (store : StoreHistory) → TellVersions store (versions_now store)
 tell_versions store table number v is = by (history_at table store) is
   where
     by : (t : Option TableHistory) → version_in number t ≡ Some v → updates_in number t ≡ v
     by None is = cc
-    by (Some t) is = updated (history_of_row number t.slots) v is
+    by (Some t) is = updates-are (history_of_row number t.slots) v is
 
 -- ---- names
 
@@ -51,6 +45,21 @@ pub sorted_names : (store : StoreHistory) → is_database (tables_now store) ≡
 sorted_names store is =
     names-sorted (tables_now store)
     sorted_of_database (tables_now store) is
+
+names_apart : (t : Table) (ts : List Table) → list_all (table_precedes t) ts ≡ true → list_any (same_text t.name) (map (λ (u : Table). u.name) ts) ≡ false
+names_apart t [] after = refl
+names_apart t (u ∷ us) after =
+    let both = and-parts (table_precedes t u) (list_all (table_precedes t) us) after in
+    λ j. less-differs t.name u.name both.0 j || names_apart t us both.1 j
+
+all_apart : (ts : List Table) → is_strictly_sorted table_precedes ts ≡ true → AreDistinct (map (λ (u : Table). u.name) ts)
+all_apart [] sorted = tt
+all_apart (t ∷ ts) sorted =
+    (names_apart t ts (sorted-all table_precedes table-trans t ts sorted), all_apart ts (sorted-tail table_precedes table-trans t ts sorted))
+
+-- no two tables have one name
+pub distinct_names : (store : StoreHistory) → is_database (tables_now store) ≡ true → AreDistinct (map (λ (u : Table). u.name) (tables_now store))
+distinct_names store is = all_apart (tables_now store) (sorted_of_database (tables_now store) is)
 
 module _ (store : StoreHistory) where
   abbrev db : List Table

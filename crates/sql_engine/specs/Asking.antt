@@ -3,11 +3,9 @@ use Rattle.std.specs.Prelude.{◌≡◌, ℕ, Bool, IsTrue, map, Option, Some, L
 use Rattle.dml_versions.specs.declared.change.Change.{Change}
 use Rattle.dml_versions.specs.Versions.{versions_now}
 use Rattle.run_model.specs.SqlDatabase.{SqlDatabase, db_after, lists_of}
-use Rattle.sql_engine.specs.Listing.{tables_asked}
-use Rattle.sql_engine.specs.Types.{Lists, Need, Refused, SqlRefusal, Statement, StoreHistory}
+use Rattle.sql_engine.specs.Types.{Lists, Refused, SqlRefusal, Statement, StoreHistory}
 use Rattle.sql_engine.specs.declared.done.Done.{Done}
 use Rattle.sql_model.specs.Needs.{made_by, need_of, read_of}
-use Rattle.sql_model.specs.Scope.{catalog_of}
 use Rattle.sql_model.specs.Statements.{reply_of}
 use Rattle.table_store.specs.Histories.{tables_now}
 
@@ -35,11 +33,6 @@ pub record IsOutcome (statement : Statement) (keep : Bool) (old new : StoreHisto
   pub needs : IsTrue keep
       → change.needs ≡ map (read_of (versions_now old)) (need_of (Some statement) (tables_now old))
   pub made : IsTrue keep → change.made ≡ made_by (versions_now old) (Some statement) (tables_now old)
-
--- the tables that a statement asks by the rows that it needs, where events are kept
-abbrev pub IsTold : Statement → Bool → StoreHistory → List Need → List (List ℕ) → Type 0
-IsTold statement keep store reads tables =
-    IsTrue keep → tables ≡ tables_asked statement reads (catalog_of (tables_now store))
 
 -- ---- on the way
 

@@ -1,4 +1,5 @@
 pub mod Answering
 pub mod Asking
 pub mod Listing
+pub mod Taking
 pub mod Types

@@ -20,5 +20,6 @@ pub use Rattle.sql_model.specs.declared.statement.Statement.TheVariants.{Query a
 pub use Rattle.sql_model.specs.declared.statement.Statement.TheVariants.{Insert as TheInsert}
 pub use Rattle.sql_model.specs.declared.statement.Statement.TheVariants.{Update as TheUpdate}
 pub use Rattle.sql_model.specs.declared.statement.Statement.TheVariants.{Delete as TheDelete}
+pub use Rattle.sql_model.specs.declared.table.Schema.{Schema}
 pub use Rattle.sql_model.specs.declared.table.Table.{Table}
 pub use Rattle.table_store.specs.Histories.{StoreHistory}

@@ -1,17 +1,18 @@
 //! A text that is asked over a store.
 
-ghost use Rattle.std.specs.Prelude.{◌≡◌, ◌<◌, ◌≤◌, Some, Ok, IfOk, OnOk, OnErr, IsTrue};
+ghost use Rattle.std.specs.Prelude.{◌≡◌, ◌<◌, ◌≤◌, length, Some, Ok, IfOk, OnOk, OnErr, IsTrue};
 ghost use Rattle.core_parts.specs.Checking.{IsQuery};
 ghost use Rattle.dml_versions.specs.Changing.{IsCheckedOver};
 ghost use Rattle.sql_engine.specs.Asking.{IsDone, IsOutcome, done_of};
 ghost use Rattle.sql_engine.specs.Listing.{tables_asked};
+ghost use Rattle.sql_engine.specs.Taking.{AreDistinct, IsFresh};
 ghost use Rattle.sql_model.specs.Texts.{statement_of};
 ghost use Rattle.table_store.specs.Histories.{tables_now};
 
 use crate::answered::{Answered, query_answer};
 use crate::done::{Done, refused};
 use crate::needs::needs_of;
-use crate::tables::{Taking, tables_asked, taking};
+use crate::tables::{Taking, prepare, tables_asked};
 use dml_versions::{Change, delete, insert, update};
 use ldv_value::{List, Names, Values};
 use sql_check::{CheckStop, check};
@@ -21,11 +22,18 @@ use std::alloc::{AllocError, Global};
 use table_store::Store;
 
 // Memory for the tables that a statement asks, where events are kept.
-fn taking_of(alloc: Global, names: &Names, keep: bool) -> Result<Taking, AllocError> {
+fn room_for(
+    alloc: Global,
+    names: &Names,
+    statement: &Statement,
+    keep: bool,
+) -> Result<Taking, AllocError>
+    ensures { IfOk result (λ taking. IsTrue keep → IsFresh statement.now names.now taking) }
+{
     if keep {
-        taking(alloc, names)
+        prepare(alloc, names, statement)
     } else {
-        taking(alloc, &List::new(alloc))
+        prepare(alloc, &List::new(alloc), statement)
     }
 }
 
@@ -37,6 +45,9 @@ fn tables_of(
     catalog: &Catalog,
     keep: bool,
 ) -> Names
+    requires fresh { IsTrue keep → IsFresh statement.now catalog.now.names taking }
+    requires paired { length catalog.now.names ≡ length catalog.now.schemas }
+    requires distinct { AreDistinct catalog.now.names }
     ensures { IsTrue keep → result ≡ tables_asked statement.now reads.now catalog.now }
 {
     if keep {
@@ -84,7 +95,7 @@ fn done_of(change: Change, tables: Names) -> Done
 }
 
 // A statement that was checked.
-#[tactic(auto, using(crate::proofs::AskLaws::change_done))]
+#[tactic(auto, using(crate::proofs::AskLaws::change_outcome))]
 fn asked_checked(
     alloc: Global,
     checked: &Checked,
@@ -141,9 +152,10 @@ fn asked_statement(
     ensures latest { OnOk result (store.new.time ≤ time) }
     ensures err { OnErr result (store.new ≡ store.old) }
 {
-    let taking = taking_of(alloc, &store.catalog().names, keep)?;
+    store.tell_formed();
+    let room = room_for(alloc, &store.catalog().names, statement, keep)?;
     let change = asked_or_refused(alloc, statement, store, time, keep)?;
-    let tables = tables_of(taking, statement, &change.needs, store.catalog(), keep);
+    let tables = tables_of(room, statement, &change.needs, store.catalog(), keep);
     Ok(done_of(change, tables))
 }
 
@@ -164,10 +176,7 @@ pub(crate) fn asked(
 {
     match parse(alloc, text, params) {
         Ok(statement) => asked_statement(alloc, &statement, store, time, keep),
-        Err(ParseStop::Syntax) => Ok(done_of(
-            refused(alloc, SqlRefusal::Syntax),
-            List::new(alloc),
-        )),
+        Err(ParseStop::Syntax) => Ok(done_of(refused(alloc, SqlRefusal::Syntax), List::new(alloc))),
         Err(ParseStop::NoMemory) => Err(AllocError),
     }
 }

@@ -3,14 +3,15 @@
 //! It promises to the layers above that `Engine` is a `Database` whose replies, tables and versions are those
 //! that `run_model/specs/SqlDatabase.antt` defines by the definitions of `sql_model`, for every text and
 //! whatever the tracer keeps. No question diverges. Where the tracer keeps events, it notes one with the
-//! tables that the statement names, the rows that it needs and the versions that it makes
+//! tables that the statement asks, the rows that it needs and the versions that it makes
 //! (`specs/Asking.antt`); where it doesn't, no lineage is made. Where memory is out, the tables are as they
 //! were.
 //!
 //! The way of a text: `sql_parse` reads it, `sql_check` checks it against the catalog of the store, and then
 //! `asking` gives a change to `dml_versions`, and a query to `answered`. This evaluates the cores one by one
 //! (`cores`, by `query_eval` and `group_eval`), unites, sorts and cuts their rows (`specs/Answering.antt`),
-//! and `needs` lists the rows that these come from (`specs/Listing.antt`).
+//! and `needs` lists the rows that these come from (`specs/Listing.antt`). At last `tables` marks the tables
+//! that the statement names and those of the rows that it needs, with all their parents (`specs/Taking.antt`).
 #![tactic(auto)]
 
 mod answered;

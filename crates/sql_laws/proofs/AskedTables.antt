@@ -1,6 +1,6 @@
 -- A statement that asks a table asks its parents, and each table of which it needs a row.
-use Rattle.std.proofs.Common.{◌≡◌, ℕ, List, [], ◌∷◌, ◌++◌, refl, sym, ap, ◌∙◌, Bool, true, false, inl, inr}
-use Rattle.std.specs.Prelude.{Option, Some, None, option_map, map, filter, find, ◌&&◌, ◌||◌}
+use Rattle.std.proofs.Common.{◌≡◌, ℕ, List, [], ◌∷◌, refl, sym, ap, ◌∙◌, Bool, true, false, inl, inr}
+use Rattle.std.specs.Prelude.{Option, Some, None, option_map, map, filter, ◌&&◌, ◌||◌}
 use Rattle.std.specs.List.{list_any, list_all}
 use Rattle.ldv_value.proofs.Booleans.{and-parts, or-cases, or-left, or-right, true≢false}
 use Rattle.ldv_value.proofs.Cases.{cases-bool}
@@ -11,12 +11,12 @@ use Rattle.sql_model.proofs.Equations.{need_is, table_schema, schema_found}
 use Rattle.sql_model.proofs.SortedLists.{sorted-all, sorted-tail}
 use Rattle.ldv_value.specs.Sorted.{is_strictly_sorted}
 use Rattle.sql_model.specs.ForeignKeys.{fits_parent, has_parents, have_parents}
-use Rattle.sql_model.specs.Needs.{NeededRow, need_of, first_names, asked_names, is_asked, table_name, asked_tables}
+use Rattle.sql_model.specs.Needs.{NeededRow, need_of, first_names, asked_names, is_asked, table_name}
 use Rattle.sql_model.specs.Refusals.{tables_of}
 use Rattle.sql_model.specs.Scope.{same_text, is_table, table_at, schema_at, catalog_of}
-use Rattle.sql_model.specs.Tables.{is_database, table_precedes}
-use Rattle.sql_laws.specs.StatementLaw.{refers, KeepsParents, asks, AskedParentsLaw, AskedNeedsLaw}
-use Rattle.sql_laws.specs.Types.{Catalog, Foreign, Schema, Statement, Table}
+use Rattle.sql_model.specs.Tables.{table_precedes}
+use Rattle.sql_laws.specs.StatementLaw.{refers, asks, AskedParentsLaw, AskedNeedsLaw}
+use Rattle.sql_laws.specs.Types.{Foreign, Table}
 use Rattle.sql_laws.proofs.FewerTables.{found_there}
 use Rattle.sql_laws.proofs.ParentTables.{named_taken, parent_taken}
 use Rattle.sql_laws.proofs.TableNames.{table-trans, more-differs}

@@ -1,11 +1,11 @@
 -- A statement is refused, answers, needs and changes the same over a database from which rows were left out
 -- that it doesn't need.
-use Rattle.std.proofs.Common.{◌≡◌, ℕ, List, [], ◌∷◌, ◌++◌, refl, sym, ap, ◌∙◌, subst, Bool, true, false, inl, inr}
-use Rattle.std.specs.Prelude.{Option, Some, None, option_map, option_to_list, map, filter, length, zip, not, ◌&&◌, ◌==◌, if◌then◌else◌}
+use Rattle.std.proofs.Common.{◌≡◌, ℕ, List, [], ◌∷◌, refl, sym, ap, ◌∙◌, subst, Bool, true, false, inl, inr}
+use Rattle.std.specs.Prelude.{Option, Some, None, option_map, option_to_list, map, filter, length, ◌==◌, if◌then◌else◌}
 use Rattle.std.specs.List.{list_all}
 use Rattle.ldv_value.proofs.Cases.{cases-bool}
 use Rattle.ldv_value.proofs.Lists.{found-all, list_all-map}
-use Rattle.sql_laws.specs.Types.{Catalog, Foreign, P, SqlRefusal, NoTable, NoColumn, TypeClash, Statement, TheQuery, TheInsert, TheUpdate, TheDelete, Table}
+use Rattle.sql_laws.specs.Types.{Catalog, P, SqlRefusal, NoTable, NoColumn, TypeClash, Statement, TheQuery, TheInsert, TheUpdate, TheDelete, Table}
 use Rattle.sql_model.proofs.Databases.{parents_of_database, valid_of_database}
 use Rattle.sql_model.proofs.ValidTables.{table-parts}
 use Rattle.sql_model.specs.Changes.{changed, changed_in, matched, new_rows, target_of, or_else, change_refusal}
@@ -13,7 +13,7 @@ use Rattle.sql_model.specs.Needs.{is_asked, table_name, matched_row, parent_rows
 use Rattle.sql_model.specs.References.{Missing, Orphan, first_in, missing_parents, is_lost, is_changed, parents_of, tables_after, first_missing, first_orphan, parents_needed}
 use Rattle.sql_laws.specs.QueryLaw.{Keep, cut_table, cut_tables, KeepsNeeded}
 use Rattle.sql_model.specs.Refusals.{lacks_table, lacks_column, clashes, check_refusal}
-use Rattle.sql_model.specs.Scope.{same_text, is_table, table_at, schema_at, catalog_of}
+use Rattle.sql_model.specs.Scope.{is_table, table_at, catalog_of}
 use Rattle.sql_model.specs.Statements.{target, reference_refusal, refusal_of, matched_count, after_unless}
 use Rattle.sql_model.specs.Tables.{is_valid_table, is_database}
 use Rattle.sql_laws.proofs.LeftRows.{KeepsNew, KeepsAllNew, in_cut, matched_stay, matched_same, new_same}

@@ -1,6 +1,6 @@
 -- Which keys a statement loses is the same over a table from which rows were left out that it doesn't match: since
 -- keys are unique before it, a row that was left out keeps its key from being lost, and no other row had it.
-use Rattle.std.proofs.Common.{◌≡◌, ℕ, List, refl, sym, ap, ◌∙◌, Bool, true, false}
+use Rattle.std.proofs.Common.{◌≡◌, List, refl, sym, ap, ◌∙◌, Bool, true, false}
 use Rattle.std.specs.Prelude.{map, filter, length, not, ◌&&◌, ◌||◌, ◌==◌, if◌then◌else◌}
 use Rattle.std.specs.List.{list_any, list_all}
 use Rattle.ldv_value.proofs.Booleans.{or-false}

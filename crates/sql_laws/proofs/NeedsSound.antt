@@ -1,6 +1,6 @@
 -- What holds of the rows of all tables holds of the rows that a statement needs.
-use Rattle.std.proofs.Common.{◌≡◌, ℕ, zero, suc, List, [], ◌∷◌, ◌++◌, take, drop, refl, sym, ap, ◌∙◌, subst, Bool, true, false, inl, inr}
-use Rattle.std.specs.Prelude.{Option, Some, None, option_map, option_to_list, map, filter, not, ◌&&◌, ◌||◌, ◌==◌, if◌then◌else◌}
+use Rattle.std.proofs.Common.{◌≡◌, ℕ, zero, suc, List, [], ◌∷◌, ◌++◌, take, drop, refl, sym, subst, Bool, true, false, inl, inr}
+use Rattle.std.specs.Prelude.{Option, Some, None, option_map, option_to_list, map, filter, not, ◌&&◌, ◌==◌}
 use Rattle.std.specs.List.{flat_map, filter_map, list_any, AllByRecursion, cons_option}
 use Rattle.ldv_value.proofs.Booleans.{and-parts}
 use Rattle.std.specs.declared.cmp.Ordering.{Ordering}
@@ -12,15 +12,15 @@ use Rattle.ldv_value.proofs.Lists.{found-passes}
 use Rattle.sql_model.specs.declared.catalog.Catalog.{Catalog}
 use Rattle.sql_model.specs.declared.expr.ColumnName.{ColumnName}
 use Rattle.sql_model.specs.declared.need.Rule.{Rule}
-use Rattle.sql_model.specs.declared.need.Rule.TheVariants.{L, H, K, P as ParentRow, C as ChildRow}
+use Rattle.sql_model.specs.declared.need.Rule.TheVariants.{L, H, P as ParentRow}
 use Rattle.sql_model.specs.declared.reply.SqlRefusal.{SqlRefusal}
 use Rattle.sql_model.specs.declared.reply.SqlRefusal.TheVariants.{Syntax, NoTable, NoColumn, TypeClash, NotNull, KeyTaken, Full, NoParent, HasChild}
 use Rattle.sql_model.specs.declared.statement.Core.{Core}
 use Rattle.sql_model.specs.declared.statement.FromItem.{FromItem}
 use Rattle.sql_model.specs.declared.statement.Query.{Query}
 use Rattle.sql_model.specs.declared.statement.Statement.TheVariants.{Query as TheQuery, Insert as TheInsert, Update as TheUpdate, Delete as TheDelete}
-use Rattle.sql_model.specs.QueryAnswer.{Origin, AnswerRow, answer_values, lineage_of, Combination, combinations, combination_rows, meets_all, row_environment, picked, distinct, has_values, merged_row, merge, group_key, has_key, groups_of, is_kept, group_row, single, rows_in_scope, once, core_rows, rejected_in_scope, rejected, united, rows_after, union_rows, sort_key, order_by, sort_rows, sorted_rows, limit_of, first_rows, other_rows, answer, cut}
-use Rattle.sql_model.specs.Changes.{KeyClash, key_clash, changed, is_matched, matched, new_rows, stood}
+use Rattle.sql_model.specs.QueryAnswer.{Origin, AnswerRow, answer_values, lineage_of, Combination, combinations, combination_rows, meets_all, row_environment, picked, distinct, has_values, merged_row, merge, group_key, has_key, groups_of, is_kept, group_row, single, rows_in_scope, once, core_rows, rejected, united, rows_after, union_rows, sort_key, order_by, sorted_rows, limit_of, first_rows, other_rows, answer, cut}
+use Rattle.sql_model.specs.Changes.{key_clash, changed, is_matched, matched, new_rows, stood}
 use Rattle.sql_model.specs.Needs.{NeededRow, needed_by, is_same_row, is_earlier_row, put_row, sorted_needs, lineage_rows, matched_row, matched_rows, sums_up, cut_rows, hidden_rows, clash_rows, key_row, key_rows, parent_rows, child_row, child_rows, accepted_needs, needs_by, need_of}
 use Rattle.sql_model.specs.References.{reference, has_key as has_foreign_key, Child, Orphan, first_in, is_lost, orphan_by, orphans_of, other_rows as other_rows_of, child_of, children, orphans, is_changed, parents_in, parents_by, parents_of, tables_after, first_orphan, parents_needed}
 use Rattle.sql_model.specs.Refusals.{groups, answer_titles}

@@ -2,13 +2,13 @@
 -- same parent rows, where their parent rows stay.
 use Rattle.std.proofs.Common.{◌≡◌, ℕ, List, [], ◌∷◌, ◌++◌, refl, sym, ap, ◌∙◌, Bool, true, false, inl, inr}
 use Rattle.std.specs.Prelude.{Option, Some, None, option_map, map, filter, ◌&&◌, ◌||◌, if◌then◌else◌}
-use Rattle.std.specs.List.{flat_map, filter_map, list_any, list_all, cons_option}
+use Rattle.std.specs.List.{flat_map, filter_map, list_all, cons_option}
 use Rattle.ldv_value.proofs.Booleans.{and-parts, true≢false}
 use Rattle.ldv_value.proofs.Cases.{cases-bool}
-use Rattle.ldv_value.proofs.Lists.{list_all-append, list_all-map, found-passes}
+use Rattle.ldv_value.proofs.Lists.{list_all-append, found-passes}
 use Rattle.ldv_value.proofs.SameBytes.{bytes_eq-true}
 use Rattle.sql_model.proofs.Equations.{changed_name}
-use Rattle.sql_model.specs.Changes.{stood, changed, changed_in}
+use Rattle.sql_model.specs.Changes.{stood, changed_in}
 use Rattle.sql_model.specs.QueryAnswer.{Origin}
 use Rattle.sql_model.specs.References.{reference, has_key, Missing, missing_key, missing_by, missing_parents, parents_in, parents_by, parents_of}
 use Rattle.sql_model.specs.Scope.{same_text, is_table, table_at}

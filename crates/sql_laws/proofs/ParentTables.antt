@@ -1,8 +1,8 @@
 -- The tables of some names with their parents: the same where other tables were left out, and the parents of
 -- all of them are among them.
 use Rattle.std.proofs.Common.{◌≡◌, ℕ, zero, suc, ◌+◌, ◌<◌, ◌≤◌, List, [], ◌∷◌, ◌++◌, length, refl, sym, ap, ◌∙◌, subst, Bool, true, false, ◌⊎◌, inl, inr, arith, append-nil}
-use Rattle.std.specs.Prelude.{Option, Some, None, map, filter, find, zip, not, ◌&&◌, ◌||◌}
-use Rattle.std.specs.List.{flat_map, list_any, list_all}
+use Rattle.std.specs.Prelude.{Some, map, filter, zip, not, ◌||◌}
+use Rattle.std.specs.List.{list_any, list_all}
 use Rattle.std.proofs.lemmas.Bool.{cases_Bool, not_from_false}
 use Rattle.ldv_value.proofs.Booleans.{and-parts, and-from, or-left, or-right, or-cases, true≢false}
 use Rattle.ldv_value.proofs.Lists.{filter-filter, list_all-append, list_all-map, list_any-append, list_all-weaker, found-passes}
@@ -11,7 +11,7 @@ use Rattle.ldv_value.proofs.SameBytes.{bytes_eq-true, bytes_eq-itself}
 use Rattle.sql_model.specs.ForeignKeys.{Named, name_of, is_among, parent_names, close, with_parents}
 use Rattle.sql_model.specs.Scope.{same_text, is_table, table_at, is_schema, catalog_of}
 use Rattle.sql_laws.specs.StatementLaw.{KeepTables, table_stays}
-use Rattle.sql_laws.specs.Types.{Foreign, Schema, Table}
+use Rattle.sql_laws.specs.Types.{Foreign, Table}
 use Rattle.sql_laws.proofs.QuerySorting.{filter_all}
 
 abbrev names_in : List Named → List (List ℕ)
@@ -93,7 +93,7 @@ abbrev pub Among : Named → List Named → Type 0
 Among t [] = ⊥
 Among t (u ∷ us) = (t ≡ u) ⊎ Among t us
 
-among_filter : (p : Named → Bool) (t : Named) (us : List Named) → Among t us → p t ≡ true → Among t (filter p us)
+pub among_filter : (p : Named → Bool) (t : Named) (us : List Named) → Among t us → p t ≡ true → Among t (filter p us)
 among_filter p t [] here hit = absurd here
 among_filter p t (u ∷ us) (inl same) hit = let here : p u ≡ true = ap p (sym same) ∙ hit in rw here (inl same)
 among_filter p t (u ∷ us) (inr more) hit = elim (cases_Bool (p u)) [
@@ -132,7 +132,7 @@ name_taken names t (u ∷ us) is = elim (cases_Bool (is_among names u)) [
 abbrev pub Refers : Named → Named → Type 0
 Refers t p = is_among (parent_names (t ∷ [])) p ≡ true
 
-refers_among : (t p : Named) (us : List Named) → Among t us → Refers t p → is_among (parent_names us) p ≡ true
+pub refers_among : (t p : Named) (us : List Named) → Among t us → Refers t p → is_among (parent_names us) p ≡ true
 refers_among t p [] here refers = absurd here
 refers_among t p (u ∷ us) (inl same) refers =
     let own : List (List ℕ) = map (λ (f : Foreign). f.parent) u.1.foreign in
@@ -146,7 +146,7 @@ some_among t [] here = absurd here
 some_among t (u ∷ us) here = omega arith
 
 -- what is named is taken in the next turn
-taken_soon : (n : ℕ) (names : List (List ℕ)) (rest : List Named) → 1 ≤ n → (p : Named) → Among p rest
+pub taken_soon : (n : ℕ) (names : List (List ℕ)) (rest : List Named) → 1 ≤ n → (p : Named) → Among p rest
     → is_among names p ≡ true → is_among (close n names rest) p ≡ true
 taken_soon zero names rest some p here named = absurd (omega (arith, some))
 taken_soon (suc n) names rest some p here named =
@@ -213,7 +213,7 @@ named-length [] = refl
 named-length (t ∷ ts) = ap suc (named-length ts)
 
 -- the number of turns is enough
-turns-enough : (db : List Table) → length (named_in db) < suc (length (map (λ (t : Table). t.name) db))
+pub turns-enough : (db : List Table) → length (named_in db) < suc (length (map (λ (t : Table). t.name) db))
 turns-enough db = omega (arith, named-length db)
 
 named_fewer : (tables : KeepTables) (db : List Table) → named_in (filter (table_stays tables) db) ≡ filter (named_stays tables) (named_in db)
@@ -237,7 +237,7 @@ parents_fewer tables names db kept =
     ∙ ap (close n names) same
     ∙ closed_fewer tables n names (named_in db) kept
 
-among_found : (name : List ℕ) (db : List Table) (t : Table) → table_at name db ≡ Some t → Among (named_of t) (named_in db)
+pub among_found : (name : List ℕ) (db : List Table) (t : Table) → table_at name db ≡ Some t → Among (named_of t) (named_in db)
 among_found name [] t is = cc
 among_found name (u ∷ us) t is = elim (cases_Bool (is_table name u)) [
   | inl hit ↦ let e : Some u ≡ Some t = rw hit at is in inl (ap named_of (sym (same-some u t e)))

@@ -1,6 +1,5 @@
 -- The parts of a database.
 use Rattle.std.proofs.Common.{◌≡◌, List, true}
-use Rattle.std.specs.Prelude.{◌&&◌}
 use Rattle.std.specs.List.{list_all}
 use Rattle.ldv_value.proofs.Booleans.{and-parts, and-from}
 use Rattle.ldv_value.specs.Sorted.{is_strictly_sorted}

@@ -1,6 +1,6 @@
 -- No child loses a parent in a table without a key, since no foreign key refers to it.
 use Rattle.std.proofs.Common.{◌≡◌, ℕ, List, [], ◌∷◌, ◌++◌, refl, sym, ap, ◌∙◌, Bool, true, false}
-use Rattle.std.specs.Prelude.{Option, Some, None, option_map, map, zip, length, not, ◌&&◌, ◌==◌, if◌then◌else◌}
+use Rattle.std.specs.Prelude.{Option, Some, None, option_map, map, zip, length, not, ◌&&◌, ◌==◌}
 use Rattle.std.specs.List.{flat_map, filter_map, list_all, cons_option}
 use Rattle.std.proofs.lemmas.Grind.{flat_map-append}
 use Rattle.std.proofs.lemmas.Bool.{not-true}
@@ -9,7 +9,7 @@ use Rattle.ldv_value.proofs.Lists.{list_all-map, list_all-weaker}
 use Rattle.ldv_value.proofs.SameBytes.{bytes_eq-true}
 use Rattle.sql_model.proofs.Equations.{table_schema, schema_found}
 use Rattle.sql_model.specs.ForeignKeys.{fits_place, fits_parent, has_parents, have_parents}
-use Rattle.sql_model.specs.References.{reference, Child, Orphan, orphan_by, orphans_of, other_rows, child_of, children}
+use Rattle.sql_model.specs.References.{reference, Child, orphan_by, orphans_of, other_rows, child_of, children}
 use Rattle.sql_model.specs.Scope.{same_text, table_at, schema_at, catalog_of}
 use Rattle.sql_model.specs.Types.{Value, Foreign, Table, TableRow}
 

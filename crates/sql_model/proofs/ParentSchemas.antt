@@ -1,12 +1,12 @@
 -- The schema of a name among items that have one, and which references each have a parent.
-use Rattle.std.proofs.Common.{◌≡◌, ℕ, suc, List, [], ◌∷◌, ◌++◌, refl, sym, ap, ◌∙◌, Bool, true, false, arith}
+use Rattle.std.proofs.Common.{◌≡◌, ℕ, List, [], ◌∷◌, ◌++◌, refl, sym, ap, ◌∙◌, Bool, true, false, arith}
 use Rattle.std.specs.Prelude.{Option, Some, None, option_map, is_none, map, find, zip, length, ◌&&◌, ◌||◌, ◌==◌, if◌then◌else◌}
 use Rattle.std.specs.List.{flat_map, filter_map, list_any, list_all, cons_option}
 use Rattle.std.proofs.lemmas.Bool.{ne_eqb}
 use Rattle.sql_model.specs.Keys.{values_at}
 use Rattle.sql_model.specs.Meaning.{is_null}
-use Rattle.sql_model.specs.References.{Missing, reference, has_key, missing_key, missing_by, missing_parents, has_parent, all_have_parents}
-use Rattle.sql_model.specs.Scope.{same_text, table_at, is_schema, schema_in, schema_at}
+use Rattle.sql_model.specs.References.{Missing, has_key, missing_key, missing_by, missing_parents, has_parent, all_have_parents}
+use Rattle.sql_model.specs.Scope.{same_text, is_schema, schema_in, schema_at}
 use Rattle.sql_model.specs.Types.{Value, Foreign, Schema, Table, TableRow}
 
 module _ {X : Type 0} (name_of : X → List ℕ) (schema_of : X → Schema) where

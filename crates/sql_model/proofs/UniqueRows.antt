@@ -1,6 +1,6 @@
 -- Rows of which no two have one key: what one of them has, no other has.
 use Rattle.std.proofs.Common.{◌≡◌, ℕ, List, [], ◌∷◌, refl, sym, ap, ◌∙◌, Bool, true, false, inl, inr}
-use Rattle.std.specs.Prelude.{map, filter, length, not, ◌&&◌, ◌||◌, ◌==◌}
+use Rattle.std.specs.Prelude.{map, filter, length, not, ◌&&◌, ◌==◌}
 use Rattle.std.specs.List.{list_any}
 use Rattle.std.specs.Ordering.{is_eq, ordering_reverse}
 use Rattle.std.specs.declared.cmp.Ordering.{Ordering}

@@ -1,5 +1,5 @@
 -- Foreign keys and their parents, by the schemas of the tables alone.
-use Rattle.std.specs.Prelude.{ℕ, zero, suc, List, [], ◌++◌, map, filter, length, zip, ◌==◌, Bool, true}
+use Rattle.std.specs.Prelude.{ℕ, zero, suc, List, [], ◌++◌, map, filter, length, zip, ◌==◌, Bool}
 use Rattle.std.specs.Prelude.{false, not, ◌&&◌, if◌then◌else◌, Option, Some, None, slice_get}
 use Rattle.std.specs.List.{flat_map, list_any, list_all}
 use Rattle.sql_model.specs.Scope.{same_text, schema_at}

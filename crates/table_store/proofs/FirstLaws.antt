@@ -16,13 +16,14 @@ module _ {X Y : Type 0} (f : X → Option Y) where
       → first_some f (take (suc k) xs) ≡ None
   first_at [] k d inside before here = absurd (omega (arith, inside))
   first_at (x ∷ xs) zero d inside before here = ap (λ (o : Option Y). option_or o None) here
-  first_at (x ∷ xs) (suc k) d inside before here = by (f x) refl
+  first_at (x ∷ xs) (suc k) d inside before here = by (λ later. first_at xs k d (omega (arith, inside)) later here) (f x) refl
     where
-      by : (o : Option Y) → f x ≡ o → first_some f (take (suc (suc k)) (x ∷ xs)) ≡ None
-      by None none =
+      by : (first_some f (take k xs) ≡ None → first_some f (take (suc k) xs) ≡ None)
+          → (o : Option Y) → f x ≡ o → first_some f (take (suc (suc k)) (x ∷ xs)) ≡ None
+      by more None none =
           let later : first_some f (take k xs) ≡ None = sym (ap (λ (o : Option Y). option_or o (first_some f (take k xs))) none) ∙ before in
-          ap (λ (o : Option Y). option_or o (first_some f (take (suc k) xs))) none ∙ first_at xs k d (omega (arith, inside)) later here
-      by (Some y) some =
+          ap (λ (o : Option Y). option_or o (first_some f (take (suc k) xs))) none ∙ more later
+      by more (Some y) some =
           let wrong : Some y ≡ None = sym (ap (λ (o : Option Y). option_or o (first_some f (take k xs))) some) ∙ before in
           cc
 
@@ -34,13 +35,13 @@ module _ {X Y : Type 0} (f : X → Option Y) where
       → first_some f xs ≡ Some y
   first_found [] i d y inside before here = absurd (omega (arith, inside))
   first_found (x ∷ xs) zero d y inside before here = ap (λ (o : Option Y). option_or o (first_some f xs)) here
-  first_found (x ∷ xs) (suc i) d y inside before here = by (f x) refl
+  first_found (x ∷ xs) (suc i) d y inside before here = by (λ later. first_found xs i d y (omega (arith, inside)) later here) (f x) refl
     where
-      by : (o : Option Y) → f x ≡ o → first_some f (x ∷ xs) ≡ Some y
-      by None none =
+      by : (first_some f (take i xs) ≡ None → first_some f xs ≡ Some y) → (o : Option Y) → f x ≡ o → first_some f (x ∷ xs) ≡ Some y
+      by more None none =
           let later : first_some f (take i xs) ≡ None = sym (ap (λ (o : Option Y). option_or o (first_some f (take i xs))) none) ∙ before in
-          ap (λ (o : Option Y). option_or o (first_some f xs)) none ∙ first_found xs i d y (omega (arith, inside)) later here
-      by (Some z) some =
+          ap (λ (o : Option Y). option_or o (first_some f xs)) none ∙ more later
+      by more (Some z) some =
           let wrong : Some z ≡ None = sym (ap (λ (o : Option Y). option_or o (first_some f (take i xs))) some) ∙ before in
           cc
 
@@ -104,7 +105,7 @@ first_filter {Y = Y} f p (x ∷ xs) = elim (cases_Bool (p x)) [
   | inr miss ↦ rw miss (first_filter f p xs)
 ]
 
-by_option : {X Z Y : Type 0} (f : Z → Option Y) (o : Option Z) (zs : List Z)
+by_option : {Z Y : Type 0} (f : Z → Option Y) (o : Option Z) (zs : List Z)
     → first_some f (cons_option o zs) ≡ option_or (option_and_then f o) (first_some f zs)
 by_option f None zs = refl
 by_option f (Some z) zs = refl

@@ -30,10 +30,12 @@ module _ (has : TableRow → Bool) (target : List ℕ) (lost : List Value → Bo
   in_others : (t : Table) (rows : List TableRow)
       → first_some (orphan_in_row target lost t) (if is_table target t then filter (λ row. not (has row)) rows else rows)
       ≡ first_some (orphan_in_other has target lost t) rows
-  in_others t rows = elim (cases_Bool (is_table target t)) [
-    | inl hit ↦ rw hit (first_filter (orphan_in_row target lost t) (λ row. not (has row)) rows)
-    | inr miss ↦ rw miss refl
-  ]
+  in_others t rows = by (is_table target t)
+    where
+      by : (b : Bool) → first_some (orphan_in_row target lost t) (if b then filter (λ row. not (has row)) rows else rows)
+          ≡ first_some (λ row. if not (b && has row) then orphan_in_row target lost t row else None) rows
+      by true = first_filter (orphan_in_row target lost t) (λ row. not (has row)) rows
+      by false = refl
 
   in_table : (h : TableHistory)
       → first_in (flat_map (orphans_of target lost) (map (child_of (table_now h)) (other_rows has target (table_now h))))

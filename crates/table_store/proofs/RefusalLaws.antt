@@ -224,7 +224,7 @@ module _ (hs : List TableHistory) (h : TableHistory) (found : find (is_history h
         by : (a : Bool) → list_any (λ (t : TableHistory). refers_to h.name (table_now t)) hs ≡ a → (a ≡ true → (key : List Value) → one key ≡ two key)
             → missing_in_rows (has_put one numbers h.name) db h.schema.foreign rows ≡ missing_in_rows (has_put two numbers h.name) db h.schema.foreign rows
         by true told alike = ap (λ (given : List Value → Bool). missing_in_rows (has_put given numbers h.name) db h.schema.foreign rows) (λ j key. alike refl key j)
-        by false told alike = given_same h.name numbers db one two h.schema.foreign rows false (own_apart told) (λ wrong. cc)
+        by false told alike = given_same h.name numbers db one two h.schema.foreign rows false (own_apart told) (λ wrong key. cc)
 
     pub orphan_same : (numbers : List ℕ)
         → orphan_in_tables (is_among numbers) h.name (loses one numbers (table_now h)) hs ≡ orphan_in_tables (is_among numbers) h.name (loses two numbers (table_now h)) hs

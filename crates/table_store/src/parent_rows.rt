@@ -149,8 +149,8 @@ fn parent_by(
     requires sorted { are_sorted_numbers numbers.now ≡ true }
     requires keyed { is_keyed (tables_now store.now) foreign.now ≡ true }
     ensures version { IfOk result (λ member. IfSome member (IsAtVersion store.now)) }
-    ensures parent { IfOk result (λ member. member ≡ parent_by store.now (number_in given.now) numbers.now own.now
-        values.now foreign.now) }
+    ensures parent { IfOk result (λ member. member ≡ parent_by store.now (number_in given.now) numbers.now
+        own.now values.now foreign.now) }
 {
     if refers_to_none(foreign, values) {
         return Ok(None);
@@ -171,8 +171,8 @@ fn parent_of_key(
     requires sorted { are_sorted_numbers numbers.now ≡ true }
     requires keyed { is_keyed (tables_now store.now) foreign.now ≡ true }
     ensures version { IfOk result (λ member. IfSome member (IsAtVersion store.now)) }
-    ensures parent { IfOk result (λ member. member ≡ parent_in store.now (number_in given.now) numbers.now own.now
-        foreign.now (table_at foreign.now.parent (tables_now store.now)) (Some key.now.values)) }
+    ensures parent { IfOk result (λ member. member ≡ parent_in store.now (number_in given.now) numbers.now
+        own.now foreign.now (table_at foreign.now.parent (tables_now store.now)) (Some key.now.values)) }
 {
     match store.table(foreign.parent.as_str()) {
         None => Ok(None),

@@ -1,16 +1,22 @@
-use Rattle.std.proofs.Common.{◌≡◌, ◌+◌, ◌<◌, ◌^◌, ℕ, List, ap, sym, ◌∙◌, subst, arith, true, Option, Some}
-use Rattle.std.specs.Prelude.{filter, IsSome, IfSome}
+use Rattle.std.proofs.Common.{◌≡◌, ◌+◌, ◌<◌, ◌^◌, ℕ, List, [], map, ap, refl, sym, ◌∙◌, subst, arith, true, Option, Some}
+use Rattle.std.specs.Prelude.{filter, IsSome, IfSome, Err}
 use Rattle.std.specs.List.{AllByRecursion}
+use Rattle.std.specs.Option.{option_and_then}
+use Rattle.ldv_value.proofs.Options.{same-some}
 use Rattle.sql_model.specs.Scope.{table_at}
-use Rattle.table_store.specs.Histories.{tables_now, table_now, rows_now, changed_at, removed}
-use Rattle.table_store.specs.Stops.{with_changed, with_removed, are_sorted_numbers, all_stand}
-use Rattle.dml_versions.proofs.DeleteLaws.{delete-sorted, delete-stand, delete-change, delete-after}
+use Rattle.table_store.specs.Histories.{tables_now, table_now, rows_now, history_at, changed_at, removed}
+use Rattle.table_store.specs.Referring.{delete_refusal}
+use Rattle.table_store.specs.Stops.{with_changed, with_removed, are_sorted_numbers, all_stand, StopsAs}
+use Rattle.dml_versions.proofs.AfterLaws.{all_needed}
+use Rattle.dml_versions.proofs.DeleteLaws.{delete-sorted, delete-stand, delete-needs, delete-own, delete-same, delete-child, delete-refused, delete-kept, delete-change, delete-after}
 use Rattle.dml_versions.proofs.EntryLaws.{check-of, there-of, versions-fit}
-use Rattle.dml_versions.proofs.KeptLaws.{told-change}
-use Rattle.dml_versions.proofs.TableLaws.{table-now}
-use Rattle.dml_versions.specs.Changing.{IsChange, IsStoreAfter, matched_change}
-use Rattle.dml_versions.specs.Finding.{test_in}
-use Rattle.dml_versions.specs.Types.{Statement, TheDelete, Table}
+use Rattle.dml_versions.proofs.KeptLaws.{told-change, told-over, told-needs, refused-over, refused-told}
+use Rattle.dml_versions.proofs.TableLaws.{table-now, history-some}
+use Rattle.dml_versions.specs.Changing.{IsChange, IsStoreAfter, IsChildThere, matched_change, refused_change}
+use Rattle.dml_versions.specs.Finding.{test_in, found_row}
+use Rattle.dml_versions.specs.Needing.{need_found, number_found}
+use Rattle.dml_versions.specs.Types.{Need, Statement, TheDelete, Table, StoreHistory}
+use Rattle.dml_versions.specs.Versions.{versions_now}
 use Rattle.dml_versions.specs.declared.found.Found.{Found}
 use Rattle.dml_versions.proofs.deleting.delete.Goals as goal
 
@@ -42,24 +48,100 @@ delete_all-requires-clause-stand c =
     (ap (λ (l : List ℕ). all_stand l (table_now f.table)) c.in_ok-numbers.ensures
     ∙ delete-stand c.args.store.now c.delete_of-delete.result.now f.table f.there f.held.order c.tell_formed.ensures c.in_ok-found.found f.found_is)
 
+-- ---- accepted
+
+pub returns-in-Ok-clause-change : goal.returns-in-Ok-clause-change
+returns-in-Ok-clause-change c =
+    let f = c.in_ok-found.ensures in
+    let delete = c.delete_of-delete.result.now in
+    let old = c.args.store.now in
+    let formed = c.tell_formed.ensures in
+    let found = c.in_ok-found.found in
+    let whole = all_needed (TheDelete delete) old in
+    let check = check-of (tables_now old) c.args.checked.now c.requires.checked (TheDelete delete) c.delete_of-delete.ensures in
+    let fine = (λ j. option_and_then (delete_refusal (sym c.in_ok-numbers.ensures j) (tables_now old)) (table_at (sym c.as_str-name.ensures j) (tables_now old))) ∙ c.in-Ok.ensures.stop in
+    subst (λ (s : Statement). IsChange s c.args.keep old c.in_ok-change.change) (sym c.delete_of-delete.ensures)
+    (told-change (TheDelete delete) c.args.keep old (matched_change delete.table found whole) c.in_ok-change.change
+    (delete-change old delete f.table f.there f.held.order formed found f.found_is check fine)
+    (c.in_ok-change.ensures
+    ∙ told-over c.args.keep (matched_change delete.table found) (λ a b. refl) c.in_ok-needs.needs whole
+    (λ kept. delete-needs old delete f.table f.there f.held.order formed found f.found_is check c.in_ok-needs.needs (c.in_ok-needs.ensures kept))))
+
+pub returns-in-Ok-clause-after : goal.returns-in-Ok-clause-after
+returns-in-Ok-clause-after c =
+    let f = c.in_ok-found.ensures in
+    let delete = c.delete_of-delete.result.now in
+    let old = c.args.store.now in
+    let check = check-of (tables_now old) c.args.checked.now c.requires.checked (TheDelete delete) c.delete_of-delete.ensures in
+    let fine = (λ j. option_and_then (delete_refusal (sym c.in_ok-numbers.ensures j) (tables_now old)) (table_at (sym c.as_str-name.ensures j) (tables_now old))) ∙ c.in-Ok.ensures.stop in
+    subst (λ (s : Statement). IsStoreAfter s c.args.time old c.delete_all.new.self) (sym c.delete_of-delete.ensures)
+    (delete-after old delete f.table f.there f.held.order c.tell_formed.ensures c.in_ok-found.found f.found_is check fine c.args.time c.delete_all.new.self
+    (c.in-Ok.ensures.now ∙ (λ j. with_changed (c.as_str-name.ensures j) (with_removed (c.in_ok-numbers.ensures j)) (tables_now old)))
+    (c.in-Ok.ensures.ok ∙ (λ j. changed_at c.args.time (c.as_str-name.ensures j) (removed c.args.time (c.in_ok-numbers.ensures j)) old))
+    c.in-Ok.ensures.earlier)
+
+-- ---- refused
+
+pub table_of-table-requires : goal.table_of-table-requires
+table_of-table-requires c =
+    let delete = c.delete_of-delete.result.now in
+    subst (λ (store : StoreHistory). IsSome (history_at delete.table store)) (sym c.in-Err.ensures.err)
+    (history-some delete.table c.args.store.now
+    (there-of (tables_now c.args.store.now) c.args.checked.now c.requires.checked (TheDelete delete) c.delete_of-delete.ensures tt))
+
 pub returns-clause-change : goal.returns-clause-change
 returns-clause-change c =
     let f = c.in_ok-found.ensures in
     let delete = c.delete_of-delete.result.now in
-    let check = check-of (tables_now c.args.store.now) c.args.checked.now c.requires.checked (TheDelete delete) c.delete_of-delete.ensures in
-    subst (λ (s : Statement). IsChange s c.args.keep c.args.store.now c.in_ok-change.change) (sym c.delete_of-delete.ensures)
-    (told-change (TheDelete delete) c.args.keep c.args.store.now (matched_change delete.table c.in_ok-found.found) c.in_ok-change.change
-    (delete-change c.args.store.now delete f.table f.there f.held.order c.tell_formed.ensures c.in_ok-found.found f.found_is check)
-    c.in_ok-change.ensures)
+    let old = c.args.store.now in
+    let formed = c.tell_formed.ensures in
+    let found = c.in_ok-found.found in
+    let at = c.in-Err.stop in
+    let given = c.in_ok-change.change.needs in
+    let refused = c.in_ok-refused-in-Err.refused in
+    let whole = all_needed (TheDelete delete) old in
+    let others : List Need = map (need_found delete.table) (map (found_row f.table.slots) (filter (test_in f.table delete.pick) (rows_now f.table.slots))) in
+    let check = check-of (tables_now old) c.args.checked.now c.requires.checked (TheDelete delete) c.delete_of-delete.ensures in
+    let stops : StopsAs {X = Unit {0}} (option_and_then (delete_refusal (map number_found found) (tables_now old)) (table_at delete.table (tables_now old))) (Err at) =
+    subst (λ (n : List ℕ). StopsAs {X = Unit {0}} (option_and_then (delete_refusal (map number_found found) (tables_now old)) (table_at n (tables_now old))) (Err at)) c.as_str-name.ensures
+    (subst (λ (l : List ℕ). StopsAs {X = Unit {0}} (option_and_then (delete_refusal l (tables_now old)) (table_at c.as_str-name.result.now (tables_now old))) (Err at)) c.in_ok-numbers.ensures c.in-Err.ensures.stop) in
+    let same : c.table_of-table.result.now ≡ f.table =
+    same-some c.table_of-table.result.now f.table (sym c.table_of-table.ensures.found ∙ ap (history_at delete.table) c.in-Err.ensures.err ∙ f.there) in
+    let told : IsChildThere (tables_now c.delete_all.new.self) at → refused_change (versions_now c.delete_all.new.self) delete.table f.table.slots [] given at ≡ Some refused = λ child.
+    (λ j. refused_change (versions_now c.delete_all.new.self) delete.table (sym same j).slots (sym c.new-none.ensures j) given at) ∙ c.in_ok-refused-in-Err.ensures child in
+    let made : refused_change (versions_now old) delete.table f.table.slots [] given at ≡ Some refused =
+    subst (λ (st : StoreHistory). IsChildThere (tables_now st) at → refused_change (versions_now st) delete.table f.table.slots [] given at ≡ Some refused) c.in-Err.ensures.err told
+    (delete-child old delete f.table f.there f.held.order formed found f.found_is check (Unit {0}) at stops) in
+    let over = refused-over (versions_now old) delete.table f.table.slots [] others given whole at refused made in
+    subst (λ (s : Statement). IsChange s c.args.keep old refused) (sym c.delete_of-delete.ensures)
+    (refused-told (versions_now old) delete.table f.table.slots [] others given whole (TheDelete delete) c.args.keep old at refused over
+    (λ kept. delete-own old delete f.table f.there f.held.order formed found f.found_is check (Unit {0}) at stops [] others)
+    (λ kept. delete-same old delete f.table f.there f.held.order formed found f.found_is check (Unit {0}) at stops given
+    (told-needs c.args.keep (matched_change delete.table found c.in_ok-needs.needs) c.in_ok-change.change c.in_ok-change.ensures kept
+    ∙ delete-needs old delete f.table f.there f.held.order formed found f.found_is check c.in_ok-needs.needs (c.in_ok-needs.ensures kept)))
+    (delete-refused old delete f.table f.there f.held.order formed found f.found_is check (Unit {0}) at stops over.whole over.is))
 
 pub returns-clause-after : goal.returns-clause-after
 returns-clause-after c =
     let f = c.in_ok-found.ensures in
     let delete = c.delete_of-delete.result.now in
     let old = c.args.store.now in
+    let formed = c.tell_formed.ensures in
+    let found = c.in_ok-found.found in
+    let at = c.in-Err.stop in
+    let given = c.in_ok-change.change.needs in
+    let refused = c.in_ok-refused-in-Err.refused in
     let check = check-of (tables_now old) c.args.checked.now c.requires.checked (TheDelete delete) c.delete_of-delete.ensures in
+    let stops : StopsAs {X = Unit {0}} (option_and_then (delete_refusal (map number_found found) (tables_now old)) (table_at delete.table (tables_now old))) (Err at) =
+    subst (λ (n : List ℕ). StopsAs {X = Unit {0}} (option_and_then (delete_refusal (map number_found found) (tables_now old)) (table_at n (tables_now old))) (Err at)) c.as_str-name.ensures
+    (subst (λ (l : List ℕ). StopsAs {X = Unit {0}} (option_and_then (delete_refusal l (tables_now old)) (table_at c.as_str-name.result.now (tables_now old))) (Err at)) c.in_ok-numbers.ensures c.in-Err.ensures.stop) in
+    let same : c.table_of-table.result.now ≡ f.table =
+    same-some c.table_of-table.result.now f.table (sym c.table_of-table.ensures.found ∙ ap (history_at delete.table) c.in-Err.ensures.err ∙ f.there) in
+    let told : IsChildThere (tables_now c.delete_all.new.self) at → refused_change (versions_now c.delete_all.new.self) delete.table f.table.slots [] given at ≡ Some refused = λ child.
+    (λ j. refused_change (versions_now c.delete_all.new.self) delete.table (sym same j).slots (sym c.new-none.ensures j) given at) ∙ c.in_ok-refused-in-Err.ensures child in
+    let made : refused_change (versions_now old) delete.table f.table.slots [] given at ≡ Some refused =
+    subst (λ (st : StoreHistory). IsChildThere (tables_now st) at → refused_change (versions_now st) delete.table f.table.slots [] given at ≡ Some refused) c.in-Err.ensures.err told
+    (delete-child old delete f.table f.there f.held.order formed found f.found_is check (Unit {0}) at stops) in
     subst (λ (s : Statement). IsStoreAfter s c.args.time old c.delete_all.new.self) (sym c.delete_of-delete.ensures)
-    (delete-after old delete f.table f.there f.held.order c.tell_formed.ensures c.in_ok-found.found f.found_is check c.args.time c.delete_all.new.self
-    (c.in_ok-delete_all.ensures.now ∙ (λ j. with_changed (c.as_str-name.ensures j) (with_removed (c.in_ok-numbers.ensures j)) (tables_now old)))
-    (c.in_ok-delete_all.ensures.ok ∙ (λ j. changed_at c.args.time (c.as_str-name.ensures j) (removed c.args.time (c.in_ok-numbers.ensures j)) old))
-    c.in_ok-delete_all.ensures.earlier)
+    (delete-kept old delete f.table f.there f.held.order formed found f.found_is check (Unit {0}) at stops [] given refused made
+    c.args.time c.delete_all.new.self c.requires.later c.in-Err.ensures.err)

@@ -1,23 +1,33 @@
-use Rattle.std.proofs.Common.{◌≡◌, ◌+◌, ◌≤◌, ℕ, List, [], length, ap, sym, ◌∙◌, subst, arith, true, Option, Some}
-use Rattle.std.specs.Prelude.{IsSome, IfSome, Err, nat_lt}
+use Rattle.std.proofs.Common.{◌≡◌, ◌+◌, ◌≤◌, ℕ, List, [], length, ap, refl, sym, ◌∙◌, subst, arith, true, false, Option, Some}
+use Rattle.std.specs.Prelude.{IsSome, IfSome, IsTrue, Err, nat_lt}
 use Rattle.ldv_value.specs.Limits.{max_next}
 use Rattle.std.specs.Option.{option_and_then, option_map}
 use Rattle.ldv_value.proofs.Options.{same-some}
 use Rattle.sql_model.specs.Scope.{table_at}
 use Rattle.table_store.specs.Histories.{tables_now, table_now, history_at, changed_at, inserted}
-use Rattle.table_store.specs.Stops.{with_changed, with_inserted, have_shape, insert_stop, StopsAs}
+use Rattle.table_store.specs.Referring.{insert_refusal}
+use Rattle.table_store.specs.Stops.{with_changed, with_inserted, have_shape, StopsAs}
+use Rattle.dml_versions.proofs.AfterLaws.{all_needed}
 use Rattle.dml_versions.proofs.EntryLaws.{check-of, there-of}
-use Rattle.dml_versions.proofs.InsertLaws.{insert-shape, insert-fits, insert-change, insert-after, insert-refused, insert-kept}
-use Rattle.dml_versions.proofs.KeptLaws.{told-change, whole-change}
+use Rattle.dml_versions.proofs.InsertLaws.{insert-shape, insert-fits, insert-fine, insert-needs, insert-change, insert-after, insert-child, insert-refused, insert-same, insert-kept}
+use Rattle.dml_versions.proofs.KeptLaws.{told-change, told-over, told-needs, same-own, refused-over, refused-told}
 use Rattle.dml_versions.proofs.TableLaws.{table-now, history-some}
-use Rattle.dml_versions.specs.Changing.{IsChange, IsStoreAfter, inserted_change, refused_change}
+use Rattle.dml_versions.specs.Changing.{IsChange, IsStoreAfter, IsChildThere, inserted_change, refused_change}
 use Rattle.dml_versions.specs.Types.{Statement, TheInsert, Table, StoreHistory}
+use Rattle.dml_versions.specs.Versions.{versions_now}
 use Rattle.dml_versions.proofs.inserting.insert.Goals as goal
 
 pub next_at-next-requires : goal.next_at-next-requires
 next_at-next-requires c =
     subst (λ (n : List ℕ). IsSome (table_at n (tables_now c.args.store.now))) (sym c.as_str-name.ensures)
     (there-of (tables_now c.args.store.now) c.args.checked.now c.requires.checked (TheInsert c.insert_of-insert.result.now) c.insert_of-insert.ensures tt)
+
+pub inserted_needs-requires : goal.inserted_needs-requires
+inserted_needs-requires c =
+    let old = c.args.store.now in
+    let later : old.time ≤ c.args.time = omega (arith, c.requires.later) in
+    ap (λ (n : List ℕ). option_map (λ (table : Table). table.next) (table_at n (tables_now old))) (sym c.as_str-name.ensures)
+    ∙ c.next_at-next.ensures.last later
 
 pub insert_all-requires-clause-there : goal.insert_all-requires-clause-there
 insert_all-requires-clause-there c =
@@ -42,18 +52,24 @@ returns-in-Ok-clause-change c =
     let old = c.args.store.now in
     let rows = c.in_ok-rows.rows in
     let t = table_now f.table in
+    let formed = c.tell_formed.ensures in
     let check = check-of (tables_now old) c.args.checked.now c.requires.checked (TheInsert insert) c.insert_of-insert.ensures in
-    let fine = ap (λ (n : List ℕ). option_and_then (insert_stop rows) (table_at n (tables_now old))) (sym c.as_str-name.ensures) ∙ c.in-Ok.ensures.stop in
+    let fine = ap (λ (n : List ℕ). option_and_then (insert_refusal rows (tables_now old)) (table_at n (tables_now old))) (sym c.as_str-name.ensures) ∙ c.in-Ok.ensures.stop in
     let there : table_at c.as_str-name.result.now (tables_now old) ≡ Some t =
     ap (λ (n : List ℕ). table_at n (tables_now old)) c.as_str-name.ensures ∙ table-now insert.table old f.table f.there in
     let later : old.time ≤ c.args.time = omega (arith, c.requires.later) in
     let next : c.next_at-next.result ≡ t.next =
     same-some c.next_at-next.result t.next (sym (c.next_at-next.ensures.last later) ∙ ap (option_map (λ (table : Table). table.next)) there) in
-    let fits = ap (λ (n : ℕ). nat_lt max_next (n + length rows)) next ∙ insert-fits old insert f.table f.there f.held.order c.tell_formed.ensures check rows f.rows_are fine in
+    let own = insert-fine old insert f.table f.there f.held.order formed check rows f.rows_are fine in
+    let fits : nat_lt max_next (c.next_at-next.result + length rows) ≡ false =
+    ap (λ (n : ℕ). nat_lt max_next (n + length rows)) next ∙ insert-fits old insert f.table f.there f.held.order formed check rows f.rows_are own in
+    let needs_are : IsTrue c.args.keep → c.in_ok-needs.needs ≡ all_needed (TheInsert insert) old = λ kept.
+    insert-needs old insert f.table f.there f.held.order formed check rows f.rows_are c.next_at-next.result next c.in_ok-needs.needs (c.in_ok-needs.ensures kept fits) own in
     subst (λ (s : Statement). IsChange s c.args.keep old c.in_ok-change.change) (sym c.insert_of-insert.ensures)
-    (told-change (TheInsert insert) c.args.keep old (inserted_change insert.table c.next_at-next.result rows) c.in_ok-change.change
-    (insert-change old insert f.table f.there f.held.order c.tell_formed.ensures check rows f.rows_are fine c.next_at-next.result next)
-    (c.in_ok-change.ensures fits))
+    (told-change (TheInsert insert) c.args.keep old (inserted_change insert.table c.next_at-next.result rows (all_needed (TheInsert insert) old)) c.in_ok-change.change
+    (insert-change old insert f.table f.there f.held.order formed check rows f.rows_are fine c.next_at-next.result next)
+    (c.in_ok-change.ensures fits
+    ∙ told-over c.args.keep (inserted_change insert.table c.next_at-next.result rows) (λ a b. refl) c.in_ok-needs.needs (all_needed (TheInsert insert) old) needs_are))
 
 pub returns-in-Ok-clause-after : goal.returns-in-Ok-clause-after
 returns-in-Ok-clause-after c =
@@ -62,7 +78,7 @@ returns-in-Ok-clause-after c =
     let old = c.args.store.now in
     let rows = c.in_ok-rows.rows in
     let check = check-of (tables_now old) c.args.checked.now c.requires.checked (TheInsert insert) c.insert_of-insert.ensures in
-    let fine = ap (λ (n : List ℕ). option_and_then (insert_stop rows) (table_at n (tables_now old))) (sym c.as_str-name.ensures) ∙ c.in-Ok.ensures.stop in
+    let fine = ap (λ (n : List ℕ). option_and_then (insert_refusal rows (tables_now old)) (table_at n (tables_now old))) (sym c.as_str-name.ensures) ∙ c.in-Ok.ensures.stop in
     subst (λ (s : Statement). IsStoreAfter s c.args.time old c.insert_all.new.self) (sym c.insert_of-insert.ensures)
     (insert-after old insert f.table f.there f.held.order c.tell_formed.ensures check rows f.rows_are fine c.args.time c.insert_all.new.self
     (c.in-Ok.ensures.now ∙ ap (λ (n : List ℕ). with_changed n (with_inserted rows) (tables_now old)) c.as_str-name.ensures)
@@ -78,34 +94,61 @@ table_of-table-requires c =
     (history-some insert.table c.args.store.now
     (there-of (tables_now c.args.store.now) c.args.checked.now c.requires.checked (TheInsert insert) c.insert_of-insert.ensures tt))
 
-pub returns-in_ok-refused-in-Err-clause-change : goal.returns-in_ok-refused-in-Err-clause-change
-returns-in_ok-refused-in-Err-clause-change c =
+pub returns-clause-change : goal.returns-clause-change
+returns-clause-change c =
     let f = c.in_ok-rows.ensures in
     let insert = c.insert_of-insert.result.now in
     let old = c.args.store.now in
     let rows = c.in_ok-rows.rows in
+    let t = table_now f.table in
+    let at = c.in-Err.stop in
+    let formed = c.tell_formed.ensures in
+    let refused = c.in_ok-refused-in-Err.refused in
+    let given = c.in_ok-change.change.needs in
+    let whole = all_needed (TheInsert insert) old in
     let check = check-of (tables_now old) c.args.checked.now c.requires.checked (TheInsert insert) c.insert_of-insert.ensures in
-    let stops = subst (λ (n : List ℕ). StopsAs {X = ℕ} (option_and_then (insert_stop rows) (table_at n (tables_now old))) (Err c.in-Err.stop)) c.as_str-name.ensures c.in-Err.ensures.stop in
+    let stops = subst (λ (n : List ℕ). StopsAs {X = ℕ} (option_and_then (insert_refusal rows (tables_now old)) (table_at n (tables_now old))) (Err at)) c.as_str-name.ensures c.in-Err.ensures.stop in
+    let there : table_at c.as_str-name.result.now (tables_now old) ≡ Some t =
+    ap (λ (n : List ℕ). table_at n (tables_now old)) c.as_str-name.ensures ∙ table-now insert.table old f.table f.there in
+    let later : old.time ≤ c.args.time = omega (arith, c.requires.later) in
+    let next : c.next_at-next.result ≡ t.next =
+    same-some c.next_at-next.result t.next (sym (c.next_at-next.ensures.last later) ∙ ap (option_map (λ (table : Table). table.next)) there) in
     let same : c.table_of-table.result.now ≡ f.table =
     same-some c.table_of-table.result.now f.table (sym c.table_of-table.ensures.found ∙ ap (history_at insert.table) c.in-Err.ensures.err ∙ f.there) in
-    let made : refused_change insert.table f.table.slots [] c.in-Err.stop ≡ Some c.in_ok-refused-in-Err.refused =
-    (λ j. refused_change insert.table (sym same j).slots (sym c.new.ensures j) c.in-Err.stop) ∙ c.in_ok-refused-in-Err.ensures in
-    subst (λ (s : Statement). IsChange s c.args.keep old c.in_ok-refused-in-Err.refused) (sym c.insert_of-insert.ensures)
-    (whole-change (TheInsert insert) c.args.keep old c.in_ok-refused-in-Err.refused
-    (insert-refused old insert f.table f.there f.held.order c.tell_formed.ensures check rows f.rows_are ℕ c.in-Err.stop c.in_ok-refused-in-Err.refused stops made))
+    let told : IsChildThere (tables_now c.insert_all.new.self) at → refused_change (versions_now c.insert_all.new.self) insert.table f.table.slots [] given at ≡ Some refused = λ child.
+    (λ j. refused_change (versions_now c.insert_all.new.self) insert.table (sym same j).slots (sym c.new-none.ensures j) given at) ∙ c.in_ok-refused-in-Err.ensures child in
+    let made : refused_change (versions_now old) insert.table f.table.slots [] given at ≡ Some refused =
+    subst (λ (st : StoreHistory). IsChildThere (tables_now st) at → refused_change (versions_now st) insert.table f.table.slots [] given at ≡ Some refused) c.in-Err.ensures.err told
+    (insert-child old insert f.table f.there f.held.order formed check rows f.rows_are ℕ at stops) in
+    let over = refused-over (versions_now old) insert.table f.table.slots [] [] given whole at refused made in
+    subst (λ (s : Statement). IsChange s c.args.keep old refused) (sym c.insert_of-insert.ensures)
+    (refused-told (versions_now old) insert.table f.table.slots [] [] given whole (TheInsert insert) c.args.keep old at refused over
+    (λ kept. same-own at [] [] refl)
+    (λ kept. insert-same old insert f.table f.there f.held.order formed check rows f.rows_are ℕ at stops given (λ own.
+    let fits : nat_lt max_next (c.next_at-next.result + length rows) ≡ false =
+    ap (λ (n : ℕ). nat_lt max_next (n + length rows)) next ∙ insert-fits old insert f.table f.there f.held.order formed check rows f.rows_are own in
+    told-needs c.args.keep (inserted_change insert.table c.next_at-next.result rows c.in_ok-needs.needs) c.in_ok-change.change (c.in_ok-change.ensures fits) kept
+    ∙ insert-needs old insert f.table f.there f.held.order formed check rows f.rows_are c.next_at-next.result next c.in_ok-needs.needs (c.in_ok-needs.ensures kept fits) own))
+    (insert-refused old insert f.table f.there f.held.order formed check rows f.rows_are ℕ at stops over.whole over.is))
 
-pub returns-in_ok-refused-in-Err-clause-after : goal.returns-in_ok-refused-in-Err-clause-after
-returns-in_ok-refused-in-Err-clause-after c =
+pub returns-clause-after : goal.returns-clause-after
+returns-clause-after c =
     let f = c.in_ok-rows.ensures in
     let insert = c.insert_of-insert.result.now in
     let old = c.args.store.now in
     let rows = c.in_ok-rows.rows in
+    let at = c.in-Err.stop in
+    let refused = c.in_ok-refused-in-Err.refused in
+    let given = c.in_ok-change.change.needs in
     let check = check-of (tables_now old) c.args.checked.now c.requires.checked (TheInsert insert) c.insert_of-insert.ensures in
-    let stops = subst (λ (n : List ℕ). StopsAs {X = ℕ} (option_and_then (insert_stop rows) (table_at n (tables_now old))) (Err c.in-Err.stop)) c.as_str-name.ensures c.in-Err.ensures.stop in
+    let stops = subst (λ (n : List ℕ). StopsAs {X = ℕ} (option_and_then (insert_refusal rows (tables_now old)) (table_at n (tables_now old))) (Err at)) c.as_str-name.ensures c.in-Err.ensures.stop in
     let same : c.table_of-table.result.now ≡ f.table =
     same-some c.table_of-table.result.now f.table (sym c.table_of-table.ensures.found ∙ ap (history_at insert.table) c.in-Err.ensures.err ∙ f.there) in
-    let made : refused_change insert.table f.table.slots [] c.in-Err.stop ≡ Some c.in_ok-refused-in-Err.refused =
-    (λ j. refused_change insert.table (sym same j).slots (sym c.new.ensures j) c.in-Err.stop) ∙ c.in_ok-refused-in-Err.ensures in
+    let told : IsChildThere (tables_now c.insert_all.new.self) at → refused_change (versions_now c.insert_all.new.self) insert.table f.table.slots [] given at ≡ Some refused = λ child.
+    (λ j. refused_change (versions_now c.insert_all.new.self) insert.table (sym same j).slots (sym c.new-none.ensures j) given at) ∙ c.in_ok-refused-in-Err.ensures child in
+    let made : refused_change (versions_now old) insert.table f.table.slots [] given at ≡ Some refused =
+    subst (λ (st : StoreHistory). IsChildThere (tables_now st) at → refused_change (versions_now st) insert.table f.table.slots [] given at ≡ Some refused) c.in-Err.ensures.err told
+    (insert-child old insert f.table f.there f.held.order c.tell_formed.ensures check rows f.rows_are ℕ at stops) in
     subst (λ (s : Statement). IsStoreAfter s c.args.time old c.insert_all.new.self) (sym c.insert_of-insert.ensures)
-    (insert-kept old insert f.table f.there f.held.order c.tell_formed.ensures check rows f.rows_are ℕ c.in-Err.stop c.in_ok-refused-in-Err.refused stops made
+    (insert-kept old insert f.table f.there f.held.order c.tell_formed.ensures check rows f.rows_are ℕ at stops [] given refused made
     c.args.time c.insert_all.new.self c.requires.later c.in-Err.ensures.err)

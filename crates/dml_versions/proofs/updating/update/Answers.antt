@@ -1,19 +1,22 @@
-use Rattle.std.proofs.Common.{◌≡◌, ◌+◌, ◌<◌, ◌^◌, ℕ, List, map, ap, sym, ◌∙◌, subst, arith, true, Option, Some}
-use Rattle.std.specs.Prelude.{filter, IsSome, IfSome, Err}
+use Rattle.std.proofs.Common.{◌≡◌, ◌+◌, ◌<◌, ◌^◌, ℕ, List, map, ap, refl, sym, ◌∙◌, subst, arith, true, Option, Some}
+use Rattle.std.specs.Prelude.{filter, IsSome, IfSome, IsTrue, Err}
 use Rattle.std.specs.List.{AllByRecursion}
 use Rattle.std.specs.Option.{option_and_then}
 use Rattle.ldv_value.proofs.Options.{same-some}
 use Rattle.sql_model.specs.Scope.{table_at}
 use Rattle.table_store.specs.Histories.{tables_now, table_now, rows_now, history_at, changed_at, replaced}
-use Rattle.table_store.specs.Stops.{with_changed, with_replaced, have_shape, values_of, all_stood, replace_stop, StopsAs}
+use Rattle.table_store.specs.Stops.{with_changed, with_replaced, have_shape, values_of, all_stood, StopsAs}
+use Rattle.table_store.specs.Referring.{replace_refusal}
+use Rattle.dml_versions.proofs.AfterLaws.{all_needed}
 use Rattle.dml_versions.proofs.EntryLaws.{check-of, there-of, versions-fit}
-use Rattle.dml_versions.proofs.KeptLaws.{told-change, refused-over, refused-told, told-needs}
+use Rattle.dml_versions.proofs.KeptLaws.{told-change, told-over, told-needs, same-own, refused-over, refused-told}
 use Rattle.dml_versions.proofs.TableLaws.{table-now, history-some}
-use Rattle.dml_versions.proofs.UpdateLaws.{update-shape, update-sorted, update-stand, update-change, update-after, update-refused, update-kept}
-use Rattle.dml_versions.specs.Changing.{IsChange, IsStoreAfter, matched_change, refused_change}
-use Rattle.dml_versions.specs.Finding.{test_in}
+use Rattle.dml_versions.proofs.UpdateLaws.{update-shape, update-sorted, update-stand, update-put, update-own, update-needs, update-fine, update-change, update-after, update-child, update-refused, update-same, update-kept}
+use Rattle.dml_versions.specs.Changing.{IsChange, IsStoreAfter, IsChildThere, matched_change, refused_change}
+use Rattle.dml_versions.specs.Finding.{test_in, found_row}
 use Rattle.dml_versions.specs.Needing.{need_found}
-use Rattle.dml_versions.specs.Types.{Statement, TheUpdate, Table, StoreHistory}
+use Rattle.dml_versions.specs.Versions.{versions_now}
+use Rattle.dml_versions.specs.Types.{Need, Statement, TheUpdate, Table, StoreHistory}
 use Rattle.dml_versions.specs.declared.found.Found.{Found}
 use Rattle.dml_versions.proofs.updating.update.Goals as goal
 
@@ -23,6 +26,18 @@ matched_change-requires c =
     subst (λ (l : List Found). AllByRecursion (λ row. row.version + 1 < 2 ^ 32) l) (sym f.found_is)
     (versions-fit c.args.store.now.time f.table.slots f.held.timed c.args.time c.requires.later (omega arith)
     (filter (test_in f.table c.update_of-update.result.now.pick) (rows_now f.table.slots)))
+
+pub with_parents-requires-clause-there : goal.with_parents-requires-clause-there
+with_parents-requires-clause-there c =
+    there-of (tables_now c.args.store.now) c.args.checked.now c.requires.checked (TheUpdate c.update_of-update.result.now) c.update_of-update.ensures tt
+
+pub with_parents-requires-clause-put : goal.with_parents-requires-clause-put
+with_parents-requires-clause-put c =
+    let f = c.in_ok-prepared.ensures in
+    let update = c.update_of-update.result.now in
+    let old = c.args.store.now in
+    let check = check-of (tables_now old) c.args.checked.now c.requires.checked (TheUpdate update) c.update_of-update.ensures in
+    update-put old update f.table f.there f.held.order c.tell_formed.ensures check c.in_ok-prepared.prepared.found c.in_ok-prepared.prepared.rows f.found_is f.rows_are
 
 pub replace_all-requires-clause-there : goal.replace_all-requires-clause-there
 replace_all-requires-clause-there c =
@@ -66,13 +81,19 @@ returns-in-Ok-clause-change c =
     let f = c.in_ok-prepared.ensures in
     let update = c.update_of-update.result.now in
     let old = c.args.store.now in
+    let formed = c.tell_formed.ensures in
+    let found = c.in_ok-prepared.prepared.found in
     let rows = c.in_ok-prepared.prepared.rows in
+    let whole = all_needed (TheUpdate update) old in
     let check = check-of (tables_now old) c.args.checked.now c.requires.checked (TheUpdate update) c.update_of-update.ensures in
-    let fine = ap (λ (n : List ℕ). option_and_then (replace_stop rows) (table_at n (tables_now old))) (sym c.as_str-name.ensures) ∙ c.in-Ok.ensures.stop in
+    let fine = ap (λ (n : List ℕ). option_and_then (replace_refusal rows (tables_now old)) (table_at n (tables_now old))) (sym c.as_str-name.ensures) ∙ c.in-Ok.ensures.stop in
+    let own = update-fine old update f.table f.there f.held.order formed check found rows f.found_is f.rows_are fine in
+    let needs_are : IsTrue c.args.keep → c.in_ok-all.all ≡ whole = λ kept.
+    update-needs old update f.table f.there f.held.order formed check found rows f.found_is f.rows_are c.in_ok-needs.needs c.in_ok-all.all (c.in_ok-needs.ensures kept) (c.in_ok-all.ensures kept) own in
     subst (λ (s : Statement). IsChange s c.args.keep old c.in_ok-change.change) (sym c.update_of-update.ensures)
-    (told-change (TheUpdate update) c.args.keep old (matched_change update.table c.in_ok-prepared.prepared.found) c.in_ok-change.change
-    (update-change old update f.table f.there f.held.order c.tell_formed.ensures check c.in_ok-prepared.prepared.found rows f.found_is f.rows_are fine)
-    c.in_ok-change.ensures)
+    (told-change (TheUpdate update) c.args.keep old (matched_change update.table found whole) c.in_ok-change.change
+    (update-change old update f.table f.there f.held.order formed check found rows f.found_is f.rows_are fine)
+    (c.in_ok-change.ensures ∙ told-over c.args.keep (matched_change update.table found) (λ a b. refl) c.in_ok-all.all whole needs_are))
 
 pub returns-in-Ok-clause-after : goal.returns-in-Ok-clause-after
 returns-in-Ok-clause-after c =
@@ -81,7 +102,7 @@ returns-in-Ok-clause-after c =
     let old = c.args.store.now in
     let rows = c.in_ok-prepared.prepared.rows in
     let check = check-of (tables_now old) c.args.checked.now c.requires.checked (TheUpdate update) c.update_of-update.ensures in
-    let fine = ap (λ (n : List ℕ). option_and_then (replace_stop rows) (table_at n (tables_now old))) (sym c.as_str-name.ensures) ∙ c.in-Ok.ensures.stop in
+    let fine = ap (λ (n : List ℕ). option_and_then (replace_refusal rows (tables_now old)) (table_at n (tables_now old))) (sym c.as_str-name.ensures) ∙ c.in-Ok.ensures.stop in
     subst (λ (s : Statement). IsStoreAfter s c.args.time old c.replace_all.new.self) (sym c.update_of-update.ensures)
     (update-after old update f.table f.there f.held.order c.tell_formed.ensures check c.in_ok-prepared.prepared.found rows f.found_is f.rows_are fine c.args.time c.replace_all.new.self
     (c.in-Ok.ensures.now ∙ ap (λ (n : List ℕ). with_changed n (with_replaced rows) (tables_now old)) c.as_str-name.ensures)
@@ -102,38 +123,54 @@ returns-clause-change c =
     let f = c.in_ok-prepared.ensures in
     let update = c.update_of-update.result.now in
     let old = c.args.store.now in
+    let formed = c.tell_formed.ensures in
     let found = c.in_ok-prepared.prepared.found in
     let rows = c.in_ok-prepared.prepared.rows in
-    let check = check-of (tables_now old) c.args.checked.now c.requires.checked (TheUpdate update) c.update_of-update.ensures in
-    let stops = subst (λ (n : List ℕ). StopsAs {X = Unit {0}} (option_and_then (replace_stop rows) (table_at n (tables_now old))) (Err c.in-Err.stop)) c.as_str-name.ensures c.in-Err.ensures.stop in
-    let same : c.table_of-table.result.now ≡ f.table =
-    same-some c.table_of-table.result.now f.table (sym c.table_of-table.ensures.found ∙ ap (history_at update.table) c.in-Err.ensures.err ∙ f.there) in
+    let at = c.in-Err.stop in
+    let needs = c.in_ok-needs.needs in
     let given = c.in_ok-change.change.needs in
     let refused = c.in_ok-refused-in-Err.refused in
-    let made : refused_change update.table f.table.slots given c.in-Err.stop ≡ Some refused =
-    (λ j. refused_change update.table (sym same j).slots given c.in-Err.stop) ∙ c.in_ok-refused-in-Err.ensures in
-    let over = refused-over update.table f.table.slots given (map (need_found update.table) found) c.in-Err.stop refused made in
+    let whole = all_needed (TheUpdate update) old in
+    let others : List Need = map (need_found update.table) (map (found_row f.table.slots) (filter (test_in f.table update.pick) (rows_now f.table.slots))) in
+    let check = check-of (tables_now old) c.args.checked.now c.requires.checked (TheUpdate update) c.update_of-update.ensures in
+    let stops = subst (λ (n : List ℕ). StopsAs {X = Unit {0}} (option_and_then (replace_refusal rows (tables_now old)) (table_at n (tables_now old))) (Err at)) c.as_str-name.ensures c.in-Err.ensures.stop in
+    let same : c.table_of-table.result.now ≡ f.table =
+    same-some c.table_of-table.result.now f.table (sym c.table_of-table.ensures.found ∙ ap (history_at update.table) c.in-Err.ensures.err ∙ f.there) in
+    let told : IsChildThere (tables_now c.replace_all.new.self) at → refused_change (versions_now c.replace_all.new.self) update.table f.table.slots needs given at ≡ Some refused = λ child.
+    (λ j. refused_change (versions_now c.replace_all.new.self) update.table (sym same j).slots needs given at) ∙ c.in_ok-refused-in-Err.ensures child in
+    let made : refused_change (versions_now old) update.table f.table.slots needs given at ≡ Some refused =
+    subst (λ (st : StoreHistory). IsChildThere (tables_now st) at → refused_change (versions_now st) update.table f.table.slots needs given at ≡ Some refused) c.in-Err.ensures.err told
+    (update-child old update f.table f.there f.held.order formed check found rows f.found_is f.rows_are (Unit {0}) at stops) in
+    let over = refused-over (versions_now old) update.table f.table.slots needs others given whole at refused made in
     subst (λ (s : Statement). IsChange s c.args.keep old refused) (sym c.update_of-update.ensures)
-    (refused-told (TheUpdate update) c.args.keep old update.table f.table.slots given (map (need_found update.table) found) c.in-Err.stop refused over
-    (told-needs c.args.keep (matched_change update.table found) c.in_ok-change.change c.in_ok-change.ensures)
-    (update-refused old update f.table f.there f.held.order c.tell_formed.ensures check found rows f.found_is f.rows_are (Unit {0}) c.in-Err.stop over.whole stops over.is))
+    (refused-told (versions_now old) update.table f.table.slots needs others given whole (TheUpdate update) c.args.keep old at refused over
+    (λ kept. same-own at needs others (update-own old update f.table f.there f.held.order formed check found rows f.found_is f.rows_are needs (c.in_ok-needs.ensures kept)))
+    (λ kept. update-same old update f.table f.there f.held.order formed check found rows f.found_is f.rows_are (Unit {0}) at stops given (λ own.
+    told-needs c.args.keep (matched_change update.table found c.in_ok-all.all) c.in_ok-change.change c.in_ok-change.ensures kept
+    ∙ update-needs old update f.table f.there f.held.order formed check found rows f.found_is f.rows_are needs c.in_ok-all.all (c.in_ok-needs.ensures kept) (c.in_ok-all.ensures kept) own))
+    (update-refused old update f.table f.there f.held.order formed check found rows f.found_is f.rows_are (Unit {0}) at stops over.whole over.is))
 
 pub returns-clause-after : goal.returns-clause-after
 returns-clause-after c =
     let f = c.in_ok-prepared.ensures in
     let update = c.update_of-update.result.now in
     let old = c.args.store.now in
+    let formed = c.tell_formed.ensures in
     let found = c.in_ok-prepared.prepared.found in
     let rows = c.in_ok-prepared.prepared.rows in
-    let check = check-of (tables_now old) c.args.checked.now c.requires.checked (TheUpdate update) c.update_of-update.ensures in
-    let stops = subst (λ (n : List ℕ). StopsAs {X = Unit {0}} (option_and_then (replace_stop rows) (table_at n (tables_now old))) (Err c.in-Err.stop)) c.as_str-name.ensures c.in-Err.ensures.stop in
-    let same : c.table_of-table.result.now ≡ f.table =
-    same-some c.table_of-table.result.now f.table (sym c.table_of-table.ensures.found ∙ ap (history_at update.table) c.in-Err.ensures.err ∙ f.there) in
+    let at = c.in-Err.stop in
+    let needs = c.in_ok-needs.needs in
     let given = c.in_ok-change.change.needs in
     let refused = c.in_ok-refused-in-Err.refused in
-    let made : refused_change update.table f.table.slots given c.in-Err.stop ≡ Some refused =
-    (λ j. refused_change update.table (sym same j).slots given c.in-Err.stop) ∙ c.in_ok-refused-in-Err.ensures in
-    let over = refused-over update.table f.table.slots given (map (need_found update.table) found) c.in-Err.stop refused made in
+    let check = check-of (tables_now old) c.args.checked.now c.requires.checked (TheUpdate update) c.update_of-update.ensures in
+    let stops = subst (λ (n : List ℕ). StopsAs {X = Unit {0}} (option_and_then (replace_refusal rows (tables_now old)) (table_at n (tables_now old))) (Err at)) c.as_str-name.ensures c.in-Err.ensures.stop in
+    let same : c.table_of-table.result.now ≡ f.table =
+    same-some c.table_of-table.result.now f.table (sym c.table_of-table.ensures.found ∙ ap (history_at update.table) c.in-Err.ensures.err ∙ f.there) in
+    let told : IsChildThere (tables_now c.replace_all.new.self) at → refused_change (versions_now c.replace_all.new.self) update.table f.table.slots needs given at ≡ Some refused = λ child.
+    (λ j. refused_change (versions_now c.replace_all.new.self) update.table (sym same j).slots needs given at) ∙ c.in_ok-refused-in-Err.ensures child in
+    let made : refused_change (versions_now old) update.table f.table.slots needs given at ≡ Some refused =
+    subst (λ (st : StoreHistory). IsChildThere (tables_now st) at → refused_change (versions_now st) update.table f.table.slots needs given at ≡ Some refused) c.in-Err.ensures.err told
+    (update-child old update f.table f.there f.held.order formed check found rows f.found_is f.rows_are (Unit {0}) at stops) in
     subst (λ (s : Statement). IsStoreAfter s c.args.time old c.replace_all.new.self) (sym c.update_of-update.ensures)
-    (update-kept old update f.table f.there f.held.order c.tell_formed.ensures check found rows f.found_is f.rows_are (Unit {0}) c.in-Err.stop over.whole stops over.is
+    (update-kept old update f.table f.there f.held.order formed check found rows f.found_is f.rows_are (Unit {0}) at stops needs given refused made
     c.args.time c.replace_all.new.self c.requires.later c.in-Err.ensures.err)

@@ -1,11 +1,11 @@
-use Rattle.std.proofs.Common.{◌≡◌, [], subst, sym, ap, ◌∙◌, List, ℕ, Some}
+use Rattle.std.proofs.Common.{◌≡◌, subst, sym, ap, ◌∙◌}
 use Rattle.std.specs.Cmp.Lexicographic.{slice_cmp}
 use Rattle.std.specs.List.Sorted.{IsStrictlySortedBy}
 use Rattle.std.specs.Ordering.{nat_cmp}
 use Rattle.query_eval.specs.Stored.{table_names}
 use Rattle.sql_engine.specs.Listing.{needs_of}
 use Rattle.sql_engine.specs.Types.{Catalog, Rows}
-use Rattle.sql_engine.proofs.AskLaws.{asked_query_done, same_parts}
+use Rattle.sql_engine.proofs.AskLaws.{asked_query_outcome, same_needs}
 use Rattle.sql_engine.proofs.StoreLaws.{sorted_names}
 use Rattle.sql_engine.proofs.asking.asked_query.Goals as goal
 
@@ -15,13 +15,13 @@ needs_of-requires-clause-sorted c =
     (sorted_names c.args.store.now c.tell_formed.ensures.database)
 
 pub returns : goal.returns
-returns c known =
+returns c =
     let rows = c.in_ok-rows.field-0 in
     let store = c.args.store.now in
     let names : c.catalog.result.now.names ≡ table_names store = ap (λ (catalog : Catalog). catalog.names) c.catalog.ensures in
     let reads : c.in_ok-needs_of.field-0 ≡ needs_of (table_names store) rows.lineage rows.hidden =
     c.in_ok-needs_of.ensures ∙ ap (λ n. needs_of n rows.lineage rows.hidden) names in
-    same_parts (Some c.args.checked.now.statement) c.args.keep store store
-    (record { reply = Rows rows.rows; tables = c.args.tables; reads = needs_of (table_names store) rows.lineage rows.hidden; made = [] })
-    c.tables.inside.held.items c.in_ok-needs_of.field-0 c.new.result c.tables.view_is reads c.new.ensures
-    (asked_query_done c.args.checked.now store c.args.keep c.args.tables rows c.requires.query c.requires.checked c.tell_formed.ensures c.in_ok-rows.ensures known)
+    same_needs c.args.checked.now.statement c.args.keep store store (Rows rows.rows) c.new.result c.in_ok-needs_of.field-0
+    (needs_of (table_names store) rows.lineage rows.hidden) reads
+    (asked_query_outcome c.args.checked.now store c.args.keep rows c.requires.query c.requires.checked c.tell_formed.ensures c.in_ok-rows.ensures)
+    c.new.ensures

@@ -1,42 +1,43 @@
-use Rattle.std.proofs.Common.{◌≡◌, ap, refl, subst, sym, Some}
-use Rattle.std.proofs.lemmas.Result.{IfOk-weaker}
-use Rattle.sql_engine.proofs.AskLaws.{checked_over, refused_over, told_over}
-use Rattle.sql_engine.specs.Asking.{IsDone, IsTold, refused}
-use Rattle.sql_engine.specs.Types.{NoTable, NoColumn, TypeClash, Statement}
+use Rattle.std.proofs.Common.{◌≡◌, ◌∙◌, ap, subst, sym, List, ℕ, Some, length}
+use Rattle.sql_engine.proofs.AskLaws.{outcome_done, paired, same_catalog}
+use Rattle.sql_engine.proofs.StoreLaws.{distinct_names}
+use Rattle.sql_engine.specs.Asking.{IsDone}
+use Rattle.sql_engine.specs.Listing.{tables_asked}
+use Rattle.sql_engine.specs.Taking.{AreDistinct, IsFresh}
+use Rattle.sql_engine.specs.Types.{Catalog}
 use Rattle.sql_engine.specs.declared.done.Done.{Done}
+use Rattle.sql_model.specs.Scope.{catalog_of}
 use Rattle.table_store.specs.Histories.{tables_now}
-use Rattle.sql_check.specs.Gives.{Stops}
-use Rattle.sql_check.specs.declared.stop.CheckStop.{CheckStop}
-use Rattle.sql_model.specs.Places.{checked_of}
 use Rattle.sql_engine.proofs.asking.asked_statement.Goals as goal
 
-pub asked_checked-requires-clause-checked : goal.asked_checked-requires-clause-checked
-asked_checked-requires-clause-checked c =
-    (checked_over c.args.statement.now (tables_now c.args.store.now) c.catalog-2.result.now c.in-Ok.checked c.catalog-2.ensures c.in-Ok.ensures).0
+pub tables_of-tables-requires-clause-fresh : goal.tables_of-tables-requires-clause-fresh
+tables_of-tables-requires-clause-fresh c = λ kept.
+    let old = c.args.store.now in
+    let new = c.asked_or_refused.new.store in
+    let same : c.catalog.result.now ≡ c.catalog-2.result.now =
+    c.catalog.ensures ∙ sym (same_catalog c.args.statement.now c.args.keep old new c.in_ok-change.change c.tell_formed.ensures c.in_ok-change.ensures.outcome) ∙ sym c.catalog-2.ensures in
+    subst (λ (names : List (List ℕ)). IsFresh c.args.statement.now names c.in_ok-room.room) (ap (λ (catalog : Catalog). catalog.names) same)
+    (c.in_ok-room.ensures kept)
 
-pub returns-in-Ok-clause-done : goal.returns-in-Ok-clause-done
-returns-in-Ok-clause-done c =
-    let same = (checked_over c.args.statement.now (tables_now c.args.store.now) c.catalog-2.result.now c.in-Ok.checked c.catalog-2.ensures c.in-Ok.ensures).1 in
-    let known = told_over c.args.statement.now c.args.keep c.args.store.now c.in_ok-tables.tables c.catalog.result.now c.catalog.ensures c.in_ok-tables.ensures in
-    IfOk-weaker c.asked_checked.result _ _
-    (λ done is. subst (λ (s : Statement). IsDone (Some s) c.args.keep c.args.store.now c.asked_checked.new.store done) (sym same)
-    (is (subst (λ (s : Statement). IsTold s c.args.keep c.args.store.now c.in_ok-tables.tables) same known)))
-    c.asked_checked.ensures.done
+pub tables_of-tables-requires-clause-paired : goal.tables_of-tables-requires-clause-paired
+tables_of-tables-requires-clause-paired c =
+    subst (λ (catalog : Catalog). length catalog.names ≡ length catalog.schemas) (sym c.catalog-2.ensures) (paired (tables_now c.asked_or_refused.new.store))
 
-pub returns-in-Err-NoTable-clause-done : goal.returns-in-Err-NoTable-clause-done
-returns-in-Err-NoTable-clause-done c =
-    subst (λ (d : Done). IsDone (Some c.args.statement.now) c.args.keep c.args.store.now c.args.store.now d) (sym c.refused.ensures)
-    (refused_over c.args.statement.now c.args.store.now c.args.keep c.in_ok-tables.tables NoTable c.catalog-2.result.now c.catalog-2.ensures (subst (λ (stop : CheckStop). Stops stop (checked_of c.args.statement.now c.catalog-2.result.now)) c.in-Err-NoTable.field-0-is c.in-Err-NoTable.ensures) refl
-    (told_over c.args.statement.now c.args.keep c.args.store.now c.in_ok-tables.tables c.catalog.result.now c.catalog.ensures c.in_ok-tables.ensures))
+pub tables_of-tables-requires-clause-distinct : goal.tables_of-tables-requires-clause-distinct
+tables_of-tables-requires-clause-distinct c =
+    let old = c.args.store.now in
+    let new = c.asked_or_refused.new.store in
+    let same : catalog_of (tables_now old) ≡ c.catalog-2.result.now =
+    sym (same_catalog c.args.statement.now c.args.keep old new c.in_ok-change.change c.tell_formed.ensures c.in_ok-change.ensures.outcome) ∙ sym c.catalog-2.ensures in
+    subst (λ (catalog : Catalog). AreDistinct catalog.names) same (distinct_names old c.tell_formed.ensures.database)
 
-pub returns-in-Err-NoColumn-clause-done : goal.returns-in-Err-NoColumn-clause-done
-returns-in-Err-NoColumn-clause-done c =
-    subst (λ (d : Done). IsDone (Some c.args.statement.now) c.args.keep c.args.store.now c.args.store.now d) (sym c.refused-in-Err-NoColumn.ensures)
-    (refused_over c.args.statement.now c.args.store.now c.args.keep c.in_ok-tables.tables NoColumn c.catalog-2.result.now c.catalog-2.ensures (subst (λ (stop : CheckStop). Stops stop (checked_of c.args.statement.now c.catalog-2.result.now)) c.in-Err-NoColumn.field-0-is c.in-Err-NoColumn.ensures) refl
-    (told_over c.args.statement.now c.args.keep c.args.store.now c.in_ok-tables.tables c.catalog.result.now c.catalog.ensures c.in_ok-tables.ensures))
-
-pub returns-in-Err-TypeClash-clause-done : goal.returns-in-Err-TypeClash-clause-done
-returns-in-Err-TypeClash-clause-done c =
-    subst (λ (d : Done). IsDone (Some c.args.statement.now) c.args.keep c.args.store.now c.args.store.now d) (sym c.refused-in-Err-TypeClash.ensures)
-    (refused_over c.args.statement.now c.args.store.now c.args.keep c.in_ok-tables.tables TypeClash c.catalog-2.result.now c.catalog-2.ensures (subst (λ (stop : CheckStop). Stops stop (checked_of c.args.statement.now c.catalog-2.result.now)) c.in-Err-TypeClash.field-0-is c.in-Err-TypeClash.ensures) refl
-    (told_over c.args.statement.now c.args.keep c.args.store.now c.in_ok-tables.tables c.catalog.result.now c.catalog.ensures c.in_ok-tables.ensures))
+pub returns-clause-done : goal.returns-clause-done
+returns-clause-done c =
+    let old = c.args.store.now in
+    let new = c.asked_or_refused.new.store in
+    let is = c.in_ok-change.ensures.outcome in
+    let same : c.catalog-2.result.now ≡ catalog_of (tables_now old) =
+    c.catalog-2.ensures ∙ same_catalog c.args.statement.now c.args.keep old new c.in_ok-change.change c.tell_formed.ensures is in
+    subst (λ (d : Done). IsDone (Some c.args.statement.now) c.args.keep old new d) (sym c.done_of.ensures)
+    (outcome_done c.args.statement.now c.args.keep old new c.in_ok-change.change c.tables_of-tables.result is
+    (λ kept. c.tables_of-tables.ensures kept ∙ ap (tables_asked c.args.statement.now c.in_ok-change.change.needs) same))

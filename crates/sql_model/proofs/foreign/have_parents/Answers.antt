@@ -1,4 +1,4 @@
-use Rattle.std.proofs.Common.{◌∙◌, List, map, sym}
+use Rattle.std.proofs.Common.{◌∙◌, map, sym}
 use Rattle.ldv_value.proofs.Lists.{list_all-map}
 use Rattle.sql_model.specs.ForeignKeys.{has_parents}
 use Rattle.sql_model.specs.Types.{Catalog}

@@ -13,7 +13,7 @@ loop-foreign-preserved c =
     let child = child_of (table_now c.args.table.now) (record { number = c.args.number; values = c.args.values.now }) in
     let f = λ (foreign : Foreign). orphan_by c.args.target.now (in_set c.args.lost.now) child foreign (reference foreign c.args.values.now) in
     let h = child_stop in
-    let xs = c.items.result.now in
+    let xs = c.items-foreign-items.result.now in
     let here : c.in_ok-stop.stop ≡ option_map h (f (get_or xs c.loop-foreign.foreign-index c.foreign-item.result)) = c.in_ok-stop.ensures ∙ ap (λ (x : Foreign). option_map h (f x)) c.foreign-item.is in
     let none : is_some c.in_ok-stop.stop ≡ false = search rules in
     first_goes_on f h xs c.loop-foreign.foreign-index c.foreign-item.result c.in_ok-stop.stop c.loop-foreign-test.true c.loop-foreign.invariant here none
@@ -23,17 +23,17 @@ returns-then-is_some c =
     let child = child_of (table_now c.args.table.now) (record { number = c.args.number; values = c.args.values.now }) in
     let f = λ (foreign : Foreign). orphan_by c.args.target.now (in_set c.args.lost.now) child foreign (reference foreign c.args.values.now) in
     let h = child_stop in
-    let xs = c.items.result.now in
+    let xs = c.items-foreign-items.result.now in
     let here : c.in_ok-stop.stop ≡ option_map h (f (get_or xs c.loop-foreign.foreign-index c.foreign-item.result)) = c.in_ok-stop.ensures ∙ ap (λ (x : Foreign). option_map h (f x)) c.foreign-item.is in
     let some : is_some c.in_ok-stop.stop ≡ true = search rules in
     first_stops f h xs c.loop-foreign.foreign-index c.foreign-item.result c.in_ok-stop.stop c.loop-foreign-test.true c.loop-foreign.invariant here some
-    ∙ ap (λ (l : List Foreign). option_map h (first_some f l)) (c.items.ensures ∙ ap (λ (s : Schema). s.foreign) c.schema.ensures)
+    ∙ ap (λ (l : List Foreign). option_map h (first_some f l)) (c.items-foreign-items.ensures ∙ ap (λ (s : Schema). s.foreign) c.schema.ensures)
 
 pub returns : goal.returns
 returns c =
     let child = child_of (table_now c.args.table.now) (record { number = c.args.number; values = c.args.values.now }) in
     let f = λ (foreign : Foreign). orphan_by c.args.target.now (in_set c.args.lost.now) child foreign (reference foreign c.args.values.now) in
     let h = child_stop in
-    let xs = c.items.result.now in
+    let xs = c.items-foreign-items.result.now in
     first_ends f h xs c.loop-foreign.foreign-index (omega arith) c.loop-foreign.invariant
-    ∙ ap (λ (l : List Foreign). option_map h (first_some f l)) (c.items.ensures ∙ ap (λ (s : Schema). s.foreign) c.schema.ensures)
+    ∙ ap (λ (l : List Foreign). option_map h (first_some f l)) (c.items-foreign-items.ensures ∙ ap (λ (s : Schema). s.foreign) c.schema.ensures)

@@ -14,8 +14,8 @@ use Rattle.table_store.proofs.parent_rows.add_by_each.Goals as goal
 pub parent_by-requires-clause-keyed : goal.parent_by-requires-clause-keyed
 parent_by-requires-clause-keyed c =
     let db = tables_now c.args.store.now in
-    let xs = c.items.result.now in
-    let all : list_all (is_keyed db) xs ≡ true = ap (list_all (is_keyed db)) c.items.ensures ∙ c.requires.keyed in
+    let xs = c.items-foreign-items.result.now in
+    let all : list_all (is_keyed db) xs ≡ true = ap (list_all (is_keyed db)) c.items-foreign-items.ensures ∙ c.requires.keyed in
     ap (is_keyed db) c.foreign-item.is ∙ all_at (is_keyed db) xs c.loop-foreign.foreign-index c.foreign-item.result all c.loop-foreign-test.true
 
 pub loop-foreign-init : goal.loop-foreign-init
@@ -27,7 +27,7 @@ loop-foreign-init c = record {
 pub loop-foreign-preserved : goal.loop-foreign-preserved
 loop-foreign-preserved c =
     let by = parent_by c.args.store.now (number_in c.args.given.now) c.args.numbers.now c.args.own.now c.args.values.now in
-    let xs = c.items.result.now in
+    let xs = c.items-foreign-items.result.now in
     let i = c.loop-foreign.foreign-index in
     let item : Foreign = c.foreign-item.result in
     let start : List Member = c.args.members.now in
@@ -45,4 +45,4 @@ pub returns-clause-parents : goal.returns-clause-parents
 returns-clause-parents c =
     let by = parent_by c.args.store.now (number_in c.args.given.now) c.args.numbers.now c.args.own.now c.args.values.now in
     c.loop-foreign.invariant.parents
-    ∙ ap (λ (l : List Foreign). c.args.members.now ++ filter_map by l) (take_all c.loop-foreign.foreign-index c.items.result.now (omega arith) ∙ c.items.ensures)
+    ∙ ap (λ (l : List Foreign). c.args.members.now ++ filter_map by l) (take_all c.loop-foreign.foreign-index c.items-foreign-items.result.now (omega arith) ∙ c.items-foreign-items.ensures)

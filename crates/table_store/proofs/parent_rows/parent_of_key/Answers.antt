@@ -7,8 +7,8 @@ use Rattle.table_store.proofs.ParentLaws.{member_is, member_version}
 use Rattle.table_store.proofs.RefusalLaws.{keyed_parent}
 use Rattle.table_store.proofs.parent_rows.parent_of_key.Goals as goal
 
-pub parent_number-requires-clause-keyed : goal.parent_number-requires-clause-keyed
-parent_number-requires-clause-keyed c =
+pub parent_number-number-requires-clause-keyed : goal.parent_number-number-requires-clause-keyed
+parent_number-number-requires-clause-keyed c =
     let store = c.args.store.now in
     let f = c.args.foreign.now in
     let parent = c.in-Some.parent.now in

@@ -19,7 +19,7 @@ delete_refusal-requires-clause-there c = own_history c.args.table.now c.args.sel
 pub delete_refusal-requires-clause-stand : goal.delete_refusal-requires-clause-stand
 delete_refusal-requires-clause-stand c = given_now (λ table. all_stand c.args.numbers.now table ≡ true) c.args.table.now c.args.self.now c.in-Some.own.now c.in-Some.ensures.table c.requires.stand
 
-pub returns-in_ok-later-in-Some : goal.returns-in_ok-later-in-Some
-returns-in_ok-later-in-Some c =
+pub returns : goal.returns
+returns c =
     ap (option_map (λ (own : Table). orphan_stop (is_among c.args.numbers.now) own (with_removed c.args.numbers.now own) (tables_now c.args.self.now))) (now_at c.args.table.now c.args.self.now c.in-Some.own.now c.in-Some.ensures.table)
     ∙ ap (λ (o : Option StoreStop). Some o) (sym c.in_ok-later-in-Some.ensures)

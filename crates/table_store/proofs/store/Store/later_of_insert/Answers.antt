@@ -16,7 +16,7 @@ unreachable-requires c = not_absent c.args.table.now c.args.self.now c.requires 
 pub insert_refusal-requires : goal.insert_refusal-requires
 insert_refusal-requires c = own_history c.args.table.now c.args.self.now c.in-Some.own.now c.in-Some.ensures.table
 
-pub returns-in_ok-later-in-Some : goal.returns-in_ok-later-in-Some
-returns-in_ok-later-in-Some c =
+pub returns : goal.returns
+returns c =
     ap (option_map (λ (own : Table). missing_stop own.schema.foreign (numbered own.next c.args.rows.now) (with_changed own.name (with_inserted c.args.rows.now) (tables_now c.args.self.now)))) (now_at c.args.table.now c.args.self.now c.in-Some.own.now c.in-Some.ensures.table)
     ∙ ap (λ (o : Option StoreStop). Some o) (sym c.in_ok-later-in-Some.ensures)

@@ -20,7 +20,7 @@ replace_refusal-requires-clause-there c = own_history c.args.table.now c.args.se
 pub replace_refusal-requires-clause-stand : goal.replace_refusal-requires-clause-stand
 replace_refusal-requires-clause-stand c = given_now (λ table. all_stood c.args.rows.now table ≡ true) c.args.table.now c.args.self.now c.in-Some.own.now c.in-Some.ensures.table c.requires.stand
 
-pub returns-in_ok-later-in-Some : goal.returns-in_ok-later-in-Some
-returns-in_ok-later-in-Some c =
+pub returns : goal.returns
+returns c =
     ap (option_map (λ (own : Table). option_or (missing_stop own.schema.foreign c.args.rows.now (with_changed own.name (with_replaced c.args.rows.now) (tables_now c.args.self.now))) (orphan_stop (is_of c.args.rows.now) own (with_replaced c.args.rows.now own) (tables_now c.args.self.now)))) (now_at c.args.table.now c.args.self.now c.in-Some.own.now c.in-Some.ensures.table)
     ∙ ap (λ (o : Option StoreStop). Some o) (sym c.in_ok-later-in-Some.ensures)

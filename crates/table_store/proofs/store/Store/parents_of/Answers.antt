@@ -19,8 +19,8 @@ parents_of-requires-clause-put c =
     subst (λ (rows : List TableRow). CanBePut rows (table_now own)) (sym c.items.ensures)
     (given_now (CanBePut c.args.rows.now) c.args.table.now c.args.self.now own c.in-Some.ensures.table c.requires.put)
 
-pub returns-in_ok-members-in-Some-clause-parents : goal.returns-in_ok-members-in-Some-clause-parents
-returns-in_ok-members-in-Some-clause-parents c =
+pub returns-clause-parents : goal.returns-clause-parents
+returns-clause-parents c =
     let own = c.in-Some.own.now in
     let store = c.args.self.now in
     let members = c.in_ok-members-in-Some.members in

@@ -1,8 +1,8 @@
-use Rattle.std.proofs.Common.{List, ◌≡◌, ◌∙◌, ap, sym, subst, Option, true, get_or}
+use Rattle.std.proofs.Common.{List, ◌≡◌, ◌∙◌, ap, sym, subst, Option, Some, true, get_or}
 use Rattle.std.specs.Prelude.{Err}
 use Rattle.std.specs.Option.{option_and_then}
 use Rattle.sql_model.specs.Scope.{table_at}
-use Rattle.table_store.specs.Types.{Table}
+use Rattle.table_store.specs.Types.{Table, TableRow}
 use Rattle.sql_model.specs.Tables.{is_valid_table}
 use Rattle.table_store.specs.Referring.{is_of, missing_stop, orphan_stop}
 use Rattle.std.specs.Option.{option_or}
@@ -91,7 +91,11 @@ returns-in-Ok-clause-stop c =
     let o : Option Table = table_at c.args.table.now db in
     let at : o ≡ Some (table_now there) = at_place a.catalog tables a.time c.self.invariant c.args.self.now c.self.view_is c.args.table.now place found c.args.time c.requires.later in
     let rest : Table → Option StoreStop = λ (own : Table). option_or (missing_stop own.schema.foreign c.args.rows (with_changed own.name (with_replaced c.args.rows) db)) (orphan_stop (is_of c.args.rows) own (with_replaced c.args.rows own) db) in
-    let same : rest (table_now there) ≡ c.in_ok-later-in-Some.later = later_is rest o (table_now there) c.in_ok-later-in-Some.later at c.in_ok-later-in-Some.ensures in
+    let told : List TableRow → Table → Option StoreStop = λ (rows : List TableRow) (own : Table).
+    option_or (missing_stop own.schema.foreign rows (with_changed own.name (with_replaced rows) db)) (orphan_stop (is_of rows) own (with_replaced rows own) db) in
+    let same : rest (table_now there) ≡ c.in_ok-later-in-Some.later =
+    ap (λ (rows : List TableRow). told rows (table_now there)) (sym c.items.ensures)
+    ∙ later_is (told c.items.result.now) o (table_now there) c.in_ok-later-in-Some.later at c.in_ok-later-in-Some.ensures in
     whole_none (replace_stop c.args.rows) rest o (table_now there) c.in_ok-later-in-Some.later at same c.in-Ok.ensures.stop
 
 pub returns-in-Err-clause-stop : goal.returns-in-Err-clause-stop
@@ -105,5 +109,9 @@ returns-in-Err-clause-stop c =
     let o : Option Table = table_at c.args.table.now db in
     let at : o ≡ Some (table_now there) = at_place a.catalog tables a.time c.self.invariant c.args.self.now c.self.view_is c.args.table.now place found c.args.time c.requires.later in
     let rest : Table → Option StoreStop = λ (own : Table). option_or (missing_stop own.schema.foreign c.args.rows (with_changed own.name (with_replaced c.args.rows) db)) (orphan_stop (is_of c.args.rows) own (with_replaced c.args.rows own) db) in
-    let same : rest (table_now there) ≡ c.in_ok-later-in-Some.later = later_is rest o (table_now there) c.in_ok-later-in-Some.later at c.in_ok-later-in-Some.ensures in
+    let told : List TableRow → Table → Option StoreStop = λ (rows : List TableRow) (own : Table).
+    option_or (missing_stop own.schema.foreign rows (with_changed own.name (with_replaced rows) db)) (orphan_stop (is_of rows) own (with_replaced rows own) db) in
+    let same : rest (table_now there) ≡ c.in_ok-later-in-Some.later =
+    ap (λ (rows : List TableRow). told rows (table_now there)) (sym c.items.ensures)
+    ∙ later_is (told c.items.result.now) o (table_now there) c.in_ok-later-in-Some.later at c.in_ok-later-in-Some.ensures in
     whole_stops (Unit {0}) (replace_stop c.args.rows) rest o (table_now there) c.in_ok-later-in-Some.later c.in-Err.stop at same c.in-Err.ensures.stop

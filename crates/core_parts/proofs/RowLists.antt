@@ -1,5 +1,5 @@
--- Two sorted lists of needed rows as one are the rows of both, sorted, each row once with its first rule.
-use Rattle.std.proofs.Common.{◌≡◌, ◌∙◌, sym, ap, refl, ℕ, List, [], ◌∷◌, ◌++◌, map, inl, inr}
+-- Lists of needed rows, sorted, each row once with its first rule: two as one, and one in any order.
+use Rattle.std.proofs.Common.{◌≡◌, ◌∙◌, sym, ap, refl, subst, List, [], ◌∷◌, ◌++◌, map}
 use Rattle.std.specs.Prelude.{if◌then◌else◌, ◌&&◌}
 use Rattle.std.specs.List.{AllByRecursion}
 use Rattle.std.specs.Cmp.{IsTotalOrder, unsigned_tied}
@@ -9,8 +9,8 @@ use Rattle.std.specs.declared.cmp.Ordering.{Ordering}
 use Rattle.std.specs.declared.cmp.Ordering.TheVariants.{Less, Equal, Greater}
 use Rattle.std.proofs.lemmas.Cmp.{on_total, then_total, nat_cmp_total, nat_list_cmp_total}
 use Rattle.std.proofs.lemmas.Map.Text.{is_eq-slice_cmp}
-use Rattle.sql_engine.specs.Listing.{united, into, united_by}
-use Rattle.sql_engine.specs.Types.{Need}
+use Rattle.core_parts.specs.Needing.{united, into, united_by, sorted_once}
+use Rattle.core_parts.specs.Types.{Need}
 use Rattle.sql_model.specs.Needs.{NeededRow, Versions, is_same_row, is_earlier_row, put_row, sorted_needs, read_of}
 
 -- ---- the order of rows
@@ -156,6 +156,146 @@ pub sorted_united : (ns ms : List NeededRow) → Rises ns → Rises ms → sorte
 sorted_united [] ms h g = sorted_is ms g
 sorted_united (n ∷ ns) ms h g = ap (put_row n) (sorted_united ns ms h.1 g) ∙ put_united n ns h.0 ms g
 
+-- ---- rows in any order
+
+-- one row and a list as one
+one_united : (n : NeededRow) (ms : List NeededRow) → rows_united (n ∷ []) ms ≡ put_row n ms
+one_united n [] = refl
+one_united n (m ∷ ms) =
+    as_put (row_order n m) (one_united n ms)
+    ∙ sym (put_is n m ms)
+  where
+    as_put : (r : Ordering) → rows_united (n ∷ []) ms ≡ put_row n ms
+        → rows_by r n (rows_united []) m ms (rows_united (n ∷ []) ms)
+        ≡ by_order r (n ∷ m ∷ ms) (n ∷ ms) (m ∷ put_row n ms)
+    as_put Less same = refl
+    as_put Equal same = refl
+    as_put Greater same = ap (λ (l : List NeededRow). m ∷ l) same
+
+put_after : (k n : NeededRow) (ms : List NeededRow) → row_order k n ≡ Less → IsBefore k ms → IsBefore k (put_row n ms)
+put_after k n ms less before = subst (IsBefore k) (one_united n ms) (united_after k (n ∷ []) ms (less, tt) before)
+
+put_rises : (n : NeededRow) (ms : List NeededRow) → Rises ms → Rises (put_row n ms)
+put_rises n [] h = (tt, tt)
+put_rises n (m ∷ ms) h = subst Rises (sym (put_is n m ms)) (by (row_order n m) refl (put_rises n ms h.1))
+  where
+    by : (r : Ordering) → row_order n m ≡ r → Rises (put_row n ms) → Rises (by_order r (n ∷ m ∷ ms) (n ∷ ms) (m ∷ put_row n ms))
+    by Less is rest = ((is, before_all n m is ms h.0), h)
+    by Equal is rest = (tied_all m n (total.antisymm m n ∙ ap ordering_reverse is) ms h.0, h.1)
+    by Greater is rest = (put_after m n ms (total.antisymm m n ∙ ap ordering_reverse is) h.0, rest)
+
+pub needs_rise : (ns : List NeededRow) → Rises (sorted_needs ns)
+needs_rise [] = tt
+needs_rise (n ∷ ns) = put_rises n (sorted_needs ns) (needs_rise ns)
+
+-- a list that is sorted, and one in any order
+pub sorted_with : (ns ms : List NeededRow) → Rises ns → sorted_needs (ns ++ ms) ≡ rows_united ns (sorted_needs ms)
+sorted_with [] ms h = refl
+sorted_with (n ∷ ns) ms h = ap (put_row n) (sorted_with ns ms h.1) ∙ put_united n ns h.0 (sorted_needs ms) (needs_rise ms)
+
+-- ---- a last row
+
+-- in its place, unless the same row is there
+abbrev add_row : NeededRow → List NeededRow → List NeededRow
+add_row c [] = c ∷ []
+add_row c (m ∷ ms) = by_order (row_order m c) (m ∷ add_row c ms) (m ∷ ms) (c ∷ m ∷ ms)
+
+add_is : (c : NeededRow) (ms : List NeededRow) → rows_united ms (c ∷ []) ≡ add_row c ms
+add_is c [] = refl
+add_is c (m ∷ ms) = by (row_order m c) (add_is c ms)
+  where
+    by : (r : Ordering) → rows_united ms (c ∷ []) ≡ add_row c ms
+        → rows_by r m (rows_united ms) c [] (row_into m (rows_united ms) []) ≡ by_order r (m ∷ add_row c ms) (m ∷ ms) (c ∷ m ∷ ms)
+    by Less rest = ap (λ (l : List NeededRow). m ∷ l) rest
+    by Equal rest = ap (λ (l : List NeededRow). m ∷ l) (united_nil ms)
+    by Greater rest = ap (λ (l : List NeededRow). c ∷ m ∷ l) (united_nil ms)
+
+-- a row before it in the list is put as if it weren't there
+module _ (a c : NeededRow) where
+  put_less : (m : NeededRow) (ms : List NeededRow) → row_order a m ≡ Less → put_row a (m ∷ ms) ≡ a ∷ m ∷ ms
+  put_less m ms is = put_is a m ms ∙ (λ j. by_order (is j) (a ∷ m ∷ ms) (a ∷ ms) (m ∷ put_row a ms))
+
+  put_same : (m : NeededRow) (ms : List NeededRow) → row_order a m ≡ Equal → put_row a (m ∷ ms) ≡ a ∷ ms
+  put_same m ms is = put_is a m ms ∙ (λ j. by_order (is j) (a ∷ m ∷ ms) (a ∷ ms) (m ∷ put_row a ms))
+
+  put_more : (m : NeededRow) (ms : List NeededRow) → row_order a m ≡ Greater → put_row a (m ∷ ms) ≡ m ∷ put_row a ms
+  put_more m ms is = put_is a m ms ∙ (λ j. by_order (is j) (a ∷ m ∷ ms) (a ∷ ms) (m ∷ put_row a ms))
+
+  add_later : (m : NeededRow) (ms : List NeededRow) → row_order m c ≡ Less → add_row c (m ∷ ms) ≡ m ∷ add_row c ms
+  add_later m ms is = λ j. by_order (is j) (m ∷ add_row c ms) (m ∷ ms) (c ∷ m ∷ ms)
+
+  add_there : (m : NeededRow) (ms : List NeededRow) → row_order m c ≡ Equal → add_row c (m ∷ ms) ≡ m ∷ ms
+  add_there m ms is = λ j. by_order (is j) (m ∷ add_row c ms) (m ∷ ms) (c ∷ m ∷ ms)
+
+  add_here : (m : NeededRow) (ms : List NeededRow) → row_order m c ≡ Greater → add_row c (m ∷ ms) ≡ c ∷ m ∷ ms
+  add_here m ms is = λ j. by_order (is j) (m ∷ add_row c ms) (m ∷ ms) (c ∷ m ∷ ms)
+
+  -- what ties with a row is to others as that is
+  tied_second : (m : NeededRow) (r : Ordering) → row_order a m ≡ Equal → row_order m c ≡ r → row_order a c ≡ r
+  tied_second m r tie is = total.congr a m c tie ∙ is
+
+  less_tied : (m : NeededRow) → row_order a m ≡ Less → row_order m c ≡ Equal → row_order a c ≡ Less
+  less_tied m less tie =
+      total.antisymm a c
+      ∙ ap ordering_reverse (sym (total.congr m c a tie) ∙ total.antisymm m a ∙ ap ordering_reverse less)
+
+  more_both : (m : NeededRow) → row_order a m ≡ Greater → row_order m c ≡ Greater → row_order a c ≡ Greater
+  more_both m one two =
+      total.antisymm a c
+      ∙ ap ordering_reverse
+      (total.trans c m a (total.antisymm c m ∙ ap ordering_reverse two) (total.antisymm m a ∙ ap ordering_reverse one))
+
+  put_add : (ms : List NeededRow) → put_row a (add_row c ms) ≡ add_row c (put_row a ms)
+  put_add [] = put_is a c []
+  put_add (m ∷ ms) = by (row_order m c) (row_order a m) (row_order a c) refl refl refl (put_add ms)
+    where
+      by : (mc am ac : Ordering) → row_order m c ≡ mc → row_order a m ≡ am → row_order a c ≡ ac
+          → put_row a (add_row c ms) ≡ add_row c (put_row a ms)
+          → put_row a (add_row c (m ∷ ms)) ≡ add_row c (put_row a (m ∷ ms))
+      by Less Less ac mc am is rest =
+          ap (put_row a) (add_later m ms mc) ∙ put_less m (add_row c ms) am
+          ∙ sym (ap (add_row c) (put_less m ms am) ∙ add_later a (m ∷ ms) (total.trans a m c am mc) ∙ ap (λ (l : List NeededRow). a ∷ l) (add_later m ms mc))
+      by Less Equal ac mc am is rest =
+          ap (put_row a) (add_later m ms mc) ∙ put_same m (add_row c ms) am
+          ∙ sym (ap (add_row c) (put_same m ms am) ∙ add_later a ms (tied_second m Less am mc))
+      by Less Greater ac mc am is rest =
+          ap (put_row a) (add_later m ms mc) ∙ put_more m (add_row c ms) am ∙ ap (λ (l : List NeededRow). m ∷ l) rest
+          ∙ sym (ap (add_row c) (put_more m ms am) ∙ add_later m (put_row a ms) mc)
+      by Equal Less ac mc am is rest =
+          ap (put_row a) (add_there m ms mc) ∙ put_less m ms am
+          ∙ sym (ap (add_row c) (put_less m ms am) ∙ add_later a (m ∷ ms) (less_tied m am mc) ∙ ap (λ (l : List NeededRow). a ∷ l) (add_there m ms mc))
+      by Equal Equal ac mc am is rest =
+          ap (put_row a) (add_there m ms mc) ∙ put_same m ms am
+          ∙ sym (ap (add_row c) (put_same m ms am) ∙ add_there a ms (tied_second m Equal am mc))
+      by Equal Greater ac mc am is rest =
+          ap (put_row a) (add_there m ms mc) ∙ put_more m ms am
+          ∙ sym (ap (add_row c) (put_more m ms am) ∙ add_there m (put_row a ms) mc)
+      by Greater Less Less mc am is rest =
+          ap (put_row a) (add_here m ms mc) ∙ put_less c (m ∷ ms) is
+          ∙ sym (ap (add_row c) (put_less m ms am) ∙ add_later a (m ∷ ms) is ∙ ap (λ (l : List NeededRow). a ∷ l) (add_here m ms mc))
+      by Greater Less Equal mc am is rest =
+          ap (put_row a) (add_here m ms mc) ∙ put_same c (m ∷ ms) is
+          ∙ sym (ap (add_row c) (put_less m ms am) ∙ add_there a (m ∷ ms) is)
+      by Greater Less Greater mc am is rest =
+          ap (put_row a) (add_here m ms mc) ∙ put_more c (m ∷ ms) is ∙ ap (λ (l : List NeededRow). c ∷ l) (put_less m ms am)
+          ∙ sym (ap (add_row c) (put_less m ms am) ∙ add_here a (m ∷ ms) is)
+      by Greater Equal ac mc am is rest =
+          let after : row_order a c ≡ Greater = tied_second m Greater am mc in
+          ap (put_row a) (add_here m ms mc) ∙ put_more c (m ∷ ms) after ∙ ap (λ (l : List NeededRow). c ∷ l) (put_same m ms am)
+          ∙ sym (ap (add_row c) (put_same m ms am) ∙ add_here a ms after)
+      by Greater Greater ac mc am is rest =
+          let after : row_order a c ≡ Greater = more_both m am mc in
+          ap (put_row a) (add_here m ms mc) ∙ put_more c (m ∷ ms) after ∙ ap (λ (l : List NeededRow). c ∷ l) (put_more m ms am)
+          ∙ sym (ap (add_row c) (put_more m ms am) ∙ add_here m (put_row a ms) mc)
+
+-- rows in any order, and one after them
+added_last : (c : NeededRow) (ns : List NeededRow) → sorted_needs (ns ++ c ∷ []) ≡ add_row c (sorted_needs ns)
+added_last c [] = refl
+added_last c (n ∷ ns) = ap (put_row n) (added_last c ns) ∙ put_add n c (sorted_needs ns)
+
+pub sorted_last : (ns : List NeededRow) (c : NeededRow) → sorted_needs (ns ++ c ∷ []) ≡ rows_united (sorted_needs ns) (c ∷ [])
+sorted_last ns c = added_last c ns ∙ sym (add_is c (sorted_needs ns))
+
 -- ---- at their versions
 
 module _ (versions : Versions) where
@@ -180,3 +320,24 @@ module _ (versions : Versions) where
   pub read_united : (ns ms : List NeededRow) → united (map read ns) (map read ms) ≡ map read (rows_united ns ms)
   read_united [] ms = refl
   read_united (n ∷ ns) ms = read_into n (rows_united ns) (united (map read ns)) (read_united ns) ms
+
+  -- rows in any order
+  pub read_once : (ns : List NeededRow) → sorted_once (map read ns) ≡ map read (sorted_needs ns)
+  read_once [] = refl
+  read_once (n ∷ ns) =
+      ap (united (read n ∷ [])) (read_once ns)
+      ∙ read_united (n ∷ []) (sorted_needs ns)
+      ∙ ap (map read) (one_united n (sorted_needs ns))
+
+  -- a list that is sorted, and one in any order
+  pub read_with : (ns ms : List NeededRow) → Rises ns
+      → united (map read ns) (sorted_once (map read ms)) ≡ map read (sorted_needs (ns ++ ms))
+  read_with ns ms h =
+      ap (united (map read ns)) (read_once ms)
+      ∙ read_united ns (sorted_needs ms)
+      ∙ ap (map read) (sym (sorted_with ns ms h))
+
+  -- and a last row
+  pub read_last : (ns : List NeededRow) (c : NeededRow)
+      → united (map read (sorted_needs ns)) (read c ∷ []) ≡ map read (sorted_needs (ns ++ c ∷ []))
+  read_last ns c = read_united (sorted_needs ns) (c ∷ []) ∙ ap (map read) (sym (sorted_last ns c))
