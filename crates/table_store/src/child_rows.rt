@@ -22,7 +22,7 @@ use std::alloc::{AllocError, Global};
 use std::collections::BTreeSet;
 
 /// The number of the first row that isn't given and refers to one of some keys of the target.
-pub(crate) fn first_child(
+pub(crate) fn first_referring(
     alloc: Global,
     table: &TableStore,
     target: &str,
@@ -132,7 +132,7 @@ fn first_under(
     'numbers: loop {
         match step(alloc, table, place, foreign, given, key, from) {
             Err(refused) => return Err(refused),
-            Ok(step) => match step {
+            Ok(found) => match found {
                 Search::Ends(first) => return Ok(first),
                 Search::GoesOn(next) => from = next,
             },
@@ -191,8 +191,8 @@ fn search_at(
         (λ row. (row.number == number) && is_child given.now foreign.now key.now.values row)
         (rows_now table.now.slots) then Ends (Some number) else after number)) }
 {
-    let is = is_child_at(alloc, table, foreign, given, key, number)?;
-    if is {
+    let hit = is_child_at(alloc, table, foreign, given, key, number)?;
+    if hit {
         return Ok(Search::Ends(Some(number)));
     }
     Ok(after(number))

@@ -23,3 +23,9 @@ returns-clause-ok c =
     let some : reference f row.values ≡ Some key.values =
     ap (λ (b : Bool). if b then None else Some (values_at f.columns row.values)) (sym c.refers_to_none.ensures ∙ c.if-refers_to_none.false) ∙ ap (λ (k : List Value). Some k) (sym is) in
     on_ok_weaker c.add.result (λ put. subst (λ (o : Option (List Value)). IfSome o (λ k. pair_in c.add.new.self c.args.place k row.number ≡ true)) (sym some) put) c.add.ensures.ok
+
+pub returns-then-refers_to_none-clause-kept : goal.returns-then-refers_to_none-clause-kept
+returns-then-refers_to_none-clause-kept c = λ place key number is. is
+
+pub returns-in_err-key-clause-kept : goal.returns-in_err-key-clause-kept
+returns-in_err-key-clause-kept c = λ place key number is. is
