@@ -33,9 +33,6 @@ some_number is = cc
 
 -- ---- the first of two
 
-number_of : Option TableRow → Option ℕ
-number_of o = option_map (λ (row : TableRow). row.number) o
-
 first_above : (p : TableRow → Bool) (low : ℕ) (rows : List TableRow) → RisesFrom low rows → (n : ℕ) → first_number p rows ≡ Some n → low ≤ n
 first_above p low [] rises n is = cc
 first_above p low (row ∷ rows) rises n is = elim (cases_Bool (p row)) [
@@ -368,12 +365,15 @@ module _ (target : List ℕ) (numbers : List ℕ) (set : BTreeSet RowKey) (h : T
   abbrev other : TableRow → Option Orphan
   other = orphan_in_other (is_among numbers) target lost t
 
+  abbrev its_orphan : TableRow → List Value → Orphan
+  its_orphan row key = record { table = h.name; row = row.number; key = key }
+
   by_ref : (f : Foreign) (row : TableRow) (o : Option (List Value))
       → is_some (orphan_by target lost (child_of t row) f o) ≡ (same_text f.parent target && list_any (λ (k : RowKey). option_map_or (λ own. same_values own k.values) o false) set.keys)
   by_ref f row None = sym (ap (λ (b : Bool). same_text f.parent target && b) (list_any-false set.keys) ∙ and-false (same_text f.parent target))
   by_ref f row (Some key) = by (same_text f.parent target && lost key)
     where
-      by : (b : Bool) → is_some (if b then Some (record { table = h.name; row = row.number; key = key }) else None) ≡ b
+      by : (b : Bool) → is_some (if b then Some (its_orphan row key) else None) ≡ b
       by true = refl
       by false = refl
 
@@ -399,14 +399,14 @@ module _ (target : List ℕ) (numbers : List ℕ) (set : BTreeSet RowKey) (h : T
   given_by true row = refl
   given_by false row = refl
 
-  is_it : (row : TableRow) → is_some (other row) ≡ test row
-  is_it row =
+  passes_is : (row : TableRow) → is_some (other row) ≡ test row
+  passes_is row =
       if_some (is_other (is_among numbers) target t row) (orphan_in_row target lost t row)
       ∙ (λ j. given_by (is_table target t) row j && in_row row j)
       ∙ spread (not (is_among (given_in (is_table target t) numbers) row)) row h.schema.foreign
 
   whole : orphan_in_table (is_among numbers) target lost h ≡ option_and_then other (find test (rows_now h.slots))
-  whole = sym (first_filtered other row_now h.slots) ∙ first_by_test other test is_it (rows_now h.slots)
+  whole = sym (first_filtered other row_now h.slots) ∙ first_by_test other test passes_is (rows_now h.slots)
 
   pub no_child : None ≡ first_number test (rows_now h.slots) → None ≡ orphan_in_table (is_among numbers) target lost h
   no_child none = sym (whole ∙ by (find test (rows_now h.slots)) none)
