@@ -386,6 +386,18 @@ referred_inserted foreigns old new rows more keep there given = both rows (refer
     both [] all = given
     both (row ∷ some) all = (all.0, both some all.1)
 
+-- an index in which keys were claimed, and more references
+pub stored_claimed : (schema : Schema) (rows : RowsHistory) (old new : Held) (pairs more : Pairs) (nexts : List NextSince) → AreIndexed schema.key new (rows_now rows.slots) → KeepPairs pairs more
+    → IsStored schema rows old pairs nexts → IsStored schema rows new more nexts
+stored_claimed schema rows old new pairs more nexts indexed keep stored = record {
+  kinds = stored.kinds;
+  next = stored.next;
+  in_time = stored.in_time;
+  timed = stored.timed;
+  indexed = indexed;
+  referred = referred_wider schema.foreign pairs more (rows_now rows.slots) keep stored.referred;
+}
+
 -- an index with more keys, and more references
 pub stored_wider : (schema : Schema) (rows : RowsHistory) (old new : Held) (pairs more : Pairs) (nexts : List NextSince) → ((q : RowKey) (n : ℕ) → old q ≡ Some n → new q ≡ Some n) → KeepPairs pairs more
     → IsStored schema rows old pairs nexts → IsStored schema rows new more nexts

@@ -141,6 +141,7 @@ fn first_under(
 }
 
 // What comes of the next number under a key.
+#[derive(Clone, Copy)]
 enum Search {
     // The first row is known, or there is none.
     Ends(Option<u32>),

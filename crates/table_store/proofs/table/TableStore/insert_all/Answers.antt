@@ -177,3 +177,21 @@ returns-clause-ok c =
     c.in_ok-add_rows.ensures.nexts ∙ ap (λ (l : List TableRow). noted time (next_after a.rows.next l) nexts) made_is in
     let made : TableHistory = record { name = a.name; schema = a.schema; slots = a.rows.slots; nexts = nexts } in
     (λ j. record { name = made.name; schema = made.schema; slots = slots j; nexts = nexts_are j }) ∙ inserted_by a.name a.schema a.rows nexts time rows c.self.invariant.next ∙ ap (inserted time rows) c.self.view_is
+
+pub invariant_of-self-in_err-add_all : goal.invariant_of-self-in_err-add_all
+invariant_of-self-in_err-add_all c =
+    let a = c.self.inside in
+    let old : Held = λ q. held_in a.index q in
+    let new : Held = λ q. held_in c.claim.new.index q in
+    stored_claimed a.schema a.rows old new (pair_in a.children) (pair_in c.add_all.new.index) (nexts_of a.nexts.items) c.claim.ensures.kept c.add_all.ensures.kept c.self.invariant
+
+pub invariant_of-self-in_err-add_rows : goal.invariant_of-self-in_err-add_rows
+invariant_of-self-in_err-add_rows c =
+    let a = c.self.inside in
+    let old : Held = λ q. held_in a.index q in
+    let new : Held = λ q. held_in c.claim.new.index q in
+    let wider : Pairs = pair_in c.add_all.new.index in
+    let nexts : nexts_of a.nexts.items ≡ nexts_of c.add_rows.new.nexts.items = ap nexts_of (sym c.in_err-add_rows.ensures.nexts_err) in
+    subst (λ (r : RowsHistory). IsStored a.schema r new wider (nexts_of c.add_rows.new.nexts.items)) (sym c.in_err-add_rows.ensures.err)
+    (subst (λ (n : List NextSince). IsStored a.schema a.rows new wider n) nexts
+    (stored_claimed a.schema a.rows old new (pair_in a.children) wider (nexts_of a.nexts.items) c.claim.ensures.kept c.add_all.ensures.kept c.self.invariant))
