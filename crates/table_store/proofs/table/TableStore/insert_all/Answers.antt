@@ -22,7 +22,7 @@ use Rattle.table_store.specs.declared.stop.StoreStop.TheVariants.{NotNull, Full}
 use Rattle.table_store.proofs.ClaimLaws.{stop_before, stop_first, stop_later}
 use Rattle.table_store.proofs.IndexLaws.{index_alike}
 use Rattle.table_store.proofs.InsertLaws.{null_stop, insert_stop_by, numbered_order, numbered_len, shapes_fit}
-use Rattle.table_store.proofs.TableChangeLaws.{stored_inserted, inserted_by}
+use Rattle.table_store.proofs.TableChangeLaws.{referred_inserted, stored_claimed, stored_inserted, inserted_by}
 use Rattle.table_store.proofs.table.TableStore.insert_all.Goals as goal
 
 pub returns-then-any_lacks_value-clause-stop : goal.returns-then-any_lacks_value-clause-stop
