@@ -156,15 +156,17 @@ module _ (p : TableRow → Bool) (rows : List TableRow) where
       → AllByRecursion (λ row. p row ≡ true → n + 1 ≤ row.number) some
   on_from n [] from none = tt
   on_from n (row ∷ some) from none =
-      let parts = or-parts ((row.number == n) && p row) (at n some) none in
-      ((λ hit.
-          let above : n ≤ row.number = from.0 hit in
-          elim (cases_lt n row.number) [
-            | inl less ↦ omega (arith, less)
-            | inr within ↦
-                let same : row.number ≡ n = omega (arith, above, within) in
-                absurd (true≢false (sym (λ j. eq-eqb row.number n same j && hit j) ∙ parts.0))
-          ]), on_from n some from.1 parts.1)
+      let parts = or-parts ((row.number == n) && p row) (at n some) none in (
+        (λ hit.
+            let above : n ≤ row.number = from.0 hit in
+            elim (cases_lt n row.number) [
+              | inl less ↦ omega (arith, less)
+              | inr within ↦
+                  let same : row.number ≡ n = omega (arith, above, within) in
+                  absurd (true≢false (sym (λ j. eq-eqb row.number n same j && hit j) ∙ parts.0))
+            ]),
+        on_from n some from.1 parts.1,
+      )
 
   -- what comes of a number, of which it is known whether its row passes
   step_by : (low from n : ℕ) → RisesFrom low rows → AllByRecursion (λ row. row.number < 2 ^ 32) rows → from ≤ n → AreFrom p rows n

@@ -80,10 +80,13 @@ module _ {K : Type 0} (cmp : K → K → Ordering) where
       by Equal tied =
           let back : cmp key e.0 ≡ Equal = total.antisymm key e.0 ∙ ap ordering_reverse tied in
           let above : from ≤ e.1 = gt_not from e.1 (sym (ap (λ (o : Ordering). is_gt (ordering_then o (nat_cmp from e.1))) back) ∙ inside.0.0) in
-          let there : has e.1 ≡ true = (λ j. list_any (λ (x : K × ℕ). is_eq (ordering_then (total.congr key e.0 x.0 back j) (nat_cmp e.1 x.1))) set.keys) ∙ inside.1 in
-          (above, there, λ n within below. not-so (has n) (λ one.
-          let le : e.1 ≤ n = gt_not e.1 n (sym (ap (λ (o : Ordering). is_gt (ordering_then o (nat_cmp e.1 n))) tied) ∙ least n within one) in
-          omega (arith, le, below)))
+          let there : has e.1 ≡ true = (λ j. list_any (λ (x : K × ℕ). is_eq (ordering_then (total.congr key e.0 x.0 back j) (nat_cmp e.1 x.1))) set.keys) ∙ inside.1 in (
+            above,
+            there,
+            λ n within below. not-so (has n) (λ one.
+                let le : e.1 ≤ n = gt_not e.1 n (sym (ap (λ (o : Ordering). is_gt (ordering_then o (nat_cmp e.1 n))) tied) ∙ least n within one) in
+                omega (arith, le, below)),
+          )
       by Less tied =
           let back : cmp key e.0 ≡ Greater = total.antisymm key e.0 ∙ ap ordering_reverse tied in
           absurd (true≢false (sym (ap (λ (o : Ordering). is_gt (ordering_then o (nat_cmp from e.1))) back) ∙ inside.0.0))

@@ -365,7 +365,12 @@ impl TableStore {
             Some(stop) => return Err(stop),
         }
         let made = numbered_rows(alloc, rows, next)?;
-        add_all(alloc, &mut self.children, &self.schema.foreign, made.items())?;
+        add_all(
+            alloc,
+            &mut self.children,
+            &self.schema.foreign,
+            made.items(),
+        )?;
         add_rows(&mut self.rows, &mut self.nexts, made, time)?;
         Ok(next)
     }
@@ -408,7 +413,12 @@ impl TableStore {
             None => {}
             Some(stop) => return Err(stop),
         }
-        add_all(alloc, &mut self.children, &self.schema.foreign, rows.items())?;
+        add_all(
+            alloc,
+            &mut self.children,
+            &self.schema.foreign,
+            rows.items(),
+        )?;
         self.index.open_all(&claims)?;
         self.rows.tell_order();
         let given = rewrites(alloc, rows)?;
