@@ -84,8 +84,8 @@ impl Index {
     }
 }
 
-// The number that is a whole key.
-fn int_key(key: &[Value]) -> Option<i64>
+/// The number that is a whole key.
+pub(crate) fn int_key(key: &[Value]) -> Option<i64>
     ensures { result ≡ int_key key.now }
 {
     match key {

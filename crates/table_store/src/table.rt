@@ -11,6 +11,7 @@ ghost use Rattle.sql_model.specs.Scope.{value_at};
 ghost use Rattle.sql_model.specs.Tables.{is_valid_table};
 ghost use Rattle.table_store.specs.LentCells.{lent_value};
 ghost use Rattle.table_store.specs.Cells.{null_passes, passes_test};
+ghost use Rattle.table_store.specs.ChildPairs.{no_foreign, refers, IsNextOf};
 ghost use Rattle.table_store.specs.KeyIndex.{has_key};
 ghost use Rattle.table_store.specs.Types.{Null};
 ghost use Rattle.table_store.specs.Histories.{added, inserted, replaced, removed, noted, changed_by};
@@ -29,6 +30,7 @@ ghost use Rattle.table_store.specs.TableView.{begun, kinds_in, AreTimed};
 
 use crate::cell::Cell;
 use crate::change::{RowChange, removals, rewrites};
+use crate::child_index::{ChildIndex, add_all, referring};
 use crate::claim::claim;
 use crate::index::{Index, held_number, index_of, number_by_slots};
 use crate::insert::{any_lacks_value, any_row_lacks_value, is_full, numbered_rows};
@@ -49,6 +51,7 @@ pub struct TableStore {
     schema: Schema,
     rows: Rows,
     index: Index,
+    children: ChildIndex,
     nexts: Vec<NextSince>,
 }
 
@@ -79,6 +82,7 @@ impl TableStore {
         } = table;
         let alloc = name.allocator();
         let index = index_of(alloc, &schema.key, rows.items())?;
+        let children = referring(alloc, &schema.foreign, rows.items())?;
         let texts = texts_of(alloc, &schema.columns)?;
         let mut held = Rows::new(alloc, texts.as_slice())?;
         held.push_all(rows, 0)?;
@@ -89,6 +93,7 @@ impl TableStore {
             schema,
             rows: held,
             index,
+            children,
             nexts,
         })
     }
@@ -126,6 +131,31 @@ impl TableStore {
     {
         let _nexts = &self.nexts;
         self.rows.tell_order();
+    }
+
+    /// The number of the next row is below 2^32. The call does nothing; it lends this to the caller.
+    pub(crate) fn tell_small(&self)
+        ensures { last_next self.now.nexts < 2 ^ 32 }
+    {
+        let _nexts = &self.nexts;
+        self.rows.tell_order();
+    }
+
+    /// The least number, from one on, of a row that may refer to a key by the foreign key at a place: no
+    /// lower one from there on does.
+    pub(crate) fn referring_from(
+        &self,
+        place: usize,
+        key: &RowKey,
+        from: u32,
+    ) -> Result<Option<u32>, AllocError>
+        requires { place < length self.now.schema.foreign }
+        ensures { IfOk result (IsNextOf
+            (refers (slice_index_or self.now.schema.foreign place no_foreign) key.now.values)
+            (rows_now self.now.slots) from) }
+    {
+        let found = self.children.first_from(place, key, from)?;
+        Ok(found)
     }
 
     /// The changes of each row are sorted by time, and none is later than the last change of the table. The
@@ -335,6 +365,12 @@ impl TableStore {
             Some(stop) => return Err(stop),
         }
         let made = numbered_rows(alloc, rows, next)?;
+        add_all(
+            alloc,
+            &mut self.children,
+            &self.schema.foreign,
+            made.items(),
+        )?;
         add_rows(&mut self.rows, &mut self.nexts, made, time)?;
         Ok(next)
     }
@@ -377,6 +413,12 @@ impl TableStore {
             None => {}
             Some(stop) => return Err(stop),
         }
+        add_all(
+            alloc,
+            &mut self.children,
+            &self.schema.foreign,
+            rows.items(),
+        )?;
         self.index.open_all(&claims)?;
         self.rows.tell_order();
         let given = rewrites(alloc, rows)?;

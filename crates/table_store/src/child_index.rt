@@ -1,0 +1,148 @@
+//! The rows of a table by the keys to which they refer.
+
+ghost use Rattle.std.specs.Prelude.{◌≡◌, ◌<◌, ℕ, List, true, false, OnOk, IfOk, IfSome, length};
+ghost use Rattle.std.specs.Prelude.{slice_index_or};
+ghost use Rattle.sql_model.specs.References.{reference};
+ghost use Rattle.table_store.specs.ChildPairs.{no_foreign, pair_in, AreReferred, IsFirstFrom, IsReferred};
+ghost use Rattle.table_store.specs.ChildPairs.{KeepPairs};
+ghost use Rattle.table_store.specs.Types.{Value};
+
+use crate::child_set::ChildSet;
+use crate::index::{int_key, key_of};
+use crate::key_map::CopyKey;
+use ldv_value::Values;
+use sql_model::{Foreign, Foreigns, RowKey, TableRow, refers_to_none};
+use std::alloc::{AllocError, Global};
+
+/// The numbers of rows under the keys to which they refer, by the place of each foreign key. A key that is
+/// one number is held as that.
+#[derive(Drop)]
+pub(crate) struct ChildIndex {
+    pub(crate) ints: ChildSet<(usize, i64)>,
+    pub(crate) others: ChildSet<(usize, RowKey)>,
+}
+
+impl CopyKey for (usize, i64) {
+    fn copy_key(&self) -> Result<Self, AllocError> {
+        Ok((self.0, self.1))
+    }
+}
+
+impl CopyKey for (usize, RowKey) {
+    fn copy_key(&self) -> Result<Self, AllocError> {
+        let key = self.1.copy_key()?;
+        Ok((self.0, key))
+    }
+}
+
+impl ChildIndex {
+    /// An index with no row. It takes no memory.
+    pub(crate) fn new(alloc: Global) -> ChildIndex {
+        ChildIndex {
+            ints: ChildSet::new(alloc),
+            others: ChildSet::new(alloc),
+        }
+    }
+
+    /// Adds a number under a key.
+    pub(crate) fn add(&mut self, place: usize, key: RowKey, number: u32) -> Result<(), AllocError>
+        ensures kept { KeepPairs (pair_in self.old) (pair_in self.new) }
+        ensures ok { OnOk result (pair_in self.new place key.values number ≡ true) }
+    {
+        match int_key(key.values.items()) {
+            None => self.others.add((place, key), number),
+            Some(int) => self.ints.add((place, int), number),
+        }
+    }
+
+    /// The least number under a key from one on.
+    pub(crate) fn first_from(
+        &self,
+        place: usize,
+        key: &RowKey,
+        from: u32,
+    ) -> Result<Option<u32>, AllocError>
+        ensures { IfOk result (IsFirstFrom (pair_in self.now place key.now.values) from) }
+    {
+        match int_key(key.values.items()) {
+            None => {
+                let copy = key.copy_key()?;
+                let found = self.others.first_from(&(place, copy), from)?;
+                Ok(found)
+            }
+            Some(int) => {
+                let found = self.ints.first_from(&(place, int), from)?;
+                Ok(found)
+            }
+        }
+    }
+}
+
+/// The index of rows.
+pub(crate) fn referring(
+    alloc: Global,
+    foreigns: &Foreigns,
+    rows: &[TableRow],
+) -> Result<ChildIndex, AllocError>
+    ensures { IfOk result (λ index. AreReferred (pair_in index) foreigns.now rows.now) }
+{
+    let mut index = ChildIndex::new(alloc);
+    add_all(alloc, &mut index, foreigns, rows)?;
+    Ok(index)
+}
+
+/// Adds rows under the keys to which they refer. Where memory is out, some of them may be there.
+pub(crate) fn add_all(
+    alloc: Global,
+    index: &mut ChildIndex,
+    foreigns: &Foreigns,
+    rows: &[TableRow],
+) -> Result<(), AllocError>
+    ensures kept { KeepPairs (pair_in index.old) (pair_in index.new) }
+    ensures ok { OnOk result (AreReferred (pair_in index.new) foreigns.now rows.now) }
+{
+    for row in rows {
+        match add_row(alloc, index, foreigns, row) {
+            Ok(()) => {}
+            Err(refused) => return Err(refused),
+        }
+    }
+    Ok(())
+}
+
+fn add_row(
+    alloc: Global,
+    index: &mut ChildIndex,
+    foreigns: &Foreigns,
+    row: &TableRow,
+) -> Result<(), AllocError>
+    ensures kept { KeepPairs (pair_in index.old) (pair_in index.new) }
+    ensures ok { OnOk result (IsReferred (pair_in index.new) foreigns.now row.now) }
+{
+    let items = foreigns.items();
+    for place in 0..items.len() {
+        match add_by(alloc, index, place, &items[place], row) {
+            Ok(()) => {}
+            Err(refused) => return Err(refused),
+        }
+    }
+    Ok(())
+}
+
+fn add_by(
+    alloc: Global,
+    index: &mut ChildIndex,
+    place: usize,
+    foreign: &Foreign,
+    row: &TableRow,
+) -> Result<(), AllocError>
+    ensures kept { KeepPairs (pair_in index.old) (pair_in index.new) }
+    ensures ok { OnOk result (IfSome (reference foreign.now row.now.values)
+        (λ key. pair_in index.new place key row.now.number ≡ true)) }
+{
+    if refers_to_none(foreign, &row.values) {
+        return Ok(());
+    }
+    let key = key_of(alloc, &foreign.columns, &row.values)?;
+    index.add(place, key, row.number)
+}
