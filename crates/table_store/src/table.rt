@@ -278,6 +278,15 @@ impl TableStore {
         }
     }
 
+    /// The version of the row in a slot, which stands: how often it has changed. No slot is looked for.
+    #[tactic(auto, using(crate::proofs::TableLaws::slot_rules))]
+    pub fn version_at(&self, slot: u64) -> u32
+        requires { IsSome (current (slice_index_or self.now.slots slot no_history).changes) }
+        ensures { result ≡ version (slice_index_or self.now.slots slot no_history).changes }
+    {
+        self.rows.version(slot as usize)
+    }
+
     /// The number of the row that stands with a key; `None` where no row has it. The table has a key.
     pub fn by_key(&self, key: &Values) -> Option<u32>
         requires { 0 < length self.now.schema.key }
