@@ -22,7 +22,7 @@ use Rattle.table_store.specs.declared.index.Index.{Index}
 use Rattle.table_store.proofs.IndexChangeLaws.{claims_kept, indexed_same}
 use Rattle.table_store.proofs.ClaimLaws.{stop_before, stop_later}
 use Rattle.table_store.proofs.RekeyLaws.{replace_stop_is, stop_as}
-use Rattle.table_store.proofs.TableChangeLaws.{before_all, rewrites_rise, rewrites_stand, rewrites_fit, changes_written, stored_changed, stored_wider, indexed_replaced, referred_replaced, GivenStand, given_stand, replaced_now}
+use Rattle.table_store.proofs.TableChangeLaws.{before_all, rewrites_rise, rewrites_stand, rewrites_fit, changes_written, stored_changed, stored_claimed, stored_wider, indexed_replaced, referred_replaced, GivenStand, given_stand, replaced_now}
 use Rattle.table_store.proofs.table.TableStore.replace_all.Goals as goal
 
 pub claims_of-requires-clause-stand : goal.claims_of-requires-clause-stand
@@ -89,6 +89,11 @@ returns-clause-stop c =
 
 pub invariant_of-self : goal.invariant_of-self
 invariant_of-self c =
+    let a = c.self.inside in
+    stored_claimed a.schema a.rows (λ key. held_in a.index key) (λ key. held_in a.index key) (pair_in a.children) (pair_in c.add_all.new.index) (nexts_of a.nexts.items) c.self.invariant.indexed c.add_all.ensures.kept c.self.invariant
+
+pub invariant_of-self-in_err-open_all : goal.invariant_of-self-in_err-open_all
+invariant_of-self-in_err-open_all c =
     let a = c.self.inside in
     stored_wider a.schema a.rows (λ key. held_in a.index key) (λ key. held_in c.open_all.new.self key) (pair_in a.children) (pair_in c.add_all.new.index) (nexts_of a.nexts.items) c.open_all.ensures.kept c.add_all.ensures.kept c.self.invariant
 
