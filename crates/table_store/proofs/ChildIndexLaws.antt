@@ -1,14 +1,14 @@
 -- References by their keys: what an index of them has once a pair is added, and which row comes next.
-use Rattle.std.proofs.Common.{◌≡◌, ℕ, ◌+◌, ◌<◌, ◌≤◌, List, [], ◌∷◌, length, get_or, take, refl, sym, ap, subst, ◌∙◌, Bool, true, false, inl, inr, arith, Option, Some, None, add-one}
+use Rattle.std.proofs.Common.{◌≡◌, ℕ, zero, suc, ◌==◌, ◌+◌, ◌<◌, ◌≤◌, List, [], ◌∷◌, length, get_or, take, refl, sym, ap, subst, ◌∙◌, Bool, true, false, inl, inr, arith, Option, Some, None, add-one}
 use Rattle.std.specs.Prelude.{ℤ, IfSome}
 use Rattle.std.specs.List.{AllByRecursion}
 use Rattle.std.specs.Option.{option_map_or}
 use Rattle.std.proofs.lemmas.Bool.{cases_lt}
-use Rattle.ldv_value.proofs.Booleans.{true≢false}
+use Rattle.ldv_value.proofs.Booleans.{or-parts, true≢false}
 use Rattle.ldv_value.proofs.Lists.{all-weaker}
 use Rattle.sql_model.specs.Keys.{same_values}
 use Rattle.sql_model.specs.References.{reference}
-use Rattle.table_store.specs.ChildPairs.{AreReferred, IsFirstFrom, IsNextOf, IsReferred, KeepPairs, Pairs, no_foreign, pair_as, refers}
+use Rattle.table_store.specs.ChildPairs.{AreReferred, IsFirstFrom, IsNextOf, IsReferred, KeepBut, KeepPairs, Pairs, is_one_of, no_foreign, pair_as, refers}
 use Rattle.table_store.specs.Types.{Foreign, TableRow, Value}
 use Rattle.table_store.proofs.IndexLaws.{same_exact}
 
@@ -21,6 +21,26 @@ keep_as a b f g (Some z) one two is = two z is
 
 pub keep_both : (one two three : Pairs) → KeepPairs one two → KeepPairs two three → KeepPairs one three
 keep_both one two three first second place key number is = second place key number (first place key number is)
+
+-- ---- pairs that stay but those of some numbers
+
+pub but_none : (gone : ℕ → Bool) (pairs : Pairs) → KeepBut gone pairs pairs
+but_none gone pairs place key number other is = is
+
+pub but_both : (gone : ℕ → Bool) (one two three : Pairs) → KeepBut gone one two → KeepBut gone two three → KeepBut gone one three
+but_both gone one two three first second place key number other is = second place key number other (first place key number other is)
+
+-- a number that isn't one of some isn't the one at a place
+not_there : (numbers : List ℕ) (i d : ℕ) → i < length numbers → (number : ℕ) → is_one_of numbers number ≡ false → (get_or numbers i d == number) ≡ false
+not_there [] i d within number other = absurd (omega (arith, within))
+not_there (n ∷ numbers) zero d within number other = (or-parts (n == number) (is_one_of numbers number) other).0
+not_there (n ∷ numbers) (suc i) d within number other =
+    not_there numbers i d (omega (arith, within)) number (or-parts (n == number) (is_one_of numbers number) other).1
+
+pub but_more : (numbers : List ℕ) (i one : ℕ) → i < length numbers → one ≡ get_or numbers i one → (old mid new : Pairs) → KeepBut (is_one_of numbers) old mid → KeepBut (λ n. one == n) mid new
+    → KeepBut (is_one_of numbers) old new
+but_more numbers i one within is old mid new first second place key number other has =
+    second place key number (ap (λ (n : ℕ). n == number) is ∙ not_there numbers i one within number other) (first place key number other has)
 
 -- a row more
 pub referred_more : (foreigns : List Foreign) (old new : Pairs) (rows : List TableRow) (i : ℕ) (row : TableRow) → i < length rows → row ≡ get_or rows i row

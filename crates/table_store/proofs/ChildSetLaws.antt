@@ -1,5 +1,5 @@
 -- Pairs of a key and a number in order: which number comes first under a key.
-use Rattle.std.proofs.Common.{◌≡◌, ℕ, ◌<◌, ◌≤◌, List, [], ◌∷◌, refl, sym, ap, subst, ◌∙◌, Bool, true, false, cond, inl, inr, arith, Option, Some, None}
+use Rattle.std.proofs.Common.{◌≡◌, ◌==◌, ℕ, ◌<◌, ◌≤◌, List, [], ◌∷◌, refl, sym, ap, subst, ◌∙◌, Bool, true, false, cond, inl, inr, arith, Option, Some, None, eq-eqb}
 use Rattle.std.specs.Prelude.{slice_get, IfSome, IsTrue, if◌then◌else◌}
 use Rattle.std.specs.BTreeMap.{is_at}
 use Rattle.std.specs.BTreeMap.Range.{IsInRange, IsLeBy}
@@ -32,6 +32,19 @@ not_gt m n within = elim (cases_lt m n) [
   | inr from ↦ ap is_gt (sym (nat_cmp_is m n Equal (omega (arith, within, from))))
 ]
 
+other_pair : (o : Ordering) (m n : ℕ) → (m == n) ≡ false → is_eq (ordering_then o (nat_cmp m n)) ≡ false
+other_pair Less m n other = refl
+other_pair Greater m n other = refl
+other_pair Equal m n other = elim (cases_lt m n) [
+  | inl less ↦ ap is_eq (sym (nat_cmp_is m n Less less))
+  | inr from ↦ elim (cases_lt n m) [
+    | inl above ↦ ap is_eq (sym (nat_cmp_is m n Greater above))
+    | inr to ↦
+        let same : m ≡ n = omega (arith, from, to) in
+        absurd (true≢false (sym (eq-eqb m n same) ∙ other))
+  ]
+]
+
 module _ {K : Type 0} (cmp : K → K → Ordering) where
   abbrev order : K × ℕ → K × ℕ → Ordering
   order = pair_order cmp
@@ -52,6 +65,12 @@ module _ {K : Type 0} (cmp : K → K → Ordering) where
 
   pub pair_same : (old new : BTreeSet (K × ℕ)) → IsUnchanged old new → (key : K) (n : ℕ) → has_pair cmp old key n ≡ true → has_pair cmp new key n ≡ true
   pair_same old new same key n is = ap (list_any (is_at (order (key, n)))) same ∙ is
+
+  -- ---- a pair less
+
+  pub pair_left : (old new : BTreeSet (K × ℕ)) (gone : K × ℕ) → Updates order old new gone false → (key : K) (n : ℕ) → (gone.1 == n) ≡ false
+      → has_pair cmp old key n ≡ true → has_pair cmp new key n ≡ true
+  pair_left old new gone updates key n other is = updates.2 (key, n) (other_pair (cmp gone.0 key) gone.1 n other) ∙ is
 
   -- ---- the first pair of a part
 

@@ -58,6 +58,15 @@ abbrev pub KeepPairs : Pairs → Pairs → Type 0
 KeepPairs old new = (place : ℕ) (key : List Value) (number : ℕ) → old place key number ≡ true
     → new place key number ≡ true
 
+-- pairs of numbers that don't pass a test stay
+abbrev pub KeepBut : (ℕ → Bool) → Pairs → Pairs → Type 0
+KeepBut gone old new = (place : ℕ) (key : List Value) (number : ℕ) → gone number ≡ false
+    → old place key number ≡ true → new place key number ≡ true
+
+-- a number is one of some
+abbrev pub is_one_of : List ℕ → ℕ → Bool
+is_one_of numbers number = list_any (λ one. one == number) numbers
+
 abbrev pub no_foreign : Foreign
 no_foreign = record { columns = []; parent = [] }
 

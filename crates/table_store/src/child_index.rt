@@ -1,15 +1,16 @@
 //! The rows of a table by the keys to which they refer.
 
-ghost use Rattle.std.specs.Prelude.{◌≡◌, ◌<◌, ℕ, List, true, false, OnOk, IfOk, IfSome, length};
+ghost use Rattle.std.specs.Prelude.{◌≡◌, ◌==◌, ◌<◌, ℕ, List, true, false, OnOk, IfOk, IfSome, length};
 ghost use Rattle.std.specs.Prelude.{slice_index_or};
 ghost use Rattle.sql_model.specs.References.{reference};
 ghost use Rattle.table_store.specs.ChildPairs.{no_foreign, pair_in, AreReferred, IsFirstFrom, IsReferred};
-ghost use Rattle.table_store.specs.ChildPairs.{KeepPairs};
+ghost use Rattle.table_store.specs.ChildPairs.{is_one_of, KeepBut, KeepPairs};
 ghost use Rattle.table_store.specs.Types.{Value};
 
 use crate::child_set::ChildSet;
 use crate::index::{int_key, key_of};
 use crate::key_map::CopyKey;
+use crate::rows::Rows;
 use ldv_value::Values;
 use sql_model::{Foreign, Foreigns, RowKey, TableRow, refers_to_none};
 use std::alloc::{AllocError, Global};
@@ -52,6 +53,16 @@ impl ChildIndex {
         match int_key(key.values.items()) {
             None => self.others.add((place, key), number),
             Some(int) => self.ints.add((place, int), number),
+        }
+    }
+
+    /// Takes a number out from under a key. It takes no memory.
+    pub(crate) fn remove(&mut self, place: usize, key: RowKey, number: u32)
+        ensures { KeepBut (λ n. number == n) (pair_in self.old) (pair_in self.new) }
+    {
+        match int_key(key.values.items()) {
+            None => self.others.remove((place, key), number),
+            Some(int) => self.ints.remove((place, int), number),
         }
     }
 
@@ -145,4 +156,93 @@ fn add_by(
     }
     let key = key_of(alloc, &foreign.columns, &row.values)?;
     index.add(place, key, row.number)
+}
+
+/// Takes rows that are dropped out from under the keys to which they referred after a time, as long as there
+/// is memory. So a key that many rows once had is looked up as fast as another.
+pub(crate) fn remove_all(
+    alloc: Global,
+    index: &mut ChildIndex,
+    foreigns: &Foreigns,
+    stored: &Rows,
+    numbers: &[u32],
+    time: u32,
+)
+    ensures { KeepBut (is_one_of numbers.now) (pair_in index.old) (pair_in index.new) }
+{
+    if foreigns.is_empty() {
+        return;
+    }
+    for number in numbers {
+        remove_row(alloc, index, foreigns, stored, *number, time);
+    }
+}
+
+// The same of the row of a number.
+fn remove_row(
+    alloc: Global,
+    index: &mut ChildIndex,
+    foreigns: &Foreigns,
+    stored: &Rows,
+    number: u32,
+    time: u32,
+)
+    ensures { KeepBut (λ n. number == n) (pair_in index.old) (pair_in index.new) }
+{
+    match stored.find(number) {
+        None => {}
+        Some(slot) => remove_slot(alloc, index, foreigns, stored, slot, number, time),
+    }
+}
+
+// The same of the row in a slot, which has the number.
+fn remove_slot(
+    alloc: Global,
+    index: &mut ChildIndex,
+    foreigns: &Foreigns,
+    stored: &Rows,
+    slot: usize,
+    number: u32,
+    time: u32,
+)
+    requires { slot < length stored.now.slots }
+    ensures { KeepBut (λ n. number == n) (pair_in index.old) (pair_in index.new) }
+{
+    match stored.values_as_of(alloc, slot, time) {
+        Err(_refused) => {}
+        Ok(None) => {}
+        Ok(Some(values)) => remove_values(alloc, index, foreigns, number, &values),
+    }
+}
+
+// Takes a number out from under the keys to which values refer.
+fn remove_values(
+    alloc: Global,
+    index: &mut ChildIndex,
+    foreigns: &Foreigns,
+    number: u32,
+    values: &Values,
+)
+    ensures { KeepBut (λ n. number == n) (pair_in index.old) (pair_in index.new) }
+{
+    let items = foreigns.items();
+    for place in 0..items.len() {
+        remove_by(alloc, index, place, &items[place], number, values);
+    }
+}
+
+fn remove_by(
+    alloc: Global,
+    index: &mut ChildIndex,
+    place: usize,
+    foreign: &Foreign,
+    number: u32,
+    values: &Values,
+)
+    ensures { KeepBut (λ n. number == n) (pair_in index.old) (pair_in index.new) }
+{
+    match key_of(alloc, &foreign.columns, values) {
+        Err(_refused) => {}
+        Ok(key) => index.remove(place, key, number),
+    }
 }

@@ -1,6 +1,6 @@
 //! Numbers under keys of one type, many under one: pairs of a key and a number, in order.
 
-ghost use Rattle.std.specs.Prelude.{◌≡◌, ℕ, true, false, OnOk, IfOk, if◌then◌else◌, Some, None};
+ghost use Rattle.std.specs.Prelude.{◌≡◌, ◌==◌, ℕ, true, false, OnOk, IfOk, if◌then◌else◌, Some, None};
 ghost use Rattle.std.specs.Ordering.{is_eq};
 ghost use Rattle.table_store.specs.ChildPairs.{has_pair, IsFirstFrom};
 
@@ -33,6 +33,15 @@ impl<K: Ord + CopyKey> ChildSet<K> {
     {
         self.held.insert((key, number))?;
         Ok(())
+    }
+
+    /// Takes a pair out. It takes no memory.
+    pub(crate) fn remove(&mut self, key: K, number: u32)
+        ensures { (q : K) (n : ℕ) → (number == n) ≡ false → has_pair K.cmp self.old.held q n ≡ true
+            → has_pair K.cmp self.new.held q n ≡ true }
+    {
+        let pair = (key, number);
+        self.held.remove(&pair);
     }
 
     /// The least number under a key from one on.

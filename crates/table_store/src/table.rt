@@ -30,7 +30,7 @@ ghost use Rattle.table_store.specs.TableView.{begun, kinds_in, AreTimed};
 
 use crate::cell::Cell;
 use crate::change::{RowChange, removals, rewrites};
-use crate::child_index::{ChildIndex, add_all, referring};
+use crate::child_index::{ChildIndex, add_all, referring, remove_all};
 use crate::claim::claim;
 use crate::index::{Index, held_number, index_of, number_by_slots};
 use crate::insert::{any_lacks_value, any_row_lacks_value, is_full, numbered_rows};
@@ -457,8 +457,17 @@ impl TableStore {
             Some(stop) => return Err(stop),
         }
         let alloc = self.name.allocator();
+        let before = last_since(self.nexts.as_slice());
         let given = removals(alloc, numbers.items())?;
         change_rows(alloc, &mut self.rows, &mut self.nexts, given, time)?;
+        remove_all(
+            alloc,
+            &mut self.children,
+            &self.schema.foreign,
+            &self.rows,
+            numbers.items(),
+            before,
+        );
         Ok(())
     }
 }
