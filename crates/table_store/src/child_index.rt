@@ -23,19 +23,6 @@ pub(crate) struct ChildIndex {
     pub(crate) others: ChildSet<(usize, RowKey)>,
 }
 
-impl CopyKey for (usize, i64) {
-    fn copy_key(&self) -> Result<Self, AllocError> {
-        Ok((self.0, self.1))
-    }
-}
-
-impl CopyKey for (usize, RowKey) {
-    fn copy_key(&self) -> Result<Self, AllocError> {
-        let key = self.1.copy_key()?;
-        Ok((self.0, key))
-    }
-}
-
 impl ChildIndex {
     /// An index with no row. It takes no memory.
     pub(crate) fn new(alloc: Global) -> ChildIndex {
@@ -78,13 +65,9 @@ impl ChildIndex {
         match int_key(key.values.items()) {
             None => {
                 let copy = key.copy_key()?;
-                let found = self.others.first_from(&(place, copy), from)?;
-                Ok(found)
+                Ok(self.others.first_from((place, copy), from))
             }
-            Some(int) => {
-                let found = self.ints.first_from(&(place, int), from)?;
-                Ok(found)
-            }
+            Some(int) => Ok(self.ints.first_from((place, int), from)),
         }
     }
 }

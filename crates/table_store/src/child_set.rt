@@ -1,10 +1,9 @@
 //! Numbers under keys of one type, many under one: pairs of a key and a number, in order.
 
-ghost use Rattle.std.specs.Prelude.{◌≡◌, ◌==◌, ℕ, true, false, OnOk, IfOk, if◌then◌else◌, Some, None};
+ghost use Rattle.std.specs.Prelude.{◌≡◌, ◌==◌, ℕ, true, false, OnOk, if◌then◌else◌, Some, None};
 ghost use Rattle.std.specs.Ordering.{is_eq};
 ghost use Rattle.table_store.specs.ChildPairs.{has_pair, IsFirstFrom};
 
-use crate::key_map::CopyKey;
 use std::alloc::{AllocError, Global};
 use std::cmp::Ord;
 use std::collections::BTreeSet;
@@ -15,7 +14,7 @@ pub(crate) struct ChildSet<K: Ord> {
     pub(crate) held: BTreeSet<(K, u32)>,
 }
 
-impl<K: Ord + CopyKey> ChildSet<K> {
+impl<K: Ord + Drop> ChildSet<K> {
     /// A set with no pair. It takes no memory.
     pub(crate) fn new(alloc: Global) -> ChildSet<K>
         ensures { (q : K) (n : ℕ) → has_pair K.cmp result.held q n ≡ false }
@@ -44,15 +43,15 @@ impl<K: Ord + CopyKey> ChildSet<K> {
         self.held.remove(&pair);
     }
 
-    /// The least number under a key from one on.
-    pub(crate) fn first_from(&self, key: &K, from: u32) -> Result<Option<u32>, AllocError>
-        ensures { IfOk result (IsFirstFrom (has_pair K.cmp self.now.held key.now) from) }
+    /// The least number under a key from one on. It takes no memory.
+    pub(crate) fn first_from(&self, key: K, from: u32) -> Option<u32>
+        ensures { IsFirstFrom (has_pair K.cmp self.now.held key) from result }
     {
-        let start = key.copy_key()?;
-        let mut pairs = self.held.range((start, from)..);
+        let start = (key, from);
+        let mut pairs = self.held.range(&start..);
         match pairs.next() {
-            None => Ok(None),
-            Some(pair) => Ok(number_at(pair, key)),
+            None => None,
+            Some(pair) => number_at(pair, &start.0),
         }
     }
 }
