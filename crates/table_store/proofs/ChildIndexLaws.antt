@@ -37,10 +37,10 @@ not_there (n ∷ numbers) zero d within number other = (or-parts (n == number) (
 not_there (n ∷ numbers) (suc i) d within number other =
     not_there numbers i d (omega (arith, within)) number (or-parts (n == number) (is_one_of numbers number) other).1
 
-pub but_more : (numbers : List ℕ) (i one : ℕ) → i < length numbers → one ≡ get_or numbers i one → (old mid new : Pairs) → KeepBut (is_one_of numbers) old mid → KeepBut (λ n. one == n) mid new
+pub but_more : (numbers : List ℕ) (i d : ℕ) → i < length numbers → (old mid new : Pairs) → KeepBut (is_one_of numbers) old mid → KeepBut (λ n. get_or numbers i d == n) mid new
     → KeepBut (is_one_of numbers) old new
-but_more numbers i one within is old mid new first second place key number other has =
-    second place key number (ap (λ (n : ℕ). n == number) is ∙ not_there numbers i one within number other) (first place key number other has)
+but_more numbers i d within old mid new first second place key number other has =
+    second place key number (not_there numbers i d within number other) (first place key number other has)
 
 -- a row more
 pub referred_more : (foreigns : List Foreign) (old new : Pairs) (rows : List TableRow) (i : ℕ) (row : TableRow) → i < length rows → row ≡ get_or rows i row

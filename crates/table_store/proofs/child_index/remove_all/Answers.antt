@@ -10,5 +10,5 @@ loop-number-init c = but_none (is_one_of c.args.numbers.now) (pair_in c.args.ind
 
 pub loop-number-preserved : goal.loop-number-preserved
 loop-number-preserved c =
-    but_more c.args.numbers.now c.loop-number.number-index c.number-item.result c.loop-number-test.true c.number-item.is
+    but_more c.args.numbers.now c.loop-number.number-index 0 c.loop-number-test.true
     (pair_in c.args.index.now) (pair_in c.loop-number.index) (pair_in c.remove_row.new.index) c.loop-number.invariant c.remove_row.ensures
