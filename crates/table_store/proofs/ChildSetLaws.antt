@@ -1,5 +1,5 @@
 -- Pairs of a key and a number in order: which number comes first under a key.
-use Rattle.std.proofs.Common.{◌≡◌, ◌==◌, ℕ, ◌<◌, ◌≤◌, List, [], ◌∷◌, refl, sym, ap, subst, ◌∙◌, Bool, true, false, cond, inl, inr, arith, Option, Some, None, eq-eqb}
+use Rattle.std.proofs.Common.{◌≡◌, ℕ, ◌<◌, ◌≤◌, List, [], ◌∷◌, refl, sym, ap, subst, ◌∙◌, Bool, true, false, cond, inl, inr, arith, Option, Some, None}
 use Rattle.std.specs.Prelude.{slice_get, IfSome, IsTrue, if◌then◌else◌}
 use Rattle.std.specs.BTreeMap.{is_at}
 use Rattle.std.specs.BTreeMap.Range.{IsInRange, IsLeBy}
@@ -29,20 +29,9 @@ gt_not m n is = elim (cases_lt n m) [
 not_gt : (m n : ℕ) → m ≤ n → is_gt (nat_cmp m n) ≡ false
 not_gt m n within = elim (cases_lt m n) [
   | inl less ↦ ap is_gt (sym (nat_cmp_is m n Less less))
-  | inr from ↦ ap is_gt (sym (nat_cmp_is m n Equal (omega (arith, within, from))))
-]
-
-other_pair : (o : Ordering) (m n : ℕ) → (m == n) ≡ false → is_eq (ordering_then o (nat_cmp m n)) ≡ false
-other_pair Less m n other = refl
-other_pair Greater m n other = refl
-other_pair Equal m n other = elim (cases_lt m n) [
-  | inl less ↦ ap is_eq (sym (nat_cmp_is m n Less less))
-  | inr from ↦ elim (cases_lt n m) [
-    | inl above ↦ ap is_eq (sym (nat_cmp_is m n Greater above))
-    | inr to ↦
-        let same : m ≡ n = omega (arith, from, to) in
-        absurd (true≢false (sym (eq-eqb m n same) ∙ other))
-  ]
+  | inr from ↦
+      let same : m ≡ n = omega (arith, within, from) in
+      ap is_gt (sym (nat_cmp_is m n Equal same))
 ]
 
 module _ {K : Type 0} (cmp : K → K → Ordering) where
@@ -68,9 +57,9 @@ module _ {K : Type 0} (cmp : K → K → Ordering) where
 
   -- ---- a pair less
 
-  pub pair_left : (old new : BTreeSet (K × ℕ)) (gone : K × ℕ) → Updates order old new gone false → (key : K) (n : ℕ) → (gone.1 == n) ≡ false
+  pub pair_left : (old new : BTreeSet (K × ℕ)) (gone : K × ℕ) → Updates order old new gone false → (key : K) (n : ℕ) → is_eq (ordering_then (cmp gone.0 key) (nat_cmp gone.1 n)) ≡ false
       → has_pair cmp old key n ≡ true → has_pair cmp new key n ≡ true
-  pair_left old new gone updates key n other is = updates.2 (key, n) (other_pair (cmp gone.0 key) gone.1 n other) ∙ is
+  pair_left old new gone updates key n other is = updates.2 (key, n) other ∙ is
 
   -- ---- the first pair of a part
 

@@ -15,7 +15,7 @@ use Rattle.sql_model.specs.Changes.{numbered}
 use Rattle.sql_model.specs.Needs.{stood}
 use Rattle.sql_model.specs.References.{reference}
 use Rattle.table_store.specs.Types.{Value, RowKey, Column, Foreign, Schema, Table, TableRow}
-use Rattle.table_store.specs.ChildPairs.{Pairs, AreReferred, IsReferred, KeepBut, KeepPairs, is_one_of, no_foreign}
+use Rattle.table_store.specs.ChildPairs.{Pairs, AreReferred, IsReferred, KeepPairs, no_foreign}
 use Rattle.table_store.specs.Grid.{next_after}
 use Rattle.table_store.specs.Histories.{RowHistory, NextSince, TableHistory, no_history, row_of, row_now, rows_now, row_as_of, rows_as_of, added, with_change, changed_by, writing, dropping, rewritten, dropped, last_next, last_since, next_as_of, noted, table_now, inserted, replaced, removed}
 use Rattle.table_store.specs.KeyIndex.{Held, AreHeld, AreIndexed}
@@ -339,32 +339,19 @@ referred_wider foreigns old new rows keep = all-weaker (IsReferred old foreigns)
     by place number None is = tt
     by place number (Some key) is = keep place key number is
 
--- a row whose number stays
-still_referred : (foreigns : List Foreign) (old new : Pairs) (gone : ℕ → Bool) (row : TableRow) → KeepBut gone old new → gone row.number ≡ false → IsReferred old foreigns row → IsReferred new foreigns row
-still_referred foreigns old new gone row keep other is place within = by (reference (get_or foreigns place no_foreign) row.values) (is place within)
+pub referred_removed : (foreigns : List Foreign) (pairs : Pairs) (time : ℕ) (numbers : List ℕ) (slots : List RowHistory) → AreReferred pairs foreigns (rows_now slots)
+    → AreReferred pairs foreigns (rows_now (map (changed_by (changes_given time (map removal numbers))) slots))
+referred_removed foreigns pairs time numbers slots referred =
+    subst (λ (l : List TableRow). AreReferred pairs foreigns l) (sym (ap (λ (changes : List (ℕ × Change)). rows_now (map (changed_by changes) slots)) (changes_removed time numbers) ∙ now_dropped time numbers slots))
+    (left (λ row. not (is_among numbers row)) (rows_now slots) referred)
   where
-    by : (o : Option (List Value)) → IfSome o (λ key. old place key row.number ≡ true) → IfSome o (λ key. new place key row.number ≡ true)
-    by None there = tt
-    by (Some key) there = keep place key row.number other there
-
--- each row that isn't dropped
-referred_left : (foreigns : List Foreign) (old new : Pairs) (numbers : List ℕ) → KeepBut (is_one_of numbers) old new → (rows : List TableRow) → AreReferred old foreigns rows
-    → AreReferred new foreigns (filter (λ row. not (is_among numbers row)) rows)
-referred_left foreigns old new numbers keep [] all = tt
-referred_left foreigns old new numbers keep (row ∷ rows) all = by (is_among numbers row) refl (referred_left foreigns old new numbers keep rows all.1)
-  where
-    rest : List TableRow
-    rest = filter (λ one. not (is_among numbers one)) rows
-
-    by : (b : Bool) → is_among numbers row ≡ b → AreReferred new foreigns rest → AreReferred new foreigns (cond (not b) (row ∷ rest) rest)
-    by true gone more = more
-    by false other more = (still_referred foreigns old new (is_one_of numbers) row keep other all.0, more)
-
-pub referred_removed : (foreigns : List Foreign) (old new : Pairs) (time : ℕ) (numbers : List ℕ) (slots : List RowHistory) → KeepBut (is_one_of numbers) old new → AreReferred old foreigns (rows_now slots)
-    → AreReferred new foreigns (rows_now (map (changed_by (changes_given time (map removal numbers))) slots))
-referred_removed foreigns old new time numbers slots keep referred =
-    subst (λ (l : List TableRow). AreReferred new foreigns l) (sym (ap (λ (changes : List (ℕ × Change)). rows_now (map (changed_by changes) slots)) (changes_removed time numbers) ∙ now_dropped time numbers slots))
-    (referred_left foreigns old new numbers keep (rows_now slots) referred)
+    left : (p : TableRow → Bool) (rows : List TableRow) → AreReferred pairs foreigns rows → AreReferred pairs foreigns (filter p rows)
+    left p [] all = tt
+    left p (row ∷ rows) all = by (p row) (left p rows all.1)
+      where
+        by : (b : Bool) → AreReferred pairs foreigns (filter p rows) → AreReferred pairs foreigns (cond b (row ∷ filter p rows) (filter p rows))
+        by true rest = (all.0, rest)
+        by false rest = rest
 
 -- each given row, and each that was there
 pub referred_replaced : (foreigns : List Foreign) (old new : Pairs) (time : ℕ) (rows : List TableRow) (slots : List RowHistory) → GivenStand rows slots → KeepPairs old new

@@ -58,14 +58,11 @@ abbrev pub KeepPairs : Pairs → Pairs → Type 0
 KeepPairs old new = (place : ℕ) (key : List Value) (number : ℕ) → old place key number ≡ true
     → new place key number ≡ true
 
--- pairs of numbers that don't pass a test stay
-abbrev pub KeepBut : (ℕ → Bool) → Pairs → Pairs → Type 0
-KeepBut gone old new = (place : ℕ) (key : List Value) (number : ℕ) → gone number ≡ false
-    → old place key number ≡ true → new place key number ≡ true
-
--- a number is one of some
-abbrev pub is_one_of : List ℕ → ℕ → Bool
-is_one_of numbers number = list_any (λ one. one == number) numbers
+-- all pairs but one stay
+abbrev pub KeepBut : ℕ → List Value → ℕ → Pairs → Pairs → Type 0
+KeepBut place key number old new = (p : ℕ) (k : List Value) (n : ℕ)
+    → ((p ≡ place) → (k ≡ key) → (n ≡ number) → ⊥)
+    → old p k n ≡ true → new p k n ≡ true
 
 abbrev pub no_foreign : Foreign
 no_foreign = record { columns = []; parent = [] }
@@ -78,6 +75,10 @@ IsReferred pairs foreigns row = (place : ℕ) → place < length foreigns
 
 abbrev pub AreReferred : Pairs → List Foreign → List TableRow → Type 0
 AreReferred pairs foreigns rows = AllByRecursion (IsReferred pairs foreigns) rows
+
+-- if they were there, they stay
+abbrev pub StayReferred : List Foreign → List TableRow → Pairs → Pairs → Type 0
+StayReferred foreigns rows old new = AreReferred old foreigns rows → AreReferred new foreigns rows
 
 -- ---- what is looked up
 

@@ -1,14 +1,15 @@
 //! The rows of a table by the keys to which they refer.
 
-ghost use Rattle.std.specs.Prelude.{◌≡◌, ◌==◌, ◌<◌, ℕ, List, true, false, OnOk, IfOk, IfSome, length};
+ghost use Rattle.std.specs.Prelude.{◌≡◌, ◌<◌, ℕ, List, true, false, OnOk, IfOk, IfSome, length};
 ghost use Rattle.std.specs.Prelude.{slice_index_or};
 ghost use Rattle.sql_model.specs.References.{reference};
 ghost use Rattle.table_store.specs.ChildPairs.{no_foreign, pair_in, AreReferred, IsFirstFrom, IsReferred};
-ghost use Rattle.table_store.specs.ChildPairs.{is_one_of, KeepBut, KeepPairs};
-ghost use Rattle.table_store.specs.Types.{Value};
+ghost use Rattle.table_store.specs.ChildPairs.{KeepBut, KeepPairs, StayReferred};
+ghost use Rattle.table_store.specs.Histories.{no_history, rows_now};
+ghost use Rattle.table_store.specs.Types.{Foreign, Value};
 
 use crate::child_set::ChildSet;
-use crate::index::{int_key, key_of};
+use crate::index::{has_key_in, int_key, key_of};
 use crate::key_map::CopyKey;
 use crate::rows::Rows;
 use ldv_value::Values;
@@ -45,7 +46,7 @@ impl ChildIndex {
 
     /// Takes a number out from under a key. It takes no memory.
     pub(crate) fn remove(&mut self, place: usize, key: RowKey, number: u32)
-        ensures { KeepBut (λ n. number == n) (pair_in self.old) (pair_in self.new) }
+        ensures { KeepBut place key.values number (pair_in self.old) (pair_in self.new) }
     {
         match int_key(key.values.items()) {
             None => self.others.remove((place, key), number),
@@ -141,9 +142,9 @@ fn add_by(
     index.add(place, key, row.number)
 }
 
-/// Takes rows that are dropped out from under the keys to which they referred after a time, as long as there
-/// is memory. So a key that many rows once had is looked up as fast as another.
-pub(crate) fn remove_all(
+/// Takes rows of some numbers out from under the keys to which they referred after a time and refer no
+/// longer, as far as there is memory. So a key to which many rows once referred is looked up as fast as any.
+pub(crate) fn settle_all(
     alloc: Global,
     index: &mut ChildIndex,
     foreigns: &Foreigns,
@@ -151,18 +152,18 @@ pub(crate) fn remove_all(
     numbers: &[u32],
     time: u32,
 )
-    ensures { KeepBut (is_one_of numbers.now) (pair_in index.old) (pair_in index.new) }
+    ensures { StayReferred foreigns.now (rows_now stored.now.slots) (pair_in index.old) (pair_in index.new) }
 {
     if foreigns.is_empty() {
         return;
     }
     for number in numbers {
-        remove_row(alloc, index, foreigns, stored, *number, time);
+        settle_row(alloc, index, foreigns, stored, *number, time);
     }
 }
 
-// The same of the row of a number.
-fn remove_row(
+// The same of the row of one number.
+fn settle_row(
     alloc: Global,
     index: &mut ChildIndex,
     foreigns: &Foreigns,
@@ -170,16 +171,16 @@ fn remove_row(
     number: u32,
     time: u32,
 )
-    ensures { KeepBut (λ n. number == n) (pair_in index.old) (pair_in index.new) }
+    ensures { StayReferred foreigns.now (rows_now stored.now.slots) (pair_in index.old) (pair_in index.new) }
 {
     match stored.find(number) {
         None => {}
-        Some(slot) => remove_slot(alloc, index, foreigns, stored, slot, number, time),
+        Some(slot) => settle_slot(alloc, index, foreigns, stored, slot, number, time),
     }
 }
 
 // The same of the row in a slot, which has the number.
-fn remove_slot(
+fn settle_slot(
     alloc: Global,
     index: &mut ChildIndex,
     foreigns: &Foreigns,
@@ -188,44 +189,77 @@ fn remove_slot(
     number: u32,
     time: u32,
 )
-    requires { slot < length stored.now.slots }
-    ensures { KeepBut (λ n. number == n) (pair_in index.old) (pair_in index.new) }
+    requires within { slot < length stored.now.slots }
+    requires numbered { (slice_index_or stored.now.slots slot no_history).number ≡ number }
+    ensures { StayReferred foreigns.now (rows_now stored.now.slots) (pair_in index.old) (pair_in index.new) }
 {
     match stored.values_as_of(alloc, slot, time) {
         Err(_refused) => {}
         Ok(None) => {}
-        Ok(Some(values)) => remove_values(alloc, index, foreigns, number, &values),
+        Ok(Some(values)) => settle_values(alloc, index, foreigns, stored, slot, number, &values),
     }
 }
 
-// Takes a number out from under the keys to which values refer.
-fn remove_values(
+// The same of a row that had these values.
+fn settle_values(
     alloc: Global,
     index: &mut ChildIndex,
     foreigns: &Foreigns,
+    stored: &Rows,
+    slot: usize,
     number: u32,
     values: &Values,
 )
-    ensures { KeepBut (λ n. number == n) (pair_in index.old) (pair_in index.new) }
+    requires within { slot < length stored.now.slots }
+    requires numbered { (slice_index_or stored.now.slots slot no_history).number ≡ number }
+    ensures { StayReferred foreigns.now (rows_now stored.now.slots) (pair_in index.old) (pair_in index.new) }
 {
     let items = foreigns.items();
     for place in 0..items.len() {
-        remove_by(alloc, index, place, &items[place], number, values);
+        settle_by(alloc, index, place, &items[place], stored, slot, number, values);
     }
 }
 
-fn remove_by(
+// By one foreign key.
+fn settle_by(
     alloc: Global,
     index: &mut ChildIndex,
     place: usize,
     foreign: &Foreign,
+    stored: &Rows,
+    slot: usize,
     number: u32,
     values: &Values,
 )
-    ensures { KeepBut (λ n. number == n) (pair_in index.old) (pair_in index.new) }
+    requires within { slot < length stored.now.slots }
+    requires numbered { (slice_index_or stored.now.slots slot no_history).number ≡ number }
+    ensures { (foreigns : List Foreign) → slice_index_or foreigns place no_foreign ≡ foreign.now
+        → StayReferred foreigns (rows_now stored.now.slots) (pair_in index.old) (pair_in index.new) }
 {
     match key_of(alloc, &foreign.columns, values) {
         Err(_refused) => {}
-        Ok(key) => index.remove(place, key, number),
+        Ok(key) => settle_key(index, place, foreign, stored, slot, number, key),
     }
+}
+
+// From under one key, unless the row stands and has it still.
+fn settle_key(
+    index: &mut ChildIndex,
+    place: usize,
+    foreign: &Foreign,
+    stored: &Rows,
+    slot: usize,
+    number: u32,
+    key: RowKey,
+)
+    requires within { slot < length stored.now.slots }
+    requires numbered { (slice_index_or stored.now.slots slot no_history).number ≡ number }
+    ensures { (foreigns : List Foreign) → slice_index_or foreigns place no_foreign ≡ foreign.now
+        → StayReferred foreigns (rows_now stored.now.slots) (pair_in index.old) (pair_in index.new) }
+{
+    stored.tell_order();
+    if has_key_in(stored, &foreign.columns, &key.values, slot) {
+        return;
+    }
+    index.remove(place, key, number);
 }

@@ -1,7 +1,7 @@
 //! Numbers under keys of one type, many under one: pairs of a key and a number, in order.
 
-ghost use Rattle.std.specs.Prelude.{◌≡◌, ◌==◌, ℕ, true, false, OnOk, if◌then◌else◌, Some, None};
-ghost use Rattle.std.specs.Ordering.{is_eq};
+ghost use Rattle.std.specs.Prelude.{◌≡◌, ℕ, true, false, OnOk, if◌then◌else◌, Some, None};
+ghost use Rattle.std.specs.Ordering.{is_eq, nat_cmp, ordering_then};
 ghost use Rattle.table_store.specs.ChildPairs.{has_pair, IsFirstFrom};
 
 use std::alloc::{AllocError, Global};
@@ -36,8 +36,8 @@ impl<K: Ord + Drop> ChildSet<K> {
 
     /// Takes a pair out. It takes no memory.
     pub(crate) fn remove(&mut self, key: K, number: u32)
-        ensures { (q : K) (n : ℕ) → (number == n) ≡ false → has_pair K.cmp self.old.held q n ≡ true
-            → has_pair K.cmp self.new.held q n ≡ true }
+        ensures { (q : K) (n : ℕ) → is_eq (ordering_then (K.cmp key q) (nat_cmp number n)) ≡ false
+            → has_pair K.cmp self.old.held q n ≡ true → has_pair K.cmp self.new.held q n ≡ true }
     {
         let pair = (key, number);
         self.held.remove(&pair);

@@ -35,7 +35,7 @@
 //! values and keep their keys, the index stays. Where a key changes, the given rows' keys are judged against
 //! each other and against the rows that keep theirs (`rekey`, `clash`). Keys that the index lacks get a
 //! number before the rows change, and all get their own afterwards, which takes no memory. References of
-//! given rows go into their index before the rows change, and those of dropped rows are taken out afterwards.
+//! given rows go into their index before the rows change, and what holds no longer is taken out afterwards.
 #![tactic(auto)]
 
 mod apply;

@@ -30,8 +30,9 @@ ghost use Rattle.table_store.specs.TableView.{begun, kinds_in, AreTimed};
 
 use crate::cell::Cell;
 use crate::change::{RowChange, removals, rewrites};
-use crate::child_index::{ChildIndex, add_all, referring, remove_all};
+use crate::child_index::{ChildIndex, add_all, referring, settle_all};
 use crate::claim::claim;
+use crate::given::numbers_of;
 use crate::index::{Index, held_number, index_of, number_by_slots};
 use crate::insert::{any_lacks_value, any_row_lacks_value, is_full, numbered_rows};
 use crate::nexts::{NextSince, first_next, last_since, next_as_of};
@@ -422,6 +423,8 @@ impl TableStore {
             None => {}
             Some(stop) => return Err(stop),
         }
+        let before = last_since(self.nexts.as_slice());
+        let numbers = numbers_of(alloc, rows.items())?;
         add_all(
             alloc,
             &mut self.children,
@@ -433,6 +436,14 @@ impl TableStore {
         let given = rewrites(alloc, rows)?;
         change_rows(alloc, &mut self.rows, &mut self.nexts, given, time)?;
         self.index.set_all(claims);
+        settle_all(
+            alloc,
+            &mut self.children,
+            &self.schema.foreign,
+            &self.rows,
+            numbers.as_slice(),
+            before,
+        );
         Ok(())
     }
 
@@ -460,7 +471,7 @@ impl TableStore {
         let before = last_since(self.nexts.as_slice());
         let given = removals(alloc, numbers.items())?;
         change_rows(alloc, &mut self.rows, &mut self.nexts, given, time)?;
-        remove_all(
+        settle_all(
             alloc,
             &mut self.children,
             &self.schema.foreign,

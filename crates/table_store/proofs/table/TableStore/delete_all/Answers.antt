@@ -2,7 +2,7 @@ use Rattle.std.proofs.Common.{◌≡◌, ◌∙◌, ◌<◌, ap, sym, subst, ℕ
 use Rattle.std.specs.Prelude.{Err}
 use Rattle.row_version.specs.History.{Change}
 use Rattle.table_store.specs.Histories.{RowHistory, NextSince, TableHistory, changed_by, last_since, last_next, noted, rows_now, dropped, removed}
-use Rattle.table_store.specs.ChildPairs.{Pairs, AreReferred, KeepBut, is_one_of, pair_in}
+use Rattle.table_store.specs.ChildPairs.{Pairs, AreReferred, StayReferred, pair_in}
 use Rattle.table_store.specs.IndexView.{held_in}
 use Rattle.table_store.specs.KeyIndex.{Held, AreIndexed}
 use Rattle.table_store.specs.Nexts.{nexts_of}
@@ -48,11 +48,10 @@ invariant_of-self-2 c =
     let later : last_since nexts < time = subst (λ (t : TableHistory). last_since t.nexts < time) (sym c.self.view_is) c.requires.later in
     let indexed = subst (λ (l : List RowChange). AreIndexed a.schema.key held (rows_now (map (changed_by (changes_given time l)) a.rows.slots))) (sym is) (indexed_removed a.schema.key held time numbers a.rows.slots c.self.invariant.indexed) in
     let pairs : Pairs = pair_in a.children in
-    let left : Pairs = pair_in c.remove_all.new.index in
-    let keep = subst (λ (l : List ℕ). KeepBut (is_one_of l) pairs left) c.items-2.ensures c.remove_all.ensures in
-    let referred = subst (λ (l : List RowChange). AreReferred left a.schema.foreign (rows_now (map (changed_by (changes_given time l)) a.rows.slots))) (sym is)
-    (referred_removed a.schema.foreign pairs left time numbers a.rows.slots keep c.self.invariant.referred) in
-    let whole = stored_changed a.schema a.rows held held pairs left nexts time given c.self.invariant later indexed referred in
+    let referred = subst (λ (l : List RowChange). AreReferred pairs a.schema.foreign (rows_now (map (changed_by (changes_given time l)) a.rows.slots))) (sym is) (referred_removed a.schema.foreign pairs time numbers a.rows.slots c.self.invariant.referred) in
+    let left : Pairs = pair_in c.settle_all.new.index in
+    let settled = subst (λ (r : RowsHistory). StayReferred a.schema.foreign (rows_now r.slots) pairs left) c.in_ok-change_rows.ensures.ok c.settle_all.ensures in
+    let whole = stored_changed a.schema a.rows held held pairs left nexts time given c.self.invariant later indexed (settled referred) in
     subst (λ (r : RowsHistory). IsStored a.schema r held left (nexts_of c.change_rows.new.nexts.items)) (sym c.in_ok-change_rows.ensures.ok)
     (subst (λ (n : List NextSince). IsStored a.schema (record a.rows { slots = map (changed_by (changes_given time given)) a.rows.slots }) held left n) (sym c.in_ok-change_rows.ensures.nexts) whole)
 

@@ -8,7 +8,7 @@ use Rattle.table_store.specs.Types.{TableRow}
 use Rattle.table_store.specs.Claims.{both_stop}
 use Rattle.table_store.specs.GivenKeys.{with_claims}
 use Rattle.table_store.specs.Histories.{RowHistory, NextSince, TableHistory, changed_by, last_since, last_next, noted, replaced, rewritten, rows_now, table_now}
-use Rattle.table_store.specs.ChildPairs.{Pairs, AreReferred, pair_in}
+use Rattle.table_store.specs.ChildPairs.{Pairs, AreReferred, StayReferred, pair_in}
 use Rattle.table_store.specs.IndexView.{held_in}
 use Rattle.table_store.specs.KeyIndex.{Held, AreIndexed}
 use Rattle.table_store.specs.Nexts.{nexts_of}
@@ -87,8 +87,8 @@ returns-clause-stop c =
     subst (λ (t : TableHistory). replace_stop c.args.rows (table_now t) ≡ None) c.self.view_is (replace_stop_is c.args.rows made lacks ∙ none) in
     ap (λ (o : Option StoreStop). option_or o c.args.later) own ∙ c.in-None.is
 
-pub invariant_of-self : goal.invariant_of-self
-invariant_of-self c =
+pub invariant_of-self-in_err-add_all : goal.invariant_of-self-in_err-add_all
+invariant_of-self-in_err-add_all c =
     let a = c.self.inside in
     stored_claimed a.schema a.rows (λ key. held_in a.index key) (λ key. held_in a.index key) (pair_in a.children) (pair_in c.add_all.new.index) (nexts_of a.nexts.items) c.self.invariant.indexed c.add_all.ensures.kept c.self.invariant
 
@@ -133,10 +133,12 @@ invariant_of-self-2 c =
     let pairs : Pairs = pair_in a.children in
     let wider : Pairs = pair_in c.add_all.new.index in
     let referred = subst (λ (l : List RowChange). AreReferred wider a.schema.foreign (rows_now (map (changed_by (changes_given time l)) a.rows.slots))) (sym c.in_ok-given.ensures)
-    (referred_replaced a.schema.foreign pairs wider time rows a.rows.slots stand c.add_all.ensures.kept c.self.invariant.referred (subst (λ (l : List TableRow). AreReferred wider a.schema.foreign l) c.items-4.ensures c.in_ok-add_all.ensures.ok)) in
-    let whole = stored_changed a.schema a.rows old held pairs wider nexts time given c.self.invariant later indexed referred in
-    subst (λ (r : RowsHistory). IsStored a.schema r held wider (nexts_of c.change_rows.new.nexts.items)) (sym c.in_ok-change_rows.ensures.ok)
-    (subst (λ (n : List NextSince). IsStored a.schema (record a.rows { slots = map (changed_by (changes_given time given)) a.rows.slots }) held wider n) (sym c.in_ok-change_rows.ensures.nexts) whole)
+    (referred_replaced a.schema.foreign pairs wider time rows a.rows.slots stand c.add_all.ensures.kept c.self.invariant.referred (subst (λ (l : List TableRow). AreReferred wider a.schema.foreign l) c.items-5.ensures c.in_ok-add_all.ensures.ok)) in
+    let left : Pairs = pair_in c.settle_all.new.index in
+    let settled = subst (λ (r : RowsHistory). StayReferred a.schema.foreign (rows_now r.slots) wider left) c.in_ok-change_rows.ensures.ok c.settle_all.ensures in
+    let whole = stored_changed a.schema a.rows old held pairs left nexts time given c.self.invariant later indexed (settled referred) in
+    subst (λ (r : RowsHistory). IsStored a.schema r held left (nexts_of c.change_rows.new.nexts.items)) (sym c.in_ok-change_rows.ensures.ok)
+    (subst (λ (n : List NextSince). IsStored a.schema (record a.rows { slots = map (changed_by (changes_given time given)) a.rows.slots }) held left n) (sym c.in_ok-change_rows.ensures.nexts) whole)
 
 pub returns-clause-ok : goal.returns-clause-ok
 returns-clause-ok c =

@@ -1,7 +1,0 @@
-use Rattle.std.proofs.Common.{◌==◌}
-use Rattle.table_store.specs.ChildPairs.{pair_in}
-use Rattle.table_store.proofs.ChildIndexLaws.{but_none}
-use Rattle.table_store.proofs.child_index.remove_row.Goals as goal
-
-pub returns-in-None : goal.returns-in-None
-returns-in-None c = but_none (λ n. c.args.number == n) (pair_in c.args.index.now)
