@@ -66,15 +66,6 @@ USED = re.compile(r'\bRattle\.(\w+)|\b(\w+)::')
 
 COLUMNS = 110
 LAID_OUT = re.compile(r'\s*(?:(?:pub |ghost )?use |#!?\[)')
-# How many longer lines a file has left. To break one is to prove anew what stands on its crate, so each waits
-# for another change of the crate.
-LONGER = {
-    'crates/lineage/specs/Blocks.antt': 4,
-    'crates/reach/specs/Depends.antt': 1,
-    'crates/reach/specs/Search.antt': 1,
-    'crates/run_laws/specs/LogLaws.antt': 1,
-    'crates/value_laws/specs/Literals.antt': 1,
-}
 
 # The number of a line, its cells, and those of the head of its table.
 Row = Tuple[int, List[str], List[str]]
@@ -197,13 +188,8 @@ def longer_lines(text: str) -> Iterator[Tuple[int, int]]:
 def check_lines(root: str, differ: Differences) -> None:
     for crate in crates_in(root):
         for file in files_of(root, crate, ('src', 'specs')):
-            found = list(longer_lines(read(root, file)))
-            left = LONGER.get(file, 0)
-            if len(found) > left:
-                for number, length in found:
-                    differ.add(file, number, f'a line of {length} columns')
-            elif len(found) < left:
-                differ.add(file, 1, f'has {len(found)} longer lines, and LONGER says {left}')
+            for number, length in longer_lines(read(root, file)):
+                differ.add(file, number, f'a line of {length} columns')
 
 
 # ---- the boxes and tables of crates

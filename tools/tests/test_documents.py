@@ -5,7 +5,6 @@ import json
 import os
 import shutil
 import unittest
-from unittest import mock
 
 import check_docs
 import check_page
@@ -305,14 +304,3 @@ crates/low/src/lib.rt:2: a line of 111 columns
 crates/low/src/lib.rt:3: a line of 132 columns
 crates/low/specs/Adding.antt:1: a line of 111 columns
 """)
-
-    def test_longer(self):
-        """A file that may have longer lines has just these."""
-        with mock.patch.dict(check_docs.LONGER, {"crates/low/src/lib.rt": 1}):
-            self.put("crates/low/src/lib.rt", "a" * 111)
-            self.assertEqual(self.differences(check_docs.check_lines), "")
-            self.put("crates/low/src/lib.rt", "a" * 111 + "\n" + "b" * 112)
-            self.assertEqual(self.differences(check_docs.check_lines).count("a line of"), 2)
-            self.put("crates/low/src/lib.rt", "a\n")
-            self.assertEqual(self.differences(check_docs.check_lines),
-                             "crates/low/src/lib.rt:1: has 0 longer lines, and LONGER says 1\n")

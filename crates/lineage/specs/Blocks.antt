@@ -71,7 +71,8 @@ IsRoomy None (Some other) = ⊥
 IsRoomy (Some block) (Some other) = (n : ℕ) → HasRoomIn block.versions n (version_of other.versions n)
 
 abbrev pub AreRoomy : BTreeMap Row Block → BTreeMap Row Block → Type 0
-AreRoomy blocks others = (place : Row) → IsRoomy (tree.get row_cmp blocks place) (tree.get row_cmp others place)
+AreRoomy blocks others =
+    (place : Row) → IsRoomy (tree.get row_cmp blocks place) (tree.get row_cmp others place)
 
 -- a block has 1,024 words, and no version of a row that isn't in the set
 pub record IsKept (place : Row) (block : Block) : Type 0 where
@@ -80,7 +81,8 @@ pub record IsKept (place : Row) (block : Block) : Type 0 where
   pub clear : (n : ℕ) → member block.words.items n ≡ false → version_of block.versions n ≡ 0
 
 abbrev pub AreKept : BTreeMap Row Block → Type 0
-AreKept blocks = (place : Row) (block : Block) → tree.get row_cmp blocks place ≡ Some block → IsKept place block
+AreKept blocks =
+    (place : Row) (block : Block) → tree.get row_cmp blocks place ≡ Some block → IsKept place block
 
 -- all room of a block is there afterwards
 abbrev pub StaysAt : Option Block → Option Block → Type 0
@@ -100,7 +102,8 @@ pub record IsRoomier (old new : Block) : Type 0 where
 -- blocks with the same rows, and with room for as many rows or more
 pub record AreRoomier (old new : BTreeMap Row Block) : Type 0 where
   pub kept : AreKept old → AreKept new
-  pub same : (place : Row) (n : ℕ) → row_at (tree.get row_cmp new place) n ≡ row_at (tree.get row_cmp old place) n
+  pub same : (place : Row) (n : ℕ)
+      → row_at (tree.get row_cmp new place) n ≡ row_at (tree.get row_cmp old place) n
   pub stays : Stays old new
 
 -- the row n of one block, or else of another
@@ -116,7 +119,8 @@ with_row row (Some version) rows = (row, version) ∷ rows
 -- a number of rows of a table, from the row n of a block on
 abbrev pub rows_from : (ℕ → Option ℕ) → ℕ → ℕ → ℕ → ℕ → List (Row × ℕ)
 rows_from found table base zero n = []
-rows_from found table base (suc count) n = with_row (table, base + n) (found n) (rows_from found table base count (suc n))
+rows_from found table base (suc count) n =
+    with_row (table, base + n) (found n) (rows_from found table base count (suc n))
 
 -- the rows of a block, in their order
 unfoldable pub rows_of_block : Option Block → Row → List (Row × ℕ)

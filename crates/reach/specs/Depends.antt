@@ -36,7 +36,8 @@ first_times nodes node time = slice_set (map (λ other. None) nodes) node (Some 
 -- the latest times at which the nodes may be left
 abbrev pub latest_of : Parts → ℕ → ℕ → Times
 latest_of graph node time =
-    passes time (room time (first_times graph.nodes node time)) graph.edges (first_times graph.nodes node time)
+    passes time (room time (first_times graph.nodes node time)) graph.edges
+    (first_times graph.nodes node time)
 
 -- the nodes from which the node at a place can be reached by a time, in the order of the report, each once
 abbrev pub depends_of : Parts → ℕ → ℕ → List Node

@@ -99,8 +99,8 @@ pub record AreKnown (edges : List Edge) (node limit : ℕ) (latest : Times) : Ty
   pub sound : (place time : ℕ) → time_at latest place ≡ Some time → HasPath edges node limit place time
   pub start : reaches limit (time_at latest node) ≡ true
 
-pub record Stands (edges : List Edge) (node limit : ℕ) (latest : Times) (queue : Queue) (rest : List Edge) (now : ℕ)
-    : Type 0 where
+pub record Stands (edges : List Edge) (node limit : ℕ) (latest : Times) (queue : Queue) (rest : List Edge)
+    (now : ℕ) : Type 0 where
   pub known : AreKnown edges node limit latest
   pub pending : ArePending edges latest queue rest now
 

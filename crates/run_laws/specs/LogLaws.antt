@@ -22,7 +22,8 @@ LogLaw = (n budget : ℕ) (w : World) (script : List Instr) → start_script w �
 -- the same within every budget, also one below the end, so the two runs end after the same number of steps;
 -- and where both go by one list of picks, whatever they are (the package is that of the run by these picks)
 abbrev pub PickedLogLaw : Type 0
-PickedLogLaw = (n budget : ℕ) (picks : List ℕ) (w : World) (script : List Instr) → start_script w ≡ Some script
+PickedLogLaw = (n budget : ℕ) (picks : List ℕ) (w : World) (script : List Instr)
+    → start_script w ≡ Some script
     → tables_test w.tables ≡ true
     → ends_by n picks w ≡ true
     → (log_divergence budget picks (package_by Excluded n picks w) ≡ None)

@@ -53,6 +53,11 @@ at_int n (Null ∷ other ∷ values) = refl
 at_int n (Int m ∷ other ∷ values) = then_less (int_cmp n m)
 at_int n (Text t ∷ other ∷ values) = refl
 
+-- two keys of one number that ties are the same
+pub int_tied : (key other : List Value) (m n : ℤ) → int_key key ≡ Some m → int_key other ≡ Some n → is_eq (int_cmp m n) ≡ true → key ≡ other
+int_tied key other m n one two tied =
+    same_exact key other (ap (λ (values : List Value). is_eq (slice_cmp order values other)) (int_key_is key m one) ∙ at_int m other ∙ ap (hits m) two ∙ tied)
+
 -- ---- a key that is put
 
 pub put_int : (old new : Ints) (others : Held) (k : RowKey) (n : ℤ) (number : ℕ) → int_key k.values ≡ Some n

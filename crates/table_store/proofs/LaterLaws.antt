@@ -1,6 +1,6 @@
 -- What references refuse a change for, after what its own table refuses.
-use Rattle.std.proofs.Common.{◌≡◌, ◌∙◌, ℕ, List, refl, sym, ap, subst, Bool, true, false, Option, Some, None}
-use Rattle.std.specs.Prelude.{Result, Err, nat_lt, ◌+◌, length, map}
+use Rattle.std.proofs.Common.{◌≡◌, ◌∙◌, ℕ, List, sym, ap, subst, Bool, true, false, Option, Some, None}
+use Rattle.std.specs.Prelude.{Result, Err, nat_lt, ◌+◌, length}
 use Rattle.std.specs.List.{list_any}
 use Rattle.std.specs.Option.{option_map, option_and_then, option_or}
 use Rattle.ldv_value.proofs.Options.{same-some, none-some}
@@ -9,9 +9,9 @@ use Rattle.sql_model.specs.Changes.{KeyClash, has_null, key_clash, numbered}
 use Rattle.sql_model.specs.References.{Missing, first_in, missing_parents}
 use Rattle.table_store.specs.Referring.{missing_stop, insert_refusal}
 use Rattle.table_store.specs.Stops.{StopsAs, insert_stop, key_stop, stop_if, with_changed, with_inserted}
-use Rattle.table_store.specs.Types.{Foreign, Table, TableRow, Value}
+use Rattle.table_store.specs.Types.{Table, Value}
 use Rattle.table_store.specs.declared.stop.StoreStop.{StoreStop}
-use Rattle.table_store.specs.declared.stop.StoreStop.TheVariants.{NotNull, KeyTaken, Full, NoParent, HasChild}
+use Rattle.table_store.specs.declared.stop.StoreStop.TheVariants.{NotNull, Full, NoParent, HasChild}
 
 -- what is told of a table that is there
 pub later_is : (f : Table → Option StoreStop) (o : Option Table) (t : Table) (later : Option StoreStop) → o ≡ Some t

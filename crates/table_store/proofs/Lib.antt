@@ -1,6 +1,9 @@
 pub mod CellLaws
 pub mod ChangeLaws
+pub mod ChildIndexLaws
 pub mod ChildLaws
+pub mod ChildRowLaws
+pub mod ChildSetLaws
 pub mod ChosenLaws
 pub mod ClaimLaws
 pub mod FirstLaws

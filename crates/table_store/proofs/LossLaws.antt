@@ -1,13 +1,13 @@
 -- Which children lose their parents, by the rows that are given or dropped.
 use Rattle.std.proofs.Common.{◌≡◌, ℕ, List, [], ◌∷◌, ◌++◌, refl, sym, ap, ◌∙◌, Bool, true, false, inl, inr}
 use Rattle.std.specs.Prelude.{Option, Some, None, map, filter, length, not, ◌&&◌, ◌||◌, ◌==◌, if◌then◌else◌}
-use Rattle.std.specs.List.{flat_map, filter_map, list_any, list_all}
-use Rattle.std.specs.Option.{option_map, option_and_then}
+use Rattle.std.specs.List.{flat_map, list_any}
+use Rattle.std.specs.Option.{option_and_then}
 use Rattle.std.proofs.lemmas.Bool.{cases_Bool}
 use Rattle.std.proofs.lemmas.List.Folds.{flat_map-map}
 use Rattle.std.proofs.lemmas.Grind.{flat_map-append as flat_append}
 use Rattle.ldv_value.proofs.Booleans.{or-false}
-use Rattle.sql_model.proofs.Elsewhere.{all_elsewhere, no_orphans, elsewhere}
+use Rattle.sql_model.proofs.Elsewhere.{no_orphans, elsewhere}
 use Rattle.sql_model.proofs.ReferenceLists.{any_split, lost_same}
 use Rattle.sql_model.proofs.UniqueRows.{values_in, apart_from}
 use Rattle.sql_model.specs.ForeignKeys.{have_parents}
@@ -15,8 +15,8 @@ use Rattle.sql_model.specs.References.{Child, Orphan, first_in, reference, has_k
 use Rattle.sql_model.specs.Scope.{is_table, same_text, table_at, catalog_of}
 use Rattle.sql_model.specs.Tables.{are_keys_unique}
 use Rattle.table_store.specs.Afterwards.{first_some, loses, is_other, refers_to, orphan_in_row, orphan_in_other, orphan_in_slot, orphan_in_table, orphan_in_tables}
-use Rattle.table_store.specs.Histories.{RowHistory, TableHistory, row_now, rows_now, table_now}
-use Rattle.table_store.specs.Stops.{is_among, replaced_by, with_removed, with_replaced, all_stood}
+use Rattle.table_store.specs.Histories.{TableHistory, row_now, rows_now, table_now}
+use Rattle.table_store.specs.Stops.{is_among, with_removed, with_replaced, all_stood}
 use Rattle.table_store.specs.Types.{Foreign, Table, TableRow, Value}
 use Rattle.table_store.proofs.FirstLaws.{first_flat, first_filter_map, first_agree, first_filter, first_filtered, first_none, first_none_of}
 use Rattle.table_store.proofs.PutLaws.{TakesPlace, any_same, or_swap, replaced_has}

@@ -1,5 +1,5 @@
 -- The parent rows of given rows: what is looked up is what the rows refer to, where no two rows have one key.
-use Rattle.std.proofs.Common.{◌≡◌, ◌==◌, ℕ, zero, suc, ◌+◌, ◌<◌, List, [], ◌∷◌, ◌++◌, map, length, get_or, take, refl, sym, ap, subst, ◌∙◌, Bool, true, false, cond, not, ◌&&◌, ◌⊎◌, inl, inr, arith, Option, Some, None, is_some}
+use Rattle.std.proofs.Common.{◌≡◌, ◌==◌, ℕ, ◌+◌, ◌<◌, List, [], ◌∷◌, ◌++◌, map, length, get_or, take, refl, sym, ap, subst, ◌∙◌, Bool, true, false, cond, not, ◌&&◌, ◌⊎◌, inl, inr, arith, Option, Some, None, is_some}
 use Rattle.std.specs.Prelude.{IfSome, filter, find, if◌then◌else◌, nat_lt, unwrap_or}
 use Rattle.std.specs.BTreeMap.{BTreeMap, IsEmpty, Updates, is_at}
 use Rattle.std.specs.Map.{lookup}
@@ -9,11 +9,10 @@ use Rattle.std.proofs.lemmas.Bool.{cases_Bool, lt-ltb, eqb-true, ne_eqb}
 use Rattle.std.proofs.lemmas.Grind.{flat_map-append}
 use Rattle.std.proofs.lemmas.List.{map-append, take_more, append-nil}
 use Rattle.std.proofs.lemmas.List.Quantifiers.{position-Some}
-use Rattle.ldv_value.proofs.Booleans.{and-parts, and-true, not-so, or-cases, or-left, or-parts, or-right, true≢false, false≢true}
-use Rattle.ldv_value.proofs.Lists.{found-passes, map-map, sorted-under}
+use Rattle.ldv_value.proofs.Booleans.{and-parts, and-true, not-so, or-cases, or-left, or-parts, or-right, true≢false}
+use Rattle.ldv_value.proofs.Lists.{found-passes, sorted-under}
 use Rattle.ldv_value.proofs.Options.{is_none-true, none-some, same-some}
-use Rattle.ldv_value.proofs.SameBytes.{bytes_eq-true, nat_eq-true}
-use Rattle.ldv_value.specs.Sorted.{is_strictly_sorted}
+use Rattle.ldv_value.proofs.SameBytes.{bytes_eq-true}
 use Rattle.row_version.specs.History.{current, version}
 use Rattle.sql_model.proofs.UniqueKeys.{unique-clash}
 use Rattle.sql_model.proofs.UniqueRows.{found_same, keys_apart, repeats_map, same_both, values_in}
@@ -22,13 +21,13 @@ use Rattle.sql_model.specs.KeyOrder.{key_order}
 use Rattle.sql_model.specs.Keys.{key_at, repeats, same_values, values_at}
 use Rattle.sql_model.specs.Meaning.{is_null}
 use Rattle.sql_model.specs.QueryAnswer.{Origin}
-use Rattle.sql_model.specs.References.{has_key, parents_by, parents_in, parents_of, reference}
-use Rattle.sql_model.specs.Scope.{is_table, same_text, table_at}
+use Rattle.sql_model.specs.References.{has_key, parents_by, parents_in, reference}
+use Rattle.sql_model.specs.Scope.{is_table, table_at}
 use Rattle.sql_model.specs.Tables.{AreWellFormed, are_keys_unique}
 use Rattle.table_store.specs.Afterwards.{is_keyed}
-use Rattle.table_store.specs.Histories.{RowHistory, StoreHistory, TableHistory, history_at, history_of_row, is_history, is_of_number, last_next, no_history, row_now, rows_now, slot_of_row, table_now, tables_now, version_now}
+use Rattle.table_store.specs.Histories.{RowHistory, StoreHistory, TableHistory, history_at, history_of_row, is_history, is_of_number, no_history, row_now, rows_now, slot_of_row, table_now, tables_now, version_now}
 use Rattle.table_store.specs.ParentRows.{if_stands, last_given, member_at, member_now, member_of, number_in, number_of_key, number_put, parent_by, parent_in, parent_number, parents_in_row, unless_given}
-use Rattle.table_store.specs.Referring.{CanBePut, IsAtVersion, are_apart, origin_now, parents_in_db, parents_now, version_at, with_put}
+use Rattle.table_store.specs.Referring.{CanBePut, IsAtVersion, are_apart, origin_now, parents_now, version_at, with_put}
 use Rattle.table_store.specs.RowOrder.{AreInOrder}
 use Rattle.table_store.specs.Stops.{are_sorted_numbers, are_sorted_rows, has_number, is_among, replaced_by, values_of, with_changed}
 use Rattle.table_store.specs.Types.{Foreign, Member, RowKey, Table, TableRow, Value}
@@ -36,7 +35,7 @@ use Rattle.table_store.proofs.ChildLaws.{any_found}
 use Rattle.table_store.proofs.FormedLaws.{or_none}
 use Rattle.table_store.proofs.IndexLaws.{no_slot_has, row_in_slot}
 use Rattle.table_store.proofs.NowLaws.{now_at}
-use Rattle.table_store.proofs.PutLaws.{AmongRows, TakesPlace, any_same, find_none, found_some, kept_row, put_found, put_in, takes_place}
+use Rattle.table_store.proofs.PutLaws.{AmongRows, TakesPlace, any_same, find_none, found_some, kept_row, put_found, takes_place}
 use Rattle.table_store.proofs.RefusalLaws.{keyed_parent, own_history, unique_found}
 use Rattle.table_store.proofs.StandingRows.{only-one}
 use Rattle.table_store.proofs.TableLaws.{slot_here_is, version_here, version_none}

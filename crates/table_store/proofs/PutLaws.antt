@@ -1,12 +1,12 @@
 -- Which parents are missing once rows are given: by the tables before, with the given rows and those that keep
 -- their place.
 use Rattle.std.proofs.Common.{◌≡◌, ℕ, ◌+◌, ◌<◌, ◌≤◌, List, [], ◌∷◌, ◌++◌, refl, sym, ap, ◌∙◌, subst, Bool, true, false, ◌⊎◌, inl, inr, arith}
-use Rattle.std.specs.Prelude.{Option, Some, None, map, filter, find, length, not, unwrap_or, ◌&&◌, ◌||◌, ◌==◌, if◌then◌else◌, nat_lt}
-use Rattle.std.specs.List.{flat_map, filter_map, list_any, list_all}
+use Rattle.std.specs.Prelude.{Option, Some, None, map, find, length, not, unwrap_or, ◌&&◌, ◌||◌, ◌==◌, if◌then◌else◌}
+use Rattle.std.specs.List.{filter_map, list_any, list_all}
 use Rattle.std.specs.Option.{option_map, option_map_or}
 use Rattle.std.proofs.lemmas.Bool.{cases_Bool, ne_eqb}
 use Rattle.ldv_value.proofs.Booleans.{and-parts, and-true, or-left, or-right, or-false, or-cases, or-parts, not-so, true≢false}
-use Rattle.ldv_value.proofs.Lists.{list_any-append, list_any-map, found-passes}
+use Rattle.ldv_value.proofs.Lists.{list_any-append, found-passes}
 use Rattle.ldv_value.proofs.Options.{none-some, same-some}
 use Rattle.ldv_value.proofs.SameBytes.{bytes_eq-true, nat_eq-true}
 use Rattle.std.proofs.lemmas.Bool.Decides.{Decides-eqb}
@@ -17,8 +17,8 @@ use Rattle.sql_model.specs.Meaning.{is_null}
 use Rattle.sql_model.specs.References.{Missing, first_in, reference, has_key, missing_key, missing_by, missing_parents}
 use Rattle.sql_model.specs.Scope.{same_text, is_table, table_at}
 use Rattle.sql_model.specs.Tables.{are_keys_unique}
-use Rattle.table_store.specs.Afterwards.{first_some, has_values, keeps, has_put, put_missing, missing_put, missing_in_row, missing_in_rows}
-use Rattle.table_store.specs.Stops.{replaced_by, is_among, all_stood, are_sorted_rows, with_inserted, with_replaced, with_changed}
+use Rattle.table_store.specs.Afterwards.{has_values, keeps, has_put, put_missing, missing_put, missing_in_row, missing_in_rows}
+use Rattle.table_store.specs.Stops.{replaced_by, is_among, all_stood, are_sorted_rows, with_inserted, with_changed}
 use Rattle.table_store.specs.Types.{Foreign, Table, TableRow, Value}
 use Rattle.table_store.proofs.FirstLaws.{first_flat, first_filter_map, first_agree, first_agree_of, first_map}
 use Rattle.table_store.proofs.GivenKeyLaws.{given_rise}

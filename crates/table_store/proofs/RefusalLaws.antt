@@ -1,12 +1,12 @@
 -- What references refuse a change for, by what the code looks up.
 use Rattle.std.proofs.Common.{◌≡◌, ℕ, ◌+◌, ◌<◌, List, [], ◌∷◌, length, refl, sym, ap, ◌∙◌, subst, Bool, true, false, cond, is_some, inl, inr, arith}
-use Rattle.std.specs.Prelude.{Option, Some, None, map, filter, find, zip, not, ◌&&◌, ◌||◌, ◌==◌, if◌then◌else◌}
+use Rattle.std.specs.Prelude.{Option, Some, None, map, find, zip, not, ◌&&◌, ◌||◌, ◌==◌, if◌then◌else◌}
 use Rattle.std.specs.List.{list_any, list_all}
 use Rattle.std.specs.Option.{option_map, option_map_or, option_or}
-use Rattle.std.proofs.lemmas.Bool.{cases_Bool, ne_eqb, not-true}
+use Rattle.std.proofs.lemmas.Bool.{cases_Bool, not-true}
 use Rattle.ldv_value.proofs.Booleans.{and-parts, not-so, or-left, or-right, true≢false}
 use Rattle.ldv_value.proofs.Lists.{found-all, found-passes, list_all-map, list_all-weaker, list_any-map}
-use Rattle.ldv_value.proofs.Options.{none-some, same-some}
+use Rattle.ldv_value.proofs.Options.{same-some}
 use Rattle.ldv_value.proofs.SameBytes.{bytes_eq-true}
 use Rattle.sql_model.proofs.Databases.{parents_of_database, valid_of_database}
 use Rattle.sql_model.proofs.Equations.{table_schema, schema_found}
@@ -14,7 +14,7 @@ use Rattle.sql_model.proofs.UniqueRows.{values_in}
 use Rattle.sql_model.proofs.ValidTables.{table-parts}
 use Rattle.sql_model.specs.Changes.{numbered}
 use Rattle.sql_model.specs.ForeignKeys.{fits_place, fits_parent, has_parents, have_parents}
-use Rattle.sql_model.specs.References.{Missing, Orphan, first_in, has_key, is_lost, missing_parents, orphans}
+use Rattle.sql_model.specs.References.{Orphan, has_key, is_lost}
 use Rattle.sql_model.specs.Scope.{is_table, table_at, schema_at, catalog_of}
 use Rattle.sql_model.specs.Tables.{AreWellFormed, are_keys_unique, is_valid_table}
 use Rattle.table_store.specs.Afterwards.{has_values, keeps, has_put, is_keyed, missing_in_rows, loses, orphan_in_tables, refers_to}
@@ -24,7 +24,7 @@ use Rattle.table_store.specs.Stops.{is_among, all_stood, are_sorted_rows, with_c
 use Rattle.table_store.specs.Types.{Foreign, Table, TableRow, Value}
 use Rattle.table_store.specs.declared.stop.StoreStop.{StoreStop}
 use Rattle.table_store.proofs.LossLaws.{away_tables, in_tables, same_lost, same_has, removed_lost, replaced_lost, bare_orphans}
-use Rattle.table_store.proofs.PutLaws.{put_in, given_same, missing_are, inserted_has, replaced_has, takes_place}
+use Rattle.table_store.proofs.PutLaws.{given_same, missing_are, inserted_has, replaced_has, takes_place}
 
 -- ---- the table of a history
 

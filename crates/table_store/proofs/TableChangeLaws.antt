@@ -1,17 +1,21 @@
 -- Changes of a table: what its rows are afterwards, and before.
 use Rattle.std.proofs.Common.{◌≡◌, ◌==◌, ℕ, zero, suc, ◌+◌, ◌<◌, ◌≤◌, inl, inr, Bool, true, false, cond, not, ◌||◌, List, [], ◌∷◌, ◌++◌, map, length, get_or, refl, ap, sym, subst, ◌∙◌, arith, Option, Some, None, eqb-true, append-nil}
-use Rattle.std.specs.Prelude.{find, filter, IsSome, nat_le, nat_lt, unwrap_or}
+use Rattle.std.specs.Prelude.{find, filter, IfSome, IsSome, nat_le, nat_lt, unwrap_or}
 use Rattle.std.specs.List.{cons_option, list_any, list_all, last_or}
 use Rattle.std.specs.Option.{option_map, option_map_or}
 use Rattle.std.proofs.lemmas.Bool.{cases_Bool, cases_lt, ltb-true, lt-leb}
 use Rattle.std.proofs.lemmas.List.Elements.{filter-append, filter_map-append}
 use Rattle.ldv_value.proofs.Booleans.{and-parts}
+use Rattle.ldv_value.proofs.Lists.{all-weaker}
+use Rattle.ldv_value.proofs.Options.{same-some}
 use Rattle.ldv_value.specs.Sorted.{is_strictly_sorted, precedes_first}
 use Rattle.row_version.specs.History.{Change, written, deleted, current, as_of, last_time, IsSorted}
 use Rattle.row_version.proofs.Later.{current_after, last_time_after, as_of_earlier, sorted_after}
 use Rattle.sql_model.specs.Changes.{numbered}
 use Rattle.sql_model.specs.Needs.{stood}
-use Rattle.table_store.specs.Types.{Value, RowKey, Column, Schema, Table, TableRow}
+use Rattle.sql_model.specs.References.{reference}
+use Rattle.table_store.specs.Types.{Value, RowKey, Column, Foreign, Schema, Table, TableRow}
+use Rattle.table_store.specs.ChildPairs.{Pairs, AreReferred, IsReferred, KeepPairs, no_foreign}
 use Rattle.table_store.specs.Grid.{next_after}
 use Rattle.table_store.specs.Histories.{RowHistory, NextSince, TableHistory, no_history, row_of, row_now, rows_now, row_as_of, rows_as_of, added, with_change, changed_by, writing, dropping, rewritten, dropped, last_next, last_since, next_as_of, noted, table_now, inserted, replaced, removed}
 use Rattle.table_store.specs.KeyIndex.{Held, AreHeld, AreIndexed}
@@ -307,16 +311,18 @@ replaced_now time rows table stand =
 
 -- ---- the parts afterwards
 
-pub stored_changed : (schema : Schema) (rows : RowsHistory) (held new : Held) (nexts : List NextSince) (time : ℕ) (given : List RowChange) → IsStored schema rows held nexts → last_since nexts < time
+pub stored_changed : (schema : Schema) (rows : RowsHistory) (held new : Held) (pairs more : Pairs) (nexts : List NextSince) (time : ℕ) (given : List RowChange) → IsStored schema rows held pairs nexts → last_since nexts < time
     → AreIndexed schema.key new (rows_now (map (changed_by (changes_given time given)) rows.slots))
-    → IsStored schema (record rows { slots = map (changed_by (changes_given time given)) rows.slots }) new (noted time rows.next nexts)
-stored_changed schema rows held new nexts time given stored later indexed = record {
+    → AreReferred more schema.foreign (rows_now (map (changed_by (changes_given time given)) rows.slots))
+    → IsStored schema (record rows { slots = map (changed_by (changes_given time given)) rows.slots }) new more (noted time rows.next nexts)
+stored_changed schema rows held new pairs more nexts time given stored later indexed referred = record {
   kinds = stored.kinds;
   next = noted_next time rows.next nexts;
   in_time = noted_in_time time rows.next nexts later stored.in_time;
   timed = subst (λ (t : ℕ). AreTimed t (map (changed_by (changes_given time given)) rows.slots)) (sym (noted_since time rows.next nexts))
       (changed_timed time given rows.slots (before_all (last_since nexts) time rows.slots stored.timed later));
   indexed = indexed;
+  referred = referred;
 }
 
 pub indexed_removed : (key : List ℕ) (held : Held) (time : ℕ) (numbers : List ℕ) (slots : List RowHistory) → AreIndexed key held (rows_now slots) → AreIndexed key held (rows_now (map (changed_by (changes_given time (map removal numbers))) slots))
@@ -324,9 +330,79 @@ indexed_removed key held time numbers slots indexed =
     subst (λ (l : List TableRow). AreIndexed key held l) (sym (ap (λ (changes : List (ℕ × Change)). rows_now (map (changed_by changes) slots)) (changes_removed time numbers) ∙ now_dropped time numbers slots))
     (indexed_kept key held (λ row. not (is_among numbers row)) (rows_now slots) indexed)
 
--- an index with more keys
-pub stored_wider : (schema : Schema) (rows : RowsHistory) (old new : Held) (nexts : List NextSince) → ((q : RowKey) (n : ℕ) → old q ≡ Some n → new q ≡ Some n) → IsStored schema rows old nexts → IsStored schema rows new nexts
-stored_wider schema rows old new nexts keeps stored = record {
+-- ---- references afterwards
+
+referred_wider : (foreigns : List Foreign) (old new : Pairs) (rows : List TableRow) → KeepPairs old new → AreReferred old foreigns rows → AreReferred new foreigns rows
+referred_wider foreigns old new rows keep = all-weaker (IsReferred old foreigns) (IsReferred new foreigns) (λ row is place within. by place row.number (reference (get_or foreigns place no_foreign) row.values) (is place within)) rows
+  where
+    by : (place number : ℕ) (o : Option (List Value)) → IfSome o (λ key. old place key number ≡ true) → IfSome o (λ key. new place key number ≡ true)
+    by place number None is = tt
+    by place number (Some key) is = keep place key number is
+
+pub referred_removed : (foreigns : List Foreign) (pairs : Pairs) (time : ℕ) (numbers : List ℕ) (slots : List RowHistory) → AreReferred pairs foreigns (rows_now slots)
+    → AreReferred pairs foreigns (rows_now (map (changed_by (changes_given time (map removal numbers))) slots))
+referred_removed foreigns pairs time numbers slots referred =
+    subst (λ (l : List TableRow). AreReferred pairs foreigns l) (sym (ap (λ (changes : List (ℕ × Change)). rows_now (map (changed_by changes) slots)) (changes_removed time numbers) ∙ now_dropped time numbers slots))
+    (left (λ row. not (is_among numbers row)) (rows_now slots) referred)
+  where
+    left : (p : TableRow → Bool) (rows : List TableRow) → AreReferred pairs foreigns rows → AreReferred pairs foreigns (filter p rows)
+    left p [] all = tt
+    left p (row ∷ rows) all = by (p row) (left p rows all.1)
+      where
+        by : (b : Bool) → AreReferred pairs foreigns (filter p rows) → AreReferred pairs foreigns (cond b (row ∷ filter p rows) (filter p rows))
+        by true rest = (all.0, rest)
+        by false rest = rest
+
+-- each given row, and each that was there
+pub referred_replaced : (foreigns : List Foreign) (old new : Pairs) (time : ℕ) (rows : List TableRow) (slots : List RowHistory) → GivenStand rows slots → KeepPairs old new
+    → AreReferred old foreigns (rows_now slots) → AreReferred new foreigns rows
+    → AreReferred new foreigns (rows_now (map (changed_by (changes_given time (map rewrite rows))) slots))
+referred_replaced foreigns old new time rows slots stand keep there given =
+    subst (λ (l : List TableRow). AreReferred new foreigns l) (sym (ap (λ (changes : List (ℕ × Change)). rows_now (map (changed_by changes) slots)) (changes_written time rows) ∙ now_rewritten time rows slots stand))
+    (put (rows_now slots) (referred_wider foreigns old new (rows_now slots) keep there))
+  where
+    found : (number : ℕ) (some : List TableRow) (row : TableRow) → AreReferred new foreigns some → find (λ (one : TableRow). one.number == number) some ≡ Some row → IsReferred new foreigns row
+    found number [] row all is = cc
+    found number (first ∷ some) row all is = elim (cases_Bool (first.number == number)) [
+      | inl hit ↦
+          let e : Some first ≡ Some row = sym (ap (λ b. cond b (Some first) (find (λ (one : TableRow). one.number == number) some)) hit) ∙ is in
+          subst (λ (r : TableRow). IsReferred new foreigns r) (same-some first row e) all.0
+      | inr miss ↦ found number some row all.1 (sym (ap (λ b. cond b (Some first) (find (λ (one : TableRow). one.number == number) some)) miss) ∙ is)
+    ]
+
+    one : (row : TableRow) (o : Option TableRow) → find (λ (new : TableRow). new.number == row.number) rows ≡ o → IsReferred new foreigns row → IsReferred new foreigns (unwrap_or o row)
+    one row None is own = own
+    one row (Some next) is own = found row.number rows next given is
+
+    put : (some : List TableRow) → AreReferred new foreigns some → AreReferred new foreigns (map (replaced_by rows) some)
+    put [] all = tt
+    put (row ∷ some) all = (one row (find (λ (new : TableRow). new.number == row.number) rows) refl all.0, put some all.1)
+
+pub referred_inserted : (foreigns : List Foreign) (old new : Pairs) (rows more : List TableRow) → KeepPairs old new → AreReferred old foreigns rows → AreReferred new foreigns more
+    → AreReferred new foreigns (rows ++ more)
+referred_inserted foreigns old new rows more keep there given = both rows (referred_wider foreigns old new rows keep there)
+  where
+    both : (some : List TableRow) → AreReferred new foreigns some → AreReferred new foreigns (some ++ more)
+    both [] all = given
+    both (row ∷ some) all = (all.0, both some all.1)
+
+-- an index in which keys were claimed, and more references
+pub stored_claimed : (schema : Schema) (rows : RowsHistory) (old new : Held) (pairs more : Pairs) (nexts : List NextSince) → AreIndexed schema.key new (rows_now rows.slots) → KeepPairs pairs more
+    → IsStored schema rows old pairs nexts → IsStored schema rows new more nexts
+stored_claimed schema rows old new pairs more nexts indexed keep stored = record {
+  kinds = stored.kinds;
+  next = stored.next;
+  in_time = stored.in_time;
+  timed = stored.timed;
+  indexed = indexed;
+  referred = referred_wider schema.foreign pairs more (rows_now rows.slots) keep stored.referred;
+}
+
+-- an index with more keys, and more references
+pub stored_wider : (schema : Schema) (rows : RowsHistory) (old new : Held) (pairs more : Pairs) (nexts : List NextSince) → ((q : RowKey) (n : ℕ) → old q ≡ Some n → new q ≡ Some n) → KeepPairs pairs more
+    → IsStored schema rows old pairs nexts → IsStored schema rows new more nexts
+stored_wider schema rows old new pairs more nexts keeps keep stored = record {
+  referred = referred_wider schema.foreign pairs more (rows_now rows.slots) keep stored.referred;
   kinds = stored.kinds;
   next = stored.next;
   in_time = stored.in_time;
@@ -357,10 +433,12 @@ replaced_before time rows table earlier less =
     ap (λ (changes : List (ℕ × Change)). rows_as_of earlier (map (changed_by changes) table.slots)) (sym (changes_written time rows))
     ∙ changed_earlier time (map rewrite rows) earlier less table.slots
 
-pub stored_inserted : (schema : Schema) (rows : RowsHistory) (old new : Held) (nexts : List NextSince) (time : ℕ) (values : List (List Value)) → IsStored schema rows old nexts → last_since nexts < time
+pub stored_inserted : (schema : Schema) (rows : RowsHistory) (old new : Held) (pairs more : Pairs) (nexts : List NextSince) (time : ℕ) (values : List (List Value)) → IsStored schema rows old pairs nexts → last_since nexts < time
     → AreIndexed schema.key new (rows_now rows.slots ++ numbered rows.next values)
-    → IsStored schema (record rows { slots = rows.slots ++ map (added time) (numbered rows.next values); next = next_after rows.next (numbered rows.next values) }) new (noted time (next_after rows.next (numbered rows.next values)) nexts)
-stored_inserted schema rows old new nexts time values stored later indexed = record {
+    → AreReferred more schema.foreign (rows_now rows.slots ++ numbered rows.next values)
+    → IsStored schema (record rows { slots = rows.slots ++ map (added time) (numbered rows.next values); next = next_after rows.next (numbered rows.next values) }) new more (noted time (next_after rows.next (numbered rows.next values)) nexts)
+stored_inserted schema rows old new pairs more nexts time values stored later indexed referred = record {
+  referred = subst (λ (l : List TableRow). AreReferred more schema.foreign l) (sym (now_more time rows.slots (numbered rows.next values))) referred;
   kinds = stored.kinds;
   next = noted_next time (next_after rows.next (numbered rows.next values)) nexts;
   in_time = noted_in_time time (next_after rows.next (numbered rows.next values)) nexts later stored.in_time;

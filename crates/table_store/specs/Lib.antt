@@ -1,6 +1,8 @@
 pub mod Afterwards
 pub mod Cells
 pub mod CellTests
+pub mod ChildPairs
+pub mod ChildSteps
 pub mod Claims
 pub mod Flags
 pub mod GivenKeys

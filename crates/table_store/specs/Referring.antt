@@ -1,12 +1,11 @@
 -- What references between the tables of a store refuse, and the parent rows of given rows.
-use Rattle.std.specs.Prelude.{◌≡◌, ℕ, ◌++◌, ◌==◌, ◌⊎◌, Bool, true, not, List, [], map, filter, Option}
-use Rattle.std.specs.Prelude.{Some, None, is_none}
+use Rattle.std.specs.Prelude.{◌≡◌, ℕ, ◌++◌, ◌==◌, ◌⊎◌, Bool, true, not, List, map, filter, Option}
+use Rattle.std.specs.Prelude.{Some, is_none}
 use Rattle.std.specs.List.{list_any}
 use Rattle.std.specs.Option.{option_map, option_map_or, option_or, option_and_then}
 use Rattle.sql_model.specs.Changes.{key_clash, numbered, stood, with_rows}
 use Rattle.sql_model.specs.QueryAnswer.{Origin}
 use Rattle.sql_model.specs.References.{Missing, Orphan, first_in, missing_parents, orphans, parents_of}
-use Rattle.sql_model.specs.Scope.{table_at}
 use Rattle.table_store.specs.Histories.{StoreHistory, tables_now, history_at, history_of_row, version_now}
 use Rattle.table_store.specs.Stops.{insert_stop, replace_stop, is_among, replaced_by, values_of, all_stood}
 use Rattle.table_store.specs.Stops.{are_sorted_rows}

@@ -5,6 +5,7 @@ use Rattle.row_version.specs.History.{IsSorted, last_time}
 use Rattle.table_store.specs.Types.{Column, Schema, Table}
 use Rattle.table_store.specs.Histories.{RowHistory, NextSince, TableHistory, no_history, last_next}
 use Rattle.table_store.specs.Histories.{last_since, added, rows_now}
+use Rattle.table_store.specs.ChildPairs.{Pairs, AreReferred, pair_in}
 use Rattle.table_store.specs.IndexView.{held_in}
 use Rattle.table_store.specs.KeyIndex.{Held, AreIndexed}
 use Rattle.table_store.specs.Nexts.{nexts_of, AreInTime}
@@ -31,20 +32,21 @@ abbrev pub kinds_in : List Column → List Bool
 kinds_in columns = map (λ column. column.text) columns
 
 -- the parts fit together
-pub record IsStored (schema : Schema) (rows : RowsHistory) (held : Held) (nexts : List NextSince)
-    : Type 0 where
+pub record IsStored (schema : Schema) (rows : RowsHistory) (held : Held) (pairs : Pairs)
+    (nexts : List NextSince) : Type 0 where
   pub kinds : rows.kinds ≡ kinds_in schema.columns
   pub next : last_next nexts ≡ rows.next
   pub in_time : AreInTime nexts
   pub timed : AreTimed (last_since nexts) rows.slots
   pub indexed : AreIndexed schema.key held (rows_now rows.slots)
+  pub referred : AreReferred pairs schema.foreign (rows_now rows.slots)
 
 -- what the index has at a key
 abbrev pub held_by : Inside → Held
 held_by a = λ key. held_in a.index key
 
 abbrev pub IsTable : Inside → Type 0
-IsTable a = IsStored a.schema a.rows (held_by a) (nexts_of a.nexts.items)
+IsTable a = IsStored a.schema a.rows (held_by a) (pair_in a.children) (nexts_of a.nexts.items)
 
 -- a table as it is at the start
 abbrev pub begun : Table → TableHistory

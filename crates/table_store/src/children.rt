@@ -3,12 +3,13 @@
 ghost use Rattle.std.specs.Prelude.{◌≡◌, ◌==◌, ◌&&◌, ◌||◌, ℕ, List, [], ◌∷◌, true, false, not, Some, IfOk};
 ghost use Rattle.std.specs.Prelude.{IsSome, OnOk, slice_index_or};
 ghost use Rattle.std.specs.List.{list_any};
-ghost use Rattle.std.specs.Option.{option_map, option_map_or};
+ghost use Rattle.std.specs.Option.{option_and_then, option_map, option_map_or};
 ghost use Rattle.row_version.specs.History.{current};
 ghost use Rattle.sql_model.specs.References.{child_of, has_key, orphan_by, reference};
 ghost use Rattle.table_store.specs.Afterwards.{first_some, in_set, loses, orphan_in_row, orphan_in_slot};
 ghost use Rattle.table_store.specs.Afterwards.{orphan_in_table, orphan_in_tables, refers_to};
-ghost use Rattle.table_store.specs.Histories.{no_history, row_now, table_now};
+ghost use Rattle.table_store.specs.ChildPairs.{given_in};
+ghost use Rattle.table_store.specs.Histories.{no_history, row_now, slot_of_row, table_now};
 ghost use Rattle.table_store.specs.Referring.{child_stop};
 ghost use Rattle.table_store.specs.Stops.{are_sorted_numbers, is_among};
 ghost use Rattle.sql_model.specs.Keys.{same_values, values_at};
@@ -16,6 +17,7 @@ ghost use Rattle.sql_model.specs.Scope.{is_table, same_text};
 ghost use Rattle.table_store.specs.Types.{Value};
 ghost use Rattle.table_store.specs.declared.stop.StoreStop.TheVariants.{HasChild};
 
+use crate::child_rows::first_referring;
 use crate::given::is_given;
 use crate::index::key_of;
 use crate::stop::StoreStop;
@@ -174,16 +176,46 @@ fn child_in(
     ensures { IfOk result (λ stop. stop ≡ option_map child_stop
         (orphan_in_table (is_among numbers.now) target.now (in_set lost.now) table.now)) }
 {
-    if !refers_to(table, target) {
-        return Ok(None);
-    }
-    for slot in 0..table.slots() {
-        let stop = child_at(alloc, table, slot, target, numbers, lost)?;
-        if stop.is_some() {
-            return Ok(stop);
+    table.tell_order();
+    let given = given_in(table, target, numbers);
+    let first = first_referring(alloc, table, target, given, lost)?;
+    match first {
+        None => Ok(None),
+        Some(number) => {
+            let stop = child_of_number(alloc, table, number, target, numbers, lost)?;
+            Ok(stop)
         }
     }
-    Ok(None)
+}
+
+// The numbers that are given of a table: those of the target.
+fn given_in<'a>(table: &TableStore, target: &str, numbers: &'a [u32]) -> &'a [u32]
+    ensures { result.now ≡ given_in (is_table target.now (table_now table.now)) numbers.now }
+{
+    if table.name() == target { numbers } else { &[] }
+}
+
+// The row of a number, if it stands, isn't given and refers to one of the keys.
+fn child_of_number(
+    alloc: Global,
+    table: &TableStore,
+    number: u32,
+    target: &str,
+    numbers: &[u32],
+    lost: &BTreeSet<RowKey>,
+) -> Result<Option<StoreStop>, AllocError>
+    requires sorted { are_sorted_numbers numbers.now ≡ true }
+    ensures { IfOk result (λ stop. stop ≡ option_map child_stop (option_and_then
+        (λ slot. orphan_in_slot (is_among numbers.now) target.now (in_set lost.now) (table_now table.now)
+        (slice_index_or table.now.slots slot no_history)) (slot_of_row number table.now.slots))) }
+{
+    match table.slot_of(number) {
+        None => Ok(None),
+        Some(slot) => {
+            let stop = child_at(alloc, table, slot, target, numbers, lost)?;
+            Ok(stop)
+        }
+    }
 }
 
 // The row in a slot, if it stands, isn't given and refers to one of the keys.

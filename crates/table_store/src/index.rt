@@ -84,8 +84,8 @@ impl Index {
     }
 }
 
-// The number that is a whole key.
-fn int_key(key: &[Value]) -> Option<i64>
+/// The number that is a whole key.
+pub(crate) fn int_key(key: &[Value]) -> Option<i64>
     ensures { result ≡ int_key key.now }
 {
     match key {
@@ -211,8 +211,8 @@ pub(crate) fn has_key_at(rows: &Rows, places: &Places, key: &Values, number: u64
     }
 }
 
-// Whether the row in a slot stands and has a key.
-fn has_key_in(rows: &Rows, places: &Places, key: &Values, slot: usize) -> bool
+/// Whether the row in a slot stands and has a key.
+pub(crate) fn has_key_in(rows: &Rows, places: &Places, key: &Values, slot: usize) -> bool
     requires { slot < length rows.now.slots }
     ensures found { find (has_key places.now key.now)
         (option_to_list (row_now (slice_index_or rows.now.slots slot no_history)))

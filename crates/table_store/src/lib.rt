@@ -26,13 +26,16 @@
 //! beside it (`chains`, `rows`). An index has the number of each row under its key (`index`): in a map of
 //! numbers where a key is one number, and in a map of lists of values otherwise (`key_map`). The index may
 //! have keys that no row has any more, so that a change that fails half way needn't take keys back: whoever
-//! looks up a key looks at the row too.
+//! looks up a key looks at the row too. Another index has, for each foreign key, the numbers of rows under
+//! the keys to which they refer (`child_set`, `child_index`). By it the rows that would lose their parent are
+//! found (`child_rows`), and it too may have more than what is so now.
 //!
 //! How rows change: all room that a change takes is made first (`room`), and then the change can't fail
 //! (`apply`). Keys of new rows go into the index one after the other (`claim`). Where rows get other
 //! values and keep their keys, the index stays. Where a key changes, the given rows' keys are judged against
 //! each other and against the rows that keep theirs (`rekey`, `clash`). Keys that the index lacks get a
-//! number before the rows change, and all get their own afterwards, which takes no memory.
+//! number before the rows change, and all get their own afterwards, which takes no memory. References of
+//! given rows go into their index before the rows change, and what holds no longer is taken out afterwards.
 #![tactic(auto)]
 
 mod apply;
@@ -41,6 +44,9 @@ mod cell;
 mod cell_test;
 mod chains;
 mod change;
+mod child_index;
+mod child_rows;
+mod child_set;
 mod children;
 mod chosen;
 mod claim;

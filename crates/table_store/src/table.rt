@@ -11,6 +11,7 @@ ghost use Rattle.sql_model.specs.Scope.{value_at};
 ghost use Rattle.sql_model.specs.Tables.{is_valid_table};
 ghost use Rattle.table_store.specs.LentCells.{lent_value};
 ghost use Rattle.table_store.specs.Cells.{null_passes, passes_test};
+ghost use Rattle.table_store.specs.ChildPairs.{no_foreign, refers, IsNextOf};
 ghost use Rattle.table_store.specs.KeyIndex.{has_key};
 ghost use Rattle.table_store.specs.Types.{Null};
 ghost use Rattle.table_store.specs.Histories.{added, inserted, replaced, removed, noted, changed_by};
@@ -29,7 +30,9 @@ ghost use Rattle.table_store.specs.TableView.{begun, kinds_in, AreTimed};
 
 use crate::cell::Cell;
 use crate::change::{RowChange, removals, rewrites};
+use crate::child_index::{ChildIndex, add_all, referring, settle_all};
 use crate::claim::claim;
+use crate::given::numbers_of;
 use crate::index::{Index, held_number, index_of, number_by_slots};
 use crate::insert::{any_lacks_value, any_row_lacks_value, is_full, numbered_rows};
 use crate::nexts::{NextSince, first_next, last_since, next_as_of};
@@ -49,6 +52,7 @@ pub struct TableStore {
     schema: Schema,
     rows: Rows,
     index: Index,
+    children: ChildIndex,
     nexts: Vec<NextSince>,
 }
 
@@ -79,6 +83,7 @@ impl TableStore {
         } = table;
         let alloc = name.allocator();
         let index = index_of(alloc, &schema.key, rows.items())?;
+        let children = referring(alloc, &schema.foreign, rows.items())?;
         let texts = texts_of(alloc, &schema.columns)?;
         let mut held = Rows::new(alloc, texts.as_slice())?;
         held.push_all(rows, 0)?;
@@ -89,6 +94,7 @@ impl TableStore {
             schema,
             rows: held,
             index,
+            children,
             nexts,
         })
     }
@@ -126,6 +132,31 @@ impl TableStore {
     {
         let _nexts = &self.nexts;
         self.rows.tell_order();
+    }
+
+    /// The number of the next row is below 2^32. The call does nothing; it lends this to the caller.
+    pub(crate) fn tell_small(&self)
+        ensures { last_next self.now.nexts < 2 ^ 32 }
+    {
+        let _nexts = &self.nexts;
+        self.rows.tell_order();
+    }
+
+    /// The least number, from one on, of a row that may refer to a key by the foreign key at a place: no
+    /// lower one from there on does.
+    pub(crate) fn referring_from(
+        &self,
+        place: usize,
+        key: &RowKey,
+        from: u32,
+    ) -> Result<Option<u32>, AllocError>
+        requires { place < length self.now.schema.foreign }
+        ensures { IfOk result (IsNextOf
+            (refers (slice_index_or self.now.schema.foreign place no_foreign) key.now.values)
+            (rows_now self.now.slots) from) }
+    {
+        let found = self.children.first_from(place, key, from)?;
+        Ok(found)
     }
 
     /// The changes of each row are sorted by time, and none is later than the last change of the table. The
@@ -248,6 +279,15 @@ impl TableStore {
         }
     }
 
+    /// The version of the row in a slot, which stands: how often it has changed. No slot is looked for.
+    #[tactic(auto, using(crate::proofs::TableLaws::slot_rules))]
+    pub fn version_at(&self, slot: u64) -> u32
+        requires { IsSome (current (slice_index_or self.now.slots slot no_history).changes) }
+        ensures { result ≡ version (slice_index_or self.now.slots slot no_history).changes }
+    {
+        self.rows.version(slot as usize)
+    }
+
     /// The number of the row that stands with a key; `None` where no row has it. The table has a key.
     pub fn by_key(&self, key: &Values) -> Option<u32>
         requires { 0 < length self.now.schema.key }
@@ -335,6 +375,12 @@ impl TableStore {
             Some(stop) => return Err(stop),
         }
         let made = numbered_rows(alloc, rows, next)?;
+        add_all(
+            alloc,
+            &mut self.children,
+            &self.schema.foreign,
+            made.items(),
+        )?;
         add_rows(&mut self.rows, &mut self.nexts, made, time)?;
         Ok(next)
     }
@@ -377,11 +423,27 @@ impl TableStore {
             None => {}
             Some(stop) => return Err(stop),
         }
+        let before = last_since(self.nexts.as_slice());
+        let numbers = numbers_of(alloc, rows.items())?;
+        add_all(
+            alloc,
+            &mut self.children,
+            &self.schema.foreign,
+            rows.items(),
+        )?;
         self.index.open_all(&claims)?;
         self.rows.tell_order();
         let given = rewrites(alloc, rows)?;
         change_rows(alloc, &mut self.rows, &mut self.nexts, given, time)?;
         self.index.set_all(claims);
+        settle_all(
+            alloc,
+            &mut self.children,
+            &self.schema.foreign,
+            &self.rows,
+            numbers.as_slice(),
+            before,
+        );
         Ok(())
     }
 
@@ -406,8 +468,17 @@ impl TableStore {
             Some(stop) => return Err(stop),
         }
         let alloc = self.name.allocator();
+        let before = last_since(self.nexts.as_slice());
         let given = removals(alloc, numbers.items())?;
         change_rows(alloc, &mut self.rows, &mut self.nexts, given, time)?;
+        settle_all(
+            alloc,
+            &mut self.children,
+            &self.schema.foreign,
+            &self.rows,
+            numbers.items(),
+            before,
+        );
         Ok(())
     }
 }

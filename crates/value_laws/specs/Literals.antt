@@ -59,5 +59,6 @@ ScriptLiteralsLaw = (bytes : List ℕ) (script : List Instr) → script_of bytes
 
 -- A text that isn't too long is a good statement with good parameters.
 abbrev pub StatementLiteralsLaw : Type 0
-StatementLiteralsLaw = (text : List ℕ) (params : List Value) (s : Statement) → statement_of text params ≡ Some s
+StatementLiteralsLaw = (text : List ℕ) (params : List Value) (s : Statement)
+    → statement_of text params ≡ Some s
     → IsUtf8 text → length text ≤ text_limit → GoodValues params → GoodStatement s

@@ -1,4 +1,4 @@
-use Rattle.std.proofs.Common.{◌∙◌, ap, List}
+use Rattle.std.proofs.Common.{◌∙◌, ap}
 use Rattle.std.specs.List.{list_any}
 use Rattle.sql_model.specs.Scope.{same_text}
 use Rattle.table_store.specs.Types.{Foreign, Schema}

@@ -4,7 +4,7 @@ use Rattle.std.specs.Option.{option_to_list}
 use Rattle.std.proofs.lemmas.List.{take_all}
 use Rattle.table_store.specs.Afterwards.{is_keyed}
 use Rattle.table_store.specs.Histories.{tables_now}
-use Rattle.table_store.specs.ParentRows.{number_in, parent_by, parents_in_row}
+use Rattle.table_store.specs.ParentRows.{number_in, parent_by}
 use Rattle.table_store.specs.Referring.{IsAtVersion}
 use Rattle.table_store.specs.Types.{Foreign, Member}
 use Rattle.table_store.proofs.FormedLaws.{all_at}

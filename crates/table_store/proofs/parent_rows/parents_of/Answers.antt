@@ -1,9 +1,9 @@
-use Rattle.std.proofs.Common.{◌≡◌, ◌∙◌, ap, sym, List, ℕ, Bool, Option, true}
+use Rattle.std.proofs.Common.{◌≡◌, ◌∙◌, ap, sym, List, true}
 use Rattle.std.specs.List.{flat_map}
-use Rattle.table_store.specs.Histories.{last_next, table_now, tables_now}
+use Rattle.table_store.specs.Histories.{table_now, tables_now}
 use Rattle.table_store.specs.ParentRows.{last_given, number_in, parents_in_row}
 use Rattle.table_store.specs.Stops.{are_sorted_numbers, are_sorted_rows}
-use Rattle.table_store.specs.Types.{Schema, Table, TableRow, Value}
+use Rattle.table_store.specs.Types.{Schema, TableRow, Value}
 use Rattle.table_store.proofs.NowLaws.{now_at}
 use Rattle.table_store.proofs.ParentLaws.{numbers, numbers_sorted, parents_are, put_sorted}
 use Rattle.table_store.proofs.RefusalLaws.{keyed_all}

@@ -1,6 +1,5 @@
 use Rattle.std.proofs.Common.{◌≡◌, ◌∙◌, ap, sym, Option, Some, None, refl}
 use Rattle.std.specs.Prelude.{find, is_some}
-use Rattle.std.specs.List.{list_any}
 use Rattle.std.specs.Option.{option_map}
 use Rattle.sql_model.specs.References.{has_key}
 use Rattle.table_store.specs.Histories.{table_now}

@@ -1,4 +1,4 @@
-use Rattle.std.proofs.Common.{◌≡◌, ◌∙◌, ap, sym, List, ℕ, Some, Option}
+use Rattle.std.proofs.Common.{◌≡◌, ◌∙◌, ap, sym, List, ℕ, Some}
 use Rattle.std.specs.Option.{option_map}
 use Rattle.sql_model.specs.Keys.{values_at}
 use Rattle.table_store.specs.Afterwards.{has_put, in_set}

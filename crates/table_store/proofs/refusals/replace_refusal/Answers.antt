@@ -1,15 +1,14 @@
-use Rattle.std.proofs.Common.{rules, ◌≡◌, ◌∙◌, ap, sym, refl, subst, List, Bool, ℕ, Some, map, true, false, is_some}
-use Rattle.std.specs.Prelude.{find, nat_lt, ◌==◌, length}
+use Rattle.std.proofs.Common.{rules, ◌≡◌, ◌∙◌, ap, sym, refl, List, Bool, ℕ, Some, map, true, false, is_some}
+use Rattle.std.specs.Prelude.{nat_lt, ◌==◌, length}
 use Rattle.std.specs.List.{list_any}
 use Rattle.std.specs.Option.{option_map}
 use Rattle.ldv_value.proofs.Lists.{sorted-under}
 use Rattle.sql_model.specs.Scope.{table_at}
 use Rattle.table_store.specs.Afterwards.{has_put, has_values, in_set, loses, missing_in_rows, orphan_in_tables, refers_to}
-use Rattle.table_store.specs.Histories.{TableHistory, is_history, table_now, tables_now}
+use Rattle.table_store.specs.Histories.{TableHistory, table_now, tables_now}
 use Rattle.table_store.specs.Referring.{is_of, missing_stop, orphan_stop, parent_stop}
 use Rattle.table_store.specs.Stops.{are_sorted_numbers, is_among, with_changed, with_replaced}
 use Rattle.table_store.specs.Types.{Table, TableRow, Value}
-use Rattle.table_store.specs.declared.stop.StoreStop.{StoreStop}
 use Rattle.table_store.proofs.NowLaws.{now_at}
 use Rattle.table_store.proofs.RefusalLaws.{child_or, either_first, either_second, keyed_all, missing_same, orphan_same, replace_child, replace_missing}
 use Rattle.table_store.proofs.refusals.replace_refusal.Goals as goal

@@ -1,10 +1,9 @@
 use Rattle.std.proofs.Common.{◌≡◌, ◌∙◌, ap, sym, subst, List, Option, Some, true, get_or}
 use Rattle.std.specs.Prelude.{Err}
-use Rattle.std.specs.Option.{option_and_then}
 use Rattle.sql_model.specs.Scope.{table_at}
 use Rattle.sql_model.specs.Tables.{is_valid_table}
 use Rattle.table_store.specs.Histories.{TableHistory, removed, table_now, tables_now}
-use Rattle.table_store.specs.Referring.{delete_refusal, orphan_stop}
+use Rattle.table_store.specs.Referring.{orphan_stop}
 use Rattle.table_store.specs.Stops.{StopsAs, is_among, with_removed, all_stand}
 use Rattle.table_store.specs.Types.{Table}
 use Rattle.table_store.specs.declared.stop.StoreStop.{StoreStop}

@@ -1,6 +1,6 @@
-use Rattle.std.proofs.Common.{refl, List, ◌≡◌, ◌∙◌, ap, sym, subst, ℕ, Option, Some, true, get_or}
+use Rattle.std.proofs.Common.{refl, List, ◌≡◌, ◌∙◌, ap, sym, ℕ, Option, Some, true, get_or}
 use Rattle.std.specs.Prelude.{Err}
-use Rattle.std.specs.Option.{option_and_then, option_map}
+use Rattle.std.specs.Option.{option_map}
 use Rattle.sql_model.specs.Scope.{table_at}
 use Rattle.table_store.specs.Types.{Table}
 use Rattle.sql_model.specs.Changes.{numbered}

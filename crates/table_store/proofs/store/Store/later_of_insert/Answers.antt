@@ -6,7 +6,7 @@ use Rattle.table_store.specs.Stops.{with_changed, with_inserted}
 use Rattle.table_store.specs.Histories.{tables_now}
 use Rattle.table_store.specs.Types.{Table}
 use Rattle.table_store.specs.declared.stop.StoreStop.{StoreStop}
-use Rattle.table_store.proofs.NowLaws.{not_absent, given_now, now_at}
+use Rattle.table_store.proofs.NowLaws.{not_absent, now_at}
 use Rattle.table_store.proofs.RefusalLaws.{own_history}
 use Rattle.table_store.proofs.store.Store.later_of_insert.Goals as goal
 

@@ -1,4 +1,4 @@
-use Rattle.std.proofs.Common.{◌≡◌, ◌∙◌, ap, sym, subst, List, Option, true}
+use Rattle.std.proofs.Common.{◌≡◌, ◌∙◌, sym, subst, List, Option, true}
 use Rattle.std.specs.Prelude.{IfSome}
 use Rattle.table_store.specs.Histories.{table_now}
 use Rattle.table_store.specs.Referring.{CanBePut, are_apart, parents_now}

@@ -1,6 +1,4 @@
-use Rattle.std.proofs.Common.{List, ◌≡◌, ◌∙◌, ap, sym, subst, Option, Some, true, get_or}
-use Rattle.std.specs.Prelude.{Err}
-use Rattle.std.specs.Option.{option_and_then}
+use Rattle.std.proofs.Common.{List, ◌≡◌, ◌∙◌, ap, sym, Option, Some, true, get_or}
 use Rattle.sql_model.specs.Scope.{table_at}
 use Rattle.table_store.specs.Types.{Table, TableRow}
 use Rattle.sql_model.specs.Tables.{is_valid_table}

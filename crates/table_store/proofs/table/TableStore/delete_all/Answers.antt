@@ -2,6 +2,7 @@ use Rattle.std.proofs.Common.{◌≡◌, ◌∙◌, ◌<◌, ap, sym, subst, ℕ
 use Rattle.std.specs.Prelude.{Err}
 use Rattle.row_version.specs.History.{Change}
 use Rattle.table_store.specs.Histories.{RowHistory, NextSince, TableHistory, changed_by, last_since, last_next, noted, rows_now, dropped, removed}
+use Rattle.table_store.specs.ChildPairs.{Pairs, AreReferred, StayReferred, pair_in}
 use Rattle.table_store.specs.IndexView.{held_in}
 use Rattle.table_store.specs.KeyIndex.{Held, AreIndexed}
 use Rattle.table_store.specs.Nexts.{nexts_of}
@@ -12,7 +13,7 @@ use Rattle.table_store.specs.TableView.{IsStored}
 use Rattle.table_store.specs.declared.change.RowChange.{RowChange}
 use Rattle.table_store.specs.declared.stop.StoreStop.{StoreStop}
 use Rattle.table_store.proofs.ClaimLaws.{stop_due}
-use Rattle.table_store.proofs.TableChangeLaws.{before_all, removals_rise, removals_stand, removals_fit, changes_removed, stored_changed, indexed_removed}
+use Rattle.table_store.proofs.TableChangeLaws.{before_all, removals_rise, removals_stand, removals_fit, changes_removed, stored_changed, indexed_removed, referred_removed}
 use Rattle.table_store.proofs.table.TableStore.delete_all.Goals as goal
 
 pub change_rows-requires-clause-before : goal.change_rows-requires-clause-before
@@ -46,9 +47,13 @@ invariant_of-self-2 c =
     let is : given ≡ map removal numbers = c.in_ok-given.ensures ∙ ap (map removal) c.items.ensures in
     let later : last_since nexts < time = subst (λ (t : TableHistory). last_since t.nexts < time) (sym c.self.view_is) c.requires.later in
     let indexed = subst (λ (l : List RowChange). AreIndexed a.schema.key held (rows_now (map (changed_by (changes_given time l)) a.rows.slots))) (sym is) (indexed_removed a.schema.key held time numbers a.rows.slots c.self.invariant.indexed) in
-    let whole = stored_changed a.schema a.rows held held nexts time given c.self.invariant later indexed in
-    subst (λ (r : RowsHistory). IsStored a.schema r held (nexts_of c.change_rows.new.nexts.items)) (sym c.in_ok-change_rows.ensures.ok)
-    (subst (λ (n : List NextSince). IsStored a.schema (record a.rows { slots = map (changed_by (changes_given time given)) a.rows.slots }) held n) (sym c.in_ok-change_rows.ensures.nexts) whole)
+    let pairs : Pairs = pair_in a.children in
+    let referred = subst (λ (l : List RowChange). AreReferred pairs a.schema.foreign (rows_now (map (changed_by (changes_given time l)) a.rows.slots))) (sym is) (referred_removed a.schema.foreign pairs time numbers a.rows.slots c.self.invariant.referred) in
+    let left : Pairs = pair_in c.settle_all.new.index in
+    let settled = subst (λ (r : RowsHistory). StayReferred a.schema.foreign (rows_now r.slots) pairs left) c.in_ok-change_rows.ensures.ok c.settle_all.ensures in
+    let whole = stored_changed a.schema a.rows held held pairs left nexts time given c.self.invariant later indexed (settled referred) in
+    subst (λ (r : RowsHistory). IsStored a.schema r held left (nexts_of c.change_rows.new.nexts.items)) (sym c.in_ok-change_rows.ensures.ok)
+    (subst (λ (n : List NextSince). IsStored a.schema (record a.rows { slots = map (changed_by (changes_given time given)) a.rows.slots }) held left n) (sym c.in_ok-change_rows.ensures.nexts) whole)
 
 pub returns-clause-ok : goal.returns-clause-ok
 returns-clause-ok c =

@@ -9,6 +9,7 @@ use Rattle.table_store.specs.Types.{Value, TableRow}
 use Rattle.table_store.specs.Claims.{claim_stop}
 use Rattle.table_store.specs.Grid.{AreNumberedFrom, are_of_kinds, next_after}
 use Rattle.table_store.specs.Histories.{NextSince, TableHistory, added, inserted, last_since, noted, rows_now, table_now}
+use Rattle.table_store.specs.ChildPairs.{Pairs, AreReferred, pair_in}
 use Rattle.table_store.specs.IndexView.{held_in}
 use Rattle.table_store.specs.KeyIndex.{Held, AreIndexed}
 use Rattle.table_store.specs.Nexts.{nexts_of}
@@ -21,7 +22,7 @@ use Rattle.table_store.specs.declared.stop.StoreStop.TheVariants.{NotNull, Full}
 use Rattle.table_store.proofs.ClaimLaws.{stop_before, stop_first, stop_later}
 use Rattle.table_store.proofs.IndexLaws.{index_alike}
 use Rattle.table_store.proofs.InsertLaws.{null_stop, insert_stop_by, numbered_order, numbered_len, shapes_fit}
-use Rattle.table_store.proofs.TableChangeLaws.{stored_inserted, inserted_by}
+use Rattle.table_store.proofs.TableChangeLaws.{referred_inserted, stored_claimed, stored_inserted, inserted_by}
 use Rattle.table_store.proofs.table.TableStore.insert_all.Goals as goal
 
 pub returns-then-any_lacks_value-clause-stop : goal.returns-then-any_lacks_value-clause-stop
@@ -152,9 +153,14 @@ invariant_of-self-2 c =
     c.in_ok-add_rows.ensures.ok ∙ ap (λ (l : List TableRow). record a.rows { slots = a.rows.slots ++ map (added time) l; next = next_after a.rows.next l }) made_is in
     let nexts_are : nexts_of c.add_rows.new.nexts.items ≡ noted time (next_after a.rows.next more) nexts =
     c.in_ok-add_rows.ensures.nexts ∙ ap (λ (l : List TableRow). noted time (next_after a.rows.next l) nexts) made_is in
-    subst (λ (r : RowsHistory). IsStored a.schema r new (nexts_of c.add_rows.new.nexts.items)) (sym rows_are)
-    (subst (λ (n : List NextSince). IsStored a.schema (record a.rows { slots = a.rows.slots ++ map (added time) more; next = next_after a.rows.next more }) new n) (sym nexts_are)
-    (stored_inserted a.schema a.rows old new nexts time rows c.self.invariant later indexed))
+    let pairs : Pairs = pair_in a.children in
+    let wider : Pairs = pair_in c.add_all.new.index in
+    let items : c.items-4.result.now ≡ more = c.items-4.ensures ∙ made_is in
+    let referred = referred_inserted a.schema.foreign pairs wider (rows_now a.rows.slots) more c.add_all.ensures.kept c.self.invariant.referred
+    (subst (λ (l : List TableRow). AreReferred wider a.schema.foreign l) items c.in_ok-add_all.ensures.ok) in
+    subst (λ (r : RowsHistory). IsStored a.schema r new wider (nexts_of c.add_rows.new.nexts.items)) (sym rows_are)
+    (subst (λ (n : List NextSince). IsStored a.schema (record a.rows { slots = a.rows.slots ++ map (added time) more; next = next_after a.rows.next more }) new wider n) (sym nexts_are)
+    (stored_inserted a.schema a.rows old new pairs wider nexts time rows c.self.invariant later indexed referred))
 
 pub returns-clause-ok : goal.returns-clause-ok
 returns-clause-ok c =
@@ -171,3 +177,21 @@ returns-clause-ok c =
     c.in_ok-add_rows.ensures.nexts ∙ ap (λ (l : List TableRow). noted time (next_after a.rows.next l) nexts) made_is in
     let made : TableHistory = record { name = a.name; schema = a.schema; slots = a.rows.slots; nexts = nexts } in
     (λ j. record { name = made.name; schema = made.schema; slots = slots j; nexts = nexts_are j }) ∙ inserted_by a.name a.schema a.rows nexts time rows c.self.invariant.next ∙ ap (inserted time rows) c.self.view_is
+
+pub invariant_of-self-in_err-add_all : goal.invariant_of-self-in_err-add_all
+invariant_of-self-in_err-add_all c =
+    let a = c.self.inside in
+    let old : Held = λ q. held_in a.index q in
+    let new : Held = λ q. held_in c.claim.new.index q in
+    stored_claimed a.schema a.rows old new (pair_in a.children) (pair_in c.add_all.new.index) (nexts_of a.nexts.items) c.claim.ensures.kept c.add_all.ensures.kept c.self.invariant
+
+pub invariant_of-self-in_err-add_rows : goal.invariant_of-self-in_err-add_rows
+invariant_of-self-in_err-add_rows c =
+    let a = c.self.inside in
+    let old : Held = λ q. held_in a.index q in
+    let new : Held = λ q. held_in c.claim.new.index q in
+    let wider : Pairs = pair_in c.add_all.new.index in
+    let nexts : nexts_of a.nexts.items ≡ nexts_of c.add_rows.new.nexts.items = ap nexts_of (sym c.in_err-add_rows.ensures.nexts_err) in
+    subst (λ (r : RowsHistory). IsStored a.schema r new wider (nexts_of c.add_rows.new.nexts.items)) (sym c.in_err-add_rows.ensures.err)
+    (subst (λ (n : List NextSince). IsStored a.schema a.rows new wider n) nexts
+    (stored_claimed a.schema a.rows old new (pair_in a.children) wider (nexts_of a.nexts.items) c.claim.ensures.kept c.add_all.ensures.kept c.self.invariant))

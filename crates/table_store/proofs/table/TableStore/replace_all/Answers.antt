@@ -8,6 +8,7 @@ use Rattle.table_store.specs.Types.{TableRow}
 use Rattle.table_store.specs.Claims.{both_stop}
 use Rattle.table_store.specs.GivenKeys.{with_claims}
 use Rattle.table_store.specs.Histories.{RowHistory, NextSince, TableHistory, changed_by, last_since, last_next, noted, replaced, rewritten, rows_now, table_now}
+use Rattle.table_store.specs.ChildPairs.{Pairs, AreReferred, StayReferred, pair_in}
 use Rattle.table_store.specs.IndexView.{held_in}
 use Rattle.table_store.specs.KeyIndex.{Held, AreIndexed}
 use Rattle.table_store.specs.Nexts.{nexts_of}
@@ -21,7 +22,7 @@ use Rattle.table_store.specs.declared.index.Index.{Index}
 use Rattle.table_store.proofs.IndexChangeLaws.{claims_kept, indexed_same}
 use Rattle.table_store.proofs.ClaimLaws.{stop_before, stop_later}
 use Rattle.table_store.proofs.RekeyLaws.{replace_stop_is, stop_as}
-use Rattle.table_store.proofs.TableChangeLaws.{before_all, rewrites_rise, rewrites_stand, rewrites_fit, changes_written, stored_changed, stored_wider, indexed_replaced, GivenStand, given_stand, replaced_now}
+use Rattle.table_store.proofs.TableChangeLaws.{before_all, rewrites_rise, rewrites_stand, rewrites_fit, changes_written, stored_changed, stored_claimed, stored_wider, indexed_replaced, referred_replaced, GivenStand, given_stand, replaced_now}
 use Rattle.table_store.proofs.table.TableStore.replace_all.Goals as goal
 
 pub claims_of-requires-clause-stand : goal.claims_of-requires-clause-stand
@@ -86,24 +87,29 @@ returns-clause-stop c =
     subst (λ (t : TableHistory). replace_stop c.args.rows (table_now t) ≡ None) c.self.view_is (replace_stop_is c.args.rows made lacks ∙ none) in
     ap (λ (o : Option StoreStop). option_or o c.args.later) own ∙ c.in-None.is
 
-pub invariant_of-self : goal.invariant_of-self
-invariant_of-self c =
+pub invariant_of-self-in_err-add_all : goal.invariant_of-self-in_err-add_all
+invariant_of-self-in_err-add_all c =
     let a = c.self.inside in
-    stored_wider a.schema a.rows (λ key. held_in a.index key) (λ key. held_in c.open_all.new.self key) (nexts_of a.nexts.items) c.open_all.ensures.kept c.self.invariant
+    stored_claimed a.schema a.rows (λ key. held_in a.index key) (λ key. held_in a.index key) (pair_in a.children) (pair_in c.add_all.new.index) (nexts_of a.nexts.items) c.self.invariant.indexed c.add_all.ensures.kept c.self.invariant
+
+pub invariant_of-self-in_err-open_all : goal.invariant_of-self-in_err-open_all
+invariant_of-self-in_err-open_all c =
+    let a = c.self.inside in
+    stored_wider a.schema a.rows (λ key. held_in a.index key) (λ key. held_in c.open_all.new.self key) (pair_in a.children) (pair_in c.add_all.new.index) (nexts_of a.nexts.items) c.open_all.ensures.kept c.add_all.ensures.kept c.self.invariant
 
 pub invariant_of-self-in_err-given : goal.invariant_of-self-in_err-given
 invariant_of-self-in_err-given c =
     let a = c.self.inside in
-    stored_wider a.schema a.rows (λ key. held_in a.index key) (λ key. held_in c.open_all.new.self key) (nexts_of a.nexts.items) c.open_all.ensures.kept c.self.invariant
+    stored_wider a.schema a.rows (λ key. held_in a.index key) (λ key. held_in c.open_all.new.self key) (pair_in a.children) (pair_in c.add_all.new.index) (nexts_of a.nexts.items) c.open_all.ensures.kept c.add_all.ensures.kept c.self.invariant
 
 pub invariant_of-self-in_err-change_rows : goal.invariant_of-self-in_err-change_rows
 invariant_of-self-in_err-change_rows c =
     let a = c.self.inside in
     let opened : Held = λ key. held_in c.open_all.new.self key in
     let nexts : nexts_of a.nexts.items ≡ nexts_of c.change_rows.new.nexts.items = ap nexts_of (sym c.in_err-change_rows.ensures.nexts_err) in
-    subst (λ (r : RowsHistory). IsStored a.schema r opened (nexts_of c.change_rows.new.nexts.items)) (sym c.in_err-change_rows.ensures.err)
-    (subst (λ (n : List NextSince). IsStored a.schema a.rows opened n) nexts
-    (stored_wider a.schema a.rows (λ key. held_in a.index key) opened (nexts_of a.nexts.items) c.open_all.ensures.kept c.self.invariant))
+    subst (λ (r : RowsHistory). IsStored a.schema r opened (pair_in c.add_all.new.index) (nexts_of c.change_rows.new.nexts.items)) (sym c.in_err-change_rows.ensures.err)
+    (subst (λ (n : List NextSince). IsStored a.schema a.rows opened (pair_in c.add_all.new.index) n) nexts
+    (stored_wider a.schema a.rows (λ key. held_in a.index key) opened (pair_in a.children) (pair_in c.add_all.new.index) (nexts_of a.nexts.items) c.open_all.ensures.kept c.add_all.ensures.kept c.self.invariant))
 
 pub invariant_of-self-2 : goal.invariant_of-self-2
 invariant_of-self-2 c =
@@ -124,9 +130,15 @@ invariant_of-self-2 c =
     let used : AreIndexed a.schema.key held after = indexed_same a.schema.key (with_claims claims opened) held (λ q. sym (c.set_all.ensures q)) after (claims_kept a.schema.key claims old opened c.open_all.ensures.kept after c.in-Ok.ensures.ok) in
     let keys = subst (λ (l : List TableRow). AreIndexed a.schema.key held (map (replaced_by l) (rows_now a.rows.slots))) c.items-3.ensures used in
     let indexed = subst (λ (l : List RowChange). AreIndexed a.schema.key held (rows_now (map (changed_by (changes_given time l)) a.rows.slots))) (sym c.in_ok-given.ensures) (indexed_replaced a.schema.key held time rows a.rows.slots stand keys) in
-    let whole = stored_changed a.schema a.rows old held nexts time given c.self.invariant later indexed in
-    subst (λ (r : RowsHistory). IsStored a.schema r held (nexts_of c.change_rows.new.nexts.items)) (sym c.in_ok-change_rows.ensures.ok)
-    (subst (λ (n : List NextSince). IsStored a.schema (record a.rows { slots = map (changed_by (changes_given time given)) a.rows.slots }) held n) (sym c.in_ok-change_rows.ensures.nexts) whole)
+    let pairs : Pairs = pair_in a.children in
+    let wider : Pairs = pair_in c.add_all.new.index in
+    let referred = subst (λ (l : List RowChange). AreReferred wider a.schema.foreign (rows_now (map (changed_by (changes_given time l)) a.rows.slots))) (sym c.in_ok-given.ensures)
+    (referred_replaced a.schema.foreign pairs wider time rows a.rows.slots stand c.add_all.ensures.kept c.self.invariant.referred (subst (λ (l : List TableRow). AreReferred wider a.schema.foreign l) c.items-5.ensures c.in_ok-add_all.ensures.ok)) in
+    let left : Pairs = pair_in c.settle_all.new.index in
+    let settled = subst (λ (r : RowsHistory). StayReferred a.schema.foreign (rows_now r.slots) wider left) c.in_ok-change_rows.ensures.ok c.settle_all.ensures in
+    let whole = stored_changed a.schema a.rows old held pairs left nexts time given c.self.invariant later indexed (settled referred) in
+    subst (λ (r : RowsHistory). IsStored a.schema r held left (nexts_of c.change_rows.new.nexts.items)) (sym c.in_ok-change_rows.ensures.ok)
+    (subst (λ (n : List NextSince). IsStored a.schema (record a.rows { slots = map (changed_by (changes_given time given)) a.rows.slots }) held left n) (sym c.in_ok-change_rows.ensures.nexts) whole)
 
 pub returns-clause-ok : goal.returns-clause-ok
 returns-clause-ok c =

@@ -1,0 +1,265 @@
+//! The rows of a table by the keys to which they refer.
+
+ghost use Rattle.std.specs.Prelude.{◌≡◌, ◌<◌, ℕ, List, true, false, OnOk, IfOk, IfSome, length};
+ghost use Rattle.std.specs.Prelude.{slice_index_or};
+ghost use Rattle.sql_model.specs.References.{reference};
+ghost use Rattle.table_store.specs.ChildPairs.{no_foreign, pair_in, AreReferred, IsFirstFrom, IsReferred};
+ghost use Rattle.table_store.specs.ChildPairs.{KeepBut, KeepPairs, StayReferred};
+ghost use Rattle.table_store.specs.Histories.{no_history, rows_now};
+ghost use Rattle.table_store.specs.Types.{Foreign, Value};
+
+use crate::child_set::ChildSet;
+use crate::index::{has_key_in, int_key, key_of};
+use crate::key_map::CopyKey;
+use crate::rows::Rows;
+use ldv_value::Values;
+use sql_model::{Foreign, Foreigns, RowKey, TableRow, refers_to_none};
+use std::alloc::{AllocError, Global};
+
+/// The numbers of rows under the keys to which they refer, by the place of each foreign key. A key that is
+/// one number is held as that.
+#[derive(Drop)]
+pub(crate) struct ChildIndex {
+    pub(crate) ints: ChildSet<(usize, i64)>,
+    pub(crate) others: ChildSet<(usize, RowKey)>,
+}
+
+impl ChildIndex {
+    /// An index with no row. It takes no memory.
+    pub(crate) fn new(alloc: Global) -> ChildIndex {
+        ChildIndex {
+            ints: ChildSet::new(alloc),
+            others: ChildSet::new(alloc),
+        }
+    }
+
+    /// Adds a number under a key.
+    pub(crate) fn add(&mut self, place: usize, key: RowKey, number: u32) -> Result<(), AllocError>
+        ensures kept { KeepPairs (pair_in self.old) (pair_in self.new) }
+        ensures ok { OnOk result (pair_in self.new place key.values number ≡ true) }
+    {
+        match int_key(key.values.items()) {
+            None => self.others.add((place, key), number),
+            Some(int) => self.ints.add((place, int), number),
+        }
+    }
+
+    /// Takes a number out from under a key. It takes no memory.
+    pub(crate) fn remove(&mut self, place: usize, key: RowKey, number: u32)
+        ensures { KeepBut place key.values number (pair_in self.old) (pair_in self.new) }
+    {
+        match int_key(key.values.items()) {
+            None => self.others.remove((place, key), number),
+            Some(int) => self.ints.remove((place, int), number),
+        }
+    }
+
+    /// The least number under a key from one on.
+    pub(crate) fn first_from(
+        &self,
+        place: usize,
+        key: &RowKey,
+        from: u32,
+    ) -> Result<Option<u32>, AllocError>
+        ensures { IfOk result (IsFirstFrom (pair_in self.now place key.now.values) from) }
+    {
+        match int_key(key.values.items()) {
+            None => {
+                let copy = key.copy_key()?;
+                Ok(self.others.first_from((place, copy), from))
+            }
+            Some(int) => Ok(self.ints.first_from((place, int), from)),
+        }
+    }
+}
+
+/// The index of rows.
+pub(crate) fn referring(
+    alloc: Global,
+    foreigns: &Foreigns,
+    rows: &[TableRow],
+) -> Result<ChildIndex, AllocError>
+    ensures { IfOk result (λ index. AreReferred (pair_in index) foreigns.now rows.now) }
+{
+    let mut index = ChildIndex::new(alloc);
+    add_all(alloc, &mut index, foreigns, rows)?;
+    Ok(index)
+}
+
+/// Adds rows under the keys to which they refer. Where memory is out, some of them may be there.
+pub(crate) fn add_all(
+    alloc: Global,
+    index: &mut ChildIndex,
+    foreigns: &Foreigns,
+    rows: &[TableRow],
+) -> Result<(), AllocError>
+    ensures kept { KeepPairs (pair_in index.old) (pair_in index.new) }
+    ensures ok { OnOk result (AreReferred (pair_in index.new) foreigns.now rows.now) }
+{
+    for row in rows {
+        match add_row(alloc, index, foreigns, row) {
+            Ok(()) => {}
+            Err(refused) => return Err(refused),
+        }
+    }
+    Ok(())
+}
+
+fn add_row(
+    alloc: Global,
+    index: &mut ChildIndex,
+    foreigns: &Foreigns,
+    row: &TableRow,
+) -> Result<(), AllocError>
+    ensures kept { KeepPairs (pair_in index.old) (pair_in index.new) }
+    ensures ok { OnOk result (IsReferred (pair_in index.new) foreigns.now row.now) }
+{
+    let items = foreigns.items();
+    for place in 0..items.len() {
+        match add_by(alloc, index, place, &items[place], row) {
+            Ok(()) => {}
+            Err(refused) => return Err(refused),
+        }
+    }
+    Ok(())
+}
+
+fn add_by(
+    alloc: Global,
+    index: &mut ChildIndex,
+    place: usize,
+    foreign: &Foreign,
+    row: &TableRow,
+) -> Result<(), AllocError>
+    ensures kept { KeepPairs (pair_in index.old) (pair_in index.new) }
+    ensures ok { OnOk result (IfSome (reference foreign.now row.now.values)
+        (λ key. pair_in index.new place key row.now.number ≡ true)) }
+{
+    if refers_to_none(foreign, &row.values) {
+        return Ok(());
+    }
+    let key = key_of(alloc, &foreign.columns, &row.values)?;
+    index.add(place, key, row.number)
+}
+
+/// Takes rows of some numbers out from under the keys to which they referred after a time and refer no
+/// longer, as far as there is memory. So a key to which many rows once referred is looked up as fast as any.
+pub(crate) fn settle_all(
+    alloc: Global,
+    index: &mut ChildIndex,
+    foreigns: &Foreigns,
+    stored: &Rows,
+    numbers: &[u32],
+    time: u32,
+)
+    ensures { StayReferred foreigns.now (rows_now stored.now.slots) (pair_in index.old) (pair_in index.new) }
+{
+    if foreigns.is_empty() {
+        return;
+    }
+    for number in numbers {
+        settle_row(alloc, index, foreigns, stored, *number, time);
+    }
+}
+
+// The same of the row of one number.
+fn settle_row(
+    alloc: Global,
+    index: &mut ChildIndex,
+    foreigns: &Foreigns,
+    stored: &Rows,
+    number: u32,
+    time: u32,
+)
+    ensures { StayReferred foreigns.now (rows_now stored.now.slots) (pair_in index.old) (pair_in index.new) }
+{
+    match stored.find(number) {
+        None => {}
+        Some(slot) => settle_slot(alloc, index, foreigns, stored, slot, number, time),
+    }
+}
+
+// The same of the row in a slot, which has the number.
+fn settle_slot(
+    alloc: Global,
+    index: &mut ChildIndex,
+    foreigns: &Foreigns,
+    stored: &Rows,
+    slot: usize,
+    number: u32,
+    time: u32,
+)
+    requires within { slot < length stored.now.slots }
+    requires numbered { (slice_index_or stored.now.slots slot no_history).number ≡ number }
+    ensures { StayReferred foreigns.now (rows_now stored.now.slots) (pair_in index.old) (pair_in index.new) }
+{
+    match stored.values_as_of(alloc, slot, time) {
+        Err(_refused) => {}
+        Ok(None) => {}
+        Ok(Some(values)) => settle_values(alloc, index, foreigns, stored, slot, number, &values),
+    }
+}
+
+// The same of a row that had these values.
+fn settle_values(
+    alloc: Global,
+    index: &mut ChildIndex,
+    foreigns: &Foreigns,
+    stored: &Rows,
+    slot: usize,
+    number: u32,
+    values: &Values,
+)
+    requires within { slot < length stored.now.slots }
+    requires numbered { (slice_index_or stored.now.slots slot no_history).number ≡ number }
+    ensures { StayReferred foreigns.now (rows_now stored.now.slots) (pair_in index.old) (pair_in index.new) }
+{
+    let items = foreigns.items();
+    for place in 0..items.len() {
+        settle_by(alloc, index, place, &items[place], stored, slot, number, values);
+    }
+}
+
+// By one foreign key.
+fn settle_by(
+    alloc: Global,
+    index: &mut ChildIndex,
+    place: usize,
+    foreign: &Foreign,
+    stored: &Rows,
+    slot: usize,
+    number: u32,
+    values: &Values,
+)
+    requires within { slot < length stored.now.slots }
+    requires numbered { (slice_index_or stored.now.slots slot no_history).number ≡ number }
+    ensures { (foreigns : List Foreign) → slice_index_or foreigns place no_foreign ≡ foreign.now
+        → StayReferred foreigns (rows_now stored.now.slots) (pair_in index.old) (pair_in index.new) }
+{
+    match key_of(alloc, &foreign.columns, values) {
+        Err(_refused) => {}
+        Ok(key) => settle_key(index, place, foreign, stored, slot, number, key),
+    }
+}
+
+// From under one key, unless the row stands and has it still.
+fn settle_key(
+    index: &mut ChildIndex,
+    place: usize,
+    foreign: &Foreign,
+    stored: &Rows,
+    slot: usize,
+    number: u32,
+    key: RowKey,
+)
+    requires within { slot < length stored.now.slots }
+    requires numbered { (slice_index_or stored.now.slots slot no_history).number ≡ number }
+    ensures { (foreigns : List Foreign) → slice_index_or foreigns place no_foreign ≡ foreign.now
+        → StayReferred foreigns (rows_now stored.now.slots) (pair_in index.old) (pair_in index.new) }
+{
+    stored.tell_order();
+    if has_key_in(stored, &foreign.columns, &key.values, slot) {
+        return;
+    }
+    index.remove(place, key, number);
+}
