@@ -1,5 +1,5 @@
 -- What two packages are joined to is replayed, run by run, as the worlds of both are run.
-use Rattle.std.proofs.Common.{◌≡◌, ℕ, ◌≤◌, ◌<◌, ◌^◌, List, [], ◌++◌, length, refl, sym, ap, ◌∙◌, subst, true, arith, append-nil}
+use Rattle.std.proofs.Common.{◌≡◌, ℕ, ◌≤◌, List, [], ◌++◌, length, refl, sym, ap, ◌∙◌, subst, true, arith, append-nil}
 use Rattle.std.specs.Prelude.{Some, Ok}
 use Rattle.ldv_value.specs.Limits.{input_limit, max_steps}
 use Rattle.run_model.proofs.ValidWorlds.{valid_runs}
@@ -24,7 +24,7 @@ use Rattle.package_join.specs.Laws.{IsJoined, JoinLaw, NamesItsRows, RoundTripLa
 use Rattle.package_join.specs.Layout.{joined_spelling}
 use Rattle.package_join.specs.Valid.{ValidJoined, joined_reading}
 use Rattle.package_join.specs.Worlds.{joined_world}
-use Rattle.replay_db.proofs.InitialRows.{initial_rows_law}
+use Rattle.replay_db.specs.Laws.{InitialRowsLaw}
 use Rattle.replay_db.specs.Worlds.{WorldTablesLaw, ValidPackageLaw, TypedPackageLaw}
 use Rattle.ldv_top.specs.Due.{due_world}
 use Rattle.ldv_top.specs.DueOfJoins.{due_joined, pair_in}
@@ -45,14 +45,14 @@ two_read first second one two =
     sym (both_found (text_spelling first ++ text_spelling second) first (text_spelling second) second [] a c refl)
 
 module _ (again : ReadAgain) (counted : ShortCounted) (valid : ValidPackageLaw) (typed : TypedPackageLaw) (valid_tables : WorldTablesLaw)
-    (between : BetweenLaw) (join : JoinLaw) (valid_joined : ValidLaw) (round_trip : RoundTripLaw) where
+    (between : BetweenLaw) (initial : InitialRowsLaw) (join : JoinLaw) (valid_joined : ValidLaw) (round_trip : RoundTripLaw) where
   -- ---- one of the two worlds
 
   module _ (n : ℕ) (w : World) (valid_world : ValidWorld w) (bounded : n ≤ max_steps) (ended : ends_within n w ≡ true) where
     pub names_rows : NamesItsRows (events_within n w)
     names_rows =
         let script = ended_starts n [] w ended in
-        (initial_rows_law n [] w script.0 script.1 (valid_tables w valid_world)).named
+        (initial n [] w script.0 script.1 (valid_tables w valid_world)).named
 
     pub package_valid : Valid (included_of n w)
     package_valid = valid Included n w valid_world.ruled (valid_tables w valid_world) tt bounded ended
