@@ -2,6 +2,8 @@ pub mod Lists
 pub mod MergeLaws
 pub mod Cuts
 pub mod Files
+pub mod ListedTables
+pub mod MergedParents
 pub mod Tables
 pub mod Keys
 pub mod Joining

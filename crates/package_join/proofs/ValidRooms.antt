@@ -28,21 +28,13 @@ use Rattle.package_join.specs.Laws.{IsIncluded}
 use Rattle.package_join.specs.Merging.{merged}
 use Rattle.package_join.specs.Rooms.{common_row_room, common_table_room, common_tables_room, bare_run_room, joined_run_room, joined_room, schema_room}
 use Rattle.package_join.specs.Valid.{ValidJoined}
+use Rattle.package_join.proofs.Lists.{all_in, each_of}
 use Rattle.package_join.proofs.MergedLists.{in_merged, IsOf}
 use Rattle.package_join.proofs.PickedTables.{equal_names, name_of, number_of}
 use Rattle.package_join.proofs.Picks.{of_map, tables_agree}
 use Rattle.package_join.proofs.ValidJoins.{included}
 
 -- ---- lists
-
-pub all_in : {X : Type 0} (p : X → Bool) (xs : List X) → ((x : X) → IsIn x xs → p x ≡ true) → list_all p xs ≡ true
-all_in p [] each = refl
-all_in p (x ∷ xs) each = and-from (p x) (list_all p xs) (each x (inl refl)) (all_in p xs (λ y is. each y (inr is)))
-
-pub each_of : {X : Type 0} (p : X → Bool) (xs : List X) → list_all p xs ≡ true → (x : X) → IsIn x xs → p x ≡ true
-each_of p [] all x is = absurd is
-each_of p (y ∷ ys) all x (inl same) = ap p same ∙ (and-parts (p y) (list_all p ys) all).0
-each_of p (y ∷ ys) all x (inr more) = each_of p ys (and-parts (p y) (list_all p ys) all).1 x more
 
 module _ {X : Type 0} (cmp : X → X → Ordering) (both : X → X → X) where
   pub merged_length : (xs ys : List X) → length (merged cmp both xs ys) ≤ length xs + length ys
