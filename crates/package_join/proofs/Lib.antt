@@ -6,6 +6,7 @@ pub mod ListedTables
 pub mod MergedParents
 pub mod Tables
 pub mod Keys
+pub mod NamedRows
 pub mod Joining
 pub mod Picking
 pub mod PickedFiles
