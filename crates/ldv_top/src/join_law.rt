@@ -4,7 +4,7 @@ ghost use Rattle.ldv_top.specs.TwoRuns.{AnyJoinedLaw, PairLaw, TwoRunsLaw};
 
 use package_join::{join_law, joined_round_trip_law, pick_law};
 use package_layout::round_trip_law;
-use replay_db::{initial_rows_law, package_law};
+use replay_db::package_law;
 use run_laws::between_law;
 
 /// The packages of two valid worlds with the same files and tables are joined, and what they are joined to
@@ -16,7 +16,6 @@ pub fn two_runs_law()
     ensures any { AnyJoinedLaw }
 {
     between_law();
-    initial_rows_law();
     join_law();
     joined_round_trip_law();
     package_law();
