@@ -11,6 +11,7 @@ use Rattle.std.proofs.lemmas.Bool.{and_parts}
 use Rattle.std.proofs.lemmas.Cmp.{tied_back}
 use Rattle.ldv_value.proofs.SameBytes.{bytes_eq-true, nat_eq-true}
 use Rattle.sql_model.specs.declared.table.Column.{Column}
+use Rattle.sql_model.specs.declared.table.Foreign.{Foreign}
 use Rattle.sql_model.specs.declared.table.Schema.{Schema}
 use Rattle.sql_model.specs.Keys.{same_values}
 use Rattle.sql_model.specs.KeyOrder.{values_order}
@@ -19,8 +20,9 @@ use Rattle.package_join.specs.Types.{Table, TableRow}
 use Rattle.package_join.specs.declared.joined.Clash.{Clash}
 use Rattle.package_join.specs.Merging.{first_clash}
 use Rattle.package_join.specs.Joined.{clash_if, tables_differ}
-use Rattle.package_join.specs.Same.{same_flag, same_column, same_schema, contents_differ}
+use Rattle.package_join.specs.Same.{same_flag, same_column, same_foreign, same_keys, same_schema, contents_differ}
 use Rattle.package_join.proofs.Cuts.{Rising}
+use Rattle.package_join.proofs.Lists.{pointwise_equal}
 use Rattle.core_parts.proofs.SameValues.{all_exact, tied}
 
 pub none_of : {A : Type 0} (a b : Option A) → option_or a b ≡ None → (a ≡ None) × (b ≡ None)
@@ -100,18 +102,20 @@ columns c d is =
     let rest = and_parts (same_flag c.text d.text) (same_flag c.not_null d.not_null) first.1 in
     λ j. record { name = bytes_eq-true c.name d.name first.0 j; text = flags c.text d.text rest.0 j; not_null = flags c.not_null d.not_null rest.1 j }
 
-all_columns : (cs ds : List Column) → pointwise same_column cs ds ≡ true → cs ≡ ds
-all_columns [] [] is = refl
-all_columns [] (d ∷ ds) is = cc
-all_columns (c ∷ cs) [] is = cc
-all_columns (c ∷ cs) (d ∷ ds) is =
-    let parts = and_parts (same_column c d) (pointwise same_column cs ds) is in
-    λ j. columns c d parts.0 j ∷ all_columns cs ds parts.1 j
+foreign_keys : (f g : Foreign) → same_foreign f g ≡ true → f ≡ g
+foreign_keys f g is =
+    let parts = and_parts (pointwise nat_eq f.columns g.columns) (bytes_eq f.parent g.parent) is in
+    λ j. record { columns = bytes_eq-true f.columns g.columns parts.0 j; parent = bytes_eq-true f.parent g.parent parts.1 j }
 
 schemas : (a b : Schema) → same_schema a b ≡ true → a ≡ b
 schemas a b is =
-    let parts = and_parts (pointwise same_column a.columns b.columns) (pointwise nat_eq a.key b.key) is in
-    λ j. record { columns = all_columns a.columns b.columns parts.0 j; key = bytes_eq-true a.key b.key parts.1 j }
+    let parts = and_parts (pointwise same_column a.columns b.columns) (same_keys a b) is in
+    let keys = and_parts (pointwise nat_eq a.key b.key) (pointwise same_foreign a.foreign b.foreign) parts.1 in
+    λ j. record {
+      columns = pointwise_equal same_column columns a.columns b.columns parts.0 j;
+      key = bytes_eq-true a.key b.key keys.0 j;
+      foreign = pointwise_equal same_foreign foreign_keys a.foreign b.foreign keys.1 j;
+    }
 
 pub same_tables : (a b : Table) → tables_differ a b ≡ false → (a.schema ≡ b.schema) × (a.next ≡ b.next)
 same_tables a b is =

@@ -10,6 +10,7 @@ use Rattle.run_model.specs.ValidPackage.{rules}
 use Rattle.package_layout.specs.declared.run_package.RunPackage.{RunPackage}
 use Rattle.package_layout.specs.Fields.{Found, ◌>>=◌, both_at, list_at, list_spelling}
 use Rattle.package_layout.specs.RunPackages.{whole, run_rules}
+use Rattle.package_layout.specs.declared.version.Version.TheVariants.{Two}
 use Rattle.package_layout.specs.declared.run.Run.{Run}
 use Rattle.package_layout.specs.Runs.{are_runs, events_in, events_of_runs, run_spelling, runs_at, runs_of}
 use Rattle.package_layout.specs.Runs.{run_at as trace_run_at}
@@ -179,11 +180,12 @@ joined_cut bytes = by_files (common_files_at bytes)
 -- ---- the packages of both runs
 
 -- the same test, where the runs are runs and the format has room
-test_as : (p : RunPackage) → are_runs p.runs ≡ true → has_room (whole p) ≡ true → valid_test (whole p) ≡ run_rules p
+test_as : (p : RunPackage) → are_runs p.runs ≡ true → has_room (whole p) ≡ true → valid_test (whole p) ≡ run_rules Two p
 test_as p h k = by (are_runs p.runs) (has_room (whole p)) (rules (whole p)) h k
   where
-    by : (a b c : Bool) → a ≡ true → b ≡ true → (b && c) ≡ (a && c)
-    by true true c e f = refl
+    by : (a b c : Bool) → a ≡ true → b ≡ true → (b && c) ≡ (a && (c && true))
+    by true true true e f = refl
+    by true true false e f = refl
     by false b c e f = absurd cc
     by true false c e f = absurd cc
 
@@ -246,17 +248,17 @@ by_valid : (bytes : List ℕ) (r : RunJoined) → are_runs r.first.runs ≡ true
 by_valid bytes r h k room =
     let a : RunPackage = picked_runs First r in
     let b : RunPackage = picked_runs Second r in
-    let one : valid_test (whole a) ≡ run_rules a = test_as a h (picked_room First (whole_joined r) room) in
-    let two : valid_test (whole b) ≡ run_rules b = test_as b k (picked_room Second (whole_joined r) room) in
+    let one : valid_test (whole a) ≡ run_rules Two a = test_as a h (picked_room First (whole_joined r) room) in
+    let two : valid_test (whole b) ≡ run_rules Two b = test_as b k (picked_room Second (whole_joined r) room) in
     (λ i. found_as bytes (cond (one i && two i) (anew_of (whole a) (whole b)) None))
-    ∙ if_valid bytes (run_rules a && run_rules b) a b h k
+    ∙ if_valid bytes (run_rules Two a && run_rules Two b) a b h k
 
 by_unruly : (bytes : List ℕ) (r : RunJoined) → (are_runs r.first.runs && are_runs r.second.runs) ≡ false
     → None ≡ option_map whole_joined (cut_later bytes r)
 by_unruly bytes r no =
     let a : RunPackage = picked_runs First r in
     let b : RunPackage = picked_runs Second r in
-    let none : (run_rules a && run_rules b) ≡ false = untested (are_runs a.runs) (are_runs b.runs) (rules (whole a)) (rules (whole b)) no in
+    let none : (run_rules Two a && run_rules Two b) ≡ false = untested (are_runs a.runs) (are_runs b.runs) (rules (whole a) && true) (rules (whole b) && true) no in
     λ i. option_map whole_joined (cut_found_as bytes (cond (sym none i) (rejoined a b) None))
 
 by_cut : (bytes : List ℕ) (o : Option RunJoined) → ((r : RunJoined) → o ≡ Some r → kept r ≡ Some (whole_joined r) → joined_room (whole_joined r) ≡ true)
@@ -301,10 +303,10 @@ cuts_are_runs bytes q e =
     let two = bind-some (cut_anew r) (cut_spelled_so bytes) q one.2 in
     let p = two.0 in
     let same : p ≡ q = so_spelled (bytes_eq (cut_sections p) bytes) p q two.2 in
-    let three = if_tested (run_rules a && run_rules b) (rejoined a b) p two.1 in
-    let both = and-parts (run_rules a) (run_rules b) three.0 in
-    let first : are_runs a.runs ≡ true = (and-parts (are_runs a.runs) (rules (whole a)) both.0).0 in
-    let second : are_runs b.runs ≡ true = (and-parts (are_runs b.runs) (rules (whole b)) both.1).0 in
+    let three = if_tested (run_rules Two a && run_rules Two b) (rejoined a b) p two.1 in
+    let both = and-parts (run_rules Two a) (run_rules Two b) three.0 in
+    let first : are_runs a.runs ≡ true = (and-parts (are_runs a.runs) (rules (whole a) && true) both.0).0 in
+    let second : are_runs b.runs ≡ true = (and-parts (are_runs b.runs) (rules (whole b) && true) both.1).0 in
     let its = has_runs a.runs b.runs (joined_of a.bare b.bare) p three.1 in
     subst (λ (q : RunJoined). (are_runs q.first.runs ≡ true) × (are_runs q.second.runs ≡ true)) same
     (ap are_runs its.0 ∙ first, ap are_runs its.1 ∙ second)

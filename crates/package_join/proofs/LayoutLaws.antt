@@ -10,27 +10,27 @@ use Rattle.ldv_value.proofs.Booleans.{and-parts, and-from}
 use Rattle.ldv_value.proofs.Options.{bind-some, same-some}
 use Rattle.sql_model.specs.declared.need.Rule.{Rule}
 use Rattle.sql_model.specs.declared.table.Schema.{Schema}
-use Rattle.package_layout.specs.Counts.{CountedList, CountedFile}
+use Rattle.package_layout.specs.Counts.{CountedList, CountedFile, CountedSchema}
 use Rattle.package_layout.specs.Events.{names_spelling, names_at}
 use Rattle.package_layout.specs.Fields.{Found, then_at, both_at, number_at, text_spelling, list_spelling, list_at, text_at}
 use Rattle.package_layout.specs.Reading.{value_at, reason_at, cells_at, schema_at, file_at}
-use Rattle.package_layout.specs.Room.{some_thousands}
+use Rattle.package_layout.specs.Room.{schema_room, some_thousands}
 use Rattle.package_layout.specs.Runs.{CountedRun, runs_of, runs_spelling, runs_at, trace_room}
 use Rattle.package_layout.specs.Spelling.{value_spelling, number_spelling, reason_spelling, cells_spelling, schema_spelling, file_spelling}
-use Rattle.package_layout.specs.Typed.{IsU32, TypedValue, TypedValues, TypedFile, TypedEvent}
+use Rattle.package_layout.specs.Typed.{IsU32, TypedValue, TypedValues, TypedFile, TypedEvent, TypedSchema}
 use Rattle.package_layout.specs.declared.version.Version.TheVariants.{Two}
 use Rattle.package_layout.proofs.Events.{names_law}
 use Rattle.package_layout.proofs.Laws.{IsBytes, IsBytes-rest, IsField, just, always, list_all-always, restate, recount, made_law, then_law, struct_law}
 use Rattle.package_layout.proofs.Numbers.{wide64, number_law, text_law, items_law, long_law, short_list_law}
 use Rattle.package_layout.proofs.RunFields.{runs_law}
-use Rattle.package_layout.proofs.Tables.{u32_law, reason_law, schema_law, so_many}
+use Rattle.package_layout.proofs.Tables.{u32_law, reason_law, schema_fits, schema_law, so_many}
 use Rattle.package_layout.proofs.Values.{value_law, file_law, file_filled}
 use Rattle.package_join.specs.Types.{PackedFile, Event, Table, TableRow, Value}
 use Rattle.package_join.specs.declared.joined.Joined.{Joined}
 use Rattle.package_join.specs.declared.joined.JoinedRun.{JoinedRun}
 use Rattle.package_join.specs.declared.joined.Reason.{Reason}
 use Rattle.package_join.specs.Layout.{common_row_spelling, common_rows_spelling, common_table_spelling, common_files_spelling, common_tables_spelling, named_reason_spelling, paths_spelling, bare_run_spelling, run_spelling, joined_sections, with_trace, common_row_at, common_rows_at, common_table_at, common_files_at, common_tables_at, named_reason_at, paths_at, bare_run_at, run_at, joined_at, all_of_joined}
-use Rattle.package_join.specs.Rooms.{TypedSchema, TypedCommonRow, TypedCommonTable, TypedReason, TypedTexts, TypedBareRun, TypedJoinedRun, TypedJoined, schema_room, common_row_room, common_table_room, common_tables_room, bare_run_room, joined_run_room, joined_room, CountedSchema, CountedCommonRow, CountedCommonTable, CountedReason, CountedTexts, CountedPaths, CountedBareRun, CountedJoinedRun, CountedJoined}
+use Rattle.package_join.specs.Rooms.{TypedCommonRow, TypedCommonTable, TypedReason, TypedTexts, TypedBareRun, TypedJoinedRun, TypedJoined, common_row_room, common_table_room, common_tables_room, bare_run_room, joined_run_room, joined_room, CountedCommonRow, CountedCommonTable, CountedReason, CountedTexts, CountedPaths, CountedBareRun, CountedJoinedRun, CountedJoined}
 
 -- ---- rows
 
@@ -91,7 +91,7 @@ abbrev TypedTail : TableTail → Type 0
 TypedTail p = TypedSchema p.0 × TypedEnd p.1
 
 abbrev CountedTail : TableTail → Type 0
-CountedTail p = CountedSchema p.0 × CountedEnd p.1
+CountedTail p = CountedSchema Two p.0 × CountedEnd p.1
 
 abbrev tail_room : TableTail → Bool
 tail_room p = schema_room p.0 && end_room p.0 p.1
@@ -99,8 +99,14 @@ tail_room p = schema_room p.0 && end_room p.0 p.1
 abbrev tail_at : List ℕ → Found TableTail
 tail_at = then_at (schema_at Two) end_at
 
+-- version 2 has the foreign keys of each schema
+schema_two : IsField (schema_spelling Two) TypedSchema schema_room (CountedSchema Two) (schema_at Two)
+schema_two = restate (schema_spelling Two) TypedSchema TypedSchema (schema_fits Two) schema_room (schema_at Two) (schema_law Two)
+    (λ s t h. (t, and-from (schema_room s) true h refl))
+    (λ s t h. (t, (and-parts (schema_room s) true h).0))
+
 tail_law : IsField tail_spelling TypedTail tail_room CountedTail tail_at
-tail_law = then_law (schema_spelling Two) TypedSchema schema_room (schema_at Two) end_spelling TypedEnd end_room end_at (schema_law Two) end_law
+tail_law = then_law (schema_spelling Two) TypedSchema schema_room (schema_at Two) end_spelling TypedEnd end_room end_at schema_two end_law
 
 common_table_law : IsField common_table_spelling TypedCommonTable common_table_room CountedCommonTable common_table_at
 common_table_law = recount CountedCommonTable (struct_law (λ (p : TableParts). text_spelling p.0 ++ tail_spelling p.1) (λ (p : TableParts). IsUtf8 p.0 × TypedTail p.1) (λ (p : TableParts). tail_room p.1) (both_at text_at tail_at)

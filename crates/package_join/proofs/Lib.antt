@@ -2,8 +2,11 @@ pub mod Lists
 pub mod MergeLaws
 pub mod Cuts
 pub mod Files
+pub mod ListedTables
+pub mod MergedParents
 pub mod Tables
 pub mod Keys
+pub mod NamedRows
 pub mod Joining
 pub mod Picking
 pub mod PickedFiles

@@ -12,11 +12,12 @@ use Rattle.std.proofs.lemmas.Cmp.{nat_cmp_total, nat_list_cmp_total, tied_itself
 use Rattle.ldv_value.specs.Sorted.{is_strictly_sorted, text_precedes}
 use Rattle.ldv_value.proofs.Orderings.{is_lt-true}
 use Rattle.sql_model.specs.Keys.{same_values}
+use Rattle.sql_model.specs.ForeignKeys.{have_parents}
 use Rattle.sql_model.specs.Tables.{schema_test, is_row, is_short, numbers_test, are_keys_unique}
 use Rattle.sql_model.specs.SqlNames.{sql_name_test}
 use Rattle.run_model.specs.Between.{IsIn}
 use Rattle.run_model.specs.Package.{own_row, own_table}
-use Rattle.run_model.specs.ValidPackage.{file_rule, packed_file_precedes, rows_rule, table_rule, packed_table_precedes}
+use Rattle.run_model.specs.ValidPackage.{file_rule, packed_catalog, packed_file_precedes, rows_rule, table_rule, packed_table_precedes}
 use Rattle.package_join.specs.Types.{Package, PackedFile, PackedRow, PackedTable, Table, TableRow}
 use Rattle.package_join.specs.declared.joined.ClashKind.TheVariants as kinds
 use Rattle.package_join.specs.Merging.{first_clash, first_of}
@@ -51,10 +52,14 @@ module _ (p : Package) (valid : IsIncluded p) where
       rising path_of (slice_cmp nat_cmp) nat_list_cmp_total text_precedes (λ a b lower. is_lt-true (slice_cmp nat_cmp a b) lower) p.files
       (and_parts (list_all file_rule p.files) (is_strictly_sorted packed_file_precedes p.files) valid.files).1
 
+  -- apart from the parents to which they refer
+  each_sorted : (list_all table_rule p.tables && is_strictly_sorted packed_table_precedes p.tables) ≡ true
+  each_sorted = (and_parts (list_all table_rule p.tables && is_strictly_sorted packed_table_precedes p.tables) (have_parents (packed_catalog p.tables)) valid.tables).0
+
   tables_rise : Rising name_in (slice_cmp nat_cmp) p.tables
   tables_rise =
       rising name_in (slice_cmp nat_cmp) nat_list_cmp_total text_precedes (λ a b lower. is_lt-true (slice_cmp nat_cmp a b) lower) p.tables
-      (and_parts (list_all table_rule p.tables) (is_strictly_sorted packed_table_precedes p.tables) valid.tables).1
+      (and_parts (list_all table_rule p.tables) (is_strictly_sorted packed_table_precedes p.tables) each_sorted).1
 
   pub of_all : (ts : List PackedTable) → list_all table_rule ts ≡ true → (t : PackedTable) → IsIn t ts → table_rule t ≡ true
   of_all [] all t is = absurd is
@@ -63,7 +68,7 @@ module _ (p : Package) (valid : IsIncluded p) where
 
   rows_rise : RowsRise p.tables
   rows_rise t is =
-      let rule = of_all p.tables (and_parts (list_all table_rule p.tables) (is_strictly_sorted packed_table_precedes p.tables) valid.tables).0 t is in
+      let rule = of_all p.tables (and_parts (list_all table_rule p.tables) (is_strictly_sorted packed_table_precedes p.tables) each_sorted).0 t is in
       let described = and_parts (sql_name_test t.name && schema_test t.schema && rows_rule t) (are_keys_unique t.schema.key (map (λ (row : PackedRow). row.values) t.rows)) rule in
       let rows = and_parts (sql_name_test t.name && schema_test t.schema) (rows_rule t) described.0 in
       let fit = and_parts (numbers_test (λ (row : PackedRow). row.number) t.next t.rows && list_all (λ (row : PackedRow). is_row t.schema.columns row.values) t.rows) (list_all (λ (row : PackedRow). list_all is_short row.values) t.rows) rows.1 in

@@ -4,7 +4,7 @@ use Rattle.std.specs.Prelude.{◌==◌, filter, find, option_map}
 use Rattle.std.specs.List.{list_all, filter_map, cons_option}
 use Rattle.std.proofs.lemmas.Bool.{ltb-true, lt-ltb}
 use Rattle.ldv_value.proofs.Booleans.{and-parts, and-from}
-use Rattle.package_layout.specs.Room.{few, key_room, row_room, some_thousands, table_room, log_room}
+use Rattle.package_layout.specs.Room.{row_room, schema_room, some_thousands, table_room, log_room}
 use Rattle.package_layout.specs.Runs.{trace_room}
 use Rattle.package_layout.specs.Whole.{has_room, tables_room}
 use Rattle.package_join.specs.Types.{Package, PackedRow, PackedTable, Table, TableRow}
@@ -14,7 +14,7 @@ use Rattle.package_join.specs.declared.joined.Reason.{Reason}
 use Rattle.package_join.specs.declared.joined.Which.{Which}
 use Rattle.package_join.specs.declared.joined.Which.TheVariants.{First, Second}
 use Rattle.package_join.specs.Joined.{is_among, is_reason, packed_by, picked_package, picked_row, picked_table, run_package}
-use Rattle.package_join.specs.Rooms.{common_row_room, common_table_room, common_tables_room, bare_run_room, joined_run_room, joined_room, schema_room}
+use Rattle.package_join.specs.Rooms.{common_row_room, common_table_room, common_tables_room, bare_run_room, joined_run_room, joined_room}
 
 -- ---- rows
 
@@ -37,9 +37,7 @@ table_fits : (run : JoinedRun) (t : Table) → common_table_room t ≡ true → 
 table_fits run t h =
     let columns : ℕ = length t.schema.columns in
     let both = and-parts (schema_room t.schema) (list_all (common_row_room columns) t.rows) h in
-    let schema = and-parts (few t.schema.columns) (key_room t.schema.key) both.0 in
-    and-from (few t.schema.columns) (key_room t.schema.key && list_all (row_room columns) (picked_table run t).rows) schema.0
-    (and-from (key_room t.schema.key) (list_all (row_room columns) (picked_table run t).rows) schema.1 (rows_fit run t.name columns t.rows both.1))
+    and-from (schema_room t.schema) (list_all (row_room columns) (picked_table run t).rows) both.0 (rows_fit run t.name columns t.rows both.1)
 
 module _ (run : JoinedRun) (test : Table → Bool) where
   abbrev picked : List Table → List PackedTable

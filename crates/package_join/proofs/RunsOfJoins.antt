@@ -20,16 +20,19 @@ use Rattle.ldv_value.specs.Sorted.{is_strictly_sorted, precedes_first}
 use Rattle.std.specs.Ordering.{is_lt}
 use Rattle.script_parse.specs.Script.{script_of}
 use Rattle.script_parse.specs.declared.script.Instr.{Instr}
+use Rattle.sql_model.proofs.Databases.{database-from}
 use Rattle.sql_model.proofs.UniqueKeys.{unique-clash}
 use Rattle.sql_model.proofs.ValidTables.{table-from}
 use Rattle.sql_model.specs.Changes.{KeyClash, key_clash}
+use Rattle.sql_model.specs.ForeignKeys.{have_parents}
+use Rattle.sql_model.specs.Scope.{catalog_of}
 use Rattle.sql_model.specs.SqlNames.{sql_name_test}
-use Rattle.sql_model.specs.Tables.{is_database, is_described, is_row, is_short, is_valid_table, numbers_test, are_keys_unique, schema_test, table_precedes, tables_test}
+use Rattle.sql_model.specs.Tables.{are_tables, is_database, is_described, is_row, is_short, is_valid_table, numbers_test, are_keys_unique, schema_test, table_precedes, tables_test}
 use Rattle.sql_model.specs.declared.table.Schema.{Schema}
 use Rattle.run_model.proofs.StartScripts.{first_script}
 use Rattle.run_model.specs.Between.{IsIn}
 use Rattle.run_model.specs.Package.{own_row, own_table}
-use Rattle.run_model.specs.ValidPackage.{content_rule, file_rule, is_script, is_script_file, packed_file_precedes, parts_rule, rows_rule, rules, script_rule, table_rule, packed_table_precedes, whole_rule}
+use Rattle.run_model.specs.ValidPackage.{content_rule, file_rule, is_script, is_script_file, packed_file_precedes, parts_rule, rows_rule, rules, script_rule, table_rule, whole_rule}
 use Rattle.run_model.specs.ValidWorld.{CanRun}
 use Rattle.package_layout.specs.Valid.{Valid}
 use Rattle.package_layout.specs.Whole.{has_room}
@@ -45,13 +48,15 @@ use Rattle.package_join.specs.Rooms.{TypedCommonTable}
 use Rattle.package_join.specs.Worlds.{empty_if, joined_world, seen_file, world_file, world_of}
 use Rattle.package_join.proofs.Agreeing.{none_of}
 use Rattle.package_join.proofs.Cuts.{Rising}
-use Rattle.package_join.proofs.Lists.{filter_map_in}
+use Rattle.package_join.proofs.ListedTables.{listed, own_parents}
+use Rattle.package_join.proofs.Lists.{all_in, each_of, filter_map_in}
 use Rattle.package_join.proofs.MergedLists.{in_merged, merged_rises, IsOf}
+use Rattle.package_join.proofs.MergedParents.{merged_parents}
 use Rattle.package_join.proofs.PickedFiles.{path_of}
 use Rattle.package_join.proofs.PickedTables.{equal_names, name_of, number_of}
 use Rattle.package_join.proofs.Picks.{files_rise, its_rows_rise, of_map, own_rise, tables_agree}
 use Rattle.package_join.proofs.ValidJoins.{included}
-use Rattle.package_join.proofs.ValidRooms.{all_in, each_of, unclashed}
+use Rattle.package_join.proofs.ValidRooms.{unclashed}
 
 -- ---- lists that rise
 
@@ -270,8 +275,7 @@ packed_met t rule =
 own_met : (p : Package) → IsIncluded p → (t : Table) → IsIn t (own_tables p) → Met t
 own_met p ip t is =
     let from = of_map own_table p.tables t is in
-    let each = (and-parts (list_all table_rule p.tables) (is_strictly_sorted packed_table_precedes p.tables) ip.tables).0 in
-    subst Met (sym from.1.1) (packed_met from.0 (each_of table_rule p.tables each from.0 from.1.0))
+    subst Met (sym from.1.1) (packed_met from.0 (each_of table_rule p.tables (listed p.tables ip.tables).each from.0 from.1.0))
 
 abbrev number_lower : TableRow → TableRow → Bool
 number_lower a b = nat_lt a.number b.number
@@ -366,12 +370,19 @@ module _ (a b : Package) (ia : IsIncluded a) (ib : IsIncluded b) (none : clash_o
         keys = unique-clash z.schema.key z.rows (no_key_clash z (first_none both_lists no_keys z is));
       })
 
+  parents : have_parents (catalog_of both_lists) ≡ true
+  parents =
+      merged_parents (own_tables a) (own_tables b) (λ x y is there same. (tables_agree a b ia ib none x y is there same).0)
+      (own_parents a.tables (listed a.tables ia.tables).parents) (own_parents b.tables (listed b.tables ib.tables).parents)
+
   tables_met : AllByRecursion TypedCommonTable both_lists → tables_test both_lists ≡ true
   tables_met typed =
       let rises = merged_rises name_of (slice_cmp nat_cmp) nat_list_cmp_total both_tables (λ x y e. refl) (own_tables a) (own_tables b) (own_rise a ia) (own_rise b ib) in
       let sorted : is_strictly_sorted table_precedes both_lists ≡ true = sorted_from name_of (slice_cmp nat_cmp) table_precedes (λ t u e. ap is_lt e) both_lists rises in
+      let tables : are_tables both_lists ≡ true =
+      and-from (list_all is_valid_table both_lists) (is_strictly_sorted table_precedes both_lists) (all_in is_valid_table both_lists (table_valid typed)) sorted in
       and-from (is_database both_lists) (list_all is_described both_lists)
-      (and-from (list_all is_valid_table both_lists) (is_strictly_sorted table_precedes both_lists) (all_in is_valid_table both_lists (table_valid typed)) sorted)
+      (database-from both_lists tables parents)
       (all_in is_described both_lists (λ z is. (merged_met z is).described))
 
 -- ---- the law

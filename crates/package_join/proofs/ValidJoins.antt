@@ -53,7 +53,12 @@ valid_law a b j va vb ma mb is = by (clash_of a b) refl is
           same = anew_law a b (included a va ma) (included b vb mb) j is;
         }
 
--- what copies of both without their logs, which they haven't got, are joined to
+-- what copies of both without their logs are joined to, is what both are joined to: no log is looked at
+pub copies_as : (a b first second : Package) (result : Result Joined JoinStop) → first ≡ without_logs a → second ≡ without_logs b
+    → JoinsAs result (joined_of first second) → JoinsAs result (joined_of a b)
+copies_as a b first second result one two due = subst (JoinsAs result) (λ i. joined_of (one i) (two i)) due
+
+-- and it is valid
 pub copies_joined : (a b first second : Package) (result : Result Joined JoinStop) → Valid a → Valid b → a.mode ≡ Included → b.mode ≡ Included
     → first ≡ without_logs a → second ≡ without_logs b → JoinsAs result (joined_of first second) → IfOk result (λ j. ValidJoined j)
 copies_joined a b first second (Ok j) va vb ma mb one two due = valid_law a b j va vb ma mb ((λ i. joined_of (sym one i) (sym two i)) ∙ due)

@@ -15,7 +15,7 @@ use Rattle.sql_model.specs.declared.table.Schema.{Schema}
 use Rattle.run_model.specs.Between.{IsIn}
 use Rattle.run_model.specs.Package.{own_row, own_table}
 use Rattle.run_model.specs.ValidPackage.{start_rule, files_rule, tables_rule, are_tables, logs_rule, parts_rule, whole_rule, script_rule, rules}
-use Rattle.package_layout.specs.Room.{few, key_room, row_room, some_thousands, table_room, log_room}
+use Rattle.package_layout.specs.Room.{row_room, schema_room, some_thousands, table_room, log_room}
 use Rattle.package_layout.specs.Runs.{trace_room}
 use Rattle.package_layout.specs.Valid.{Valid}
 use Rattle.package_layout.specs.Whole.{has_room, tables_room}
@@ -26,23 +26,15 @@ use Rattle.package_join.specs.declared.joined.Which.TheVariants.{First, Second}
 use Rattle.package_join.specs.Joined.{both_rows, both_tables, clash_of, merged_rows, merged_tables, own_tables, put_together, run_in, run_package, table_cmp, unless_clash}
 use Rattle.package_join.specs.Laws.{IsIncluded}
 use Rattle.package_join.specs.Merging.{merged}
-use Rattle.package_join.specs.Rooms.{common_row_room, common_table_room, common_tables_room, bare_run_room, joined_run_room, joined_room, schema_room}
+use Rattle.package_join.specs.Rooms.{common_row_room, common_table_room, common_tables_room, bare_run_room, joined_run_room, joined_room}
 use Rattle.package_join.specs.Valid.{ValidJoined}
+use Rattle.package_join.proofs.Lists.{all_in, each_of}
 use Rattle.package_join.proofs.MergedLists.{in_merged, IsOf}
 use Rattle.package_join.proofs.PickedTables.{equal_names, name_of, number_of}
 use Rattle.package_join.proofs.Picks.{of_map, tables_agree}
 use Rattle.package_join.proofs.ValidJoins.{included}
 
 -- ---- lists
-
-pub all_in : {X : Type 0} (p : X → Bool) (xs : List X) → ((x : X) → IsIn x xs → p x ≡ true) → list_all p xs ≡ true
-all_in p [] each = refl
-all_in p (x ∷ xs) each = and-from (p x) (list_all p xs) (each x (inl refl)) (all_in p xs (λ y is. each y (inr is)))
-
-pub each_of : {X : Type 0} (p : X → Bool) (xs : List X) → list_all p xs ≡ true → (x : X) → IsIn x xs → p x ≡ true
-each_of p [] all x is = absurd is
-each_of p (y ∷ ys) all x (inl same) = ap p same ∙ (and-parts (p y) (list_all p ys) all).0
-each_of p (y ∷ ys) all x (inr more) = each_of p ys (and-parts (p y) (list_all p ys) all).1 x more
 
 module _ {X : Type 0} (cmp : X → X → Ordering) (both : X → X → X) where
   pub merged_length : (xs ys : List X) → length (merged cmp both xs ys) ≤ length xs + length ys
@@ -72,10 +64,8 @@ own_rows_fit columns (row ∷ rows) h =
 own_table_fits : (t : PackedTable) → table_room t ≡ true → common_table_room (own_table t) ≡ true
 own_table_fits t h =
     let columns : ℕ = length t.schema.columns in
-    let one = and-parts (few t.schema.columns) (key_room t.schema.key && list_all (row_room columns) t.rows) h in
-    let two = and-parts (key_room t.schema.key) (list_all (row_room columns) t.rows) one.1 in
-    and-from (schema_room t.schema) (list_all (common_row_room columns) (map own_row t.rows))
-    (and-from (few t.schema.columns) (key_room t.schema.key) one.0 two.0) (own_rows_fit columns t.rows two.1)
+    let both = and-parts (schema_room t.schema) (list_all (row_room columns) t.rows) h in
+    and-from (schema_room t.schema) (list_all (common_row_room columns) (map own_row t.rows)) both.0 (own_rows_fit columns t.rows both.1)
 
 module _ (p : Package) (valid : Valid p) where
   p_rooms : (some_thousands p.start ≡ true) × (some_thousands p.tables ≡ true) × (list_all table_room p.tables ≡ true) × (trace_room p.events ≡ true)

@@ -5,12 +5,10 @@ use Rattle.ldv_value.specs.Limits.{input_limit}
 use Rattle.ldv_value.specs.FileState.{files_test}
 use Rattle.sql_model.specs.Tables.{tables_test}
 use Rattle.package_layout.specs.Valid.{Valid}
-use Rattle.run_model.specs.Between.{Between, is_row_needed}
+use Rattle.run_model.specs.Between.{Between}
 use Rattle.run_model.specs.Package.{package_of}
-use Rattle.run_model.specs.Slice.{is_table_needed}
 use Rattle.run_model.specs.ValidPackage.{are_files, are_tables}
-use Rattle.package_join.specs.Types.{Event, Included, Package, World}
-use Rattle.run_model.specs.WorldRun.{events_within}
+use Rattle.package_join.specs.Types.{Included, Package, World}
 use Rattle.package_join.specs.declared.joined.Joined.{Joined}
 use Rattle.package_join.specs.Joined.{clash_of, joined_of, picked_package, put_together}
 use Rattle.package_join.specs.Layout.{joined_spelling}
@@ -19,11 +17,6 @@ use Rattle.package_join.specs.Valid.{ValidJoined, joined_reading}
 use Rattle.package_join.specs.Worlds.{joined_world, world_of}
 use Rattle.run_model.specs.ValidWorld.{CanRun}
 use Rattle.package_join.specs.declared.joined.Which.{Which}
-
--- a statement that needs a row names its table, as in every run
-abbrev pub NamesItsRows : List Event → Type 0
-NamesItsRows events = (table : List ℕ) (row : ℕ) → is_row_needed events table row ≡ true
-    → is_table_needed events table ≡ true
 
 -- the packages of two runs are joined, and the worlds of both runs lie between
 pub record IsJoined (n m : ℕ) (v w : World) : Type 0 where
@@ -34,11 +27,10 @@ pub record IsJoined (n m : ℕ) (v w : World) : Type 0 where
   pub second : Between m (world_of (put_together (package_of Included n v) (package_of Included m w)).second
       (put_together (package_of Included n v) (package_of Included m w))) w
 
--- of two worlds with the same files and tables, whatever their starts and seeds
+-- of two worlds with the same files and tables, whatever their starts and seeds, and however far they run
 abbrev pub JoinLaw : Type 0
 JoinLaw = (n m : ℕ) (v w : World) → v.files ≡ w.files → v.tables ≡ w.tables
     → files_test v.files ≡ true → tables_test v.tables ≡ true
-    → NamesItsRows (events_within n v) → NamesItsRows (events_within m w)
     → IsJoined n m v w
 
 -- ---- the packages of what was joined

@@ -3,20 +3,17 @@
 use Rattle.std.specs.Prelude.{ℕ, ◌<◌, ◌^◌, List, length, Bool, ◌&&◌, ◌==◌}
 use Rattle.std.specs.List.{list_all, AllByRecursion}
 use Rattle.std.specs.Str.{IsUtf8}
-use Rattle.sql_model.specs.declared.table.Schema.{Schema}
-use Rattle.package_layout.specs.Counts.{IsCountable, CountedList, CountedValue, CountedColumn, CountedFile}
-use Rattle.package_layout.specs.Room.{few, some_thousands, key_room}
+use Rattle.package_layout.specs.Counts.{IsCountable, CountedList, CountedValue, CountedSchema, CountedFile}
+use Rattle.package_layout.specs.Room.{some_thousands, schema_room}
 use Rattle.package_layout.specs.Runs.{CountedRun, runs_of, trace_room}
-use Rattle.package_layout.specs.Typed.{IsU32, TypedValues, TypedColumn, TypedFile, TypedEvent}
+use Rattle.package_layout.specs.Typed.{IsU32, TypedValues, TypedSchema, TypedFile, TypedEvent}
+use Rattle.package_layout.specs.declared.version.Version.TheVariants.{Two}
 use Rattle.package_join.specs.Types.{Table, TableRow}
 use Rattle.package_join.specs.declared.joined.Joined.{Joined}
 use Rattle.package_join.specs.declared.joined.JoinedRun.{JoinedRun}
 use Rattle.package_join.specs.declared.joined.Reason.{Reason}
 
 -- ---- in memory
-
-abbrev pub TypedSchema : Schema → Type 0
-TypedSchema s = AllByRecursion TypedColumn s.columns
 
 abbrev pub TypedCommonRow : TableRow → Type 0
 TypedCommonRow row = IsU32 row.number × TypedValues row.values
@@ -50,9 +47,6 @@ TypedJoined j = AllByRecursion TypedFile j.files
 
 -- ---- counts of one and two bytes
 
-abbrev pub schema_room : Schema → Bool
-schema_room s = few s.columns && key_room s.key
-
 abbrev pub common_row_room : ℕ → TableRow → Bool
 common_row_room columns row = length row.values == columns
 
@@ -73,14 +67,11 @@ joined_room j = common_tables_room j.tables && (joined_run_room j.first && joine
 
 -- ---- counts of four bytes
 
-abbrev pub CountedSchema : Schema → Type 0
-CountedSchema s = AllByRecursion CountedColumn s.columns
-
 abbrev pub CountedCommonRow : TableRow → Type 0
 CountedCommonRow row = AllByRecursion CountedValue row.values
 
 abbrev pub CountedCommonTable : Table → Type 0
-CountedCommonTable t = IsCountable t.name × (CountedSchema t.schema × CountedList CountedCommonRow t.rows)
+CountedCommonTable t = IsCountable t.name × (CountedSchema Two t.schema × CountedList CountedCommonRow t.rows)
 
 abbrev pub CountedReason : Reason → Type 0
 CountedReason r = IsCountable r.table

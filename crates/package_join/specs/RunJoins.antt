@@ -11,6 +11,7 @@ use Rattle.package_layout.specs.RunPackages.{run_rules}
 use Rattle.package_layout.specs.declared.run.Run.{Run}
 use Rattle.package_layout.specs.Runs.{events_in, run_spelling}
 use Rattle.package_layout.specs.Runs.{run_at as trace_run_at}
+use Rattle.package_layout.specs.declared.version.Version.TheVariants.{Two}
 use Rattle.package_join.specs.Types.{PackedFile, Table}
 use Rattle.package_join.specs.declared.joined.Clash.{Clash}
 use Rattle.package_join.specs.declared.joined.Joined.{Joined}
@@ -91,9 +92,9 @@ if_rejoined first second (Err clash) = None
 abbrev pub rejoined : RunPackage → RunPackage → Option RunJoined
 rejoined a b = if_rejoined a.runs b.runs (joined_of a.bare b.bare)
 
--- where both are valid
+-- where both are valid packages of version 2
 abbrev pub rejoined_valid : RunPackage → RunPackage → Option RunJoined
-rejoined_valid a b = if run_rules a && run_rules b then rejoined a b else None
+rejoined_valid a b = if run_rules Two a && run_rules Two b then rejoined a b else None
 
 abbrev pub cut_anew : RunJoined → Option RunJoined
 cut_anew r = rejoined_valid (picked_runs First r) (picked_runs Second r)

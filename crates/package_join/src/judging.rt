@@ -15,7 +15,7 @@ use crate::joined::Joined;
 use crate::joins::{JoinStop, join_owned};
 use crate::run_joined::{CutRun, RunJoined};
 use ldv_value::Bytes;
-use package_layout::{DecodeError, RunPackage, Runs, is_valid_package};
+use package_layout::{DecodeError, RunPackage, Runs, Version, is_valid_package};
 use run_model::PackedFiles;
 use sql_model::Tables;
 use std::alloc::{AllocError, Global};
@@ -92,10 +92,10 @@ fn rejoined(alloc: Global, a: RunPackage, b: RunPackage) -> Result<RunJoined, De
 fn rejoined_valid(alloc: Global, a: RunPackage, b: RunPackage) -> Result<RunJoined, DecodeError>
     ensures { Makes result (rejoined_valid a b) }
 {
-    if !is_valid_package(alloc, &a)? {
+    if !is_valid_package(alloc, Version::Two, &a)? {
         return Err(DecodeError::Malformed);
     }
-    if !is_valid_package(alloc, &b)? {
+    if !is_valid_package(alloc, Version::Two, &b)? {
         return Err(DecodeError::Malformed);
     }
     rejoined(alloc, a, b)

@@ -4,10 +4,10 @@ ghost use Rattle.std.specs.Prelude.{◌≡◌, not};
 ghost use Rattle.std.specs.Cmp.Lexicographic.{pointwise};
 ghost use Rattle.sql_model.specs.Keys.{same_values};
 ghost use Rattle.package_join.specs.Joined.{tables_differ};
-ghost use Rattle.package_join.specs.Same.{contents_differ, same_column, same_schema};
+ghost use Rattle.package_join.specs.Same.{contents_differ, same_column, same_foreign, same_keys, same_schema};
 
 use ldv_value::{Bytes, Values};
-use sql_model::{Column, Schema, Table, compare_values};
+use sql_model::{Column, Foreign, Schema, Table, compare_values};
 
 /// Whether both are whole, with different bytes.
 pub(crate) fn contents_differ(a: &Option<Bytes>, b: &Option<Bytes>) -> bool
@@ -39,7 +39,7 @@ pub(crate) fn values_differ(a: &Values, b: &Values) -> bool
 fn same_schema(a: &Schema, b: &Schema) -> bool
     ensures { result ≡ same_schema a.now b.now }
 {
-    same_columns(a.columns.items(), b.columns.items()) && a.key.items() == b.key.items()
+    same_columns(a.columns.items(), b.columns.items()) && same_keys(a, b)
 }
 
 fn same_columns(a: &[Column], b: &[Column]) -> bool
@@ -62,6 +62,40 @@ fn same_columns(a: &[Column], b: &[Column]) -> bool
             },
         }
     }
+}
+
+fn same_keys(a: &Schema, b: &Schema) -> bool
+    ensures { result ≡ same_keys a.now b.now }
+{
+    a.key.items() == b.key.items() && same_foreigns(a.foreign.items(), b.foreign.items())
+}
+
+fn same_foreigns(a: &[Foreign], b: &[Foreign]) -> bool
+    ensures { result ≡ pointwise same_foreign a.now b.now }
+{
+    let mut left = a;
+    let mut right = b;
+    loop {
+        match left {
+            [] => return right.is_empty(),
+            [first, rest @ ..] => match right {
+                [] => return false,
+                [second, more @ ..] => {
+                    if !same_foreign(first, second) {
+                        return false;
+                    }
+                    left = rest;
+                    right = more;
+                }
+            },
+        }
+    }
+}
+
+fn same_foreign(a: &Foreign, b: &Foreign) -> bool
+    ensures { result ≡ same_foreign a.now b.now }
+{
+    a.columns.items() == b.columns.items() && a.parent.is_same(&b.parent)
 }
 
 fn same_column(a: &Column, b: &Column) -> bool
