@@ -332,7 +332,7 @@ child_not_given given f key number is (row ∷ rows) = λ j. one j || child_not_
 
 some_first : {X Y : Type 0} (f : X → Option Y) (xs : List X) → is_some (first_some f xs) ≡ list_any (λ x. is_some (f x)) xs
 some_first f [] = refl
-some_first f (x ∷ xs) = by (f x) ∙ ap (λ (b : Bool). is_some (f x) || b) (some_first f xs)
+some_first {Y = Y} f (x ∷ xs) = by (f x) ∙ ap (λ (b : Bool). is_some (f x) || b) (some_first f xs)
   where
     by : (o : Option Y) → is_some (option_or o (first_some f xs)) ≡ (is_some o || is_some (first_some f xs))
     by None = refl
