@@ -1,28 +1,26 @@
 -- The first row of a table that refers to one of some keys: by one key after the other, and by one foreign key
 -- after the other.
-use Rattle.std.proofs.Common.{◌≡◌, ◌==◌, ℕ, zero, suc, ◌+◌, ◌<◌, ◌≤◌, List, [], ◌∷◌, ◌++◌, take, length, get_or, refl, sym, ap, subst, ◌∙◌, Bool, true, false, cond, not, ◌&&◌, ◌||◌, inl, inr, arith, Option, Some, None, is_some, eq-eqb}
+use Rattle.std.proofs.Common.{◌≡◌, ◌==◌, ℕ, zero, suc, ◌+◌, ◌<◌, ◌≤◌, List, [], ◌∷◌, take, length, get_or, refl, sym, ap, ◌∙◌, Bool, true, false, cond, not, ◌&&◌, ◌||◌, inl, inr, arith, Option, Some, None, is_some, eq-eqb}
 use Rattle.std.specs.Prelude.{find, min, if◌then◌else◌, ◌^◌}
-use Rattle.std.specs.BTreeMap.{is_at}
 use Rattle.std.specs.BTreeSet.{BTreeSet}
 use Rattle.std.specs.List.{AllByRecursion, cons_option, list_any}
 use Rattle.std.specs.Option.{option_map, option_map_or, option_and_then, option_or}
 use Rattle.std.proofs.lemmas.Bool.{cases_Bool, cases_lt, eqb-true, ne_eqb}
 use Rattle.std.proofs.lemmas.List.{take_more}
-use Rattle.ldv_value.proofs.Booleans.{and-false, and-parts, or-false, or-left, or-parts, true≢false}
+use Rattle.ldv_value.proofs.Booleans.{and-false, or-false, or-parts, true≢false}
 use Rattle.ldv_value.proofs.Lists.{list_any-append, list_any-false}
-use Rattle.ldv_value.proofs.Options.{none-some, same-some}
+use Rattle.ldv_value.proofs.Options.{none-some}
 use Rattle.row_version.specs.History.{current}
 use Rattle.sql_model.specs.Keys.{same_values}
-use Rattle.sql_model.specs.References.{Child, Orphan, child_of, orphan_by, reference}
+use Rattle.sql_model.specs.References.{Orphan, child_of, orphan_by, reference}
 use Rattle.sql_model.specs.Scope.{is_table, same_text}
 use Rattle.table_store.specs.Afterwards.{first_some, in_set, is_other, orphan_in_other, orphan_in_row, orphan_in_slot, orphan_in_table}
 use Rattle.table_store.specs.ChildPairs.{IsNextOf, first_number, given_in, is_child, is_child_by, is_child_in, is_child_of, lower, refers}
 use Rattle.table_store.specs.ChildSteps.{AreFrom, IsStep, after}
-use Rattle.table_store.specs.Histories.{RowHistory, TableHistory, is_of_number, no_history, row_now, row_of, rows_now, slot_of_row, table_now}
+use Rattle.table_store.specs.Histories.{RowHistory, TableHistory, no_history, row_now, row_of, rows_now, slot_of_row, table_now}
 use Rattle.table_store.specs.RowOrder.{AreInOrder}
 use Rattle.table_store.specs.Stops.{are_sorted_numbers, is_among}
 use Rattle.table_store.specs.Types.{Foreign, RowKey, Table, TableRow, Value}
-use Rattle.table_store.specs.declared.child_rows.Search.{Search}
 use Rattle.table_store.specs.declared.child_rows.Search.TheVariants.{Ends, GoesOn}
 use Rattle.table_store.proofs.FirstLaws.{first_filtered}
 use Rattle.table_store.proofs.InsertLaws.{AllRows, RisesFrom, rows_below, rows_rise}
@@ -332,7 +330,7 @@ child_not_given given f key number is (row ∷ rows) = λ j. one j || child_not_
 
 some_first : {X Y : Type 0} (f : X → Option Y) (xs : List X) → is_some (first_some f xs) ≡ list_any (λ x. is_some (f x)) xs
 some_first f [] = refl
-some_first f (x ∷ xs) = by (f x) ∙ ap (λ (b : Bool). is_some (f x) || b) (some_first f xs)
+some_first {Y = Y} f (x ∷ xs) = by (f x) ∙ ap (λ (b : Bool). is_some (f x) || b) (some_first f xs)
   where
     by : (o : Option Y) → is_some (option_or o (first_some f xs)) ≡ (is_some o || is_some (first_some f xs))
     by None = refl

@@ -1,15 +1,15 @@
 -- Pairs of a key and a number in order: which number comes first under a key.
 use Rattle.std.proofs.Common.{◌≡◌, ℕ, ◌<◌, ◌≤◌, List, [], ◌∷◌, refl, sym, ap, subst, ◌∙◌, Bool, true, false, cond, inl, inr, arith, Option, Some, None}
-use Rattle.std.specs.Prelude.{slice_get, IfSome, IsTrue, if◌then◌else◌}
+use Rattle.std.specs.Prelude.{slice_get, IfSome, if◌then◌else◌}
 use Rattle.std.specs.BTreeMap.{is_at}
 use Rattle.std.specs.BTreeMap.Range.{IsInRange, IsLeBy}
-use Rattle.std.specs.BTreeSet.{BTreeSet, IsEmpty, IsKeyInRange, IsKeyRangeOf, IsUnchanged, Updates, contains}
+use Rattle.std.specs.BTreeSet.{BTreeSet, IsEmpty, IsKeyInRange, IsKeyRangeOf, IsUnchanged, Updates}
 use Rattle.std.specs.Cmp.{IsTotalOrder, nat_cmp_is}
 use Rattle.std.specs.List.{list_any}
 use Rattle.std.specs.Ordering.{is_eq, is_gt, nat_cmp, ordering_then, ordering_reverse}
 use Rattle.std.specs.declared.cmp.Ordering.{Ordering}
 use Rattle.std.specs.declared.cmp.Ordering.TheVariants.{Less, Equal, Greater}
-use Rattle.std.specs.declared.ops.bounds.Bound.TheVariants.{Included, Unbounded}
+use Rattle.std.specs.declared.ops.Bound.TheVariants.{Included, Unbounded}
 use Rattle.std.proofs.lemmas.Bool.{cases_lt}
 use Rattle.std.proofs.lemmas.Cmp.{tied_itself}
 use Rattle.ldv_value.proofs.Booleans.{not-so, true≢false}

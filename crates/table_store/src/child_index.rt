@@ -216,7 +216,16 @@ fn settle_values(
 {
     let items = foreigns.items();
     for place in 0..items.len() {
-        settle_by(alloc, index, place, &items[place], stored, slot, number, values);
+        settle_by(
+            alloc,
+            index,
+            place,
+            &items[place],
+            stored,
+            slot,
+            number,
+            values,
+        );
     }
 }
 

@@ -1,4 +1,4 @@
-use Rattle.std.proofs.Common.{◌≡◌, ◌∙◌, ap, sym, List}
+use Rattle.std.proofs.Common.{◌∙◌, ap, sym, List}
 use Rattle.std.specs.Map.Iter.{deref}
 use Rattle.std.proofs.lemmas.Map.Iter.{rest_all, rest_more}
 use Rattle.table_store.specs.ChildPairs.{first_number, is_child_of, lower}
@@ -16,7 +16,7 @@ loop-key-preserved c =
     let h = c.args.table.now in
     let rows = rows_now h.slots in
     let split = rest_more deref c.loop-key.key-iterator c.next.new.self c.next.result c.in-Some.key c.in-Some.is c.next.ensures.steps in
-    ap (λ o. lower o (first_number (is_child_of c.args.given.now c.args.foreign.now c.next.new.self) rows)) c.lower.ensures
+    ap (λ o. lower o (first_number (is_child_of c.args.given.now c.args.foreign.now c.next.new.self) rows)) c.lower-first.ensures
     ∙ keys_more c.args.given.now c.args.foreign.now rows (rising_rows h.slots (last_next h.nexts) c.tell_order.ensures) c.in-Some.key.now c.next.new.self c.loop-key.first c.in-Ok.found c.in-Ok.ensures
     ∙ ap (λ (keys : List RowKey). lower c.loop-key.first (first_number (is_child_of c.args.given.now c.args.foreign.now keys) rows)) (sym split)
     ∙ c.loop-key.invariant

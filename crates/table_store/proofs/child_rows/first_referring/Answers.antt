@@ -33,7 +33,7 @@ loop-place-preserved c =
     let within : place < length h.schema.foreign = omega arith in
     let is : c.index-foreigns-place.result ≡ get_or h.schema.foreign place no_foreign =
     c.index-foreigns-place.is ∙ get_or_default xs place c.index-foreigns-place.result no_foreign inside ∙ ap (λ (l : List Foreign). get_or l place no_foreign) same in
-    c.lower.ensures
+    c.lower-first.ensures
     ∙ foreigns_more c.args.given.now c.args.target.now c.args.keys.now.keys (rows_now h.slots) (rising_rows h.slots (last_next h.nexts) c.tell_order.ensures) h.schema.foreign place c.index-foreigns-place.result no_foreign
     within is c.loop-place.first c.in_ok-found.found c.loop-place.invariant c.in_ok-found.ensures
 

@@ -1,4 +1,4 @@
-use Rattle.std.proofs.Common.{◌≡◌, ◌∙◌, ap, sym, subst, not, Option, ℕ, true}
+use Rattle.std.proofs.Common.{◌≡◌, sym, subst, not, Option, ℕ, true}
 use Rattle.ldv_value.proofs.Booleans.{and-second}
 use Rattle.table_store.specs.ChildPairs.{IsNextOf, is_child, refers}
 use Rattle.table_store.specs.ChildSteps.{IsStep}

@@ -1,4 +1,4 @@
-use Rattle.std.proofs.Common.{◌≡◌, ◌∙◌, ap, sym, subst, List, ℕ, Option, Some, None, true}
+use Rattle.std.proofs.Common.{◌≡◌, ◌∙◌, ap, sym, List, ℕ}
 use Rattle.std.specs.Option.{option_map}
 use Rattle.sql_model.specs.Scope.{is_table}
 use Rattle.table_store.specs.ChildPairs.{first_number, given_in, is_child_in}

@@ -11,8 +11,8 @@ returns-in-None g c =
     first_none g.K.Ord.cmp g.met.K.Ord.total c.args.self.now.held c.args.key c.args.from r (c.range-pairs.ensures.in_range tt)
     (rest_all deref r c.next.new.self c.next.result c.in-None.is c.next.ensures.steps)
 
-pub returns-in-Some : goal.returns-in-Some
-returns-in-Some g c =
+pub returns : goal.returns
+returns g c =
     let cmp = g.K.Ord.cmp in
     let set = c.args.self.now.held in
     let r = c.range-pairs.result in

@@ -87,8 +87,8 @@ returns-clause-stop c =
     subst (λ (t : TableHistory). replace_stop c.args.rows (table_now t) ≡ None) c.self.view_is (replace_stop_is c.args.rows made lacks ∙ none) in
     ap (λ (o : Option StoreStop). option_or o c.args.later) own ∙ c.in-None.is
 
-pub invariant_of-self-in_err-add_all : goal.invariant_of-self-in_err-add_all
-invariant_of-self-in_err-add_all c =
+pub invariant_of-self : goal.invariant_of-self
+invariant_of-self c =
     let a = c.self.inside in
     stored_claimed a.schema a.rows (λ key. held_in a.index key) (λ key. held_in a.index key) (pair_in a.children) (pair_in c.add_all.new.index) (nexts_of a.nexts.items) c.self.invariant.indexed c.add_all.ensures.kept c.self.invariant
 

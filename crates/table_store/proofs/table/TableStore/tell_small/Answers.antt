@@ -1,7 +1,6 @@
 use Rattle.std.proofs.Common.{◌<◌, subst, sym, ℕ}
 use Rattle.std.specs.Prelude.{◌^◌}
 use Rattle.table_store.specs.Histories.{TableHistory, last_next}
-use Rattle.table_store.specs.Nexts.{nexts_of}
 use Rattle.table_store.proofs.table.TableStore.tell_small.Goals as goal
 
 pub returns : goal.returns
