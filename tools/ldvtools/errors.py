@@ -11,7 +11,7 @@ class Malformed(Exception):
 
 
 class TwoRuns(Malformed):
-    """A joined package is where a package of one run is wanted. The text says how one of its runs is named."""
+    """A joined package stands where a package of one run is wanted. The text says how to name one."""
 
 
 class Refused(Exception):

@@ -66,13 +66,14 @@ class Joins(InFolder):
     def test_foreign(self):
         """Foreign keys are named with their columns and parents, in their order."""
         to_p, to_q = packages.foreign([1], "p"), packages.foreign([1, 2], "q")
-        bases = (join_cases.bare(join_cases.wide(*foreigns)) for foreigns in ([to_p], [to_p, to_q], [to_q, to_p]))
-        one, both, other = (self.put(name, packages.encode(base)) for name, base in zip("abc", bases))
+        one, both, other, none = (
+            self.put(f"{len(foreigns)}{foreigns[:1] == [to_p]}",
+                     packages.encode(join_cases.bare(join_cases.wide(*foreigns))))
+            for foreigns in ([to_p], [to_p, to_q], [to_q, to_p], []))
         said = "join.py: clash: table c\n  foreign keys: "
-        self.assertEqual(self.joined(one, both)[2], f"{said}(p) refers to p in {one}, (p) refers to p; (p, r) "
-                                                    f"refers to q in {both}\n")
+        self.assertEqual(self.joined(one, both)[2],
+                         f"{said}(p) refers to p in {one}, (p) refers to p; (p, r) refers to q in {both}\n")
         self.assertIn(f"(p, r) refers to q; (p) refers to p in {other}", self.joined(both, other)[2])
-        none = self.put("n", packages.encode(join_cases.bare(join_cases.wide())))
         self.assertIn(f"{said}(p) refers to p in {one}, none in {none}", self.joined(one, none)[2])
         self.assertEqual(self.joined(both, both)[0], 0)
 
@@ -120,11 +121,10 @@ class Joins(InFolder):
             if words != ["join"] or status != 0:
                 continue
             found = read_any(output)
-            for number, each in enumerate(map(read_package, pair_in(data)), 1):
-                run = found.run(number)
-                self.assertEqual(run._replace(runs=list(run.events), version=0, sizes={}, row_bytes=0, digest=""),
-                                 each._replace(runs=list(each.events), version=0, sizes={}, row_bytes=0,
-                                               digest=""))
+            for number, given in enumerate(map(read_package, pair_in(data)), 1):
+                one, other = (each._replace(runs=list(each.events), version=0, sizes={}, row_bytes=0,
+                                            digest="") for each in (found.run(number), given))
+                self.assertEqual(one, other)
             pairs += 1
         self.assertGreater(pairs, 40)
 

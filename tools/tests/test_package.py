@@ -211,7 +211,7 @@ table t (k INT NOT NULL, g TEXT, v INT, key k): 2 rows, next row 5
         self.assertIn(b"run 2", tool(package, "--sizes", path)[1])
         self.assertEqual(read_any(read(path)).run(2).tables, second.tables)
         both = join_cases.encode_joined(join_cases.BOTH)
-        self.assertIn(b"run 1: table c (id INT NOT NULL, p INT, key id, (p) refers to p): 2 rows, next row 3\n",
+        self.assertIn(b"run 1: table c (id INT NOT NULL, p INT, key id, (p) refers to p): 2 rows, next row 3",
                       tool(package, given=both)[1])
         self.assertIn(b"""p: 3 rows, 0 of them needed by both runs
   row | run 1 | run 2 | id
