@@ -6,7 +6,7 @@ What is replied and needed was worked out by hand. The tables are `p` with the k
 column p refers to it: 10 to 1, 11 to 2, and 12 to none."""
 from need_cases import reply_text
 from packages import *
-from packages_joined import encode_joined, joined_parts, reason
+from packages_joined import check_joined, encode_joined, joined_parts, reason
 
 PARENTS = [(1,), (2,), (3,)]
 CHILDREN = [(10, 1), (11, 2), (12, None)]
@@ -446,5 +446,6 @@ def budget_cases():
 
 
 def join_cases():
+    check_joined()
     for made in (pair_cases, clash_cases, no_pair_cases, rule_cases, seeing_cases, many_cases, budget_cases):
         yield from made()

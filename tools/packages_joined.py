@@ -7,8 +7,8 @@ has.
 import hashlib
 
 from package_versions import parts_of
-from packages import (spell_file, spell_list, spell_number, spell_rule, spell_table, spell_text, spell_trace,
-                      spell_u32, spell_value)
+from packages import (BASES, spell_file, spell_list, spell_number, spell_rule, spell_table, spell_text,
+                      spell_trace, spell_u32, spell_value)
 
 MAGIC = b'LDVJOIN1'
 
@@ -80,6 +80,19 @@ def encode_joined(j):
                      + spell_list(2, j['tables'], spell_table(2, spell_bare_row))
                      + b''.join(map(spell_picked, j['runs'])))
     return j['whole'](body + j['digest'](body))
+
+
+# The worked example of docs/FORMATS.md without its digest: the first base in runs, joined with itself.
+WORKED = ('4c44564a4f494e31' '00000001' '000000046d61696e' '01' '00000006657869742030' '0000') + 2 * (
+    '0001' '000000046d61696e' '0000000000000000' '00000001' '00000001' '000000046d61696e' '00000000' '0000'
+    '00000000' '00000002' '0000000000000000' '00' '000000046d61696e' '00000001' '00000000' '0000000100000000'
+    '0d' '00' '00000001' '00000000')
+
+
+def check_joined():
+    base = BASES['plain in runs']
+    if encode_joined(joined_parts(base, base))[:-32].hex() != WORKED:
+        raise SystemExit('the encoder differs from the worked example of a joined package')
 
 
 def joined(first, second):
