@@ -445,6 +445,41 @@ def budget_cases():
                    error='ldv: not ended after %d steps\n' % (steps - 1))
 
 
+# ---- those that are too long to be stored
+
+LIMIT = 67_108_864
+
+
+def many_files(start, letter, count):
+    """A package of so many files, all but its script only present."""
+    files = [file('%s%05x' % (letter, n)) for n in range(count - 1)] + [file(start, 'exit 0')]
+    return package(2, start=[start], files=files, trace=[started(start), ended()])
+
+
+def long_parts(length, count=420_000):
+    """A package that is joined with itself to so many bytes. Its rows have 10 bytes each, and what it is joined
+    to has 157 for each, as the name of their table stands in each reason."""
+    rows = [row(n, None) for n in range(count)]
+    parts = package(2, files=[file('main', 'exit 0'), file('pad', '')],
+                    tables=[table('a' * 63, [column('g')], next=count, rows=rows)],
+                    trace=[started(), asked(0, 1), ended()])
+    pad = length - len(encode_joined(joined_parts(parts, parts)))
+    return {**parts, 'files': [parts['files'][0], file('pad', bytes(pad))]}
+
+
+def large_join_cases():
+    """The cases whose inputs are files: each with its bytes."""
+    first, second = many_files(ONE, 'a', 65_536), many_files(TWO, 'b', 65_536)
+    both = encode_joined(joined_parts(first, second))
+    yield replaying('65,536 files of each run', 2, both, replied())
+    both = encode_joined(joined_parts(first, many_files(TWO, 'b', 65_537)))
+    yield told('65,537 files of a run', ['replay', '--run', '1'], both, 8, error='ldv: damaged: form\n')
+    within, beyond = long_parts(LIMIT), long_parts(LIMIT + 1)
+    yield replaying('as long as it may be', 1, encode_joined(joined_parts(within, within)), replied())
+    yield told('join: longer than it may be', ['join'], pair_of(beyond, beyond), 12,
+               error='ldv: package longer than 67108864 bytes\n')
+
+
 def join_cases():
     check_joined()
     for made in (pair_cases, clash_cases, no_pair_cases, rule_cases, seeing_cases, many_cases, budget_cases):

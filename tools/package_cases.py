@@ -19,7 +19,7 @@ import os
 import sys
 
 from form_rules import FORM
-from join_cases import JOINED, join_cases
+from join_cases import JOINED, join_cases, large_join_cases
 from length_rules import COUNTED, LARGE
 from need_cases import need_cases
 from package_versions import migrations
@@ -76,6 +76,11 @@ def write_large(folder):
         with open(os.path.join(folder, place), 'wb') as out:
             out.write(encode(p))
         cases.append(case(name, {'file': place}, p, expect))
+    for n, made in enumerate(large_join_cases()):
+        place = 'large-join-%02d' % n
+        with open(os.path.join(folder, place), 'wb') as out:
+            out.write(bytes.fromhex(made['input']['hex']))
+        cases.append({**made, 'input': {'file': place}})
     with open(os.path.join(folder, 'large.json'), 'w') as out:
         out.write(lines(cases))
 
