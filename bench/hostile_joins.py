@@ -10,7 +10,7 @@ from ldvtools.errors import Malformed                                        # n
 from ldvtools.join import clash_of                                           # noqa: E402
 from ldvtools.packages import Joined, read_any, read_package                   # noqa: E402
 from package_versions import parts_of                                        # noqa: E402
-from packages import encode                                                  # noqa: E402
+from packages import encode, foreign                                         # noqa: E402
 from packages_joined import joined                                           # noqa: E402
 
 LENGTH = 4
@@ -43,15 +43,44 @@ def changed_file(rng, parts):
         each['content'] = rng.choice((None, b'', b'exit 0\n', (each['content'] or b'') + b'\n'))
 
 
+def referring(rng, each, parent):
+    """Columns of a table that fit the key of a parent, as far as there are such."""
+    found = []
+    for place in parent['key']:
+        kind = parent['columns'][place]['kind'].split(' ')[0]
+        fitting = [n for n, column in enumerate(each['columns'])
+                   if n not in found and column['kind'].split(' ')[0] == kind]
+        found += rng.sample(fitting, min(len(fitting), 1))
+    return found
+
+
+def changed_foreign(rng, each, tables):
+    """A table with other foreign keys: one fewer, all in another order, one to another parent or of other
+    columns, or one more."""
+    keys, parent, how = each['foreign'], rng.choice(tables), rng.randrange(5)
+    if how == 0 and keys:
+        del keys[rng.randrange(len(keys))]
+    elif how == 1 and len(keys) > 1:
+        keys.reverse()
+    elif how == 2 and keys:
+        rng.choice(keys)['parent'] = parent['name']
+    elif how == 3 and keys:
+        rng.shuffle(rng.choice(keys)['columns'])
+    else:
+        keys.append(foreign(referring(rng, each, parent), parent['name']))
+
+
 def changed_table(rng, parts):
     each = rng.choice(parts['tables'])
-    how = rng.randrange(4)
+    how = rng.randrange(6)
     if how == 0:
         each['next'] = rng.choice((each['next'] + 1, 4_294_967_295))
     elif how == 1:
         each['key'] = each['key'][:-1]
     elif how == 2:
         each['columns'][rng.randrange(len(each['columns']))]['name'] += '_'
+    elif how in (3, 4):
+        changed_foreign(rng, each, parts['tables'])
     else:
         parts['tables'].remove(each)
 

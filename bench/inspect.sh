@@ -9,13 +9,16 @@
 #   prov     `prov` of the same runs, and `prov depends out` of what it wrote where that isn't longer than an input may
 #            be: the seconds for each edge, and the memory as a multiple of the document's bytes. At most 4 microseconds
 #            and 16 times are aimed at
+#   join     `join` of two packages over one table, and the replay of the first run, beside `replay` of its package:
+#            where both runs need all rows (same), and where each needs a half of its own (apart). The seconds are to
+#            grow as the rows do; the memory is shown as a multiple of the bytes that are read
 #   gen      `gen N`, which makes, records and replays a world, beside the same tables and the same script over
 #            the program `sqlite3`, in memory, where that is installed: with rows that are made by SQL, and with rows
 #            that are imported from CSV. It ends with an error where the two don't find the same. At most 1.0 is aimed at
 #
 # package_worlds.py makes the worlds. LDV names another program than the one of this checkout, SIZES other
-# numbers of events and rows, ONLY="depends table" some of the four, NUMBERS other N of gen, EDGES other numbers of
-# events for prov, where an event is an edge or, with rows, three.
+# numbers of events and rows, ONLY="depends table" some of the five, NUMBERS other N of gen, EDGES other numbers of
+# events for prov, where an event is an edge or, with rows, three, and ROWS other numbers of rows for join.
 set -eu
 
 here=$(CDPATH='' cd -- "$(dirname "$0")" && pwd -P)
@@ -105,6 +108,56 @@ table() {
     done
 }
 
+# usage: record_of NAME SIZE FILE; the package of a world.
+record_of() {
+    python3 "$here/package_worlds.py" "$1" "$2" >"$work/world"
+    "$ldv" record <"$work/world" >"$3"
+}
+
+# usage: sized FILE; its bytes with their number before them.
+sized() {
+    size=$(wc -c <"$1")
+    # Four bytes, the highest first.
+    # shellcheck disable=SC2059
+    printf "$(printf '\\%03o\\%03o\\%03o\\%03o' $((size >> 24 & 255)) $((size >> 16 & 255)) $((size >> 8 & 255)) \
+        $((size & 255)))"
+    cat "$1"
+}
+
+# usage: show_join COMMAND INPUT OUTPUT WORDS..; runs it, and shows a line of the table.
+show_join() {
+    command=$1
+    input=$2
+    output=$3
+    shift 3
+    measure "$input" "$output" "$ldv" "$@"
+    awk -v name="$name" -v rows="$rows" -v command="$command" -v s="$seconds" -v m="$memory" \
+        -v bytes="$(wc -c <"$input")" -v out="$(wc -c <"$output")" 'BEGIN {
+        printf "%-6s %8d %-14s %9.3f %9.3f %9.1f %9.2f %10d %10d\n", name, rows, command, s, s * 1000000 / rows, m,
+            m * 1048576 / bytes, bytes, out
+    }'
+}
+
+join() {
+    printf '%-6s %8s %-14s %9s %9s %9s %9s %10s %10s\n' runs rows command seconds us/row MiB of-bytes bytes-in bytes-out
+    for name in same apart; do
+        for rows in ${ROWS:-${SIZES:-1000 10000 100000 500000}}; do
+            if [ "$name" = same ]; then
+                record_of groups "$rows" "$work/first"
+                cp "$work/first" "$work/second"
+            else
+                record_of low "$rows" "$work/first"
+                record_of high "$rows" "$work/second"
+            fi
+            { sized "$work/first" && sized "$work/second"; } >"$work/pair"
+            show_join join "$work/pair" "$work/both" join
+            show_join replay "$work/first" "$work/outcome" replay
+            show_join 'replay --run 1' "$work/both" "$work/replayed" replay --run 1
+            cmp "$work/outcome" "$work/replayed"
+        done
+    done
+}
+
 # usage: make_sql N; files for the program sqlite3: the tables made by SQL, imported from CSV, and the script
 # over them.
 make_sql() {
@@ -182,11 +235,11 @@ gen() {
 }
 
 first=yes
-for part in ${ONLY:-depends prov table gen}; do
+for part in ${ONLY:-depends prov table join gen}; do
     [ "$first" ] || echo
     first=
     case $part in
-        depends | prov | table | gen) "$part" ;;
+        depends | prov | table | join | gen) "$part" ;;
         *)
             echo "inspect.sh: there is no part $part" >&2
             exit 2 ;;

@@ -9,6 +9,7 @@ Worlds of one table with SIZE rows, each with an id, a number below 100 and a te
     change      three processes that take turns: one inserts 100 rows, one by one, one updates a hundredth of
                 the rows and deletes another, one writes counts of groups to a file
     groups      one SELECT with sums over all rows, in 100 groups
+    low, high   one SELECT of a half of the rows. Both worlds have both scripts, and no row is of both halves
 
 Worlds whose run has about SIZE events. The last event is that `out` is opened for writing:
 
@@ -23,6 +24,9 @@ import sys
 
 PICK = {"main": 'sql q "SELECT * FROM t WHERE part = 7"\n'}
 GROUPS = {"main": 'sql q "SELECT part, COUNT(*), SUM(id) FROM t GROUP BY part"\n'}
+
+HALVES = {"low": 'sql q "SELECT SUM(id) FROM t WHERE part < 50"\n',
+          "high": 'sql q "SELECT SUM(id) FROM t WHERE part >= 50"\n'}
 
 LOAD = """let i = {size}
 next:
@@ -117,13 +121,16 @@ def made(name, size):
         script = {"files": FILES, "one": ONE, "rows": ROWS, "loop": LOOP}[name]
         text = script.format(turns=max(1, (size - beside) // each), tests=TEST * TESTS)
         return {"main": text}, {"t": counters()} if name in WITH_TABLE else {}
+    if name in HALVES:
+        return HALVES, {"t": parts(size)}
     return {"pick": PICK, "groups": GROUPS}.get(name) or change(size), {"t": parts(size)}
 
 
 def main():
     name, size = sys.argv[1], int(sys.argv[2])
     files, tables = made(name, size)
-    json.dump({"start": ["main"], "files": files, "tables": tables}, sys.stdout, separators=(",", ":"))
+    start = name if name in HALVES else "main"
+    json.dump({"start": [start], "files": files, "tables": tables}, sys.stdout, separators=(",", ":"))
 
 
 if __name__ == "__main__":

@@ -95,9 +95,13 @@ def at_the_limits(check):
     check.expect('an input at the limit', ['run'], b' ' * INPUT_LIMIT, 6,
                  error=b'ldv: not a world: not json\n')
     check.expect('an input past the limit', ['run'], b' ' * (INPUT_LIMIT + 1), 5, error=too_long)
-    for magic in (b'LDVPACK1', b'LDVPACK2'):
+    for magic, words in ((b'LDVPACK1', []), (b'LDVPACK2', []), (b'LDVJOIN1', ['--run', '1'])):
         noise = (magic + bytes(range(256)) * (INPUT_LIMIT // 256))[:INPUT_LIMIT]
-        check.expect('noise after a right magic', ['replay'], noise, 8, error=b'ldv: damaged: digest\n')
+        check.expect('noise after a right magic', ['replay', *words], noise, 8,
+                     error=b'ldv: damaged: digest\n')
+    check.expect('the greatest lengths of two packages', ['join'], b'\xff' * INPUT_LIMIT, 8,
+                 error=b'ldv: damaged: form\n')
+    check.expect('two packages past the limit', ['join'], b'\0' * (INPUT_LIMIT + 1), 5, error=too_long)
     check.expect('arrays nested 100,000 deep', ['run'], b'[' * 100_000 + b']' * 100_000, 6,
                  error=b'ldv: not a world: not json\n')
     no_document = b'ldv: not a provenance document\n'
@@ -183,6 +187,17 @@ def streams(check):
             check.same('a full error stream', call(check.program, [], HELLO, stderr=full), (2, b'', b''))
 
 
+def joined(check, name, world, package, text):
+    """The package of a run and that of the same world under another seed, joined, and both runs replayed."""
+    other = json.dumps({**json.loads(world), 'seed': 1}).encode()
+    pair = b''.join(len(each).to_bytes(4, 'big') + each
+                    for each in (package, call(check.program, ['record'], other)[1]))
+    status, both, error = call(check.program, ['join'], pair)
+    check.same('join of two packages of ' + name, (status, b'', error), (0, b'', b''))
+    for run, wanted in (('1', text), ('2', call(check.program, ['run'], other)[1])):
+        check.expect('replay of run %s of %s' % (run, name), ['replay', '--run', run], both, 0, wanted)
+
+
 def examples(check, folder):
     """Each NAME.json of the folder that has a NAME.outcome beside it."""
     for name in sorted(os.listdir(folder)):
@@ -197,6 +212,8 @@ def examples(check, folder):
             status, package, error = call(check.program, words, world)
             check.same('%s of %s' % (' '.join(words), name), (status, b'', error), (0, b'', b''))
             check.expect('replay of %s of %s' % (' '.join(words), name), ['replay'], package, 0, text)
+            if words == ['record']:
+                joined(check, name, world, package, text)
 
 
 def changed(package, old, new):

@@ -3,7 +3,8 @@
 right digest, beside some that come as close and are valid. packages.py makes the bytes.
 
     python3 tools/package_cases.py                writes packages.json, packages_in_runs.json, traces.json,
-                                                  needs.json and migrate.json into crates/conformance/data
+                                                  needs.json, migrate.json and joined_packages.json into
+                                                  crates/conformance/data
     python3 tools/package_cases.py --check        fails where one of them isn't what this script would write
     python3 tools/package_cases.py --list         each rule with the names of its cases
     python3 tools/package_cases.py --large DIR    writes the packages that are too long to be stored, each as
@@ -18,6 +19,7 @@ import os
 import sys
 
 from form_rules import FORM
+from join_cases import JOINED, join_cases, large_join_cases
 from length_rules import COUNTED, LARGE
 from need_cases import need_cases
 from package_versions import migrations
@@ -50,7 +52,7 @@ def stored():
     return {'packages.json': replayed(RULES), 'packages_in_runs.json': replayed(RUNS),
             'traces.json': lines([trace_case(*given) for given in CASES]),
             'needs.json': lines(list(need_cases(2))),
-            'migrate.json': lines(list(migrations()))}
+            'migrate.json': lines(list(migrations())), 'joined_packages.json': lines(list(join_cases()))}
 
 
 def differing():
@@ -74,13 +76,18 @@ def write_large(folder):
         with open(os.path.join(folder, place), 'wb') as out:
             out.write(encode(p))
         cases.append(case(name, {'file': place}, p, expect))
+    for n, made in enumerate(large_join_cases()):
+        place = 'large-join-%02d' % n
+        with open(os.path.join(folder, place), 'wb') as out:
+            out.write(bytes.fromhex(made['input']['hex']))
+        cases.append({**made, 'input': {'file': place}})
     with open(os.path.join(folder, 'large.json'), 'w') as out:
         out.write(lines(cases))
 
 
 def main(words):
     if words == ['--list']:
-        return tell(RULES + RUNS + LARGE)
+        return tell([*RULES, *RUNS, *JOINED, *LARGE])
     if len(words) == 2 and words[0] == '--large':
         return write_large(words[1])
     if words == ['--check']:

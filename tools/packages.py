@@ -183,9 +183,14 @@ for name in ('rows', 'picked', 'logs'):
 
 
 def changed(base, change):
-    """A copy of a base where each path of the change (`tables.0.next`) has its new value,
-    or what a function makes of the old one."""
-    p = copy.deepcopy(BASES[base])
+    """A copy of the base of this name, changed."""
+    return changed_parts(BASES[base], change)
+
+
+def changed_parts(p, change):
+    """A copy where each path of the change (`tables.0.next`) has its new value, or what a function makes of
+    the old one."""
+    p = copy.deepcopy(p)
     for path, new in change.items():
         *way, last = [int(step) if step.isdigit() else step for step in path.split('.')]
         part = p

@@ -1,3 +1,3 @@
 """What is beside the program ldv: tools that make worlds, and that show outcomes and packages."""
 
-__version__ = "0.9.0"
+__version__ = "1.0.0"

@@ -10,6 +10,10 @@ class Malformed(Exception):
     """An input doesn't have the form of what it should be. The text says what is wrong and where."""
 
 
+class TwoRuns(Malformed):
+    """A joined package stands where a package of one run is wanted. The text says how to name one."""
+
+
 class Refused(Exception):
     """What was given can't be made into what was asked for. The text says why and where."""
 
@@ -37,6 +41,8 @@ def command(name: str, work: Callable[[Optional[Sequence[str]]], int],
     """
     try:
         return work(words)
+    except TwoRuns as fault:
+        print(f"{name}: {fault}", file=sys.stderr)
     except Malformed as fault:
         print(f"{name}: no {expected}: {fault}", file=sys.stderr)
     except Refused as fault:

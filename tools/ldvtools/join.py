@@ -17,7 +17,7 @@ from __future__ import annotations
 import sys
 from typing import Dict, Iterator, List, NamedTuple, Optional, Sequence, Tuple
 
-from .errors import Malformed, Misused, Refused, command, words_of
+from .errors import Malformed, Misused, Refused, TwoRuns, command, words_of
 from .outcome import read_input
 from .packages import Package, PackedRow, PackedTable, read_package
 from .values import Value, cell, counted, escaped
@@ -157,6 +157,9 @@ def read_one(name: str) -> Tuple[bytes, Package]:
     data = read_input(None if name == "-" else name)
     try:
         package = read_package(data)
+    except TwoRuns:
+        raise Refused(f"{name} is a joined package already; packages of one run are joined, and no more than "
+                      "two") from None
     except Malformed as fault:
         raise Malformed(f"{name}: {fault}") from None
     if package.mode != "included":

@@ -47,6 +47,12 @@ class Finder(Reader):
             return f"row {row.number}{why}: {' | '.join(map(cell, row.values))}"
         return self.noted(self.place, super().row(width, has_reasons), told)
 
+    def reason(self) -> Tuple[str, int, int, str]:
+        def told(reason: Tuple[str, int, int, str]) -> str:
+            table, row, statement, rule = reason
+            return f"row {row} of {table}, statement {statement}, rule {rule}"
+        return self.noted(self.place, super().reason(), told)
+
     def log(self) -> Log:
         return self.noted(self.place, super().log(), lambda log: f"log of process {log.process}")
 

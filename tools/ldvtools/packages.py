@@ -10,7 +10,7 @@ import hashlib
 import struct
 from typing import Callable, Dict, Iterator, List, Mapping, NamedTuple, Optional, Tuple, TypeVar, Union
 
-from .errors import Malformed
+from .errors import Malformed, Refused, TwoRuns
 from .language import (ACTS, ASKED, ENDED, KEYED_REFUSALS, KINDS, MAX_EVENTS, MAX_PROCESSES, MODES, NAME,
                        REFUSALS, RULES, SPAWNED, WAITED)
 from .values import Reply, Row, Value, changed_reply, refused_reply, rows_reply
@@ -396,8 +396,14 @@ class Reader:
         start = self.start()
         seed, steps = self.seed_and_steps()
         wholes, presents, tables = self.list(4, self.text), self.list(4, self.text), self.list(2, self.text)
-        reasons = self.list(4, lambda: (self.text(), self.number(4), self.number(4), self.among(RULES)))
+        reasons = self.list(4, self.reason)
         return JoinedRun(start, seed, steps, wholes, presents, tables, reasons, self.trace())
+
+    def reason(self) -> Tuple[str, int, int, str]:
+        """Why a run of a joined package needs a row."""
+        table = self.text()
+        row, statement, rule = self.unpack(ROW)
+        return table, row, statement, self.rule(rule)
 
     def joined(self) -> Joined:
         self.sizes["magic"] = MAGIC_LENGTH
@@ -429,12 +435,13 @@ def read_any(data: bytes, reads: Callable[[bytes, int], Reader] = Reader) -> Uni
 
 
 def read_package(data: bytes, run: Optional[int] = None) -> Package:
-    """The package that bytes spell. Of a joined package `run` says which of its two."""
+    """The package that bytes spell. Of a joined package `run` says which of its two; TwoRuns where it
+    doesn't."""
     found = read_any(data)
     if isinstance(found, Package):
         if run is not None:
-            raise Malformed("it isn't a joined package, and has no runs to choose from")
+            raise Refused("it isn't a joined package, and has no runs to choose from")
         return found
     if run is None:
-        raise Malformed("it is a joined package; --run 1 or --run 2 says which of its runs")
+        raise TwoRuns("it is a joined package, which has two runs; --run 1 or --run 2 says which one")
     return found.run(run)

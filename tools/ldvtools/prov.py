@@ -31,7 +31,7 @@ import re
 import sys
 from typing import Dict, List, Optional, Sequence, Tuple
 
-from .errors import Misused, Refused, command, words_of
+from .errors import Misused, Refused, TwoRuns, command, words_of
 from .outcome import read_input, write_out
 from .packages import read_package
 from .picture import add_image_words, quoted, write_graph
@@ -74,7 +74,11 @@ def label(node: Node, names: Names) -> str:
 
 def names_of(provenance: Provenance, data: bytes) -> List[str]:
     """The names of the processes of a package, in the order in which they were made."""
-    names = read_package(data).process_names()
+    try:
+        names = read_package(data).process_names()
+    except TwoRuns:
+        raise Refused("--names wants the package of which the document is; a joined package has two "
+                      "runs") from None
     for node in provenance.nodes:
         if node.kind == "process" and int(node.name) >= len(names):
             raise Refused(f"the package has no process {node.name}: the document isn't of its trace")

@@ -8,6 +8,7 @@ import sys
 import unittest
 from unittest import mock
 
+import join_cases
 import package_versions
 import packages
 import packages_joined
@@ -33,6 +34,8 @@ PROVENANCE = document_text(Provenance(
 # Two runs of a world with rows.
 TWO = read_package(packages.encode(packages.BASES["rows"]))
 JOINED = packages_joined.joined(TWO, TWO._replace(seed=5))
+# Two runs over tables with a foreign key.
+WITH_PARENTS = packages_joined.encode_joined(join_cases.BOTH)
 
 
 # A program that asks for memory in each way, five times, and says so where it gets none.
@@ -224,7 +227,8 @@ class HostileInputs(InFolder):
         chance, counts = hostile.random.Random(1), collections.Counter()
         names = ("rows", "picked", "plain in runs", "logs")
         bases = [packages.encode(packages.BASES[name]) for name in names]
-        for _ in range(1000):
+        bases += map(packages.encode, (join_cases.FIRST, join_cases.SECOND))
+        for _ in range(1500):
             made = hostile_joins.mutated_pair(chance, bases, bases)
             pair = hostile_joins.pair_in(made)
             if pair is None:
@@ -249,7 +253,8 @@ class HostileInputs(InFolder):
                 self.assertIsNotNone(hostile_joins.judges(made, (15, b"", b"ldv: clash: table none\n")))
                 self.assertIsNotNone(hostile_joins.judges(made, (0, b"LDVJOIN1", b"")))
             counts["joined" if clash is None else clash.name.split(" ")[0]] += 1
-        for each in ("no pair", "no packages", "joined", "file", "table", "row", "key"):
+            counts["foreign keys"] += clash is not None and clash.lines[0].startswith("foreign keys: ")
+        for each in ("no pair", "no packages", "joined", "file", "table", "row", "key", "foreign keys"):
             self.assertGreater(counts[each], 4, each)
         self.assertIsNone(hostile_joins.judges(b"", (8, b"", b"ldv: damaged: form\n")))
         self.assertIsNotNone(hostile_joins.judges(b"", (15, b"", b"ldv: clash: file main\n")))
@@ -258,7 +263,7 @@ class HostileInputs(InFolder):
         """Joined packages are made with right digests and wrong ones, and with their runs exchanged."""
         chance, counts = hostile.random.Random(1), collections.Counter()
         for _ in range(500):
-            made = hostile_joins.mutated_joined(chance, [JOINED])
+            made = hostile_joins.mutated_joined(chance, [JOINED, WITH_PARENTS])
             counts["read" if hostile_joins.is_joined(made) else "not read"] += 1
             counts["exchanged"] += made == packages_joined.joined(TWO._replace(seed=5), TWO)
             counts["as it is"] += made == JOINED

@@ -1,8 +1,10 @@
 """join.py, over packages that packages.py spells and over those of the cases."""
+import join_cases
 import packages
+import packages_joined
 
 from ldvtools import join
-from ldvtools.packages import read_package
+from ldvtools.packages import read_any, read_package
 
 from .support import InFolder, read, tool
 from .test_check import cases
@@ -61,6 +63,20 @@ class Joins(InFolder):
                          f"join.py: clash: table t\n  key: k in {first}, none in {second}\n"
                          f"  next row number: 5 in {first}, 7 in {second}\n")
 
+    def test_foreign(self):
+        """Foreign keys are named with their columns and parents, in their order."""
+        to_p, to_q = packages.foreign([1], "p"), packages.foreign([1, 2], "q")
+        one, both, other, none = (
+            self.put(f"{len(foreigns)}{foreigns[:1] == [to_p]}",
+                     packages.encode(join_cases.bare(join_cases.wide(*foreigns))))
+            for foreigns in ([to_p], [to_p, to_q], [to_q, to_p], []))
+        said = "join.py: clash: table c\n  foreign keys: "
+        self.assertEqual(self.joined(one, both)[2],
+                         f"{said}(p) refers to p in {one}, (p) refers to p; (p, r) refers to q in {both}\n")
+        self.assertIn(f"(p, r) refers to q; (p) refers to p in {other}", self.joined(both, other)[2])
+        self.assertIn(f"{said}(p) refers to p in {one}, none in {none}", self.joined(one, none)[2])
+        self.assertEqual(self.joined(both, both)[0], 0)
+
     def test_row(self):
         """The columns that differ, with the values of both."""
         first = self.made("a")
@@ -94,6 +110,23 @@ class Joins(InFolder):
         self.assertEqual(self.joined(first)[0], 2)
         replies = self.put("r", packages.encode(packages.package(mode=2)))
         self.assertIn("recorded replies", self.joined(first, replies)[2])
+        both = self.put("j", packages_joined.joined(read_package(read(first)), read_package(read(first))))
+        self.assertEqual(self.joined(both, first), (1, b"", f"join.py: {both} is a joined package already; "
+                                                    "packages of one run are joined, and no more than two\n"))
+
+    def test_runs_of_cases(self):
+        """What is joined has the packages of both runs, as they were."""
+        pairs = 0
+        for words, data, status, output, _ in cases():
+            if words != ["join"] or status != 0:
+                continue
+            found = read_any(output)
+            for number, given in enumerate(map(read_package, pair_in(data)), 1):
+                one, other = (each._replace(runs=list(each.events), version=0, sizes={}, row_bytes=0,
+                                            digest="") for each in (found.run(number), given))
+                self.assertEqual(one, other)
+            pairs += 1
+        self.assertGreater(pairs, 40)
 
     def test_cases(self):
         """The clash is the one that the program has to name, and what doesn't clash has none."""

@@ -4,6 +4,7 @@ import json
 import os
 import sqlite3
 
+import join_cases
 import package_cases
 import packages
 
@@ -209,6 +210,15 @@ table t (k INT NOT NULL, g TEXT, v INT, key k): 2 rows, next row 5
         self.assertIn("isn't a joined package", tool(package, "--run", "1", self.path)[2])
         self.assertIn(b"run 2", tool(package, "--sizes", path)[1])
         self.assertEqual(read_any(read(path)).run(2).tables, second.tables)
+        both = join_cases.encode_joined(join_cases.BOTH)
+        self.assertIn(b"run 1: table c (id INT NOT NULL, p INT, key id, (p) refers to p): 2 rows, next row 3",
+                      tool(package, given=both)[1])
+        self.assertIn(b"""p: 3 rows, 0 of them needed by both runs
+  row | run 1 | run 2 | id
+  ----+-------+-------+---
+    0 | 0 P   | -     |  1
+    1 | -     | 0 L   |  2
+""", tool(package, "--rows", given=both)[1])
 
     def test_rows(self):
         """Each row with why it is there; of a joined package, for which of its runs."""
@@ -325,6 +335,10 @@ it made 1 version of rows of t
         joined = version2.joined(read_package(spelled()), read_package(spelled(seed=7)))
         self.assertEqual(lines(joined, joined.index(b"seen")), ["section files", "file seen"])
         self.assertEqual(lines(joined, joined.index(b"main", len(joined) // 2))[0], "section run 2")
+        # The name of the table among those of the run; behind it stand the number of reasons and the first.
+        name = joined.index(b"\0\0\0\1t", joined.index(b"main", len(joined) // 2))
+        self.assertEqual(lines(joined, name + 9), ["section run 2", "row 0 of t, statement 0, rule L"])
+        self.assertEqual(lines(joined, name + 8), ["section run 2"])
         self.assertEqual(lines(joined, len(joined) - 33)[:2],
                          ["section run 2", "event 3, counted from 0: 4 0 ended 0"])
         for at in (-1, len(data)):

@@ -90,6 +90,9 @@ class Pages(PageMaker):
         for run, seed in (("1", "0"), ("2", "7")):
             shown = self.data_of(self.made(joined, "--run", run))
             self.assertEqual((shown["seed"], len(shown["tables"]), shown["replayed"]), (seed, 3, False))
+        self.assertEqual(tool(page, given=joined), (1, b"", "page.py: it is a joined package, which has two "
+                                                    "runs; --run 1 or --run 2 says which one\n"))
+        self.assertIn("page.py: it isn't a joined package", tool(page, "--run", "1", given=orders())[2])
 
     def test_safe(self):
         """Nothing of a package ends the data or begins an element,

@@ -15,6 +15,7 @@ from ldvtools.packages import read_package
 from ldvtools.provenance import GROUP, RELATIONS, Node, document_text, node_of, read_provenance
 from ldvtools.trace import graph_of
 
+from . import version2
 from .support import HERE, ROOT, InFolder, command, read, tool
 
 CASES = os.path.join(ROOT, "crates/conformance/data")
@@ -217,6 +218,8 @@ class Standard(InFolder):
         status, out, err = tool(prov, "--names", other, given=document)
         self.assertEqual((status, out), (1, b""))
         self.assertIn("the package has no process 1", err)
+        both = self.put("j", version2.joined(read_package(package), read_package(package)))
+        self.assertIn("a joined package has two runs", tool(prov, "--names", both, given=document)[2])
 
     @unittest.skipUnless(with_package(), "python3-prov isn't installed")
     def test_package(self):

@@ -1,6 +1,7 @@
 //! The program over streams of which one call fails. Call by call fails, from the first on, until the
 //! program is done: the call that would fail then isn't made.
 
+use crate::joins::twice;
 use crate::streams::{Ended, call};
 use std::alloc::{AllocError, Global};
 use std::process::Abort;
@@ -201,21 +202,6 @@ fn one_call_on_recorded_replies_fails(rt: HostRuntime) -> Result<(), Fail> {
         every_call(&rt, rt.alloc(), command, package.as_slice())?;
     }
     Ok(())
-}
-
-// A package with its length before it, in the last four of eight bytes.
-fn append_sized(pair: &mut Vec<u8>, package: &[u8]) -> Result<(), AllocError> {
-    let length = (package.len() as u64).to_be_bytes();
-    pair.extend_from_slice(&length[4..])?;
-    pair.extend_from_slice(package)
-}
-
-// The input of `join` for a package and the same again.
-fn twice(alloc: Global, package: &[u8]) -> Result<Vec<u8>, AllocError> {
-    let mut pair = Vec::new(alloc);
-    append_sized(&mut pair, package)?;
-    append_sized(&mut pair, package)?;
-    Ok(pair)
 }
 
 #[test]

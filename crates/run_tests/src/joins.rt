@@ -17,6 +17,21 @@ const FILES: &str = r#""],"files":{"main":"sql q \"SELECT v FROM t WHERE k = 1\"
 "tables":{"t":{"columns":[["k","INT NOT NULL"],["g","TEXT"],["v","INT"]],"key":["k"],"next":5,
 "rows":[[1,"a",10],[2,"a",20],[3,"b",5],[4,"b",null],[5,"c",10]]}}}"#;
 
+// A package with its length before it, in the last four of eight bytes.
+fn append_sized(pair: &mut Vec<u8>, package: &[u8]) -> Result<(), AllocError> {
+    let length = (package.len() as u64).to_be_bytes();
+    pair.extend_from_slice(&length[4..])?;
+    pair.extend_from_slice(package)
+}
+
+/// The input of `join` for a package and the same again.
+pub(crate) fn twice(alloc: Global, package: &[u8]) -> Result<Vec<u8>, AllocError> {
+    let mut pair = Vec::new(alloc);
+    append_sized(&mut pair, package)?;
+    append_sized(&mut pair, package)?;
+    Ok(pair)
+}
+
 fn document(alloc: Global, start: &str) -> Result<String, AllocError> {
     let mut text = String::from_str(alloc, r#"{"start":[""#)?;
     text.push_str(start)?;

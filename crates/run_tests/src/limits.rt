@@ -2,7 +2,8 @@
 
 ghost use Rattle.std.specs.Prelude.{◌<◌};
 
-use crate::long_packages::{longer_than_it_reads, world_of_long_rows};
+use crate::joins::twice;
+use crate::long_packages::{longer_than_it_reads, package_of_a_long_name, world_of_long_rows};
 use crate::streams::words_of;
 use ldv_io::{DropSink, MemorySink, SteadySource};
 use ldv_top::ldv_main;
@@ -98,5 +99,20 @@ fn records_no_longer_package(rt: HostRuntime) -> Result<(), Fail> {
 fn audits_no_longer_package(rt: HostRuntime) -> Result<(), Fail> {
     let package = longer_than_it_reads(&rt, rt.alloc())?;
     expect(&rt, rt.alloc(), "audit", package, PACKAGE_TOO_LONG)?;
+    Ok(())
+}
+
+fn expect_joined(rt: &impl Abort, alloc: Global, count: u32, want: Want) -> Result<(), AllocError> {
+    let package = package_of_a_long_name(rt, alloc, count)?;
+    let pair = twice(alloc, package.as_slice())?;
+    expect(rt, alloc, "join", Bytes::of_vec(pair), want)
+}
+
+// Joined with itself a package has for each row 5 bytes, and for each of the two runs a reason of 76 and 9 in
+// the trace. So 383,000 rows are within the limit, and 384,000 aren't.
+#[test]
+fn joins_to_no_longer_package(rt: HostRuntime) -> Result<(), Fail> {
+    expect_joined(&rt, rt.alloc(), 383_000, (0, ""))?;
+    expect_joined(&rt, rt.alloc(), 384_000, PACKAGE_TOO_LONG)?;
     Ok(())
 }

@@ -1,4 +1,4 @@
-//! A world and a package of long rows, around the limit of 64 MiB.
+//! A world and packages around the limit of 64 MiB: of long rows, and of rows whose reasons are long.
 
 use crate::worlds::world_of_text;
 use ldv_value::{Bytes, Names, Utf8};
@@ -88,21 +88,56 @@ fn events(alloc: Global) -> Result<Events, AllocError> {
     Ok(events)
 }
 
-fn recorded(rt: &impl Abort, alloc: Global) -> Result<Package, AllocError> {
-    let text = long_document(alloc, 46_000)?;
-    let world = world_of_text(rt, alloc, text.as_str());
+// The package of the run of a document's world.
+fn recorded(rt: &impl Abort, alloc: Global, text: &str) -> Package {
+    let world = world_of_text(rt, alloc, text);
     match record_world(alloc, &world, Mode::Included, 100) {
-        Ok(package) => Ok(package),
+        Ok(package) => package,
+        Err(stop) => panic!(rt; "{stop:?}"),
+    }
+}
+
+fn spelled(rt: &impl Abort, alloc: Global, package: &Package) -> Bytes {
+    match spell(alloc, package) {
+        Ok(bytes) => bytes,
         Err(stop) => panic!(rt; "{stop:?}"),
     }
 }
 
 /// A package of about 5,000 bytes less than the limit. That of its own world has about 9,000 bytes more.
 pub(crate) fn longer_than_it_reads(rt: &impl Abort, alloc: Global) -> Result<Bytes, AllocError> {
-    let mut package = recorded(rt, alloc)?;
+    let text = long_document(alloc, 46_000)?;
+    let mut package = recorded(rt, alloc, text.as_str());
     package.events = events(alloc)?;
-    match spell(alloc, &package) {
-        Ok(bytes) => Ok(bytes),
-        Err(stop) => panic!(rt; "{stop:?}"),
+    Ok(spelled(rt, alloc, &package))
+}
+
+// ---- a table of a long name
+
+// A document whose table has this name and so many rows of one NULL and one more, all of which are needed.
+fn document_of_nulls(alloc: Global, name: &str, count: u32) -> Result<String, AllocError> {
+    let front = r#"{"start":["main"],"files":{"main":"sql q \"SELECT * FROM "#;
+    let mut text = String::from_str(alloc, front)?;
+    text.push_str(name)?;
+    text.push_str(r#"\""},"tables":{""#)?;
+    text.push_str(name)?;
+    text.push_str(r#"":{"columns":[["g","TEXT"]],"rows":["#)?;
+    for _ in 0..count {
+        text.push_str("[null],")?;
     }
+    text.push_str("[null]]}}}")?;
+    Ok(text)
+}
+
+/// A package of so many needed rows and one more, each of 19 bytes: 10 with its reason, and 9 in the trace. Its
+/// table has a name of 63 letters, so that a reason in a joined package has 76 bytes.
+pub(crate) fn package_of_a_long_name(
+    rt: &impl Abort,
+    alloc: Global,
+    count: u32,
+) -> Result<Bytes, AllocError> {
+    let name = letters(alloc, 63)?;
+    let text = document_of_nulls(alloc, name.as_str(), count)?;
+    let package = recorded(rt, alloc, text.as_str());
+    Ok(spelled(rt, alloc, &package))
 }
