@@ -1,11 +1,11 @@
 -- What two packages are joined to is replayed, run by run, as the worlds of both are run.
-use Rattle.std.proofs.Common.{◌≡◌, ℕ, ◌≤◌, ◌<◌, ◌^◌, List, [], ◌++◌, length, refl, sym, ap, ◌∙◌, subst, true, arith, append-nil}
+use Rattle.std.proofs.Common.{◌≡◌, ℕ, ◌≤◌, List, [], ◌++◌, length, refl, sym, ap, ◌∙◌, subst, true, arith, append-nil}
 use Rattle.std.specs.Prelude.{Some, Ok}
 use Rattle.ldv_value.specs.Limits.{input_limit, max_steps}
 use Rattle.run_model.proofs.ValidWorlds.{valid_runs}
 use Rattle.run_model.specs.Between.{Between}
 use Rattle.run_model.specs.ValidWorld.{ValidWorld}
-use Rattle.run_model.specs.WorldRun.{ends_within, events_within, outcome_within, steps_by}
+use Rattle.run_model.specs.WorldRun.{ends_within, outcome_within, steps_by}
 use Rattle.run_model.specs.declared.package.Mode.TheVariants.{Included}
 use Rattle.run_model.specs.declared.package.Package.{Package}
 use Rattle.run_model.specs.declared.world.World.{World}
@@ -20,11 +20,10 @@ use Rattle.package_join.proofs.TypedJoins.{together_typed}
 use Rattle.package_join.specs.declared.joined.Joined.{Joined}
 use Rattle.package_join.specs.declared.joined.Which.{Which}
 use Rattle.package_join.specs.declared.joined.Which.TheVariants.{First, Second}
-use Rattle.package_join.specs.Laws.{IsJoined, JoinLaw, NamesItsRows, RoundTripLaw, ValidLaw}
+use Rattle.package_join.specs.Laws.{IsJoined, JoinLaw, RoundTripLaw, ValidLaw}
 use Rattle.package_join.specs.Layout.{joined_spelling}
 use Rattle.package_join.specs.Valid.{ValidJoined, joined_reading}
 use Rattle.package_join.specs.Worlds.{joined_world}
-use Rattle.replay_db.proofs.InitialRows.{initial_rows_law}
 use Rattle.replay_db.specs.Worlds.{WorldTablesLaw, ValidPackageLaw, TypedPackageLaw}
 use Rattle.ldv_top.specs.Due.{due_world}
 use Rattle.ldv_top.specs.DueOfJoins.{due_joined, pair_in}
@@ -49,11 +48,6 @@ module _ (again : ReadAgain) (counted : ShortCounted) (valid : ValidPackageLaw) 
   -- ---- one of the two worlds
 
   module _ (n : ℕ) (w : World) (valid_world : ValidWorld w) (bounded : n ≤ max_steps) (ended : ends_within n w ≡ true) where
-    pub names_rows : NamesItsRows (events_within n w)
-    names_rows =
-        let script = ended_starts n [] w ended in
-        (initial_rows_law n [] w script.0 script.1 (valid_tables w valid_world)).named
-
     pub package_valid : Valid (included_of n w)
     package_valid = valid Included n w valid_world.ruled (valid_tables w valid_world) tt bounded ended
 
@@ -79,7 +73,6 @@ module _ (again : ReadAgain) (counted : ShortCounted) (valid : ValidPackageLaw) 
     pub joined_two : IsJoined n m v w
     joined_two =
         join n m v w two.files two.tables (valid_runs v two.first_valid).files (valid_tables v two.first_valid)
-        (names_rows n v two.first_valid two.first_bounded two.first_ends) (names_rows m w two.second_valid two.second_bounded two.second_ends)
 
     pub two_valid : ValidJoined (two_joined n m v w)
     two_valid =

@@ -3,6 +3,8 @@ pub mod BareLaws
 pub mod DocumentLaws
 pub mod GenerateLaws
 pub mod HeadlineLaw
+pub mod JoinLaws
+pub mod JoinResponses
 pub mod LogResponses
 pub mod MigrationLaws
 pub mod ReadBack
@@ -16,5 +18,3 @@ pub mod TopLaws
 pub mod Traces
 pub mod WordLaws
 pub mod WriteLemmas
-pub mod JoinResponses
-pub mod JoinLaws

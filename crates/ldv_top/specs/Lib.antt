@@ -10,11 +10,11 @@ pub mod DueOfTables
 pub mod DueParts
 pub mod Ends
 pub mod Exits
-pub mod TwoRuns
 pub mod Headline
 pub mod Migrated
 pub mod ProvReported
 pub mod Reported
+pub mod TwoRuns
 pub mod WordNumbers
 pub mod WordStops
 pub mod Words

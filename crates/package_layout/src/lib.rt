@@ -15,8 +15,9 @@
 //!   (`specs/Room.antt`, and at most 20,000,001 events in `specs/Runs.antt`);
 //! - a count of four bytes that its field can't hold (`specs/Counts.antt`) is only in a package that is too
 //!   long (`round_trip_law`), and one with such a count has no spelling (`IsSpelling` of `specs/Valid.antt`);
-//! - two valid packages with one spelling of a version are equal, the spelling of a valid one is read as that
-//!   package, and no bytes are a spelling of both versions (`round_trip_law`).
+//! - two valid packages with one spelling of a version are equal where it has their tables, the spelling of a
+//!   valid one is read as that package where the version has all of it (`fits_version`), and no bytes are a
+//!   spelling of both versions (`round_trip_law`). The second version has all of every package.
 //!
 //! A run of a few bytes can stand for millions of events. So both versions are read into runs and judged
 //! there (`specs/RunPackages.antt`, `specs/RunTrace.antt`), and `read_package` makes the events last, of a

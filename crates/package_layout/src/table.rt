@@ -279,7 +279,7 @@ fn decode_places(alloc: Global, count: u8, cursor: &mut Cursor) -> Result<Places
     Ok(places)
 }
 
-/// Appends the columns and the key of a table.
+/// Appends the columns, the key and the foreign keys of a table. The first version has no foreign keys.
 pub fn encode_schema(version: Version, schema: &Schema, to: &mut Bytes) -> Result<(), AllocError>
     ensures bytes { OnOk result (to.new ≡ to.old ++ schema_spelling version schema.now) }
     ensures typed { OnOk result (TypedSchema schema.now) }
@@ -289,7 +289,7 @@ pub fn encode_schema(version: Version, schema: &Schema, to: &mut Bytes) -> Resul
     encode_foreigns(version, &schema.foreign, to)
 }
 
-/// Reads the columns and the key of a table.
+/// Reads the columns, the key and the foreign keys of a table. The first version has no foreign keys.
 pub fn decode_schema(
     alloc: Global,
     version: Version,

@@ -3,7 +3,10 @@
 /// How many bytes a count has.
 #[derive(Clone, Copy, Debug, PartialEq, Eq)]
 pub enum Width {
+    /// One byte.
     One,
+    /// Two bytes.
     Two,
+    /// Four bytes.
     Four,
 }

@@ -7,4 +7,4 @@ use Rattle.ldv_top.proofs.joining.sized.Goals as goal
 pub returns-in-Some : goal.returns-in-Some
 returns-in-Some c =
     subst (λ (found : Found (List ℕ)). MatchOption c.next.result (found ≡ None) (λ front. found ≡ Some (front.now, c.next.new.self)))
-    (sym (sized_is c.args.cursor.old c.in-Some.count c.length_in.new.cursor c.in-Some.ensures)) c.next.ensures
+    (sym (sized_is c.args.cursor.now c.in-Some.count c.length_in.new.cursor c.in-Some.ensures)) c.next.ensures
