@@ -10,7 +10,7 @@ use Rattle.run_model.specs.ValidPackage.{rules}
 use Rattle.package_layout.specs.declared.run_package.RunPackage.{RunPackage}
 use Rattle.package_layout.specs.Fields.{Found, ◌>>=◌, both_at, list_at, list_spelling}
 use Rattle.package_layout.specs.RunPackages.{whole, run_rules}
-use Rattle.package_layout.specs.Version.{Two}
+use Rattle.package_layout.specs.declared.version.Version.TheVariants.{Two}
 use Rattle.package_layout.specs.declared.run.Run.{Run}
 use Rattle.package_layout.specs.Runs.{are_runs, events_in, events_of_runs, run_spelling, runs_at, runs_of}
 use Rattle.package_layout.specs.Runs.{run_at as trace_run_at}

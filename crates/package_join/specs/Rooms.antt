@@ -7,7 +7,7 @@ use Rattle.package_layout.specs.Counts.{IsCountable, CountedList, CountedValue, 
 use Rattle.package_layout.specs.Room.{some_thousands, schema_room}
 use Rattle.package_layout.specs.Runs.{CountedRun, runs_of, trace_room}
 use Rattle.package_layout.specs.Typed.{IsU32, TypedValues, TypedSchema, TypedFile, TypedEvent}
-use Rattle.package_layout.specs.Version.{Two}
+use Rattle.package_layout.specs.declared.version.Version.TheVariants.{Two}
 use Rattle.package_join.specs.Types.{Table, TableRow}
 use Rattle.package_join.specs.declared.joined.Joined.{Joined}
 use Rattle.package_join.specs.declared.joined.JoinedRun.{JoinedRun}

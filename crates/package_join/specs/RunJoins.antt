@@ -11,7 +11,7 @@ use Rattle.package_layout.specs.RunPackages.{run_rules}
 use Rattle.package_layout.specs.declared.run.Run.{Run}
 use Rattle.package_layout.specs.Runs.{events_in, run_spelling}
 use Rattle.package_layout.specs.Runs.{run_at as trace_run_at}
-use Rattle.package_layout.specs.Version.{Two}
+use Rattle.package_layout.specs.declared.version.Version.TheVariants.{Two}
 use Rattle.package_join.specs.Types.{PackedFile, Table}
 use Rattle.package_join.specs.declared.joined.Clash.{Clash}
 use Rattle.package_join.specs.declared.joined.Joined.{Joined}
