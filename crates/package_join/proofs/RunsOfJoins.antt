@@ -89,7 +89,7 @@ module _ {S X K : Type 0} (f : S → Option X) (key_of : S → K) (key : X → K
 -- ---- the files of a world
 
 module _ (run : JoinedRun) where
-  world_path : File → List ℕ
+  abbrev world_path : File → List ℕ
   world_path f = f.path
 
   seen_is : (present : Bool) (path : List ℕ) (x : File) → path_test path ≡ true → empty_if present path ≡ Some x → (x.path ≡ path) × (file_test x ≡ true)
