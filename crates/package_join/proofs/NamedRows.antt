@@ -1,7 +1,7 @@
 -- A run that needs a row of a table needs the table, where its world has it: no statement takes a table away, and
 -- each asks the tables of the rows that it needs.
 use Rattle.std.proofs.Common.{◌≡◌, ℕ, zero, suc, ◌+◌, List, [], ◌∷◌, ◌++◌, sym, ap, ◌∙◌, subst, Bool, true, false, inl, inr}
-use Rattle.std.specs.Prelude.{Option, Some, None, map, ◌&&◌, ◌||◌, ◌==◌, is_some, slice_get}
+use Rattle.std.specs.Prelude.{Option, Some, None, map, ◌==◌, is_some, slice_get}
 use Rattle.std.specs.List.{list_any, AllByRecursion}
 use Rattle.std.specs.Option.{option_or}
 use Rattle.std.proofs.lemmas.Bool.{cases_Bool}
