@@ -1,9 +1,9 @@
-use Rattle.std.proofs.Common.{◌≡◌, ap, ◌∙◌, subst}
+use Rattle.std.proofs.Common.{◌≡◌, ap, ◌∙◌, subst, rules}
 use Rattle.std.specs.Prelude.{IfOk}
 use Rattle.ldv_top.specs.declared.response.Response.{Response}
 use Rattle.ldv_top.specs.Due.{Due, response_due}
 use Rattle.ldv_top.specs.DueOfJoins.{pair_in}
-use Rattle.ldv_top.proofs.JoinResponses.{no_pair_due, pair_due}
+use Rattle.ldv_top.proofs.JoinResponses.{pair_due}
 use Rattle.ldv_top.proofs.joining.join_response.Goals as goal
 
 pub returns-in-Some : goal.returns-in-Some
@@ -12,8 +12,3 @@ returns-in-Some c =
     subst (λ (d : Due). IfOk c.inputs_response.result (λ (response : Response). response_due response ≡ d))
     (pair_due c.args.input c.in-Some.first.now c.in-Some.second.now c.requires.short (c.in-Some.ensures ∙ ap pair_in same))
     c.inputs_response.ensures
-
-pub returns-in-None : goal.returns-in-None
-returns-in-None c =
-    let same : c.as_slice.result.now ≡ c.args.input = search rules in
-    no_pair_due c.args.input c.requires.short (c.in-None.ensures ∙ ap pair_in same)
