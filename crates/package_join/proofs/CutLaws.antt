@@ -255,10 +255,10 @@ by_valid bytes r h k room =
 
 by_unruly : (bytes : List ℕ) (r : RunJoined) → (are_runs r.first.runs && are_runs r.second.runs) ≡ false
     → None ≡ option_map whole_joined (cut_later bytes r)
-by_unruly bytes r no =
+by_unruly bytes r unruly =
     let a : RunPackage = picked_runs First r in
     let b : RunPackage = picked_runs Second r in
-    let none : (run_rules Two a && run_rules Two b) ≡ false = untested (are_runs a.runs) (are_runs b.runs) (rules (whole a) && true) (rules (whole b) && true) no in
+    let none : (run_rules Two a && run_rules Two b) ≡ false = untested (are_runs a.runs) (are_runs b.runs) (rules (whole a) && true) (rules (whole b) && true) unruly in
     λ i. option_map whole_joined (cut_found_as bytes (cond (sym none i) (rejoined a b) None))
 
 by_cut : (bytes : List ℕ) (o : Option RunJoined) → ((r : RunJoined) → o ≡ Some r → kept r ≡ Some (whole_joined r) → joined_room (whole_joined r) ≡ true)

@@ -1,7 +1,7 @@
 -- A run that needs a row of a table needs the table, where its world has it: no statement takes a table away, and
 -- each asks the tables of the rows that it needs.
 use Rattle.std.proofs.Common.{◌≡◌, ℕ, zero, suc, ◌+◌, List, [], ◌∷◌, ◌++◌, sym, ap, ◌∙◌, subst, Bool, true, false, inl, inr}
-use Rattle.std.specs.Prelude.{Option, Some, None, map, ◌&&◌, ◌||◌, ◌==◌, is_some, slice_get}
+use Rattle.std.specs.Prelude.{Option, Some, None, map, ◌==◌, is_some, slice_get}
 use Rattle.std.specs.List.{list_any, AllByRecursion}
 use Rattle.std.specs.Option.{option_or}
 use Rattle.std.proofs.lemmas.Bool.{cases_Bool}
@@ -154,7 +154,7 @@ module _ (name : List ℕ) (number : ℕ) where
   start_names (Some path) es rest = rest
 
   names_in : (n : ℕ) (picks : List ℕ) (w : World) (o : Option (List Instr)) → is_there w.tables ≡ true → NamesAll (events_in n picks w o)
-  names_in n picks w None there never = never
+  names_in n picks w None there = no_events
   names_in n picks w (Some script) there =
       start_names (slice_get w.start 0) (events sql_base n 1 picks (start_state w script)) (run_names n 1 picks (start_state w script) there)
 

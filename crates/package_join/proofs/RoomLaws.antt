@@ -1,6 +1,6 @@
 -- The format has room for the package of a run where it has room for what was joined.
-use Rattle.std.proofs.Common.{◌≡◌, ℕ, suc, ◌≤◌, ◌<◌, ◌^◌, Bool, true, false, cond, List, [], ◌∷◌, map, length, Option, Some, None, refl, ◌∙◌, arith, ◌&&◌}
-use Rattle.std.specs.Prelude.{◌==◌, filter, find, option_map}
+use Rattle.std.proofs.Common.{◌≡◌, ℕ, suc, ◌≤◌, ◌^◌, Bool, true, false, cond, List, [], ◌∷◌, map, length, Option, Some, None, refl, arith, ◌&&◌}
+use Rattle.std.specs.Prelude.{filter, find, option_map}
 use Rattle.std.specs.List.{list_all, filter_map, cons_option}
 use Rattle.std.proofs.lemmas.Bool.{ltb-true, lt-ltb}
 use Rattle.ldv_value.proofs.Booleans.{and-parts, and-from}

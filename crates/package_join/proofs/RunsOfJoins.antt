@@ -1,5 +1,5 @@
 -- The world of a run of a valid joined package can be run.
-use Rattle.std.proofs.Common.{◌≡◌, ℕ, ◌<◌, ◌≤◌, ◌^◌, Bool, true, false, cond, List, [], ◌∷◌, map, length, Option, Some, None, refl, sym, ap, subst, ◌∙◌, arith, inl, inr, ◌&&◌}
+use Rattle.std.proofs.Common.{◌≡◌, ℕ, Bool, true, false, cond, List, [], ◌∷◌, map, length, Option, Some, None, refl, sym, ap, subst, ◌∙◌, arith, inl, inr, ◌&&◌}
 use Rattle.std.specs.Prelude.{◌==◌, nat_le, nat_lt, bytes_eq, find, is_some, option_and_then}
 use Rattle.std.specs.List.{list_all, filter_map, cons_option, AllByRecursion}
 use Rattle.std.specs.Option.{option_or, option_map}
@@ -89,7 +89,7 @@ module _ {S X K : Type 0} (f : S → Option X) (key_of : S → K) (key : X → K
 -- ---- the files of a world
 
 module _ (run : JoinedRun) where
-  world_path : File → List ℕ
+  abbrev world_path : File → List ℕ
   world_path f = f.path
 
   seen_is : (present : Bool) (path : List ℕ) (x : File) → path_test path ≡ true → empty_if present path ≡ Some x → (x.path ≡ path) × (file_test x ≡ true)

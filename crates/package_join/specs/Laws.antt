@@ -1,5 +1,5 @@
 -- The law of joined packages.
-use Rattle.std.specs.Prelude.{◌≡◌, ◌≤◌, ℕ, List, [], length, true, Ok, None}
+use Rattle.std.specs.Prelude.{◌≡◌, ◌≤◌, ℕ, [], length, true, Ok, None}
 use Rattle.std.specs.List.{AllByRecursion}
 use Rattle.ldv_value.specs.Limits.{input_limit}
 use Rattle.ldv_value.specs.FileState.{files_test}
