@@ -1,11 +1,9 @@
 use Rattle.std.proofs.Common.{◌≡◌, subst}
-use Rattle.std.specs.Prelude.{Err, IfOk}
-use Rattle.package_layout.specs.declared.layout.PackageStop.{PackageStop}
-use Rattle.package_join.specs.RunJoins.{CutsReadAs, whole_joined}
-use Rattle.package_join.specs.Valid.{joined_reading}
+use Rattle.std.specs.Prelude.{IfOk}
+use Rattle.package_join.specs.RunJoins.{whole_joined}
 use Rattle.ldv_top.specs.declared.response.Response.{Response}
 use Rattle.ldv_top.specs.Due.{Due, response_due}
-use Rattle.ldv_top.proofs.JoinResponses.{run_due, run_damaged}
+use Rattle.ldv_top.proofs.JoinResponses.{run_due}
 use Rattle.ldv_top.proofs.run_choice.replay_run_response.Goals as goal
 
 pub run_response-requires-clause-can_run : goal.run_response-requires-clause-can_run
@@ -17,8 +15,3 @@ returns-in-Ok c =
     subst (λ (d : Due). IfOk c.run_response.result (λ (response : Response). response_due response ≡ d))
     (run_due c.args.which c.args.budget (whole_joined c.in-Ok.joined) c.args.input c.requires.short c.in-Ok.ensures.reading)
     c.run_response.ensures
-
-pub returns-in-Err-Damaged : goal.returns-in-Err-Damaged
-returns-in-Err-Damaged c =
-    run_damaged c.args.which c.args.budget c.in-Err-Damaged.kind c.args.input c.requires.short
-    (subst (λ (stop : PackageStop). CutsReadAs (Err stop) (joined_reading c.args.input)) c.in-Err-Damaged.field-0-is c.in-Err-Damaged.ensures.reading)
