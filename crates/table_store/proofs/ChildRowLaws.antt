@@ -15,7 +15,7 @@ use Rattle.sql_model.specs.Keys.{same_values}
 use Rattle.sql_model.specs.References.{Orphan, child_of, orphan_by, reference}
 use Rattle.sql_model.specs.Scope.{is_table, same_text}
 use Rattle.table_store.specs.Afterwards.{first_some, in_set, is_other, orphan_in_other, orphan_in_row, orphan_in_slot, orphan_in_table}
-use Rattle.table_store.specs.ChildPairs.{IsNextOf, first_number, given_in, is_child, is_child_by, is_child_in, is_child_of, lower, refers}
+use Rattle.table_store.specs.ChildPairs.{IsNextOf, first_number, given_in, is_child, is_child_by, is_child_in, is_child_of, lower_of, refers}
 use Rattle.table_store.specs.ChildSteps.{AreFrom, IsStep, after}
 use Rattle.table_store.specs.Histories.{RowHistory, TableHistory, no_history, row_now, row_of, rows_now, slot_of_row, table_now}
 use Rattle.table_store.specs.RowOrder.{AreInOrder}
@@ -42,25 +42,25 @@ first_above p low (row ∷ rows) rises n is = elim (cases_Bool (p row)) [
       omega (arith, later, rises.0)
 ]
 
-lower_left : (n : ℕ) (o : Option ℕ) → ((m : ℕ) → o ≡ Some m → n ≤ m) → Some n ≡ lower (Some n) o
+lower_left : (n : ℕ) (o : Option ℕ) → ((m : ℕ) → o ≡ Some m → n ≤ m) → Some n ≡ lower_of (Some n) o
 lower_left n None above = refl
 lower_left n (Some m) above =
     let less : n ≤ m = above m refl in
     let same : n ≡ min n m = omega (arith, less) in
     ap (λ (k : ℕ). Some k) same
 
-lower_right : (n : ℕ) (o : Option ℕ) → ((m : ℕ) → o ≡ Some m → n ≤ m) → Some n ≡ lower o (Some n)
+lower_right : (n : ℕ) (o : Option ℕ) → ((m : ℕ) → o ≡ Some m → n ≤ m) → Some n ≡ lower_of o (Some n)
 lower_right n None above = refl
 lower_right n (Some m) above =
     let less : n ≤ m = above m refl in
     let same : n ≡ min m n = omega (arith, less) in
     ap (λ (k : ℕ). Some k) same
 
-lower_none : (o : Option ℕ) → o ≡ lower o None
+lower_none : (o : Option ℕ) → o ≡ lower_of o None
 lower_none None = refl
 lower_none (Some n) = refl
 
-pub lower_assoc : (a b c : Option ℕ) → lower (lower a b) c ≡ lower a (lower b c)
+pub lower_assoc : (a b c : Option ℕ) → lower_of (lower_of a b) c ≡ lower_of a (lower_of b c)
 lower_assoc None b c = refl
 lower_assoc (Some x) None c = refl
 lower_assoc (Some x) (Some y) None = refl
@@ -69,7 +69,7 @@ lower_assoc (Some x) (Some y) (Some z) =
     ap (λ (k : ℕ). Some k) same
 
 lower_or : (p q : TableRow → Bool) (low : ℕ) (rows : List TableRow) → RisesFrom low rows
-    → first_number (λ row. p row || q row) rows ≡ lower (first_number p rows) (first_number q rows)
+    → first_number (λ row. p row || q row) rows ≡ lower_of (first_number p rows) (first_number q rows)
 lower_or p q low [] rises = refl
 lower_or p q low (row ∷ rows) rises =
     by (p row) (q row) refl refl (lower_or p q (row.number + 1) rows rises.1)
@@ -80,9 +80,9 @@ lower_or p q low (row ∷ rows) rises =
     past : (t : TableRow → Bool) (m : ℕ) → first_number t rows ≡ Some m → row.number ≤ m
     past t m is = let later : row.number + 1 ≤ m = first_above t (row.number + 1) rows rises.1 m is in omega (arith, later)
 
-    by : (a b : Bool) → p row ≡ a → q row ≡ b → first_number (λ r. p r || q r) rows ≡ lower (first_number p rows) (first_number q rows)
+    by : (a b : Bool) → p row ≡ a → q row ≡ b → first_number (λ r. p r || q r) rows ≡ lower_of (first_number p rows) (first_number q rows)
         → option_map (λ (r : TableRow). r.number) (cond (a || b) (Some row) (find (λ r. p r || q r) rows))
-        ≡ lower (option_map (λ (r : TableRow). r.number) (cond a (Some row) (find p rows))) (option_map (λ (r : TableRow). r.number) (cond b (Some row) (find q rows)))
+        ≡ lower_of (option_map (λ (r : TableRow). r.number) (cond a (Some row) (find p rows))) (option_map (λ (r : TableRow). r.number) (cond b (Some row) (find q rows)))
     by true true ip iq more = lower_left row.number (Some row.number) (λ m is. let e : row.number ≡ m = some_number is in omega (arith, e))
     by true false ip iq more = lower_left row.number (first_number q rows) (past q)
     by false true ip iq more = lower_right row.number (first_number p rows) (past p)
@@ -211,17 +211,17 @@ module _ (given : List ℕ) (f : Foreign) (rows : List TableRow) (rises : RisesF
   keys_none = none_passes (is_child_of given f []) rows (all_so (λ row. is_child_of given f [] row ≡ false) (λ row. and-false (not (is_among given row))) rows)
 
   pub keys_more : (key : RowKey) (keys : List RowKey) (first : Option ℕ) (found : Option ℕ) → found ≡ first_number (is_child given f key.values) rows
-      → lower (lower first found) (first_number (is_child_of given f keys) rows) ≡ lower first (first_number (is_child_of given f (key ∷ keys)) rows)
+      → lower_of (lower_of first found) (first_number (is_child_of given f keys) rows) ≡ lower_of first (first_number (is_child_of given f (key ∷ keys)) rows)
   keys_more key keys first found is =
       lower_assoc first found (first_number (is_child_of given f keys) rows)
-      ∙ ap (lower first)
-      (ap (λ (o : Option ℕ). lower o (first_number (is_child_of given f keys) rows)) is
+      ∙ ap (lower_of first)
+      (ap (λ (o : Option ℕ). lower_of o (first_number (is_child_of given f keys) rows)) is
       ∙ sym (first_alike (is_child_of given f (key ∷ keys)) (λ row. is_child given f key.values row || is_child_of given f keys row)
       (λ row. and_or (not (is_among given row)) (refers f key.values row) (list_any (λ (k : RowKey). refers f k.values row) keys)) rows
       ∙ lower_or (is_child given f key.values) (is_child_of given f keys) 0 rows rises))
 
-  pub keys_end : (first : Option ℕ) → first ≡ lower first (first_number (is_child_of given f []) rows)
-  keys_end first = lower_none first ∙ ap (lower first) keys_none
+  pub keys_end : (first : Option ℕ) → first ≡ lower_of first (first_number (is_child_of given f []) rows)
+  keys_end first = lower_none first ∙ ap (lower_of first) keys_none
 
 -- ---- by one foreign key after the other
 
@@ -237,9 +237,9 @@ module _ (given target : List ℕ) (keys : List RowKey) (rows : List TableRow) w
 
   pub foreigns_more : RisesFrom 0 rows → (fs : List Foreign) (i : ℕ) (f d : Foreign) → i < length fs → f ≡ get_or fs i d → (first found : Option ℕ)
       → first ≡ first_number (is_child_in given target keys (take i fs)) rows → found ≡ first_number (is_child_by given target keys f) rows
-      → lower first found ≡ first_number (is_child_in given target keys (take (i + 1) fs)) rows
+      → lower_of first found ≡ first_number (is_child_in given target keys (take (i + 1) fs)) rows
   foreigns_more rises fs i f d within is first found so_far one =
-      (λ j. lower (so_far j) (one j))
+      (λ j. lower_of (so_far j) (one j))
       ∙ sym (first_alike (is_child_in given target keys (take (i + 1) fs)) (λ row. is_child_in given target keys (take i fs) row || is_child_by given target keys f row) next rows
       ∙ lower_or (is_child_in given target keys (take i fs)) (is_child_by given target keys f) 0 rows rises)
     where

@@ -116,10 +116,10 @@ abbrev pub first_number : (TableRow → Bool) → List TableRow → Option ℕ
 first_number test rows = option_map (λ row. row.number) (find test rows)
 
 -- the lower of two numbers, where there are two
-abbrev pub lower : Option ℕ → Option ℕ → Option ℕ
-lower None other = other
-lower (Some number) None = Some number
-lower (Some number) (Some other) = Some (min number other)
+abbrev pub lower_of : Option ℕ → Option ℕ → Option ℕ
+lower_of None other = other
+lower_of (Some number) None = Some number
+lower_of (Some number) (Some other) = Some (min number other)
 
 -- the numbers of the rows that are given of a table: those of the target
 abbrev pub given_in : Bool → List ℕ → List ℕ

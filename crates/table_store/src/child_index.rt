@@ -74,7 +74,7 @@ impl ChildIndex {
 }
 
 /// The index of rows.
-pub(crate) fn referring(
+pub(crate) fn index_of_rows(
     alloc: Global,
     foreigns: &Foreigns,
     rows: &[TableRow],

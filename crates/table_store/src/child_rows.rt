@@ -7,7 +7,7 @@ ghost use Rattle.std.specs.Option.{option_map_or};
 ghost use Rattle.sql_model.specs.Keys.{same_values};
 ghost use Rattle.sql_model.specs.References.{reference};
 ghost use Rattle.table_store.specs.ChildPairs.{first_number, is_child, is_child_by, is_child_in};
-ghost use Rattle.table_store.specs.ChildPairs.{is_child_of, lower, no_foreign, refers};
+ghost use Rattle.table_store.specs.ChildPairs.{is_child_of, lower_of, no_foreign, refers};
 ghost use Rattle.table_store.specs.ChildSteps.{after, AreFrom, IsStep};
 ghost use Rattle.table_store.specs.declared.child_rows.Search.TheVariants.{Ends};
 ghost use Rattle.table_store.specs.Histories.{no_history, row_now, rows_now};
@@ -22,7 +22,7 @@ use std::alloc::{AllocError, Global};
 use std::collections::BTreeSet;
 
 /// The number of the first row that isn't given and refers to one of some keys of the target.
-pub(crate) fn first_referring(
+pub(crate) fn first_child_in(
     alloc: Global,
     table: &TableStore,
     target: &str,
@@ -39,25 +39,25 @@ pub(crate) fn first_referring(
     let mut first = None;
     for place in 0..foreigns.len() {
         let found = first_by(alloc, table, place, &foreigns[place], target, given, keys)?;
-        first = lower(first, found);
+        first = lower_of(first, found);
     }
     Ok(first)
 }
 
 // The lower of two numbers, where there are two.
-fn lower(first: Option<u32>, other: Option<u32>) -> Option<u32>
-    ensures { result ≡ lower first other }
+fn lower_of(first: Option<u32>, other: Option<u32>) -> Option<u32>
+    ensures { result ≡ lower_of first other }
 {
     match first {
         None => other,
         Some(number) => match other {
             None => Some(number),
-            Some(second) => Some(least(number, second)),
+            Some(second) => Some(least_of(number, second)),
         },
     }
 }
 
-fn least(number: u32, other: u32) -> u32
+fn least_of(number: u32, other: u32) -> u32
     ensures { result ≡ min number other }
 {
     if other < number { other } else { number }
@@ -106,7 +106,7 @@ fn first_of(
     let mut first = None;
     for key in keys.iter() {
         match first_under(alloc, table, place, foreign, given, key) {
-            Ok(found) => first = lower(first, found),
+            Ok(found) => first = lower_of(first, found),
             Err(refused) => return Err(refused),
         }
     }

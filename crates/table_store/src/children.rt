@@ -17,7 +17,7 @@ ghost use Rattle.sql_model.specs.Scope.{is_table, same_text};
 ghost use Rattle.table_store.specs.Types.{Value};
 ghost use Rattle.table_store.specs.declared.stop.StoreStop.TheVariants.{HasChild};
 
-use crate::child_rows::first_referring;
+use crate::child_rows::first_child_in;
 use crate::given::is_given;
 use crate::index::key_of;
 use crate::stop::StoreStop;
@@ -178,7 +178,7 @@ fn child_in(
 {
     table.tell_order();
     let given = given_in(table, target, numbers);
-    let first = first_referring(alloc, table, target, given, lost)?;
+    let first = first_child_in(alloc, table, target, given, lost)?;
     match first {
         None => Ok(None),
         Some(number) => {

@@ -30,7 +30,7 @@ ghost use Rattle.table_store.specs.TableView.{begun, kinds_in, AreTimed};
 
 use crate::cell::Cell;
 use crate::change::{RowChange, removals, rewrites};
-use crate::child_index::{ChildIndex, add_all, referring, settle_all};
+use crate::child_index::{ChildIndex, add_all, index_of_rows, settle_all};
 use crate::claim::claim;
 use crate::given::numbers_of;
 use crate::index::{Index, held_number, index_of, number_by_slots};
@@ -83,7 +83,7 @@ impl TableStore {
         } = table;
         let alloc = name.allocator();
         let index = index_of(alloc, &schema.key, rows.items())?;
-        let children = referring(alloc, &schema.foreign, rows.items())?;
+        let children = index_of_rows(alloc, &schema.foreign, rows.items())?;
         let texts = texts_of(alloc, &schema.columns)?;
         let mut held = Rows::new(alloc, texts.as_slice())?;
         held.push_all(rows, 0)?;

@@ -8,8 +8,8 @@ use Rattle.table_store.specs.Stops.{are_sorted_numbers}
 use Rattle.table_store.proofs.ChildRowLaws.{given_sorted, no_child, one_child}
 use Rattle.table_store.proofs.children.child_in.Goals as goal
 
-pub first_referring-requires : goal.first_referring-requires
-first_referring-requires c =
+pub first_child_in-requires : goal.first_child_in-requires
+first_child_in-requires c =
     ap are_sorted_numbers c.given_in-given.ensures ∙ given_sorted (is_table c.args.target.now (table_now c.args.table.now)) c.args.numbers.now c.requires
 
 pub returns-in-None : goal.returns-in-None
