@@ -129,8 +129,8 @@ fn document_of_nulls(alloc: Global, name: &str, count: u32) -> Result<String, Al
     Ok(text)
 }
 
-/// A package of so many needed rows and one more, each of 19 bytes: 10 with its reason, and 9 in the trace. Its
-/// table has a name of 63 letters, so that a reason in a joined package has 76 bytes.
+/// A package of so many needed rows and one more, each of 19 bytes: 10 with its reason, and 9 in the trace.
+/// Its table has a name of 63 letters, so that a reason in a joined package has 76 bytes.
 pub(crate) fn package_of_a_long_name(
     rt: &impl Abort,
     alloc: Global,
