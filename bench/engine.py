@@ -21,6 +21,8 @@ import time
 
 SIZES = [1000, 10000, 100000, 1000000]
 RUNS = 3
+# The budget: a loop over statements with two parameters takes six steps a turn.
+STEPS = '10000000'
 POINTS = 100000
 INSERTS = 300000
 CHILDLESS = 100000
@@ -176,14 +178,18 @@ def write_world(path, script, tables, size):
 def found_in(path):
     """The same of an outcome."""
     count = total = refused = 0
+    answered = True
     with open(path, 'rb') as lines:
         for line in lines:
             word, _, rest = line.partition(b' ')
             if word == b'int':
-                total += int(rest)
+                # the values after a refusal are those of its key
+                total += int(rest) if answered else 0
             elif word in (b'rows', b'changed'):
+                answered = True
                 count += int(rest)
             elif word == b'refused':
+                answered = False
                 refused += 1
     return count, total, refused
 
@@ -212,11 +218,11 @@ def measure_ldv(ldv, folder, case, size, runs):
     tables, statements = CASES[case]
     world, outcome = os.path.join(folder, 'world'), os.path.join(folder, 'outcome')
     write_world(world, 'exit 0', tables, size)
-    status, load, load_memory = best([ldv, 'run'], world, outcome, runs)
+    status, load, load_memory = best([ldv, 'run', '--steps', STEPS], world, outcome, runs)
     if status:
         sys.exit(f'engine: {ldv} ended with {status}')
     write_world(world, script_of(statements, size), tables, size)
-    status, total, memory = best([ldv, 'run'], world, outcome, runs)
+    status, total, memory = best([ldv, 'run', '--steps', STEPS], world, outcome, runs)
     if status:
         sys.exit(f'engine: {case}: {ldv} ended with {status}')
     return total, load, memory, load_memory, found_in(outcome)

@@ -44,7 +44,7 @@ def file_clash(first: Package, second: Package, names: Tuple[str, str]) -> Optio
         place = next((place for place, pair in enumerate(zip(content, other)) if pair[0] != pair[1]),
                      min(len(content), len(other)))
         line = content[:place].count(b"\n") + 1
-        return Clash(f"file {escaped(path)}", [
+        return Clash(f"file {path}", [
             f"{names[0]} has {counted(len(content), 'byte')} of it, {names[1]} "
             f"{counted(len(other), 'byte')}; the first difference is at byte {place}, in line {line}"])
     return None
@@ -178,7 +178,7 @@ def work(words: Optional[Sequence[str]]) -> int:
     said = (names[0], names[1]) if names[0] != names[1] else ("the first", "the second")
     clash = clash_of(first, second, said)
     if clash is not None:
-        print(f"join.py: clash: {clash.name}", file=sys.stderr)
+        print(f"join.py: clash: {escaped(clash.name)}", file=sys.stderr)
         for line in clash.lines:
             print(f"  {line}", file=sys.stderr)
         return 1
