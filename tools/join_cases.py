@@ -457,8 +457,8 @@ def many_files(start, letter, count):
 
 
 def long_parts(length, count=420_000):
-    """A package that is joined with itself to so many bytes. Its rows have 10 bytes each, and what it is joined
-    to has 157 for each, as the name of their table stands in each reason."""
+    """A package that is joined with itself to this many bytes. Its rows have 10 bytes each, and what it is
+    joined to has 157 for each, as the name of their table stands in each reason."""
     rows = [row(n, None) for n in range(count)]
     parts = package(2, files=[file('main', 'exit 0'), file('pad', '')],
                     tables=[table('a' * 63, [column('g')], next=count, rows=rows)],

@@ -353,6 +353,9 @@ class HostileInputs(InFolder):
 
     def test_tools(self):
         """The bench of the tools makes its files and its worlds."""
+        # The first call of the script may build the program, and says so.
+        subprocess.run(["./ldv", "run"], cwd=ROOT, stdin=subprocess.DEVNULL, stdout=subprocess.DEVNULL,
+                       stderr=subprocess.DEVNULL, check=False)
         done = subprocess.run(["bench/tools.py"], cwd=ROOT, stdout=subprocess.PIPE, stderr=subprocess.PIPE,
                               check=False, env={**os.environ, "SIZES": "20", "RUNS": "1", "CALLS": "1"})
         self.assertEqual((done.returncode, done.stderr), (0, b""))

@@ -322,7 +322,8 @@ class Program(InFolder):
     def test_manual_page(self):
         """The examples of the manual page, in their order."""
         check_page.folder_with(support.PROGRAM, self.folder)
-        self.put("old.package", packages.encode(packages.package()))
+        for name in ("old.package", "first.package", "second.package"):
+            self.put(name, packages.encode(packages.package()))
         page = read(os.path.join(ROOT, check_docs.MANUAL)).decode()
         lines = re.findall(r"(?m)^\.Dl (.*)$", page)
         for block in re.findall(r"(?s)\n\.Bd .*?\n(.*?)\n\.Ed", page):
