@@ -5,10 +5,10 @@ use Rattle.sql_check.specs.declared.stop.CheckStop.{CheckStop}
 use Rattle.sql_check.specs.declared.stop.CheckStop.TheVariants.{NoTable, NoColumn, TypeClash, NoMemory}
 use Rattle.sql_model.specs.declared.catalog.Checked.{Checked}
 use Rattle.sql_model.specs.declared.reply.SqlRefusal.{SqlRefusal}
-use Rattle.sql_model.specs.declared.statement.Statement.{Statement}
 use Rattle.sql_model.specs.declared.reply.SqlRefusal.TheVariants.{NoTable as NoTableRefusal}
 use Rattle.sql_model.specs.declared.reply.SqlRefusal.TheVariants.{NoColumn as NoColumnRefusal}
 use Rattle.sql_model.specs.declared.reply.SqlRefusal.TheVariants.{TypeClash as TypeClashRefusal}
+use Rattle.sql_model.specs.declared.statement.Statement.{Statement}
 
 abbrev pub Stops : CheckStop → Result Checked SqlRefusal → Type 0
 Stops NoTable due = due ≡ Err NoTableRefusal

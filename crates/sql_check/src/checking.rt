@@ -28,8 +28,9 @@ pub fn check(alloc: Global, statement: &Statement, catalog: &Catalog) -> Result<
     })
 }
 
-/// The places of a statement's columns, as `check` has them. It refuses what `check` refuses, and leaves the
-/// statement to the caller.
+/// The places of a statement's columns, as `check` gives them, for a caller that goes on with the statement
+/// itself. `NoTable`, `NoColumn` and `TypeClash` come exactly where `check` has them, and `NoMemory` may come
+/// at any point.
 pub fn check_places(
     alloc: Global,
     statement: &Statement,

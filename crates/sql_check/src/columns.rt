@@ -5,8 +5,8 @@ ghost use Rattle.std.specs.List.{list_all, list_any, range_with_len};
 ghost use Rattle.sql_model.specs.Kinds.{names_in, outer_names};
 ghost use Rattle.sql_model.specs.Refusals.{groups, item_places, having_places, lacks_in_scope};
 ghost use Rattle.sql_model.specs.Refusals.{answer_titles, core_lacks_column, is_order_key};
-ghost use Rattle.sql_model.specs.Refusals.{query_lacks_column};
-ghost use Rattle.sql_model.specs.Refusals.{insert_lacks_column, update_lacks_column, lacks_column};
+ghost use Rattle.sql_model.specs.Refusals.{query_lacks_column, insert_lacks_column};
+ghost use Rattle.sql_model.specs.Refusals.{update_lacks_column, lacks_column};
 ghost use Rattle.sql_model.specs.Scope.{has_column, resolves, places_in};
 ghost use Rattle.sql_check.specs.Sources.{is_among, all_among};
 

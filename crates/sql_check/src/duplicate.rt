@@ -48,7 +48,7 @@ pub(crate) fn has_duplicate<N: Named>(alloc: Global, items: &[N]) -> Result<bool
 {
     match items {
         [] => Ok(false),
-        [_] => Ok(false),
+        [_item] => Ok(false),
         _ => repeat_names(alloc, items),
     }
 }
