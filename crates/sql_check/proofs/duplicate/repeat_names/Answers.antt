@@ -1,6 +1,6 @@
 use Rattle.std.proofs.Common.{◌∙◌, map}
 use Rattle.sql_model.proofs.RepeatedNames.{repeats_texts}
-use Rattle.sql_check.proofs.duplicate.has_duplicate.Goals as goal
+use Rattle.sql_check.proofs.duplicate.repeat_names.Goals as goal
 
 pub returns : goal.returns
 returns g c =
