@@ -12,11 +12,14 @@ use Rattle.sql_model.specs.Tokens.{is_pair, longer, word_token, number_token, te
 use Rattle.ldv_value.proofs.Options.{bind-some, same-some}
 use Rattle.ldv_value.proofs.Booleans.{not-so, or-parts}
 use Rattle.ldv_value.proofs.Scanning.{before-none}
-pub use Rattle.sql_parse.specs.Lexing.{put}
 
 -- what follows a step
 abbrev pub on : List ℕ → Option (LexState × Option Token) → Option (List Token)
 on rest o = o >>= λ s. before (option_to_list s.1) (tokens_from rest s.0)
+
+-- a token, and then those of the rest
+abbrev pub put : Option Token → List ℕ → Option (List Token)
+put o rest = o >>= λ k. before (k ∷ []) (tokens_from rest Between)
 
 pub put_some : (o : Option Token) (rest : List ℕ) (ts : List Token) → put o rest ≡ Some ts
     → (k : Token) × (o ≡ Some k) × (more : List Token) × (ts ≡ k ∷ more) × (tokens_from rest Between ≡ Some more)

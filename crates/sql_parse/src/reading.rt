@@ -5,6 +5,7 @@ ghost use Rattle.sql_model.specs.declared.statement.Statement.{Statement};
 ghost use Rattle.sql_model.specs.GrammarOfStatements.{Reads as ReadsAs};
 ghost use Rattle.sql_parse.specs.declared.stop.ParseStop.TheVariants.{Syntax};
 ghost use Rattle.sql_parse.specs.Gives.{Gives, Reads};
+ghost use Rattle.sql_parse.specs.Lexing.{given_of, statement_from};
 ghost use Rattle.sql_model.specs.TextBytes.{folded};
 ghost use Rattle.sql_model.specs.Texts.{reads_statement, is_end, whole_statement, statement_of};
 
@@ -31,6 +32,7 @@ pub fn parse(alloc: Global, text: &str, params: &Values) -> Result<Statement, Pa
     parsed(alloc, text, params)
 }
 
+#[tactic(auto, using(crate::proofs::TokensFrom::statement_is))]
 fn parsed(alloc: Global, text: &str, params: &Values) -> Result<Statement, ParseStop>
     ensures { Gives result (statement_of text.now params.now) }
 {
@@ -39,16 +41,15 @@ fn parsed(alloc: Global, text: &str, params: &Values) -> Result<Statement, Parse
 }
 
 // A statement whose tokens are cut out of its text, which is also given in lower case.
-#[tactic(auto, using(crate::proofs::TokensFrom::stated_rules))]
 fn read_lent(
     alloc: Global,
     text: &[u8],
     lower: &[u8],
     params: &Values,
 ) -> Result<Statement, ParseStop>
-    requires lower { lower.now ≡ map folded text.now }
+    requires low { lower.now ≡ map folded text.now }
     requires long { length lower.now ≡ length text.now }
-    ensures { Gives result (statement_of text.now params.now) }
+    ensures { Gives result (statement_from (given_of text.now params.now)) }
 {
     let given = tokens(alloc, text, lower, params)?;
     whole(alloc, Reader::new(given))

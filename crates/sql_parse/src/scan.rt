@@ -3,16 +3,16 @@
 //! A token is cut out of the text where it stands, words out of the text in lower case, which is made once
 //! for all of them.
 
-ghost use Rattle.std.specs.Prelude.{◌≡◌, ◌∷◌, [], ◌+◌, ◌-◌, ◌<◌, ◌≤◌, ◌&&◌, Some, IfOk, IsTrue, false};
-ghost use Rattle.std.specs.Prelude.{drop, length, map, nat_lt, slice_index, slice_range};
+ghost use Rattle.std.specs.Prelude.{◌≡◌, ◌∷◌, [], ◌++◌, ◌+◌, ◌-◌, ◌<◌, ◌≤◌, List, ℕ, None, false};
+ghost use Rattle.std.specs.Prelude.{length, map, slice_index, slice_range, IfOk, IfSome, IsTrue, OnOk, OnSome};
 ghost use Rattle.sql_parse.specs.Gives.{Gives};
-ghost use Rattle.sql_parse.specs.Lexing.{Continues, Lexes, after_single, given_of, put};
-ghost use Rattle.sql_model.specs.declared.reading.LexState.TheVariants.{Between, InWord, InNumber, InText};
-ghost use Rattle.sql_model.specs.declared.reading.LexState.TheVariants.{InSymbol};
-ghost use Rattle.sql_model.specs.GrammarOfTokens.{is_inside, is_quote};
+ghost use Rattle.sql_parse.specs.Lexing.{Lexes, LexesTo, blank_at, content_at, digit_at, given_of, inside_at};
+ghost use Rattle.sql_parse.specs.Lexing.{letter_at, pair_at, put_at, quote_at, tokens_at};
+ghost use Rattle.sql_model.specs.declared.reading.LexState.TheVariants.{Between, InNumber, InText};
+ghost use Rattle.sql_model.specs.GrammarOfTokens.{is_inside};
 ghost use Rattle.sql_model.specs.TextBytes.{is_blank, is_digit, is_upper, is_letter, folded};
 ghost use Rattle.sql_model.specs.Tokens.{is_whole_symbol, begins_symbol, is_pair, short_symbol, longer};
-ghost use Rattle.sql_model.specs.Tokens.{start, tokens_from, word_token};
+ghost use Rattle.sql_model.specs.Tokens.{word_token};
 
 use crate::given::placed_token;
 use crate::stop::ParseStop;
@@ -24,7 +24,7 @@ use std::alloc::{AllocError, Global};
 const ROOM: usize = 24;
 
 /// A text with its letters in lower case.
-#[tactic(auto, using(crate::proofs::Cuts::lower_rules))]
+#[tactic(auto, using(crate::proofs::Cuts::lower_long))]
 pub(crate) fn lowered(alloc: Global, text: &[u8]) -> Result<Bytes, AllocError>
     ensures lower { IfOk result (λ lower. lower ≡ map folded text.now) }
     ensures long { IfOk result (λ lower. length lower ≡ length text.now) }
@@ -45,7 +45,7 @@ pub(crate) fn tokens<'a>(
     lower: &'a [u8],
     params: &'a Values,
 ) -> Result<Tokens<'a>, ParseStop>
-    requires lower { lower.now ≡ map folded text.now }
+    requires low { lower.now ≡ map folded text.now }
     requires long { length lower.now ≡ length text.now }
     ensures { Gives result (given_of text.now params.now) }
 {
@@ -67,13 +67,13 @@ pub(crate) fn tokens<'a>(
 }
 
 // The place after the blanks that stand at a place.
-#[tactic(auto, using(crate::proofs::Cuts::blank_rules))]
+#[tactic(auto, using(crate::proofs::Cuts::blank_goes))]
 fn blanks_end(text: &[u8], from: usize) -> usize
     requires { from ≤ length text.now }
-    ensures from { from ≤ result }
     ensures within { result ≤ length text.now }
+    ensures onward { from ≤ result }
     ensures full { result < length text.now → is_blank (slice_index text.now result) ≡ false }
-    ensures read { tokens_from (drop from text.now) Between ≡ tokens_from (drop result text.now) Between }
+    ensures read { tokens_at text.now from Between ≡ tokens_at text.now result Between }
 {
     let mut at = from;
     'blanks: while is_blank_at(text, at) {
@@ -83,7 +83,7 @@ fn blanks_end(text: &[u8], from: usize) -> usize
 }
 
 // The token that begins at a place, with the place after it.
-#[tactic(auto, using(crate::proofs::Cuts::lexeme_rules))]
+#[tactic(auto, using(crate::proofs::Cuts::no_token))]
 fn lexeme_at<'a>(
     alloc: Global,
     text: &'a [u8],
@@ -92,9 +92,9 @@ fn lexeme_at<'a>(
 ) -> Result<(Lexeme<'a>, usize), ParseStop>
     requires within { at < length text.now }
     requires full { is_blank (slice_index text.now at) ≡ false }
-    requires lower { lower.now ≡ map folded text.now }
+    requires low { lower.now ≡ map folded text.now }
     requires long { length lower.now ≡ length text.now }
-    ensures read { Lexes result text.now at Between }
+    ensures read { LexesTo result text.now (tokens_at text.now at Between) }
     ensures on { IfOk result (λ r. at < r.1) }
     ensures within { IfOk result (λ r. r.1 ≤ length text.now) }
 {
@@ -118,14 +118,13 @@ fn lexeme_at<'a>(
 }
 
 // The word that begins at a place.
-#[tactic(auto, using(crate::proofs::Cuts::cut_rules))]
+#[tactic(auto, using(crate::proofs::Cuts::word_cut))]
 fn word<'a>(text: &[u8], lower: &'a [u8], at: usize) -> Result<(Lexeme<'a>, usize), ParseStop>
     requires within { at < length text.now }
-    requires begins { start (slice_index text.now at)
-        ≡ Some (InWord (folded (slice_index text.now at) ∷ [])) }
-    requires lower { lower.now ≡ map folded text.now }
+    requires letter { IsTrue (is_letter (slice_index text.now at)) }
+    requires low { lower.now ≡ map folded text.now }
     requires long { length lower.now ≡ length text.now }
-    ensures read { Lexes result text.now at Between }
+    ensures read { LexesTo result text.now (tokens_at text.now at Between) }
     ensures on { IfOk result (λ r. at < r.1) }
     ensures within { IfOk result (λ r. r.1 ≤ length text.now) }
 {
@@ -137,12 +136,11 @@ fn word<'a>(text: &[u8], lower: &'a [u8], at: usize) -> Result<(Lexeme<'a>, usiz
 #[tactic(auto, using(crate::proofs::Cuts::word_rules))]
 fn word_end(text: &[u8], at: usize) -> usize
     requires within { at < length text.now }
-    requires begins { start (slice_index text.now at)
-        ≡ Some (InWord (folded (slice_index text.now at) ∷ [])) }
+    requires letter { IsTrue (is_letter (slice_index text.now at)) }
     ensures on { at < result }
     ensures within { result ≤ length text.now }
-    ensures read { tokens_from (drop at text.now) Between
-        ≡ put (word_token (map folded (slice_range text.now at result))) (drop result text.now) }
+    ensures read { tokens_at text.now at Between
+        ≡ put_at (word_token (map folded (slice_range text.now at result))) text.now result }
 {
     let mut end = at + 1;
     'letters: while is_inside_at(text, end) {
@@ -156,8 +154,7 @@ fn word_end(text: &[u8], at: usize) -> usize
 fn number<'a>(text: &[u8], at: usize) -> Result<(Lexeme<'a>, usize), ParseStop>
     requires within { at < length text.now }
     requires digit { IsTrue (is_digit (slice_index text.now at)) }
-    requires begins { start (slice_index text.now at) ≡ Some (InNumber (slice_index text.now at - 48)) }
-    ensures read { Lexes result text.now at Between }
+    ensures read { LexesTo result text.now (tokens_at text.now at Between) }
     ensures on { IfOk result (λ r. at < r.1) }
     ensures within { IfOk result (λ r. r.1 ≤ length text.now) }
 {
@@ -167,71 +164,85 @@ fn number<'a>(text: &[u8], at: usize) -> Result<(Lexeme<'a>, usize), ParseStop>
         number = longer(number, text[end]);
         end += 1;
     }
-    whole_number(text, number, end)
+    let token = whole_number(text, number, end)?;
+    Ok((token, end))
 }
 
 // The number of which the digits end at a place. No letter stands directly after it.
 #[tactic(auto, using(crate::proofs::Cuts::number_rules))]
-fn whole_number<'a>(text: &[u8], number: u64, end: usize) -> Result<(Lexeme<'a>, usize), ParseStop>
-    requires { (nat_lt end (length text.now) && is_digit (slice_index text.now end)) ≡ false }
-    ensures read { Lexes result text.now end (InNumber number) }
-    ensures end { IfOk result (λ r. r.1 ≡ end) }
+fn whole_number<'a>(text: &[u8], number: u64, end: usize) -> Result<Lexeme<'a>, ParseStop>
+    requires { digit_at text.now end ≡ false }
+    ensures { Lexes result text.now end (tokens_at text.now end (InNumber number)) }
 {
     if is_letter_at(text, end) {
         return Err(ParseStop::Syntax);
     }
     let token = number_token(number)?;
-    Ok((token, end))
+    Ok(token)
 }
 
 // The text between quotes of which the first stands at a place.
 #[tactic(auto, using(crate::proofs::Cuts::content_rules))]
 fn quoted<'a>(alloc: Global, text: &[u8], at: usize) -> Result<(Lexeme<'a>, usize), ParseStop>
     requires within { at < length text.now }
-    requires begins { start (slice_index text.now at) ≡ Some (InText []) }
-    ensures read { Lexes result text.now at Between }
+    requires quote { slice_index text.now at ≡ 39 }
+    ensures read { LexesTo result text.now (tokens_at text.now at Between) }
     ensures on { IfOk result (λ r. at < r.1) }
     ensures within { IfOk result (λ r. r.1 ≤ length text.now) }
 {
     let mut content = Bytes::new(alloc);
     let mut end = at + 1;
-    'content: while end < text.len() {
-        match add_content(text, end, &mut content)? {
-            Some(next) => end = next,
-            None => {
-                let token = text_token(content)?;
-                return Ok((token, end + 1));
-            }
-        }
+    'bytes: while let Some(next) = content_next(text, end) {
+        content.push(text[end])?;
+        end = next;
     }
-    Err(ParseStop::Syntax)
+    let token = whole_text(text, content, end)?;
+    Ok((token, end + 1))
 }
 
-// Appends the byte of a text's content that stands at a place, with the place after it; None where the
-// content ends.
-#[tactic(auto, using(crate::proofs::Cuts::content_rules))]
-fn add_content(text: &[u8], at: usize, content: &mut Bytes) -> Result<Option<usize>, AllocError>
-    requires { at < length text.now }
-    ensures { IfOk result (λ next. Continues next text.now at content.old content.new) }
+// The place after the byte of a text's content that stands at a place, where one does. A quote in it is
+// written twice.
+#[tactic(auto, using(crate::proofs::Cuts::byte_rules), unfolding(crate::specs::Lexing::content_at))]
+fn content_next(text: &[u8], at: usize) -> Option<usize>
+    ensures within { OnSome result (at < length text.now) }
+    ensures onward { IfSome result (λ next. at < next) }
+    ensures end { IfSome result (λ next. next ≤ length text.now) }
+    ensures read { IfSome result (λ next. (front : List ℕ) → tokens_at text.now at (InText front)
+        ≡ tokens_at text.now next (InText (front ++ slice_index text.now at ∷ []))) }
+    ensures stops { result ≡ None → content_at text.now at ≡ false }
 {
-    let b = text[at];
-    if b == b'\'' {
-        if !is_quote_at(text, at + 1) {
-            return Ok(None);
+    if !is_quote_at(text, at) {
+        if at < text.len() {
+            return Some(at + 1);
         }
-        content.push(b'\'')?;
-        return Ok(Some(at + 2));
+        return None;
     }
-    content.push(b)?;
-    Ok(Some(at + 1))
+    if is_quote_at(text, at + 1) {
+        return Some(at + 2);
+    }
+    None
+}
+
+// The text whose content ends at a place, where its last quote has to stand.
+#[tactic(auto, using(crate::proofs::Cuts::content_rules))]
+fn whole_text<'a>(text: &[u8], content: Bytes, end: usize) -> Result<Lexeme<'a>, ParseStop>
+    requires { content_at text.now end ≡ false }
+    ensures read { Lexes result text.now (end + 1) (tokens_at text.now end (InText content)) }
+    ensures within { OnOk result (end < length text.now) }
+{
+    if end >= text.len() {
+        return Err(ParseStop::Syntax);
+    }
+    let token = text_token(content)?;
+    Ok(token)
 }
 
 // The symbol of one byte or two of which the first stands at a place.
 #[tactic(auto, using(crate::proofs::Cuts::symbol_rules))]
 fn symbol<'a>(text: &'a [u8], at: usize) -> Result<(Lexeme<'a>, usize), ParseStop>
     requires within { at < length text.now }
-    requires begins { start (slice_index text.now at) ≡ Some (InSymbol (slice_index text.now at)) }
-    ensures read { Lexes result text.now at Between }
+    requires first { IsTrue (begins_symbol (slice_index text.now at)) }
+    ensures read { LexesTo result text.now (tokens_at text.now at Between) }
     ensures on { IfOk result (λ r. at < r.1) }
     ensures within { IfOk result (λ r. r.1 ≤ length text.now) }
 {
@@ -258,8 +269,8 @@ fn short_symbol<'a>(text: &'a [u8], at: usize) -> Result<Lexeme<'a>, ParseStop>
 #[tactic(auto, using(crate::proofs::Cuts::symbol_rules))]
 fn single<'a>(text: &'a [u8], at: usize) -> Result<(Lexeme<'a>, usize), ParseStop>
     requires within { at < length text.now }
-    requires begins { start (slice_index text.now at) ≡ after_single (slice_index text.now at) }
-    ensures read { Lexes result text.now at Between }
+    requires whole { IsTrue (is_whole_symbol (slice_index text.now at)) }
+    ensures read { LexesTo result text.now (tokens_at text.now at Between) }
     ensures on { IfOk result (λ r. at < r.1) }
     ensures within { IfOk result (λ r. r.1 ≤ length text.now) }
 {
@@ -267,41 +278,53 @@ fn single<'a>(text: &'a [u8], at: usize) -> Result<(Lexeme<'a>, usize), ParseSto
     Ok((token, at + 1))
 }
 
+#[tactic(auto, unfolding(crate::specs::Lexing::blank_at))]
 fn is_blank_at(text: &[u8], at: usize) -> bool
-    ensures { result ≡ (nat_lt at (length text.now) && is_blank (slice_index text.now at)) }
+    ensures test { result ≡ blank_at text.now at }
+    ensures within { IsTrue result → at < length text.now }
+    ensures full { result ≡ false → at < length text.now → is_blank (slice_index text.now at) ≡ false }
 {
     at < text.len() && blank(text[at])
 }
 
+#[tactic(auto, unfolding(crate::specs::Lexing::inside_at))]
 fn is_inside_at(text: &[u8], at: usize) -> bool
-    ensures { result ≡ (nat_lt at (length text.now) && is_inside (slice_index text.now at)) }
+    ensures test { result ≡ inside_at text.now at }
+    ensures within { IsTrue result → at < length text.now }
 {
     at < text.len() && inside(text[at])
 }
 
+#[tactic(auto, unfolding(crate::specs::Lexing::digit_at))]
 fn is_digit_at(text: &[u8], at: usize) -> bool
-    ensures { result ≡ (nat_lt at (length text.now) && is_digit (slice_index text.now at)) }
+    ensures test { result ≡ digit_at text.now at }
+    ensures within { IsTrue result → at < length text.now }
+    ensures digit { IsTrue result → IsTrue (is_digit (slice_index text.now at)) }
 {
     at < text.len() && digit(text[at])
 }
 
+#[tactic(auto, unfolding(crate::specs::Lexing::letter_at))]
 fn is_letter_at(text: &[u8], at: usize) -> bool
-    ensures { result ≡ (nat_lt at (length text.now) && is_letter (slice_index text.now at)) }
+    ensures { result ≡ letter_at text.now at }
 {
     at < text.len() && letter(text[at])
 }
 
+#[tactic(auto, unfolding(crate::specs::Lexing::quote_at))]
 fn is_quote_at(text: &[u8], at: usize) -> bool
-    ensures { result ≡ (nat_lt at (length text.now) && is_quote (slice_index text.now at)) }
+    ensures test { result ≡ quote_at text.now at }
+    ensures within { IsTrue result → at < length text.now }
 {
     at < text.len() && text[at] == b'\''
 }
 
 // Whether the byte at a place and the one after it are one symbol.
+#[tactic(auto, unfolding(crate::specs::Lexing::pair_at))]
 fn is_pair_at(text: &[u8], at: usize) -> bool
     requires { at < length text.now }
-    ensures { result ≡ (nat_lt (at + 1) (length text.now)
-        && is_pair (slice_index text.now at) (slice_index text.now (at + 1))) }
+    ensures test { result ≡ pair_at text.now at }
+    ensures within { IsTrue result → at + 1 < length text.now }
 {
     at + 1 < text.len() && pair(text[at], text[at + 1])
 }

@@ -1,13 +1,13 @@
-use Rattle.std.proofs.Common.{◌≡◌, ◌≤◌, ◌-◌, length, drop}
+use Rattle.std.proofs.Common.{◌≡◌, ◌≤◌, ◌-◌, length}
 use Rattle.sql_model.specs.declared.reading.LexState.TheVariants.{Between}
-use Rattle.sql_model.specs.Tokens.{tokens_from}
+use Rattle.sql_parse.specs.Lexing.{tokens_at}
 use Rattle.sql_parse.proofs.scan.blanks_end.Given as goal
 
 abbrev pub invariant-blanks : goal.invariant-blanks
 invariant-blanks l = record {
-  from : l.from ≤ l.at;
   within : l.at ≤ length l.text;
-  read : tokens_from (drop l.from l.text) Between ≡ tokens_from (drop l.at l.text) Between;
+  onward : l.from ≤ l.at;
+  read : tokens_at l.text l.from Between ≡ tokens_at l.text l.at Between;
 }
 
 abbrev pub decreases-blanks : goal.decreases-blanks

@@ -1,14 +1,14 @@
-use Rattle.std.proofs.Common.{◌≡◌, ◌≤◌, ◌<◌, ◌-◌, length, drop}
+use Rattle.std.proofs.Common.{◌≡◌, ◌≤◌, ◌<◌, ◌-◌, length}
 use Rattle.sql_model.specs.declared.reading.LexState.TheVariants.{Between, InText}
-use Rattle.sql_model.specs.Tokens.{tokens_from}
+use Rattle.sql_parse.specs.Lexing.{tokens_at}
 use Rattle.sql_parse.proofs.scan.quoted.Given as goal
 
-abbrev pub invariant-content : goal.invariant-content
-invariant-content l = record {
+abbrev pub invariant-bytes : goal.invariant-bytes
+invariant-bytes l = record {
   on : l.at < l.end;
   within : l.end ≤ length l.text;
-  read : tokens_from (drop l.at l.text) Between ≡ tokens_from (drop l.end l.text) (InText l.content);
+  read : tokens_at l.text l.at Between ≡ tokens_at l.text l.end (InText l.content);
 }
 
-abbrev pub decreases-content : goal.decreases-content
-decreases-content l = length l.text - l.end
+abbrev pub decreases-bytes : goal.decreases-bytes
+decreases-bytes l = length l.text - l.end
