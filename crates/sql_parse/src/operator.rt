@@ -36,7 +36,7 @@ fn next_joint(reader: &Reader) -> Option<Infix>
 fn joint_at(token: &Lexeme) -> Option<Infix>
     ensures { (more : List Token) → result ≡ joint_of (token.now ∷ more) }
 {
-    match token.lent() {
+    match token.as_lent() {
         Lent::Word(word) => joint_in(*word),
         Lent::Number(_) => None,
         Lent::Quoted(_) => None,

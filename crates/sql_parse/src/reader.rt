@@ -124,7 +124,7 @@ impl<'a> Reader<'a> {
 pub(crate) fn is_word(token: &Lexeme, text: &str) -> bool
     ensures { result ≡ is_word text.now token.now }
 {
-    match token.lent() {
+    match token.as_lent() {
         Lent::Word(word) => *word == text,
         Lent::Number(_) => false,
         Lent::Quoted(_) => false,

@@ -12,7 +12,7 @@ ghost use Rattle.sql_model.specs.Texts.{reads_statement, is_end, whole_statement
 use crate::change::{delete, insert, update};
 use crate::query::query;
 use crate::reader::Reader;
-use crate::scan::{lowered, tokens};
+use crate::scan::{lower_case, tokens};
 use crate::stop::ParseStop;
 use ldv_value::Values;
 use sql_model::Statement;
@@ -36,7 +36,7 @@ pub fn parse(alloc: Global, text: &str, params: &Values) -> Result<Statement, Pa
 fn parsed(alloc: Global, text: &str, params: &Values) -> Result<Statement, ParseStop>
     ensures { Gives result (statement_of text.now params.now) }
 {
-    let lower = lowered(alloc, text.as_bytes())?;
+    let lower = lower_case(alloc, text.as_bytes())?;
     read_lent(alloc, text.as_bytes(), lower.as_slice(), params)
 }
 

@@ -25,7 +25,7 @@ const ROOM: usize = 24;
 
 /// A text with its letters in lower case.
 #[tactic(auto, using(crate::proofs::Cuts::lower_long))]
-pub(crate) fn lowered(alloc: Global, text: &[u8]) -> Result<Bytes, AllocError>
+pub(crate) fn lower_case(alloc: Global, text: &[u8]) -> Result<Bytes, AllocError>
     ensures lower { IfOk result (λ lower. lower ≡ map folded text.now) }
     ensures long { IfOk result (λ lower. length lower ≡ length text.now) }
 {
@@ -106,13 +106,13 @@ fn lexeme_at<'a>(
         return number(text, at);
     }
     if b == b'\'' {
-        return quoted(alloc, text, at);
+        return quoted_text(alloc, text, at);
     }
     if symbol_begins(b) {
         return symbol(text, at);
     }
     if whole_symbol(b) {
-        return single(text, at);
+        return single_symbol(text, at);
     }
     Err(ParseStop::Syntax)
 }
@@ -183,7 +183,7 @@ fn whole_number<'a>(text: &[u8], number: u64, end: usize) -> Result<Lexeme<'a>, 
 
 // The text between quotes of which the first stands at a place.
 #[tactic(auto, using(crate::proofs::Cuts::content_rules))]
-fn quoted<'a>(alloc: Global, text: &[u8], at: usize) -> Result<(Lexeme<'a>, usize), ParseStop>
+fn quoted_text<'a>(alloc: Global, text: &[u8], at: usize) -> Result<(Lexeme<'a>, usize), ParseStop>
     requires within { at < length text.now }
     requires quote { slice_index text.now at ≡ 39 }
     ensures read { LexesTo result text.now (tokens_at text.now at Between) }
@@ -267,7 +267,7 @@ fn short_symbol<'a>(text: &'a [u8], at: usize) -> Result<Lexeme<'a>, ParseStop>
 
 // The symbol of one byte that stands at a place.
 #[tactic(auto, using(crate::proofs::Cuts::symbol_rules))]
-fn single<'a>(text: &'a [u8], at: usize) -> Result<(Lexeme<'a>, usize), ParseStop>
+fn single_symbol<'a>(text: &'a [u8], at: usize) -> Result<(Lexeme<'a>, usize), ParseStop>
     requires within { at < length text.now }
     requires whole { IsTrue (is_whole_symbol (slice_index text.now at)) }
     ensures read { LexesTo result text.now (tokens_at text.now at Between) }

@@ -131,7 +131,7 @@ fn names(reader: &Reader) -> bool
 fn is_name(token: &Lexeme) -> bool
     ensures { result ≡ is_name token.now }
 {
-    match token.lent() {
+    match token.as_lent() {
         Lent::Word(word) => is_sql_name(*word),
         Lent::Number(_) => false,
         Lent::Quoted(_) => false,

@@ -55,7 +55,7 @@ impl<'a> Lexeme<'a> {
     }
 
     /// What the token is.
-    pub fn lent(&self) -> &Lent<'a>
+    pub fn as_lent(&self) -> &Lent<'a>
         ensures { token_of result.now ≡ self.now }
     {
         &self.lent

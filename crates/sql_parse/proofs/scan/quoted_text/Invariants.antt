@@ -1,7 +1,7 @@
 use Rattle.std.proofs.Common.{◌≡◌, ◌≤◌, ◌<◌, ◌-◌, length}
 use Rattle.sql_model.specs.declared.reading.LexState.TheVariants.{Between, InText}
 use Rattle.sql_parse.specs.Lexing.{tokens_at}
-use Rattle.sql_parse.proofs.scan.quoted.Given as goal
+use Rattle.sql_parse.proofs.scan.quoted_text.Given as goal
 
 abbrev pub invariant-bytes : goal.invariant-bytes
 invariant-bytes l = record {
