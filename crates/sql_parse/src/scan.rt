@@ -26,7 +26,7 @@ const ROOM: usize = 24;
 /// A text with its letters in lower case.
 #[tactic(auto, using(crate::proofs::Cuts::lower_long))]
 pub(crate) fn lower_case(alloc: Global, text: &[u8]) -> Result<Bytes, AllocError>
-    ensures lower { IfOk result (λ lower. lower ≡ map folded text.now) }
+    ensures low { IfOk result (λ lower. lower ≡ map folded text.now) }
     ensures long { IfOk result (λ lower. length lower ≡ length text.now) }
 {
     let mut lower = Bytes::with_capacity(alloc, text.len())?;
