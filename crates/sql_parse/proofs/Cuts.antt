@@ -1,13 +1,12 @@
 -- Tokens as they are cut out of a text: where each begins, goes on and ends.
 use Rattle.std.proofs.Common.{◌≡◌, ◌≢◌, ℕ, ◌+◌, ◌-◌, ◌<◌, ◌≤◌, List, [], ◌∷◌, ◌++◌, length, map, take, drop, get_or, refl, sym, ap, ◌∙◌, subst, Bool, true, false, cond, inl, inr, Some, None, arith}
-use Rattle.std.specs.Prelude.{Option, IsTrue, ◌&&◌, ◌||◌, ◌==◌, nat_lt}
+use Rattle.std.specs.Prelude.{◌&&◌, ◌||◌, ◌==◌, nat_lt}
 use Rattle.std.proofs.lemmas.Bool.{cases_Bool, eqb-true, ltb-true, ltb-false, lt-ltb, ne_eqb}
 use Rattle.std.proofs.lemmas.List.{drop_all, drop-map, drop_more, get_or-drop, length-drop, length-map, map-append, take-map, take_more}
 use Rattle.ldv_value.specs.Options.{◌>>=◌}
 use Rattle.ldv_value.proofs.Booleans.{and-parts, false-not}
 use Rattle.sql_model.specs.declared.reading.LexState.{LexState}
 use Rattle.sql_model.specs.declared.reading.LexState.TheVariants.{Between, InWord, InNumber, InText, AfterQuote, InSymbol}
-use Rattle.sql_model.specs.declared.token.Token.{Token}
 use Rattle.sql_model.specs.GrammarOfTokens.{BeginsNot, is_inside, is_quote}
 use Rattle.sql_model.specs.TextBytes.{is_blank, is_digit, is_letter, folded}
 use Rattle.sql_model.specs.Tokens.{begins_symbol, is_pair, is_whole_symbol, longer, number_token, short_symbol, start, symbol_token, text_token, tokens_from, word_token}
