@@ -4,7 +4,8 @@
 //! for all of them.
 
 ghost use Rattle.std.specs.Prelude.{◌≡◌, ◌∷◌, [], ◌++◌, ◌+◌, ◌-◌, ◌<◌, ◌≤◌, List, ℕ, None, false};
-ghost use Rattle.std.specs.Prelude.{length, map, slice_index, slice_range, IfOk, IfSome, IsTrue, OnOk, OnSome};
+ghost use Rattle.std.specs.Prelude.{length, map, slice_index, slice_range};
+ghost use Rattle.std.specs.Prelude.{IfOk, IfSome, IsTrue, OnOk, OnSome};
 ghost use Rattle.sql_parse.specs.Gives.{Gives};
 ghost use Rattle.sql_parse.specs.Lexing.{Lexes, LexesTo, blank_at, content_at, digit_at, given_of, inside_at};
 ghost use Rattle.sql_parse.specs.Lexing.{letter_at, pair_at, put_at, quote_at, tokens_at};
