@@ -1,7 +1,7 @@
 -- Tests of single columns.
 use Rattle.std.proofs.Common.{◌≡◌, ◌∙◌, sym, ap, refl, ℕ, zero, suc, arith, ◌+◌, ◌<◌, Bool, true, false, ◌&&◌, List, [], ◌∷◌, ◌++◌, drop, length}
 use Rattle.std.specs.Prelude.{ℤ, option_to_list, slice_get, IfSome, Option, Some, None}
-use Rattle.std.specs.List.{AllByRecursion}
+use Rattle.std.specs.List.{list_all, AllByRecursion}
 use Rattle.std.specs.Option.{option_map_or}
 use Rattle.std.specs.declared.cmp.Ordering.{Ordering}
 use Rattle.std.specs.declared.cmp.Ordering.TheVariants.{Less, Equal, Greater}
@@ -11,7 +11,7 @@ use Rattle.core_parts.proofs.FixingLaws.{at-index}
 use Rattle.core_parts.specs.Conditions.{meets}
 use Rattle.core_parts.specs.Constants.{IsConstant}
 use Rattle.core_parts.specs.Equality.{IsColumn}
-use Rattle.core_parts.specs.Masking.{AreMasks, IsFound, IsMask, IsTest, fits, passes, passes_all, suits, turned}
+use Rattle.core_parts.specs.Masking.{AreMasks, IsFound, IsMask, IsTest, fits, passes, passes_all, passes_at, suits, turned}
 use Rattle.core_parts.specs.Placing.{AllPlaced}
 use Rattle.core_parts.specs.Types.{Column, Compare, Expr, Int, Null, Text, Value}
 use Rattle.core_parts.specs.declared.masking.Mask.{Mask}
@@ -22,7 +22,8 @@ use Rattle.ldv_value.specs.Order.{order, meets as meets_order, known, test_of}
 use Rattle.ldv_value.specs.declared.value.Cmp.{Cmp}
 use Rattle.ldv_value.specs.declared.value.Cmp.TheVariants.{Eq, Ne, Lt, Le, Gt, Ge}
 use Rattle.sql_model.specs.KeyOrder.{order_total}
-use Rattle.sql_model.specs.Meaning.{is_true}
+use Rattle.ldv_value.proofs.Booleans.{and-true}
+use Rattle.sql_model.specs.Meaning.{is_true, truth}
 use Rattle.sql_model.specs.Scope.{InScope, environment, value_at}
 use Rattle.sql_model.specs.declared.expr.Expr.TheVariants.{Both, IsNull}
 
@@ -101,11 +102,10 @@ pub mask-found : (cond : Placed) (before column place : ℕ) (more : List ℕ) (
     → IsFound cond before columns mask
 mask-found cond before column place more columns test mask is places at made suit = record {
   fits = suit;
-  is = λ scope row placed holds.
+  is = λ scope row placed.
       ap (λ (m : Mask). passes m.test (value_at row (before + m.column))) made
       ∙ ap (λ (i : ℕ). passes test (value_at row i)) (at ∙ sym (first-place scope cond is.name place more is.names placed places))
-      ∙ sym (is.same (environment scope row))
-      ∙ holds;
+      ∙ sym (is.same (environment scope row));
 }
 
 masks-joined : (P : Mask → Type 0) (masks : List Mask) (found : Option Mask) → AllByRecursion P masks → IfSome found P → AllByRecursion P (masks ++ option_to_list found)
@@ -125,8 +125,46 @@ masks-more conds rest i before cond columns masks found split is all =
       one.fits,
       (λ scope row placed met.
           let here = at-index scope row cond rest conds i split placed met in
-          one.is scope row here.0 here.1),
+          one.is scope row here.0 ∙ here.1),
     )
+
+-- ---- masks that say all that conditions say
+
+all-last : {X : Type 0} (p : X → Bool) (xs : List X) (x : X) → list_all p (xs ++ x ∷ []) ≡ (list_all p xs && p x)
+all-last p [] x = and-true (p x)
+all-last p (y ∷ ys) x = by (p y) (all-last p ys x)
+  where
+    by : (b : Bool) → list_all p (ys ++ x ∷ []) ≡ (list_all p ys && p x) → (b && list_all p (ys ++ x ∷ [])) ≡ ((b && list_all p ys) && p x)
+    by true rest = rest
+    by false rest = refl
+
+both-then : (a b c : Bool) → ((a && b) && c) ≡ (a && (b && c))
+both-then true b c = refl
+both-then false b c = refl
+
+module _ (scope : List InScope) (before : ℕ) (row : List Value) where
+  abbrev one-passes : Mask → Bool
+  one-passes mask = passes mask.test (value_at row (before + mask.column))
+
+  -- a condition goes from those that are left to the masks
+  pub exact-more : (masks : List Mask) (mask : Mask) (cond : Placed) (rest : List Placed) (all : Bool)
+      → passes mask.test (value_at row (before + mask.column)) ≡ is_true (truth cond.expr (environment scope row))
+      → (passes_at before masks row && meets scope (cond ∷ rest) row) ≡ all
+      → (passes_at before (masks ++ mask ∷ []) row && meets scope rest row) ≡ all
+  exact-more masks mask cond rest all same is =
+      ap (λ b. b && meets scope rest row) (all-last one-passes masks mask)
+      ∙ both-then (passes_at before masks row) (one-passes mask) (meets scope rest row)
+      ∙ ap (λ b. passes_at before masks row && (b && meets scope rest row)) same
+      ∙ is
+
+  pub exact-end : (masks : List Mask) (left : List Placed) (all : Bool) → left ≡ [] → (passes_at before masks row && meets scope left row) ≡ all → passes_at before masks row ≡ all
+  exact-end masks left all none is =
+      sym (and-true (passes_at before masks row)) ∙ ap (λ (cs : List Placed). passes_at before masks row && meets scope cs row) (sym none) ∙ is
+
+pub fit-more : (columns : List Column) (masks : List Mask) (mask : Mask) → AllByRecursion (λ m. fits columns m ≡ true) masks → fits columns mask ≡ true
+    → AllByRecursion (λ m. fits columns m ≡ true) (masks ++ mask ∷ [])
+fit-more columns [] mask fit one = (one, tt)
+fit-more columns (m ∷ masks) mask fit one = (fit.0, fit-more columns masks mask fit.1 one)
 
 pub masks-fit : (conds : List Placed) (before : ℕ) (columns : List Column) (masks : List Mask) → AreMasks conds before columns masks → AllByRecursion (λ mask. fits columns mask ≡ true) masks
 masks-fit conds before columns [] are = tt

@@ -50,6 +50,18 @@ abbrev pub AreMasks : List Placed → ℕ → List Column → List Mask → Type
 AreMasks conds before columns masks =
     AllByRecursion (λ mask. (fits columns mask ≡ true) × IsMask conds before mask) masks
 
+-- the values of a joined row pass each mask of the source
+abbrev pub passes_at : ℕ → List Mask → List Value → Bool
+passes_at before masks row =
+    list_all (λ mask. passes mask.test (value_at row (before + mask.column))) masks
+
+-- each mask is of a column that it suits, and all conditions are True just where the values pass
+pub record AreExact (conds : List Placed) (before : ℕ) (columns : List Column) (masks : List Mask)
+    : Type 0 where
+  pub fit : AllByRecursion (λ mask. fits columns mask ≡ true) masks
+  pub same : (scope : List InScope) (row : List Value) → AllPlaced scope conds
+      → passes_at before masks row ≡ meets scope conds row
+
 -- ---- conditions
 
 -- the operator with its sides exchanged
@@ -67,11 +79,11 @@ pub record IsTest (expr : Expr) (test : MaskTest) : Type 0 where
   pub names : names_in expr ≡ name ∷ []
   pub same : (env : Environment) → is_true (truth expr env) ≡ passes test (env name)
 
--- where the condition is True, the value of the column passes
+-- the condition is True just where the value of the column passes
 abbrev pub IsMaskOf : Placed → ℕ → Mask → Type 0
 IsMaskOf cond before mask = (scope : List InScope) (row : List Value) → IsPlaced scope cond
-    → is_true (truth cond.expr (environment scope row)) ≡ true
-    → passes mask.test (value_at row (before + mask.column)) ≡ true
+    → passes mask.test (value_at row (before + mask.column))
+    ≡ is_true (truth cond.expr (environment scope row))
 
 -- and the column suits
 pub record IsFound (cond : Placed) (before : ℕ) (columns : List Column) (mask : Mask) : Type 0 where

@@ -7,11 +7,11 @@
 //!   `take_places` and `take_place` take the places of expressions from the front of a list
 //!   (`specs/Placing.antt`);
 //! - `conjuncts` and `conjuncts_of` take conditions apart at their ANDs (`specs/Conditions.antt`);
-//! - `fixed_key` has the constants to which conditions fix the columns of a key (`specs/Fixing.antt`), and
-//!   `masks_of` the tests of single columns by which the rows of a source may be chosen
-//!   (`specs/Masking.antt`). `constant_of` has the value of an expression that names no column
-//!   (`specs/Constants.antt`); `is_column` and `is_equal_test` tell comparisons of columns
-//!   (`specs/Equality.antt`);
+//! - `fixed_key` has the constants to which conditions fix the columns of a key (`specs/Fixing.antt`).
+//!   `masks_of` has the tests of single columns by which the rows of a source may be chosen, and
+//!   `exact_masks` those that say all that the conditions say (`specs/Masking.antt`). `constant_of` has the
+//!   value of an expression that names no column (`specs/Constants.antt`); `is_column` and `is_equal_test`
+//!   tell comparisons of columns (`specs/Equality.antt`);
 //! - `needed_by`, `sorted_once` and `united` make lists of needed rows, sorted by table and number
 //!   (`specs/Needing.antt`);
 //! - `Refs` is a list of references, which contracts see as the list of what they refer to, and `RefsBy` has
@@ -44,7 +44,7 @@ pub use constants::constant_of;
 pub use cores::{core_of, places_or, query_of};
 pub use equality::{is_column, is_equal_test};
 pub use fixing::fixed_key;
-pub use masking::{Mask, MaskTest, masks_of};
+pub use masking::{Mask, MaskTest, exact_masks, masks_of};
 pub use needs::{needed_by, sorted_once, united};
 pub use placed::{Placed, placed_at, placed_items, take_place, take_places};
 pub use refs::Refs;

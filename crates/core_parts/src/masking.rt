@@ -3,7 +3,7 @@
 ghost use Rattle.std.specs.Prelude.{◌≡◌, ◌+◌, ◌++◌, option_to_list, IfOk, IfSome, OnOk, true};
 ghost use Rattle.core_parts.specs.Constants.{IsConstant};
 ghost use Rattle.core_parts.specs.Equality.{IsColumn};
-ghost use Rattle.core_parts.specs.Masking.{AreMasks, IsFound, IsTest, fits, suits, turned};
+ghost use Rattle.core_parts.specs.Masking.{AreMasks, AreExact, IsFound, IsTest, fits, suits, turned};
 ghost use Rattle.core_parts.specs.Types.{Compare, Int};
 ghost use Rattle.sql_model.specs.declared.expr.Expr.TheVariants.{Both, IsNull};
 
@@ -46,6 +46,28 @@ pub fn masks_of(
         add_mask(&mut masks, mask)?;
     }
     Ok(masks)
+}
+
+/// The masks of a source that say all that the conditions say, if each condition is one: a joined row meets
+/// the conditions just where it passes the masks.
+pub fn exact_masks(
+    alloc: Global,
+    conds: &[Placed],
+    before: u128,
+    columns: &Columns,
+) -> Result<Option<Vec<Mask>>, AllocError>
+    ensures { IfOk result (λ found.
+        IfSome found (λ masks. AreExact conds.now before columns.now masks.items)) }
+{
+    let mut masks = Vec::new(alloc);
+    for cond in conds {
+        let found = mask_of(alloc, cond, before, columns)?;
+        match found {
+            None => return Ok(None),
+            Some(mask) => masks.push(mask)?,
+        }
+    }
+    Ok(Some(masks))
 }
 
 // Adds a mask, if there is one.

@@ -59,7 +59,8 @@ impl<'a, X> Refs<'a, X> {
     pub fn extended(&self, item: &'a X) -> Result<Refs<'a, X>, AllocError>
         ensures { IfOk result (λ made. made ≡ self.now ++ item.now ∷ []) }
     {
-        let mut held = Vec::with_capacity(*self.held.allocator(), self.held.len())?;
+        let count = self.held.len().saturating_add(1);
+        let mut held = Vec::with_capacity(*self.held.allocator(), count)?;
         held.extend_from_slice(self.held.as_slice())?;
         held.push(item)?;
         Ok(Refs { held })

@@ -57,6 +57,11 @@ module _ (slots : List RowHistory) (slot : ℕ) where
   pub slot-stands : (number : ℕ) → Some number ≡ option_map (λ row. row.number) (row_now here) → IsSome (current here.changes)
   slot-stands number is = stands_by (current here.changes) here.number number is
 
+  -- and is that number with the values
+  pub row-here : (number : ℕ) (values : List Value) → Some number ≡ option_map (λ row. row.number) (row_now here) → Some values ≡ current here.changes
+      → row_now here ≡ Some (record { number = number; values = values })
+  row-here number values is held = row_by (current here.changes) here.number number values is held
+
   module _ (test : TableRow → Bool) (old : List Found) where
     -- no row stands in it
     pub found-gone : None ≡ option_map (λ row. row.number) (row_now here) → old ≡ old ++ found_at test slots slot

@@ -1,13 +1,13 @@
 -- The tests of single columns that WHERE makes, and the slots that they leave.
-use Rattle.std.proofs.Common.{◌≡◌, ◌∙◌, ap, sym, refl, ℕ, zero, suc, ◌+◌, ◌-◌, ◌*◌, ◌/◌, ◌<◌, ◌≤◌, arith, Bool, true, false, ◌&&◌, List, [], ◌∷◌, ◌++◌, map, length, get_or, drop, append_assoc, append-nil, inl, inr, Option, Some, None}
-use Rattle.std.specs.Prelude.{filter, slice_get}
+use Rattle.std.proofs.Common.{◌≡◌, ◌∙◌, ap, sym, subst, refl, ℕ, zero, suc, ◌+◌, ◌-◌, ◌*◌, ◌/◌, ◌<◌, ◌≤◌, arith, Bool, true, false, ◌&&◌, List, [], ◌∷◌, ◌++◌, map, length, get_or, drop, append_assoc, append-nil, inl, inr, Option, Some, None}
+use Rattle.std.specs.Prelude.{filter, slice_get, IfSome}
 use Rattle.std.specs.List.{AllByRecursion}
 use Rattle.std.specs.Option.{option_map_or, option_to_list}
 use Rattle.std.proofs.lemmas.Bool.{cases_Bool, cases_lt}
 use Rattle.std.proofs.Math.ListN.{drop_of_length-le}
 use Rattle.core_parts.proofs.MaskLaws.{masks-fit, masks-pass}
 use Rattle.core_parts.specs.Conditions.{AreConditions}
-use Rattle.core_parts.specs.Masking.{AreMasks, fits, passes, passes_all, suits as suits_mask}
+use Rattle.core_parts.specs.Masking.{AreMasks, AreExact, fits, passes, passes_all, passes_at, suits as suits_mask}
 use Rattle.core_parts.specs.declared.masking.Mask.{Mask}
 use Rattle.core_parts.specs.declared.masking.MaskTest.{MaskTest}
 use Rattle.core_parts.specs.declared.masking.MaskTest.TheVariants as mask_test
@@ -22,8 +22,9 @@ use Rattle.table_store.specs.CellTests.{AllFitColumns, cell_passes, passes_colum
 use Rattle.table_store.specs.Histories.{RowHistory, no_history, row_now, rows_now}
 use Rattle.table_store.specs.declared.cell_test.ColumnTest.{ColumnTest}
 use Rattle.dml_versions.proofs.FoundLaws.{found-step}
-use Rattle.dml_versions.specs.Finding.{CoverFound, found_at, found_from, found_row}
-use Rattle.dml_versions.specs.Testing.{AreTests, cell_test, column_test}
+use Rattle.dml_versions.specs.Finding.{AllPass, CoverFound, found_at, found_from, found_row}
+use Rattle.dml_versions.specs.Testing.{AreTests, AreExactTests, cell_test, column_test}
+use Rattle.sql_model.specs.Changes.{is_matched}
 use Rattle.dml_versions.specs.Types.{Column, Expr, TableRow, Value}
 use Rattle.dml_versions.specs.declared.found.Found.{Found}
 
@@ -69,7 +70,50 @@ tests-are expr places columns conds masks are found = record {
   from-start : (row : List Value) (column : ℕ) → column < length columns → value_at row (0 + column) ≡ value_at row column
   from-start row column below = let same : 0 + column ≡ column = omega arith in ap (value_at row) same
 
+-- ---- tests that are exact
+
+-- what holds of the value of an option, at that value
+pub value-is : {X : Type 0} (o : Option X) (x : X) (P : X → Type 0) → o ≡ Some x → IfSome o P → P x
+value-is {X = X} o x P is holds = subst (λ (p : Option X). IfSome p P) is holds
+
+from-first : (masks : List Mask) (row : List Value) → passes_all masks row ≡ passes_at 0 masks row
+from-first [] row = refl
+from-first (mask ∷ masks) row =
+    let same : mask.column ≡ 0 + mask.column = omega arith in
+    λ j. passes mask.test (value_at row (same j)) && from-first masks row j
+
+pub no_tests_exact : (places : List ℕ) (tests : List ColumnTest) → AreExactTests None places tests
+no_tests_exact places tests scope placed row passed = refl
+
+module _ (expr : Expr) (places : List ℕ) (columns : List Column) (conds : List Placed) (masks : List Mask)
+    (are : (scope : List InScope) → places ≡ places_in scope (names_in expr) → AreConditions scope (expr ∷ []) conds) (exact : AreExact conds 0 columns masks) where
+  same-tests : (scope : List InScope) → places_in scope (names_in expr) ≡ places → (row : TableRow) → passes_columns (map column_test masks) row ≡ is_matched scope (Some expr) row
+  same-tests scope placed row =
+      let conditions = are scope (sym placed) in
+      sym (all_pass row masks)
+      ∙ from-first masks row.values
+      ∙ exact.same scope row.values conditions.placed
+      ∙ conditions.same row.values
+
+  pub exact-tests : AreTests (Some expr) places columns (map column_test masks)
+  exact-tests = record {
+    fit = all_fit columns masks exact.fit;
+    pass = λ scope placed row hit. same-tests scope placed row ∙ hit;
+  }
+
+  pub exact-match : AreExactTests (Some expr) places (map column_test masks)
+  exact-match scope placed row passed = sym (same-tests scope placed row) ∙ passed
+
 -- ---- slots
+
+-- the rows in the slots that exact tests leave are found
+pub slots-pass : (tests : List ColumnTest) (test : TableRow → Bool) (slots : List RowHistory) (words : List ℕ)
+    → ((n : ℕ) → member words n ≡ slot_chosen tests (get_or slots n no_history))
+    → ((row : TableRow) → passes_columns tests row ≡ true → test row ≡ true) → AllPass words test slots
+slots-pass tests test slots words chosen pass n set = by (row_now (get_or slots n no_history)) (sym (chosen n) ∙ set) where
+  by : (o : Option TableRow) → option_map_or (passes_columns tests) o false ≡ true → IfSome o (λ row. test row ≡ true)
+  by None is = tt
+  by (Some row) is = pass row is
 
 -- the rows that are found are in the slots that tests leave
 pub covered : (tests : List ColumnTest) (test : TableRow → Bool) (slots : List RowHistory) (words : List ℕ)

@@ -1,6 +1,6 @@
 -- The rows that a statement matches, as they are found in the slots of a table.
 use Rattle.std.specs.Prelude.{◌≡◌, ℕ, List, [], map, filter, drop, Bool, false, Option, Some, None}
-use Rattle.std.specs.Prelude.{unwrap_or, slice_index_or}
+use Rattle.std.specs.Prelude.{unwrap_or, slice_index_or, true, IfSome}
 use Rattle.std.specs.List.{flat_map}
 use Rattle.std.specs.Option.{option_to_list}
 use Rattle.lanes.specs.Sets.{member}
@@ -53,6 +53,14 @@ found_at test slots slot =
 abbrev pub found_from : (TableRow → Bool) → List RowHistory → ℕ → List Found
 found_from test slots slot = map (found_row slots) (filter test (rows_now (drop slot slots)))
 
+-- the row of a slot passes, if it stands
+abbrev pub Passes : (TableRow → Bool) → RowHistory → Type 0
+Passes test slot = IfSome (row_now slot) (λ row. test row ≡ true)
+
 -- what is found is in the slots of a set
 abbrev pub CoverFound : List ℕ → (TableRow → Bool) → List RowHistory → Type 0
 CoverFound words test slots = (n : ℕ) → member words n ≡ false → found_at test slots n ≡ []
+
+-- and each row in them is found
+abbrev pub AllPass : List ℕ → (TableRow → Bool) → List RowHistory → Type 0
+AllPass words test slots = (n : ℕ) → member words n ≡ true → Passes test (slice_index_or slots n no_history)

@@ -28,3 +28,9 @@ pub record AreTests (pick : Option Expr) (places : List ℕ) (columns : List Col
   pub pass : (scope : List InScope) → IsPickPlaced scope pick places → (row : TableRow)
       → is_matched scope pick row ≡ true
       → passes_columns tests row ≡ true
+
+-- WHERE matches each row that passes them
+abbrev pub AreExactTests : Option Expr → List ℕ → List ColumnTest → Type 0
+AreExactTests pick places tests = (scope : List InScope) → IsPickPlaced scope pick places → (row : TableRow)
+    → passes_columns tests row ≡ true
+    → is_matched scope pick row ≡ true

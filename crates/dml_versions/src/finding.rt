@@ -1,15 +1,16 @@
 //! The rows of a table for which WHERE is True.
 
 ghost use Rattle.std.specs.Prelude.{◌≡◌, ◌++◌, ◌+◌, ◌*◌, ◌^◌, ◌<◌, ◌≤◌, length, true, IfOk, OnOk};
+ghost use Rattle.std.specs.Prelude.{slice_index_or};
 ghost use Rattle.lanes.specs.Sets.{member};
-ghost use Rattle.dml_versions.specs.Finding.{CoverFound, IsPickPlaced, scope_in, test_in};
+ghost use Rattle.dml_versions.specs.Finding.{AllPass, CoverFound, IsPickPlaced, Passes, scope_in, test_in};
 ghost use Rattle.dml_versions.specs.Finding.{found_at, found_from};
 ghost use Rattle.sql_model.specs.Changes.{is_matched};
 ghost use Rattle.sql_model.specs.Scope.{InScope};
 ghost use Rattle.sql_model.specs.Tables.{are_keys_unique, row_values};
 ghost use Rattle.dml_versions.specs.Fixing.{FixesKey};
-ghost use Rattle.dml_versions.specs.Testing.{AreTests};
-ghost use Rattle.table_store.specs.Histories.{table_now};
+ghost use Rattle.dml_versions.specs.Testing.{AreTests, AreExactTests};
+ghost use Rattle.table_store.specs.Histories.{table_now, no_history};
 ghost use Rattle.std.specs.Prelude.{ℕ, List as Items};
 
 use crate::found::{Found, FoundRows};
@@ -52,8 +53,15 @@ fn found_in_slots(
     requires placed { IsPickPlaced (scope_in table.now) pick.now places.now }
     ensures { IfOk result (λ found. found ≡ found_from (test_in table.now pick.now) table.now.slots 0) }
 {
-    let tests = picked_tests(alloc, &table.schema().columns, pick, places)?;
-    let found = found_by_tests(alloc, table, tests.as_slice(), pick, places)?;
+    let made = picked_tests(alloc, &table.schema().columns, pick, places)?;
+    let found = found_by_tests(
+        alloc,
+        table,
+        made.tests.as_slice(),
+        made.exact,
+        pick,
+        places,
+    )?;
     Ok(found)
 }
 
@@ -61,29 +69,33 @@ fn found_by_tests(
     alloc: Global,
     table: &TableStore,
     tests: &[ColumnTest],
+    exact: bool,
     pick: &Option<Expr>,
     places: &Places,
 ) -> Result<FoundRows, AllocError>
     requires placed { IsPickPlaced (scope_in table.now) pick.now places.now }
     requires tests { AreTests pick.now places.now table.now.schema.columns tests.now }
+    requires exact { exact ≡ true → AreExactTests pick.now places.now tests.now }
     ensures { IfOk result (λ found. found ≡ found_from (test_in table.now pick.now) table.now.slots 0) }
 {
     let words = table.chosen(alloc, tests)?;
-    let found = found_among(alloc, table, words.as_slice(), pick, places)?;
+    let found = found_among(alloc, table, words.as_slice(), exact, pick, places)?;
     Ok(found)
 }
 
-// The rows of the slots of a set, which has all of them.
+// The rows of the slots of a set, which has all of them. Where it has no other row, WHERE isn't evaluated.
 fn found_among(
     alloc: Global,
     table: &TableStore,
     words: &[u64],
+    exact: bool,
     pick: &Option<Expr>,
     places: &Places,
 ) -> Result<FoundRows, AllocError>
     requires placed { IsPickPlaced (scope_in table.now) pick.now places.now }
     requires few { length words.now < 2 ^ 57 }
     requires cover { CoverFound words.now (test_in table.now pick.now) table.now.slots }
+    requires exact { exact ≡ true → AllPass words.now (test_in table.now pick.now) table.now.slots }
     ensures { IfOk result (λ found. found ≡ found_from (test_in table.now pick.now) table.now.slots 0) }
 {
     let mut found = List::new(alloc);
@@ -92,7 +104,7 @@ fn found_among(
         match next_one(words, at) {
             None => return Ok(found),
             Some(slot) => {
-                add_found(alloc, table, slot, pick, places, &mut found)?;
+                add_found(alloc, table, slot, exact, pick, places, &mut found)?;
                 at = after(words, slot);
             }
         }
@@ -130,23 +142,26 @@ fn found_by_key(
         Some(number) => match table.slot_of(number) {
             None => unreachable!(),
             Some(slot) => {
-                add_found(alloc, table, slot, pick, places, &mut found)?;
+                add_found(alloc, table, slot, false, pick, places, &mut found)?;
                 Ok(found)
             }
         },
     }
 }
 
-// Adds the row in a slot, if it stands and WHERE is True for it.
+// Adds the row in a slot, if it stands and WHERE is True for it, which may be known.
 fn add_found(
     alloc: Global,
     table: &TableStore,
     slot: u64,
+    known: bool,
     pick: &Option<Expr>,
     places: &Places,
     found: &mut FoundRows,
 ) -> Result<(), AllocError>
     requires placed { IsPickPlaced (scope_in table.now) pick.now places.now }
+    requires known { known ≡ true
+        → Passes (test_in table.now pick.now) (slice_index_or table.now.slots slot no_history) }
     ensures { OnOk result
         (found.new ≡ found.old ++ found_at (test_in table.now pick.now) table.now.slots slot) }
 {
@@ -154,7 +169,7 @@ fn add_found(
         None => Ok(()),
         Some(number) => {
             let values = table.row_values(slot)?;
-            if !meets(alloc, pick, &values, places)? {
+            if !is_met(alloc, known, pick, &values, places)? {
                 return Ok(());
             }
             let version = version_of(table, number);
@@ -165,6 +180,26 @@ fn add_found(
             })
         }
     }
+}
+
+// Whether WHERE is True over a row, or missing, where that isn't known.
+fn is_met(
+    alloc: Global,
+    known: bool,
+    pick: &Option<Expr>,
+    values: &Values,
+    places: &Places,
+) -> Result<bool, AllocError>
+    ensures { IfOk result (λ is. (scope : Items InScope) (number : ℕ) → IsPickPlaced scope pick.now places.now
+        → (known ≡ true
+        → is_matched scope pick.now (record { number = number; values = values.now }) ≡ true)
+        → is ≡ is_matched scope pick.now (record { number = number; values = values.now })) }
+{
+    if known {
+        return Ok(true);
+    }
+    let met = meets(alloc, pick, values, places)?;
+    Ok(met)
 }
 
 // Whether WHERE is True over a row, or missing.

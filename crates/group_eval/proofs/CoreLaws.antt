@@ -1,11 +1,10 @@
 -- Groups of picks stand for groups of combinations.
-use Rattle.std.proofs.Common.{◌≡◌, ◌∙◌, sym, ap, subst, refl, ℕ, zero, suc, Bool, true, false, List, [], ◌∷◌, ◌++◌, map, length, ◌==◌, arith, append-nil, inl, inr, Option, Some, None}
-use Rattle.std.specs.Prelude.{filter, not, slice_get, unwrap_or, if◌then◌else◌, option_to_list}
+use Rattle.std.proofs.Common.{◌≡◌, ◌∙◌, sym, ap, subst, refl, ℕ, Bool, true, false, List, [], ◌∷◌, map, length, ◌==◌, arith, inl, inr, Option, Some, None}
+use Rattle.std.specs.Prelude.{filter, not, slice_get, unwrap_or, if◌then◌else◌}
 use Rattle.std.specs.FinMap.{empty}
 use Rattle.std.specs.List.{flat_map}
 use Rattle.std.proofs.lemmas.Bool.{cases_Bool}
 use Rattle.std.proofs.lemmas.Bool.Decides.{nat_tests}
-use Rattle.std.proofs.lemmas.List.{map-append}
 use Rattle.std.proofs.lemmas.Simd.{map-map}
 use Rattle.lineage.specs.Lineage.{Lineage}
 use Rattle.lineage.specs.Rows.{kept, IsRow, AnswersStandFor, PicksStandFor, joined_row}
@@ -16,14 +15,13 @@ use Rattle.lineage.proofs.Origins.{stands-empty}
 use Rattle.lineage.proofs.RowLaws.{kept-union}
 use Rattle.lineage.proofs.Unions.{version_union}
 use Rattle.core_parts.specs.Checking.{core_at, places_at, IsChecked}
-use Rattle.group_eval.specs.Evaluating.{item_values as item_values_over, group_values, is_group_kept, ArePlaced, IsHavingPlaced, IsPlacedPlan, group_answer, answers_of, rejected_of, IsGroupedBy, IsGrouped}
-use Rattle.group_eval.specs.Folding.{first_row, pick_environment, pick_environments, group_meaning}
+use Rattle.group_eval.specs.Evaluating.{group_values, is_group_kept, ArePlaced, IsHavingPlaced, IsPlacedPlan, group_answer, answers_of, rejected_of, IsGroupedBy, IsGrouped}
+use Rattle.group_eval.specs.Folding.{first_row, pick_environments, group_meaning}
 use Rattle.group_eval.specs.Grouping.{key_of, is_under, picks_under, keyed_groups, pick_groups}
-use Rattle.core_parts.specs.Placing.{AllPlaced, IsPlaced}
 use Rattle.group_eval.specs.Planning.{AreItems, IsHaving, IsPlan}
 use Rattle.group_eval.specs.Types.{Catalog, Checked, ColumnName, Core, Expr, FromItem, Item, Query, Statement, TheQuery, Value}
 use Rattle.lineage.specs.Lineage.{union_of}
-use Rattle.group_eval.specs.Uniting.{united, all_united}
+use Rattle.group_eval.specs.Uniting.{united}
 use Rattle.group_eval.specs.declared.grouping.Grouped.{Grouped}
 use Rattle.core_parts.specs.declared.placed.Placed.{Placed}
 use Rattle.group_eval.specs.declared.plan.Plan.{Plan}
@@ -32,7 +30,7 @@ use Rattle.sql_model.specs.Meaning.{Environment, Meaning, eval, is_true}
 use Rattle.sql_model.specs.Needs.{Versions}
 use Rattle.core_parts.proofs.Lists.{got-mapped}
 use Rattle.sql_model.specs.Places.{core_places, order_places}
-use Rattle.sql_model.specs.QueryAnswer.{Origin, AnswerRow, Combination, combination_rows, joined_values, environments, item_values, first_values, group_key, has_key, groups_of, group_row, is_kept, distinct, rows_in_scope, rejected_in_scope, row_environment, single}
+use Rattle.sql_model.specs.QueryAnswer.{Combination, combination_rows, joined_values, environments, item_values, first_values, group_key, has_key, groups_of, group_row, is_kept, distinct, single}
 use Rattle.sql_model.specs.Refusals.{answer_titles, core_names, cores_of, groups}
 use Rattle.sql_model.specs.Scope.{InScope, environment, places_in, place_of, scope_of, value_at}
 

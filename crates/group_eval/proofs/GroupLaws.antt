@@ -1,67 +1,258 @@
--- Picks by their values.
-use Rattle.std.proofs.Common.{◌≡◌, ◌∙◌, sym, ap, refl, ℕ, Bool, true, false, cond, List, [], ◌∷◌, ◌++◌, map, arith, length-append, append_assoc}
-use Rattle.std.specs.Prelude.{filter, not}
-use Rattle.std.proofs.lemmas.Bool.Decides.{nat_tests}
-use Rattle.std.proofs.lemmas.List.{map-append}
-use Rattle.std.specs.Cmp.{eq_by_cmp_equiv}
+-- Picks that are grouped one after another.
+use Rattle.std.proofs.Common.{◌≡◌, ◌∙◌, sym, ap, refl, ℕ, zero, suc, ◌<◌, Bool, true, false, cond, not, List, [], ◌∷◌, ◌++◌, map, length, Option, Some, None, get_or, set, inl, inr, arith, append_assoc, append-nil}
+use Rattle.std.specs.Prelude.{filter}
+use Rattle.std.specs.List.{AllByRecursion}
+use Rattle.std.specs.Option.{option_map}
+use Rattle.std.specs.BTreeMap as tree
+use Rattle.std.specs.BTreeMap.{BTreeMap}
 use Rattle.std.specs.Ordering.{is_eq}
-use Rattle.core_parts.proofs.Lists.{both_filters, all_kept}
-use Rattle.core_parts.proofs.Listings.{item_listed}
-use Rattle.core_parts.specs.declared.refs_by.RefsBy.{RefsBy}
+use Rattle.std.proofs.lemmas.Bool.{cases_Bool}
+use Rattle.std.proofs.lemmas.Cmp.{tied_itself}
+use Rattle.std.proofs.lemmas.Simd.{map-map}
+use Rattle.ldv_value.proofs.Booleans.{true≢false}
 use Rattle.lineage.specs.declared.answer.Pick.{Pick}
-use Rattle.group_eval.specs.Grouping.{key_of, is_under, picks_under, keyed_groups, listed, pick_added, has_none, unlisted, first_noted}
+use Rattle.core_parts.proofs.Lists.{both_filters, kept_twice, all_kept}
+use Rattle.core_parts.proofs.SameValues.{tied, all_exact}
 use Rattle.sql_model.specs.KeyOrder.{values_order, values_total}
-use Rattle.group_eval.specs.Types.{Value}
 use Rattle.sql_model.specs.Keys.{same_values}
 use Rattle.sql_model.specs.QueryAnswer.{distinct}
+use Rattle.group_eval.specs.Grouping.{key_of, is_under, picks_under, keyed_groups, own_picks, group_of, number_of, with_pick, groups_with_pick, grouped_onto, IsIndex}
+use Rattle.group_eval.specs.Types.{Value}
+use Rattle.group_eval.specs.declared.groups.KeyedGroup.{KeyedGroup}
+
+-- ---- the same values
+
+same_is : (a b : List Value) → same_values a b ≡ true → a ≡ b
+same_is a b is = all_exact a b (tied (values_order a b) is)
+
+is_same : (a b : List Value) → a ≡ b → same_values a b ≡ true
+is_same a b is = ap (λ (v : List Value). same_values a v) (sym is) ∙ ap is_eq (tied_itself values_total a)
+
+turned : (a b : List Value) → same_values a b ≡ same_values b a
+turned a b = elim (cases_Bool (same_values a b)) [
+  | inl hit ↦ hit ∙ sym (is_same b a (sym (same_is a b hit)))
+  | inr miss ↦ elim (cases_Bool (same_values b a)) [
+    | inl hit ↦ absurd (true≢false (sym (is_same a b (sym (same_is b a hit))) ∙ miss))
+    | inr also ↦ miss ∙ sym also
+  ]
+]
+
+-- ---- the number of a group
+
+not_some : (o : Option ℕ) → option_map suc o ≡ None → o ≡ None
+not_some None is = refl
+not_some (Some i) is = cc
+
+some_more : (o : Option ℕ) (i : ℕ) → option_map suc o ≡ Some (suc i) → o ≡ Some i
+some_more None i is = cc
+some_more (Some k) i is = let same : suc k ≡ suc i = cc in let it : k ≡ i = omega (arith, same) in ap Some it
+
+none_zero : (o : Option ℕ) → option_map suc o ≡ Some zero → ⊥
+none_zero None is = cc
+none_zero (Some k) is = let same : suc k ≡ zero = cc in omega (arith, same)
+
+missed : (m : KeyedGroup) (ms : List KeyedGroup) (v : List Value) → number_of v (m ∷ ms) ≡ None → same_values m.key v ≡ false
+missed m ms v is = elim (cases_Bool (same_values m.key v)) [
+  | inl hit ↦
+      let no : Some zero ≡ None = sym (ap (λ b. cond b (Some zero) (option_map suc (number_of v ms))) hit) ∙ is in
+      cc
+  | inr miss ↦ miss
+]
+
+missed_rest : (m : KeyedGroup) (ms : List KeyedGroup) (v : List Value) → number_of v (m ∷ ms) ≡ None → number_of v ms ≡ None
+missed_rest m ms v is = not_some (number_of v ms) (sym (ap (λ b. cond b (Some zero) (option_map suc (number_of v ms))) (missed m ms v is)) ∙ is)
+
+pub number_within : (ms : List KeyedGroup) (v : List Value) (i : ℕ) → number_of v ms ≡ Some i → i < length ms
+number_within [] v i is = cc
+number_within (m ∷ ms) v zero is = let more : length (m ∷ ms) ≡ suc (length ms) = refl in omega (arith, more)
+number_within (m ∷ ms) v (suc i) is = elim (cases_Bool (same_values m.key v)) [
+  | inl hit ↦
+      let no : Some zero ≡ Some (suc i) = sym (ap (λ b. cond b (Some zero) (option_map suc (number_of v ms))) hit) ∙ is in
+      let same : zero ≡ suc i = cc in
+      absurd (omega (arith, same))
+  | inr miss ↦
+      let rest = number_within ms v i (some_more (number_of v ms) i (sym (ap (λ b. cond b (Some zero) (option_map suc (number_of v ms))) miss) ∙ is)) in
+      let more : length (m ∷ ms) ≡ suc (length ms) = refl in
+      omega (arith, rest, more)
+]
+
+later_number : (o : Option ℕ) (P : Type 0) → ((k : ℕ) → o ≡ Some k → P) → (i : ℕ) → option_map suc o ≡ Some i → P
+later_number None P there i is = cc
+later_number (Some k) P there i is = there k refl
 
 module _ (places : List ℕ) where
-  -- a pick goes from those that are left to those that are there
-  pub group_on : (m n : RefsBy (List Value) Pick) (pick : Pick) (rest : List Pick)
-      → ((v : List Value) → listed n v ≡ pick_added (key_of places pick) pick v (listed m v)) → (v : List Value)
-      → listed n v ++ filter (is_under places v) rest ≡ listed m v ++ filter (is_under places v) (pick ∷ rest)
-  group_on = item_listed values_order (key_of places)
+  -- a group that is there takes the pick
+  with_pick_again : (ms : List KeyedGroup) (p : Pick) (d : KeyedGroup) (i : ℕ) → number_of (key_of places p) ms ≡ Some i → groups_with_pick places ms p ≡ set ms i (with_pick (get_or ms i d) p)
+  with_pick_again [] p d i is = cc
+  with_pick_again (m ∷ ms) p d zero is = elim (cases_Bool (same_values m.key (key_of places p))) [
+    | inl hit ↦ ap (λ b. cond b (with_pick m p ∷ ms) (m ∷ groups_with_pick places ms p)) hit
+    | inr miss ↦ absurd (none_zero (number_of (key_of places p) ms) (sym (ap (λ b. cond b (Some zero) (option_map suc (number_of (key_of places p) ms))) miss) ∙ is))
+  ]
+  with_pick_again (m ∷ ms) p d (suc i) is = elim (cases_Bool (same_values m.key (key_of places p))) [
+    | inl hit ↦
+        let no : Some zero ≡ Some (suc i) = sym (ap (λ b. cond b (Some zero) (option_map suc (number_of (key_of places p) ms))) hit) ∙ is in
+        let same : zero ≡ suc i = cc in
+        absurd (omega (arith, same))
+    | inr miss ↦
+        ap (λ b. cond b (with_pick m p ∷ ms) (m ∷ groups_with_pick places ms p)) miss
+        ∙ ap (λ l. m ∷ l) (with_pick_again ms p d i (some_more (number_of (key_of places p) ms) i (sym (ap (λ b. cond b (Some zero) (option_map suc (number_of (key_of places p) ms))) miss) ∙ is)))
+  ]
 
-  -- ---- the first of each group
+  -- and stays where it is
+  numbers_again : (ms : List KeyedGroup) (p : Pick) (i : ℕ) → number_of (key_of places p) ms ≡ Some i → (v : List Value) → number_of v (groups_with_pick places ms p) ≡ number_of v ms
+  numbers_again [] p i is v = cc
+  numbers_again (m ∷ ms) p i is v = elim (cases_Bool (same_values m.key (key_of places p))) [
+    | inl hit ↦ ap (λ b. number_of v (cond b (with_pick m p ∷ ms) (m ∷ groups_with_pick places ms p))) hit
+    | inr miss ↦
+        ap (λ b. number_of v (cond b (with_pick m p ∷ ms) (m ∷ groups_with_pick places ms p))) miss
+        ∙ ap (λ (o : Option ℕ). cond (same_values m.key v) (Some zero) (option_map suc o))
+        (later_number (number_of (key_of places p) ms) (number_of v (groups_with_pick places ms p) ≡ number_of v ms) (λ k at. numbers_again ms p k at v) i
+        (sym (ap (λ b. cond b (Some zero) (option_map suc (number_of (key_of places p) ms))) miss) ∙ is))
+  ]
 
-  one_more : (picks : List Pick) (pick : Pick) → has_none (picks ++ pick ∷ []) ≡ false
-  one_more picks pick = grind (arith, nat_tests, length-append {A = Pick})
+  pub set_again : (ms : List KeyedGroup) (p : Pick) (found more : KeyedGroup) (i : ℕ) → number_of (key_of places p) ms ≡ Some i → found ≡ get_or ms i found
+      → more ≡ with_pick found p → set ms i more ≡ groups_with_pick places ms p
+  set_again ms p found more i is here grown = ap (set ms i) (grown ∙ ap (λ (m : KeyedGroup). with_pick m p) here) ∙ sym (with_pick_again ms p found i is)
 
-  none_added : (b : Bool) (pick : Pick) (picks : List Pick) → has_none (cond b (picks ++ pick ∷ []) picks) ≡ cond (not b) (has_none picks) false
-  none_added true pick picks = one_more picks pick
-  none_added false pick picks = refl
+  pub numbers_set : (ms : List KeyedGroup) (p : Pick) (found more : KeyedGroup) (i : ℕ) → number_of (key_of places p) ms ≡ Some i → found ≡ get_or ms i found
+      → more ≡ with_pick found p → (v : List Value) → number_of v (set ms i more) ≡ number_of v ms
+  numbers_set ms p found more i is here grown v = ap (number_of v) (set_again ms p found more i is here grown) ∙ numbers_again ms p i is v
 
-  noted : (b : Bool) (pick : Pick) (firsts : List Pick) (left : List (List Value))
-      → map (key_of places) (cond b (firsts ++ pick ∷ []) firsts) ++ left ≡ map (key_of places) firsts ++ cond b (key_of places pick ∷ left) left
-  noted true pick firsts left =
-      ap (λ l. l ++ left) (map-append (key_of places) firsts (pick ∷ [])) ∙ append_assoc (map (key_of places) firsts) (key_of places pick ∷ []) left
-  noted false pick firsts left = refl
+  -- the first pick of its values makes the last group
+  abbrev alone : Pick → KeyedGroup
+  alone p = group_of (key_of places p) (p ∷ [])
 
-  pub first_on : (m n : RefsBy (List Value) Pick) (pick : Pick) (firsts after : List Pick) (rest : List Pick)
-      → ((v : List Value) → listed n v ≡ pick_added (key_of places pick) pick v (listed m v))
-      → after ≡ first_noted (listed m (key_of places pick)) pick firsts
-      → map (key_of places) after ++ unlisted n (distinct (map (key_of places) rest))
-      ≡ map (key_of places) firsts ++ unlisted m (distinct (map (key_of places) (pick ∷ rest)))
-  first_on m n pick firsts after rest added is =
-      let key : List Value = key_of places pick in
-      let keys : List (List Value) = distinct (map (key_of places) rest) in
-      let same : unlisted m (filter (λ other. not (same_values other key)) keys) ≡ unlisted n keys =
-      both_filters (λ v. has_none (listed m v)) (λ v. not (same_values v key)) (λ v. has_none (listed n v))
-      (λ v. ap has_none (added v) ∙ none_added (is_eq (values_order key v)) pick (listed m v)
-      ∙ ap (λ b. cond (not b) (has_none (listed m v)) false) ((eq_by_cmp_equiv values_total).symm key v)) keys in
-      ap (λ (l : List Pick). map (key_of places) l ++ unlisted n keys) is
-      ∙ noted (has_none (listed m key)) pick firsts (unlisted n keys)
-      ∙ ap (λ (l : List (List Value)). map (key_of places) firsts ++ cond (has_none (listed m key)) (key ∷ l) l) (sym same)
+  pub with_pick_first : (ms : List KeyedGroup) (p : Pick) → number_of (key_of places p) ms ≡ None → groups_with_pick places ms p ≡ ms ++ group_of (key_of places p) (p ∷ []) ∷ []
+  with_pick_first [] p none = refl
+  with_pick_first (m ∷ ms) p none =
+      ap (λ b. cond b (with_pick m p ∷ ms) (m ∷ groups_with_pick places ms p)) (missed m ms (key_of places p) none)
+      ∙ ap (λ l. m ∷ l) (with_pick_first ms p (missed_rest m ms (key_of places p) none))
 
--- at first no value is listed
-pub none_listed : (m : RefsBy (List Value) Pick) → ((key : List Value) → listed m key ≡ []) → (keys : List (List Value)) → unlisted m keys ≡ keys
-none_listed m none keys = all_kept (λ key. has_none (listed m key)) (λ key. ap has_none (none key)) keys
+  numbers_first : (ms : List KeyedGroup) (p : Pick) → number_of (key_of places p) ms ≡ None → (v : List Value)
+      → number_of v (ms ++ group_of (key_of places p) (p ∷ []) ∷ []) ≡ cond (same_values (key_of places p) v) (Some (length ms)) (number_of v ms)
+  numbers_first [] p none v = refl
+  numbers_first (m ∷ ms) p none v =
+      ap (λ (o : Option ℕ). cond (same_values m.key v) (Some zero) (option_map suc o)) (numbers_first ms p (missed_rest m ms (key_of places p) none) v)
+      ∙ elim (cases_Bool (same_values (key_of places p) v)) [
+        | inl hit ↦
+            let gone : same_values m.key v ≡ false = ap (same_values m.key) (sym (same_is (key_of places p) v hit)) ∙ missed m ms (key_of places p) none in
+            rw (hit, gone) refl
+        | inr miss ↦ rw miss refl
+      ]
 
--- the group under each first pick
-pub keyed_is : (places : List ℕ) (m : RefsBy (List Value) Pick) (firsts picks : List Pick) → ((v : List Value) → listed m v ≡ picks_under places picks v)
-    → map (key_of places) firsts ≡ distinct (map (key_of places) picks) → map (λ pick. listed m (key_of places pick)) firsts ≡ keyed_groups places picks
-keyed_is places m firsts picks are is = each firsts ∙ ap (map (picks_under places picks)) is
-  where
-    each : (ps : List Pick) → map (λ pick. listed m (key_of places pick)) ps ≡ map (picks_under places picks) (map (key_of places) ps)
-    each [] = refl
-    each (p ∷ ps) = λ j. are (key_of places p) j ∷ each ps j
+  pub index_first : (m n : BTreeMap (List Value) ℕ) (ms new : List KeyedGroup) (p : Pick) (key : List Value) (number : ℕ) → IsIndex m ms → number_of (key_of places p) ms ≡ None
+      → key ≡ key_of places p → number ≡ length ms
+      → ((v : List Value) → tree.get values_order n v ≡ cond (same_values key v) (Some number) (tree.get values_order m v))
+      → new ≡ ms ++ group_of (key_of places p) (p ∷ []) ∷ [] → IsIndex n new
+  index_first m n ms new p key number index none own last wrote is v =
+      wrote v ∙ (λ j. cond (same_values (own j) v) (Some (last j)) (index v j))
+      ∙ sym (ap (number_of v) is ∙ numbers_first ms p none v)
+
+  -- ---- all of them
+
+  -- a group with the picks of its values
+  abbrev grown : List Pick → KeyedGroup → KeyedGroup
+  grown rest m = group_of m.key (m.picks ++ filter (is_under places m.key) rest)
+
+  abbrev differs : List Value → Pick → Bool
+  differs v p = not (is_under places v p)
+
+  first_grows : (m : KeyedGroup) (rest : List Pick) (ms : List KeyedGroup) → grouped_onto places (m ∷ ms) rest ≡ grown rest m ∷ grouped_onto places ms (filter (differs m.key) rest)
+  first_grows m [] ms = ap (λ l. group_of m.key l ∷ ms) (sym (append-nil m.picks))
+  first_grows m (p ∷ rest) ms = elim (cases_Bool (same_values m.key (key_of places p))) [
+    | inl hit ↦
+        let back : is_under places m.key p ≡ true = turned (key_of places p) m.key ∙ hit in
+        ap (λ b. grouped_onto places (cond b (with_pick m p ∷ ms) (m ∷ groups_with_pick places ms p)) rest) hit
+        ∙ first_grows (with_pick m p) rest ms
+        ∙ ap (λ l. group_of m.key l ∷ grouped_onto places ms (filter (differs m.key) rest))
+        (append_assoc m.picks (p ∷ []) (filter (is_under places m.key) rest))
+        ∙ sym (ap (λ b. group_of m.key (m.picks ++ cond b (p ∷ filter (is_under places m.key) rest) (filter (is_under places m.key) rest))
+        ∷ grouped_onto places ms (cond (not b) (p ∷ filter (differs m.key) rest) (filter (differs m.key) rest))) back)
+    | inr miss ↦
+        let back : is_under places m.key p ≡ false = turned (key_of places p) m.key ∙ miss in
+        ap (λ b. grouped_onto places (cond b (with_pick m p ∷ ms) (m ∷ groups_with_pick places ms p)) rest) miss
+        ∙ first_grows m rest (groups_with_pick places ms p)
+        ∙ sym (ap (λ b. group_of m.key (m.picks ++ cond b (p ∷ filter (is_under places m.key) rest) (filter (is_under places m.key) rest))
+        ∷ grouped_onto places ms (cond (not b) (p ∷ filter (differs m.key) rest) (filter (differs m.key) rest))) back)
+  ]
+
+  twice : {X : Type 0} (p q : X → Bool) → ((x : X) → p x ≡ true → q x ≡ true) → (xs : List X) → filter p (filter q xs) ≡ filter p xs
+  twice {X} p q implied xs = kept_twice p q xs (each xs)
+    where
+      each : (ys : List X) → AllByRecursion (λ y. p y ≡ true → q y ≡ true) ys
+      each [] = tt
+      each (y ∷ ys) = (implied y, each ys)
+
+  map_kept : {X Y : Type 0} (p : X → Bool) (f g : X → Y) → ((x : X) → p x ≡ true → f x ≡ g x) → (xs : List X) → map f (filter p xs) ≡ map g (filter p xs)
+  map_kept p f g same [] = refl
+  map_kept p f g same (x ∷ xs) = elim (cases_Bool (p x)) [
+    | inl hit ↦ rw hit (λ j. same x hit j ∷ map_kept p f g same xs j)
+    | inr miss ↦ rw miss (map_kept p f g same xs)
+  ]
+
+  -- the group of some values, from all picks
+  abbrev whole : List Pick → List Value → KeyedGroup
+  whole picks v = group_of v (picks_under places picks v)
+
+  -- a pick of other values makes no difference
+  whole_past : (p : Pick) (rest : List Pick) (v : List Value) → same_values (key_of places p) v ≡ false → whole rest v ≡ whole (p ∷ rest) v
+  whole_past p rest v miss = sym (ap (λ b. group_of v (cond b (p ∷ filter (is_under places v) rest) (filter (is_under places v) rest))) miss)
+
+  apart_from : (q : List Value → Bool) (p : Pick) (v : List Value) → q (key_of places p) ≡ false → q v ≡ true → same_values (key_of places p) v ≡ false
+  apart_from q p v none some = elim (cases_Bool (same_values (key_of places p) v)) [
+    | inl hit ↦ absurd (true≢false (sym some ∙ ap q (sym (same_is (key_of places p) v hit)) ∙ none))
+    | inr miss ↦ miss
+  ]
+
+  not_is : (b : Bool) → not b ≡ true → b ≡ false
+  not_is true is = cc
+  not_is false is = refl
+
+  and_first : (a b : Bool) → cond a b false ≡ true → a ≡ true
+  and_first true b is = refl
+  and_first false b is = cc
+
+  swapped : (o q : Bool) → cond o q false ≡ cond q o false
+  swapped true true = refl
+  swapped true false = refl
+  swapped false true = refl
+  swapped false false = refl
+
+  groups_kept : (picks : List Pick) (q : List Value → Bool)
+      → grouped_onto places [] (filter (λ p. q (key_of places p)) picks) ≡ map (whole picks) (filter q (distinct (map (key_of places) picks)))
+  groups_kept [] q = refl
+  groups_kept (p ∷ rest) q =
+      let own : List Value = key_of places p in
+      let values : List (List Value) = distinct (map (key_of places) rest) in
+      let other : List Value → Bool = λ o. not (same_values o own) in
+      let kept : List Pick = filter (λ b. q (key_of places b)) rest in
+      elim (cases_Bool (q own)) [
+        | inl hit ↦
+            let both : List Value → Bool = λ v. cond (other v) (q v) false in
+            ap (λ b. grouped_onto places [] (cond b (p ∷ kept) kept)) hit
+            ∙ first_grows (alone p) kept []
+            ∙ (λ j. group_of own (p ∷ twice (is_under places own) (λ b. q (key_of places b)) (λ b same. ap q (same_is (key_of places b) own same) ∙ hit) rest j)
+            ∷ grouped_onto places [] (both_filters (differs own) (λ b. q (key_of places b)) (λ b. both (key_of places b)) (λ b. swapped (other (key_of places b)) (q (key_of places b))) rest j))
+            ∙ ap (λ l. group_of own (p ∷ filter (is_under places own) rest) ∷ l)
+            (groups_kept rest both
+            ∙ map_kept both (whole rest) (whole (p ∷ rest)) (λ v is. whole_past p rest v (turned own v ∙ not_is (same_values v own) (and_first (other v) (q v) is))) values
+            ∙ ap (map (whole (p ∷ rest))) (sym (both_filters q other both (λ v. refl) values)))
+            ∙ ap (λ b. group_of own (cond b (p ∷ filter (is_under places own) rest) (filter (is_under places own) rest)) ∷ map (whole (p ∷ rest)) (filter q (filter other values)))
+            (sym (is_same own own refl))
+            ∙ ap (λ b. map (whole (p ∷ rest)) (cond b (own ∷ filter q (filter other values)) (filter q (filter other values)))) (sym hit)
+        | inr miss ↦
+            ap (λ b. grouped_onto places [] (cond b (p ∷ kept) kept)) miss
+            ∙ groups_kept rest q
+            ∙ map_kept q (whole rest) (whole (p ∷ rest)) (λ v is. whole_past p rest v (apart_from q p v miss is)) values
+            ∙ ap (map (whole (p ∷ rest))) (sym (twice q other (λ v is. ap not (turned v own ∙ apart_from q p v miss is)) values))
+            ∙ ap (λ b. map (whole (p ∷ rest)) (cond b (own ∷ filter q (filter other values)) (filter q (filter other values)))) (sym miss)
+      ]
+
+  pub keyed_are : (picks : List Pick) → map own_picks (grouped_onto places [] picks) ≡ keyed_groups places picks
+  keyed_are picks =
+      let values : List (List Value) = distinct (map (key_of places) picks) in
+      ap (map own_picks)
+      (ap (grouped_onto places []) (sym (all_kept (λ (p : Pick). true) (λ p. refl) picks))
+      ∙ groups_kept picks (λ v. true)
+      ∙ ap (map (whole picks)) (all_kept (λ (v : List Value). true) (λ v. refl) values))
+      ∙ map-map own_picks (whole picks) values

@@ -1,4 +1,5 @@
 pub mod AddLaws
+pub mod ColumnLaws
 pub mod CoreLaws
 pub mod GroupLaws
 pub mod SettleLaws

@@ -8,7 +8,7 @@ use Rattle.core_parts.proofs.Lists.{take-mapped, drop-mapped}
 use Rattle.core_parts.proofs.Places.{places-append}
 use Rattle.group_eval.specs.Folding.{first_row, pick_environment, pick_environments, value_over, group_meaning}
 use Rattle.core_parts.specs.Placing.{own_places, other_places, IsPlaced}
-use Rattle.group_eval.specs.Settling.{SettlesTo, IsSettled}
+use Rattle.group_eval.specs.Settling.{SettlesTo, first_meaning, IsSettled}
 use Rattle.group_eval.specs.Types.{ColumnName, Expr, Fold, Operator, Value}
 use Rattle.core_parts.specs.declared.placed.Placed.{Placed}
 use Rattle.sql_model.proofs.Folds.{fold-Constant, fold-Column, fold-Negate, fold-Not, fold-Both, fold-IsNull, fold-Count, fold-Aggregate}
@@ -40,12 +40,15 @@ module _ (picks : List Pick) where
   column [] scope c = refl
   column (p ∷ ps) scope c = refl
 
+  pub column_first : (scope : List InScope) (c : ColumnName) → first_meaning scope picks (Column c) ≡ group_meaning scope picks (Column c)
+  column_first scope c = (λ j. fold-Column eval_step c j (first scope)) ∙ column picks scope c ∙ sym (λ j. fold-Column eval_step c j (all scope))
+
   pub settle-Column : (c : ColumnName) (l own new left : List ℕ) → new ≡ own ++ take 1 l → left ≡ drop 1 l → SettlesTo picks (Column c) l own (Column c) new left
   settle-Column c l own new left made rest scope more is =
       let here : l ≡ place_of scope c ∷ more = is ∙ ap (λ ns. places_in scope ns ++ more) (fold-Column names_step c) in (
         rest ∙ ap (drop 1) here,
         made ∙ ap (λ x. own ++ take 1 x) here ∙ sym (ap (λ ns. own ++ places_in scope ns) (fold-Column names_step c)),
-        (λ j. fold-Column eval_step c j (first scope)) ∙ column picks scope c ∙ sym (λ j. fold-Column eval_step c j (all scope)),
+        column_first scope c,
       )
 
   pub settle-Negate : (e s : Expr) (l own new left : List ℕ) → SettlesTo picks e l own s new left → SettlesTo picks (Negate e) l own (Negate s) new left

@@ -1,6 +1,5 @@
 -- The answer rows of groups of picks.
 use Rattle.std.specs.Prelude.{◌≡◌, ℕ, List, ◌∷◌, ◌++◌, map, filter, not, Bool, true, Option, Some, None}
-use Rattle.core_parts.specs.declared.refs_by.RefsBy.{RefsBy}
 use Rattle.lineage.specs.Lineage.{Lineage}
 use Rattle.lineage.specs.Rows.{kept, joined_row, AnswersStandFor, PicksStandFor}
 use Rattle.lineage.specs.StandsFor.{StandsFor}
@@ -8,7 +7,6 @@ use Rattle.lineage.specs.declared.answer.Answer.{Answer}
 use Rattle.lineage.specs.declared.answer.Pick.{Pick}
 use Rattle.core_parts.specs.Checking.{core_at, IsChecked}
 use Rattle.group_eval.specs.Folding.{first_row, group_meaning}
-use Rattle.group_eval.specs.Grouping.{key_of, listed}
 use Rattle.core_parts.specs.Placing.{IsPlaced, AllPlaced}
 use Rattle.group_eval.specs.Types.{Catalog, Checked, Core, Query, Value}
 use Rattle.lineage.specs.Lineage.{union_of}
@@ -74,10 +72,6 @@ pub record AddsGroup (scope : List InScope) (plan : Plan) (group : List Pick) (o
       ≡ old.answers ++ answers_of scope plan (group ∷ rest)
   pub rejected : (rest : List (List Pick)) → union_of new.rejected (rejected_of scope plan rest)
       ≡ union_of old.rejected (rejected_of scope plan (group ∷ rest))
-
--- the group of each of some picks
-abbrev pub groups_listed : List ℕ → RefsBy (List Value) Pick → List Pick → List (List Pick)
-groups_listed places map_of firsts = map (λ pick. listed map_of (key_of places pick)) firsts
 
 -- ---- a core
 

@@ -1,11 +1,13 @@
 -- Picked combinations by the values that they have at some places.
-use Rattle.std.specs.Prelude.{ℕ, List, [], ◌∷◌, ◌++◌, map, filter, length, ◌==◌, Bool}
-use Rattle.std.specs.Prelude.{if◌then◌else◌}
-use Rattle.core_parts.specs.Listing as listing
-use Rattle.core_parts.specs.declared.refs_by.RefsBy.{RefsBy}
+use Rattle.std.specs.Prelude.{◌≡◌, ℕ, suc, List, [], ◌∷◌, ◌++◌, map, filter, length, ◌==◌, Bool}
+use Rattle.std.specs.Prelude.{if◌then◌else◌, Option, Some, None}
+use Rattle.std.specs.BTreeMap as tree
+use Rattle.std.specs.BTreeMap.{BTreeMap}
+use Rattle.std.specs.Option.{option_map}
 use Rattle.lineage.specs.declared.answer.Pick.{Pick}
 use Rattle.sql_model.specs.KeyOrder.{values_order}
 use Rattle.group_eval.specs.Types.{Value}
+use Rattle.group_eval.specs.declared.groups.KeyedGroup.{KeyedGroup}
 use Rattle.sql_model.specs.Keys.{same_values, values_at}
 use Rattle.sql_model.specs.QueryAnswer.{distinct}
 
@@ -29,21 +31,32 @@ pick_groups places picks = if length places == 0 then picks ∷ [] else keyed_gr
 
 -- ---- steps
 
--- the picks that a map has under some values
-abbrev pub listed : RefsBy (List Value) Pick → List Value → List Pick
-listed map key = listing.listed values_order map key
+abbrev pub own_picks : KeyedGroup → List Pick
+own_picks group = group.picks
 
--- a pick more under its values
-abbrev pub pick_added : List Value → Pick → List Value → List Pick → List Pick
-pick_added own pick key picks = listing.item_added values_order own pick key picks
+abbrev pub group_of : List Value → List Pick → KeyedGroup
+group_of key picks = record { key = key; picks = picks }
 
-abbrev pub has_none : List Pick → Bool
-has_none picks = length picks == 0
+-- the number of the group of some values
+abbrev pub number_of : List Value → List KeyedGroup → Option ℕ
+number_of key [] = None
+number_of key (group ∷ groups) =
+    if same_values group.key key then Some 0 else option_map suc (number_of key groups)
 
--- those under which a map has no pick
-abbrev pub unlisted : RefsBy (List Value) Pick → List (List Value) → List (List Value)
-unlisted map keys = filter (λ key. has_none (listed map key)) keys
+-- a group with a pick more
+abbrev pub with_pick : KeyedGroup → Pick → KeyedGroup
+with_pick group pick = group_of group.key (group.picks ++ pick ∷ [])
 
--- a pick more at the end, where some group has none so far
-abbrev pub first_noted : List Pick → Pick → List Pick → List Pick
-first_noted group pick firsts = if has_none group then firsts ++ pick ∷ [] else firsts
+-- groups of different values, and one pick more
+abbrev pub groups_with_pick : List ℕ → List KeyedGroup → Pick → List KeyedGroup
+groups_with_pick places [] pick = group_of (key_of places pick) (pick ∷ []) ∷ []
+groups_with_pick places (group ∷ groups) pick = if same_values group.key (key_of places pick)
+    then with_pick group pick ∷ groups else group ∷ groups_with_pick places groups pick
+
+abbrev pub grouped_onto : List ℕ → List KeyedGroup → List Pick → List KeyedGroup
+grouped_onto places made [] = made
+grouped_onto places made (pick ∷ picks) = grouped_onto places (groups_with_pick places made pick) picks
+
+-- a map has the number of each group, by its values
+abbrev pub IsIndex : BTreeMap (List Value) ℕ → List KeyedGroup → Type 0
+IsIndex numbers groups = (key : List Value) → tree.get values_order numbers key ≡ number_of key groups

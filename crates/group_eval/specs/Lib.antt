@@ -1,3 +1,4 @@
+pub mod Columns
 pub mod Evaluating
 pub mod Folding
 pub mod Grouping

@@ -120,8 +120,8 @@ fn greatest_of(alloc: Global, values: &[Value]) -> Result<Value, AllocError>
     }
 }
 
-// An aggregate of values that aren't NULL.
-fn fold_known(alloc: Global, fold: Fold, values: &[Value]) -> Result<Value, AllocError>
+/// An aggregate of values that aren't NULL.
+pub(crate) fn fold_known(alloc: Global, fold: Fold, values: &[Value]) -> Result<Value, AllocError>
     ensures { IfOk result (λ value. value ≡ folded fold values.now) }
 {
     match fold {

@@ -5,13 +5,14 @@ ghost use Rattle.std.specs.Prelude.{◌≡◌, ◌++◌, ◌∷◌, [], List as 
 ghost use Rattle.core_parts.specs.Checking.{HasCore};
 ghost use Rattle.group_eval.specs.Evaluating.{item_values, group_values, group_answer, is_group_kept};
 ghost use Rattle.group_eval.specs.Evaluating.{ArePlaced, IsHavingPlaced};
-ghost use Rattle.group_eval.specs.Evaluating.{IsPlacedPlan, AddsGroup, groups_listed, IsGroupedBy, IsGrouped};
+ghost use Rattle.group_eval.specs.Evaluating.{IsPlacedPlan, AddsGroup, IsGroupedBy, IsGrouped};
 ghost use Rattle.group_eval.specs.Folding.{first_row};
-ghost use Rattle.group_eval.specs.Grouping.{key_of, listed, pick_groups, keyed_groups};
+ghost use Rattle.group_eval.specs.Grouping.{own_picks, pick_groups, keyed_groups};
 ghost use Rattle.core_parts.specs.Placing.{AllPlaced};
 ghost use Rattle.sql_model.specs.Scope.{InScope};
 
-use crate::groups::{Groups, groups_of};
+use crate::columns::KnownColumn;
+use crate::groups::{KeyedGroup, groups_of};
 use crate::lineages::{add_lineages, united};
 use crate::plan::{Plan, plan_of};
 use crate::settled::{group_truth, group_value};
@@ -50,21 +51,12 @@ fn values_of_items(
     ensures { IfOk result (λ values. (scope : Items InScope) → AllPlaced scope items.now
         → values ≡ item_values scope (map (λ r. r.now) group.now) items.now) }
 {
+    let mut known = KnownColumn::none(alloc);
     let mut values = List::with_capacity(alloc, items.len())?;
     for item in items {
-        values.push(group_value(alloc, item, group, first)?)?;
+        values.push(group_value(alloc, item, group, first, &mut known)?)?;
     }
     Ok(values)
-}
-
-// The values of the first pick of a group; none where it has no pick.
-fn first_values(alloc: Global, group: &[&Pick]) -> Result<Values, AllocError>
-    ensures { IfOk result (λ values. values ≡ first_row (map (λ r. r.now) group.now)) }
-{
-    match group {
-        [] => Ok(List::new(alloc)),
-        [first, ..] => first.values.copy(),
-    }
 }
 
 // The values of the answer row of a group.
@@ -153,7 +145,7 @@ fn add_group_from(
     }
 }
 
-// The same, where the values of its first pick aren't at hand.
+// The same: its first pick has the values of columns outside aggregates.
 fn add_group(
     alloc: Global,
     plan: &Plan,
@@ -163,8 +155,13 @@ fn add_group(
     ensures { OnOk result ((scope : Items InScope) → IsPlacedPlan scope plan.now
         → AddsGroup scope plan.now (map (λ r. r.now) group.now) grouped.old grouped.new) }
 {
-    let first = first_values(alloc, group)?;
-    add_group_from(alloc, plan, group, &first, grouped)
+    match group {
+        [] => {
+            let none = List::new(alloc);
+            add_group_from(alloc, plan, group, &none, grouped)
+        }
+        [first, ..] => add_group_from(alloc, plan, group, &first.values, grouped),
+    }
 }
 
 // References to all picks.
@@ -189,37 +186,27 @@ fn grouped_whole(alloc: Global, plan: &Plan, picks: &[Pick]) -> Result<Grouped, 
     Ok(grouped)
 }
 
-// Adds the group of a pick.
-fn add_group_of<'a>(
+// Adds the group of some values.
+fn add_keyed(
     alloc: Global,
-    plan: &'a Plan,
-    groups: &Groups<'a>,
-    first: &'a Pick,
+    plan: &Plan,
+    group: &KeyedGroup,
     grouped: &mut Grouped,
 ) -> Result<(), AllocError>
     ensures { OnOk result ((scope : Items InScope) → IsPlacedPlan scope plan.now
-        → AddsGroup scope plan.now (listed groups.now.map (key_of plan.now.group first.now))
-        grouped.old grouped.new) }
+        → AddsGroup scope plan.now group.now.picks grouped.old grouped.new) }
 {
-    match groups.group_of(&plan.group, first) {
-        None => add_group(alloc, plan, &[], grouped),
-        Some(group) => add_group(alloc, plan, group.items(), grouped),
-    }
+    add_group(alloc, plan, group.picks.items(), grouped)
 }
 
 // Groups one by one.
-fn grouped_each<'a>(
-    alloc: Global,
-    plan: &'a Plan,
-    groups: &Groups<'a>,
-) -> Result<Grouped, AllocError>
+fn grouped_each(alloc: Global, plan: &Plan, groups: &[KeyedGroup]) -> Result<Grouped, AllocError>
     ensures { IfOk result (λ grouped. (scope : Items InScope) → IsPlacedPlan scope plan.now
-        → IsGroupedBy scope plan.now
-        (groups_listed plan.now.group groups.now.map groups.now.firsts) grouped) }
+        → IsGroupedBy scope plan.now (map own_picks groups.now) grouped) }
 {
     let mut grouped = no_group(alloc);
-    for first in groups.firsts() {
-        add_group_of(alloc, plan, groups, *first, &mut grouped)?;
+    for group in groups {
+        add_keyed(alloc, plan, group, &mut grouped)?;
     }
     Ok(grouped)
 }
@@ -230,7 +217,7 @@ fn grouped_by_keys(alloc: Global, plan: &Plan, picks: &[Pick]) -> Result<Grouped
         → IsGroupedBy scope plan.now (keyed_groups plan.now.group picks.now) grouped) }
 {
     let groups = groups_of(alloc, &plan.group, picks)?;
-    grouped_each(alloc, plan, &groups)
+    grouped_each(alloc, plan, groups.as_slice())
 }
 
 fn grouped_picks(alloc: Global, plan: &Plan, picks: &[Pick]) -> Result<Grouped, AllocError>

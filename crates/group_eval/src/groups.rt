@@ -1,94 +1,137 @@
-//! Picked combinations of the same values, found by a map over these.
+//! Picked combinations of the same values, found by a map from these to the number of their group.
 
-ghost use Rattle.std.specs.Prelude.{◌≡◌, [], List as Items, map};
-ghost use Rattle.std.specs.Prelude.{IfOk, OnOk, unwrap_or};
-ghost use Rattle.std.specs.Option.{option_map};
-ghost use Rattle.group_eval.specs.Grouping.{key_of, picks_under, listed, pick_added, first_noted};
+ghost use Rattle.std.specs.Prelude.{◌≡◌, ◌++◌, ◌∷◌, [], List as Items, map};
+ghost use Rattle.std.specs.Prelude.{IfOk, OnOk, Some, None};
+ghost use Rattle.std.specs.BTreeMap as tree;
+ghost use Rattle.group_eval.specs.Grouping.{key_of, own_picks, group_of, number_of, with_pick};
+ghost use Rattle.group_eval.specs.Grouping.{groups_with_pick, keyed_groups, IsIndex};
 ghost use Rattle.group_eval.specs.Types.{Value as Seen};
-ghost use Rattle.sql_model.specs.QueryAnswer.{distinct};
+ghost use Rattle.sql_model.specs.KeyOrder.{values_order};
 
-use core_parts::{Refs, RefsBy};
+use core_parts::Refs;
 use ldv_value::Places;
 use lineage::Pick;
 use sql_model::KeyOf;
 use std::alloc::{AllocError, Global};
+use std::collections::BTreeMap;
 
-/// The groups of picks, each under the values that its picks have at some places.
+/// Picks of the same values.
 #[derive(Drop)]
-pub(crate) struct Groups<'a> {
-    // Of each group its first pick, in order of first appearance.
-    firsts: Refs<'a, Pick>,
-    map: RefsBy<'a, KeyOf<'a>, Pick>,
+pub(crate) struct KeyedGroup<'a> {
+    pub(crate) key: KeyOf<'a>,
+    pub(crate) picks: Refs<'a, Pick>,
 }
 
-// Notes a pick that is the first of its group.
-fn note_first<'a>(
-    map: &RefsBy<'a, KeyOf<'a>, Pick>,
-    firsts: &mut Refs<'a, Pick>,
-    places: &'a Places,
-    pick: &'a Pick,
-) -> Result<(), AllocError>
-    ensures { OnOk result (firsts.new
-        ≡ first_noted (listed map.now (key_of places.now pick.now)) pick.now firsts.old) }
-{
-    if map.has_none(&KeyOf::of(&pick.values, places)) {
-        firsts.push(pick)?;
-    }
-    Ok(())
-}
+// The numbers of groups, from 0, by their values.
+type Numbers<'a> = BTreeMap<KeyOf<'a>, usize>;
 
-// Adds a pick under its values.
-fn add_pick<'a>(
-    map: &mut RefsBy<'a, KeyOf<'a>, Pick>,
-    firsts: &mut Refs<'a, Pick>,
-    places: &'a Places,
-    pick: &'a Pick,
-) -> Result<(), AllocError>
-    ensures picks { OnOk result ((v : Items Seen)
-        → listed map.new v ≡ pick_added (key_of places.now pick.now) pick.now v (listed map.old v)) }
-    ensures firsts { OnOk result
-        (firsts.new ≡ first_noted (listed map.old (key_of places.now pick.now)) pick.now firsts.old) }
-{
-    note_first(map, firsts, places, pick)?;
-    map.add(KeyOf::of(&pick.values, places), pick)
-}
-
-/// The groups of picks by their values at some places.
+/// The groups of picks by their values at some places, in order of first appearance.
 pub(crate) fn groups_of<'a>(
     alloc: Global,
     places: &'a Places,
     picks: &'a [Pick],
-) -> Result<Groups<'a>, AllocError>
-    ensures picks { IfOk result (λ groups. (v : Items Seen)
-        → listed groups.map v ≡ picks_under places.now picks.now v) }
-    ensures firsts { IfOk result (λ groups.
-        map (key_of places.now) groups.firsts ≡ distinct (map (key_of places.now) picks.now)) }
+) -> Result<Vec<KeyedGroup<'a>>, AllocError>
+    ensures { IfOk result (λ made. map own_picks made.items ≡ keyed_groups places.now picks.now) }
 {
-    let mut map = RefsBy::new(alloc);
-    let mut firsts = Refs::new(alloc);
+    let mut numbers = BTreeMap::new(alloc);
+    let mut made = Vec::new(alloc);
     for pick in picks {
-        add_pick(&mut map, &mut firsts, places, pick)?;
+        add_pick(alloc, &mut numbers, &mut made, places, pick)?;
     }
-    Ok(Groups { firsts, map })
+    Ok(made)
 }
 
-impl<'a> Groups<'a> {
-    /// Of each group its first pick, in order of first appearance.
-    pub(crate) fn firsts(&self) -> &[&'a Pick]
-        ensures { map (λ r. r.now) result.now ≡ self.now.firsts }
-    {
-        self.firsts.items()
+// Adds a pick to the group of its values.
+fn add_pick<'a>(
+    alloc: Global,
+    numbers: &mut Numbers<'a>,
+    made: &mut Vec<KeyedGroup<'a>>,
+    places: &'a Places,
+    pick: &'a Pick,
+) -> Result<(), AllocError>
+    requires { IsIndex numbers.old made.old.items }
+    ensures index { OnOk result (IsIndex numbers.new made.new.items) }
+    ensures made { OnOk result (made.new.items ≡ groups_with_pick places.now made.old.items pick.now) }
+{
+    match number_in(numbers, places, pick) {
+        Some(number) => add_again(made, number, places, pick),
+        None => add_first(alloc, numbers, made, places, pick),
     }
+}
 
-    /// The picks that have the same values as a pick, where there are some.
-    pub(crate) fn group_of<'b>(
-        &'b self,
-        places: &'a Places,
-        pick: &'a Pick,
-    ) -> Option<&'b Refs<'a, Pick>>
-        ensures { unwrap_or (option_map (λ r. r.now) result) []
-            ≡ listed self.now.map (key_of places.now pick.now) }
-    {
-        self.map.get(&KeyOf::of(&pick.values, places))
-    }
+fn number_in<'a>(numbers: &Numbers<'a>, places: &'a Places, pick: &'a Pick) -> Option<usize>
+    ensures { result ≡ tree.get values_order numbers.now (key_of places.now pick.now) }
+{
+    numbers.get(&KeyOf::of(&pick.values, places)).copied()
+}
+
+fn take_pick<'a>(group: &mut KeyedGroup<'a>, pick: &'a Pick) -> Result<(), AllocError>
+    ensures { OnOk result (group.new ≡ with_pick group.old pick.now) }
+{
+    group.picks.push(pick)
+}
+
+// Adds a pick to the group of a number, which has its values.
+#[tactic(auto, using(crate::proofs::GroupLaws::number_within))]
+fn add_again<'a>(
+    made: &mut Vec<KeyedGroup<'a>>,
+    number: usize,
+    places: &'a Places,
+    pick: &'a Pick,
+) -> Result<(), AllocError>
+    requires { number_of (key_of places.now pick.now) made.old.items ≡ Some number }
+    ensures made { OnOk result (made.new.items ≡ groups_with_pick places.now made.old.items pick.now) }
+    ensures numbers { OnOk result ((key : Items Seen)
+        → number_of key made.new.items ≡ number_of key made.old.items) }
+{
+    take_pick(&mut made[number], pick)
+}
+
+// A group of one pick.
+fn group_alone<'a>(
+    alloc: Global,
+    places: &'a Places,
+    pick: &'a Pick,
+) -> Result<KeyedGroup<'a>, AllocError>
+    ensures { IfOk result (λ group. group ≡ group_of (key_of places.now pick.now) (pick.now ∷ [])) }
+{
+    let mut picks = Refs::new(alloc);
+    picks.push(pick)?;
+    Ok(KeyedGroup {
+        key: KeyOf::of(&pick.values, places),
+        picks,
+    })
+}
+
+fn push_alone<'a>(
+    alloc: Global,
+    made: &mut Vec<KeyedGroup<'a>>,
+    places: &'a Places,
+    pick: &'a Pick,
+) -> Result<(), AllocError>
+    ensures { OnOk result (made.new.items
+        ≡ made.old.items ++ group_of (key_of places.now pick.now) (pick.now ∷ []) ∷ []) }
+{
+    let group = group_alone(alloc, places, pick)?;
+    made.push(group)?;
+    Ok(())
+}
+
+// Adds the first pick of its values.
+fn add_first<'a>(
+    alloc: Global,
+    numbers: &mut Numbers<'a>,
+    made: &mut Vec<KeyedGroup<'a>>,
+    places: &'a Places,
+    pick: &'a Pick,
+) -> Result<(), AllocError>
+    requires index { IsIndex numbers.old made.old.items }
+    requires none { number_of (key_of places.now pick.now) made.old.items ≡ None }
+    ensures index { OnOk result (IsIndex numbers.new made.new.items) }
+    ensures made { OnOk result (made.new.items ≡ groups_with_pick places.now made.old.items pick.now) }
+{
+    let number = made.len();
+    push_alone(alloc, made, places, pick)?;
+    numbers.insert(KeyOf::of(&pick.values, places), number)?;
+    Ok(())
 }

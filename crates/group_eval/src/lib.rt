@@ -10,12 +10,14 @@
 //! - the lineage of an answer row is that of its whole group, as a set. The values are the same whether
 //!   lineage is kept or not.
 //!
-//! Groups are found by a map over the values of the GROUP BY columns, so the time grows with the number of
-//! rows and by a logarithm of the number of groups. `specs/Folding.antt` says what an expression means over a
-//! group of picks, `specs/Grouping.antt` which picks make a group, and `specs/Planning.antt` how the places
-//! of a checked statement belong to the expressions of a core.
+//! Groups are found by a map from the values of the GROUP BY columns to the number of the group, so the time
+//! grows with the number of rows and by a logarithm of the number of groups. Aggregates of one column that
+//! follow one another share one walk over the group (`columns`). `specs/Folding.antt` says what an expression
+//! means over a group of picks, `specs/Grouping.antt` which picks make a group, and `specs/Planning.antt` how
+//! the places of a checked statement belong to the expressions of a core.
 #![tactic(auto)]
 
+mod columns;
 mod folds;
 mod grouping;
 mod groups;

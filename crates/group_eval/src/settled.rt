@@ -3,15 +3,19 @@
 //! Over a group a column outside an aggregate has its value in the first row. So an expression whose
 //! aggregates are constants means over the first row what the expression means over the group.
 
-ghost use Rattle.std.specs.Prelude.{◌≡◌, List as Items, ℕ, map, drop, IfOk, Some};
+ghost use Rattle.std.specs.Prelude.{◌≡◌, List as Items, ℕ, map, drop, IfOk, OnOk, Some};
 ghost use Rattle.sql_model.specs.declared.expr.Expr.TheVariants.{Aggregate};
-ghost use Rattle.group_eval.specs.Folding.{first_row, group_meaning};
+ghost use Rattle.group_eval.specs.Columns.{known_column, IsKnown};
+ghost use Rattle.group_eval.specs.Folding.{first_row, group_meaning, value_over};
 ghost use Rattle.core_parts.specs.Placing.{IsPlaced};
 ghost use Rattle.group_eval.specs.Settling.{SettlesTo, IsSettled};
-ghost use Rattle.sql_model.specs.Scope.{InScope};
+ghost use Rattle.sql_model.specs.Kinds.{names_in};
+ghost use Rattle.sql_model.specs.Meaning.{folded, known_values};
+ghost use Rattle.sql_model.specs.Scope.{InScope, places_in};
 
-use crate::folds::{aggregate, count_value};
-use core_parts::{Placed, take_place, take_places};
+use crate::columns::{KnownColumn, column_place};
+use crate::folds::{aggregate, count_value, fold_known};
+use core_parts::{Placed, is_column, take_place, take_places};
 use ldv_value::{CopyItem, List, Places, Truth, Value, Values};
 use lineage::Pick;
 use sql_model::{Expr, Fold, truth_of, value_of};
@@ -116,8 +120,68 @@ fn settled(alloc: Global, placed: &Placed, group: &[&Pick]) -> Result<Placed, Al
     Ok(Placed { expr, places: own })
 }
 
-/// The value of an expression over a group. `first` are the values of its first pick.
-pub(crate) fn group_value(
+// An aggregate of an expression over a group: that of a column by its values there.
+fn argument_fold(
+    alloc: Global,
+    fold: Fold,
+    argument: &Expr,
+    places: &Places,
+    group: &[&Pick],
+    known: &mut KnownColumn,
+) -> Result<Value, AllocError>
+    requires { IsKnown (map (λ r. r.now) group.now) known.old }
+    ensures value { IfOk result (λ value. (scope : Items InScope)
+        → places_in scope (names_in argument.now) ≡ places.now
+        → value ≡ folded fold (known_values
+        (map (value_over scope argument.now) (map (λ r. r.now) group.now)))) }
+    ensures known { OnOk result (IsKnown (map (λ r. r.now) group.now) known.new) }
+{
+    match column_place(argument, places) {
+        None => aggregate(alloc, fold, argument, places, group),
+        Some(place) => column_fold(alloc, fold, place, group, known),
+    }
+}
+
+fn column_fold(
+    alloc: Global,
+    fold: Fold,
+    place: usize,
+    group: &[&Pick],
+    known: &mut KnownColumn,
+) -> Result<Value, AllocError>
+    requires { IsKnown (map (λ r. r.now) group.now) known.old }
+    ensures value { IfOk result (λ value. value
+        ≡ folded fold (known_column place (map (λ r. r.now) group.now))) }
+    ensures known { OnOk result (IsKnown (map (λ r. r.now) group.now) known.new) }
+{
+    known.gather(alloc, place, group)?;
+    let value = fold_known(alloc, fold, known.values())?;
+    Ok(value)
+}
+
+// An aggregate over a group; COUNT(*) has no argument.
+fn aggregate_value(
+    alloc: Global,
+    fold: Fold,
+    argument: &Option<Boxed<Expr>>,
+    places: &Places,
+    group: &[&Pick],
+    known: &mut KnownColumn,
+) -> Result<Value, AllocError>
+    requires { IsKnown (map (λ r. r.now) group.now) known.old }
+    ensures value { IfOk result (λ value. (scope : Items InScope)
+        → places_in scope (names_in (Aggregate fold argument.now)) ≡ places.now
+        → value ≡ (group_meaning scope (map (λ r. r.now) group.now) (Aggregate fold argument.now)).value) }
+    ensures known { OnOk result (IsKnown (map (λ r. r.now) group.now) known.new) }
+{
+    match argument {
+        None => Ok(count_value(group.len())),
+        Some(argument) => argument_fold(alloc, fold, argument.get(), places, group, known),
+    }
+}
+
+// The value of an expression over a group, whose aggregates become constants.
+fn settled_value(
     alloc: Global,
     placed: &Placed,
     group: &[&Pick],
@@ -130,6 +194,33 @@ pub(crate) fn group_value(
 {
     let settled = settled(alloc, placed, group)?;
     value_of(alloc, &settled.expr, first, &settled.places)
+}
+
+/// The value of an expression over a group. `first` are the values of its first pick. No copy is made of a
+/// column or of an aggregate.
+pub(crate) fn group_value(
+    alloc: Global,
+    placed: &Placed,
+    group: &[&Pick],
+    first: &Values,
+    known: &mut KnownColumn,
+) -> Result<Value, AllocError>
+    requires first { first.now ≡ first_row (map (λ r. r.now) group.now) }
+    requires known { IsKnown (map (λ r. r.now) group.now) known.old }
+    ensures value { IfOk result (λ value. (scope : Items InScope)
+        → IsPlaced scope placed.now
+        → value ≡ (group_meaning scope (map (λ r. r.now) group.now) placed.now.expr).value) }
+    ensures known { OnOk result (IsKnown (map (λ r. r.now) group.now) known.new) }
+{
+    if is_column(&placed.expr) {
+        return value_of(alloc, &placed.expr, first, &placed.places);
+    }
+    match &placed.expr {
+        Expr::Aggregate(fold, argument) => {
+            aggregate_value(alloc, *fold, argument, &placed.places, group, known)
+        }
+        _ => settled_value(alloc, placed, group, first),
+    }
 }
 
 /// The truth of an expression over a group. `first` are the values of its first pick.

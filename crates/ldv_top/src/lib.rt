@@ -37,29 +37,30 @@
 //! `ldv_main` says the same of the exit of which it tells the line and gives the status.
 #![tactic(auto)]
 
-mod auditing;
+mod audit;
 mod command;
 mod document_law;
 mod exit;
-mod generating;
+mod generate;
 mod headline;
-mod inspecting;
+mod inspection;
+mod join;
 mod join_law;
-mod joining;
 mod messages;
-mod migrating;
+mod migrate;
 mod migration;
 mod numbers;
-mod proving;
+mod prov;
 mod reading;
 mod record;
 mod replay;
+mod replay_run;
+mod replay_seed;
 mod report_law;
-mod reseeding;
 mod response;
-mod run_choice;
+mod run;
 mod seed_law;
-mod tabling;
+mod table;
 mod top;
 mod word_stop;
 

@@ -21,7 +21,7 @@ use trace_graph::Graph;
 use world_json::{WorldStop, world_of};
 
 /// The world that the input is a document of. The input isn't kept.
-pub(crate) fn read_document(alloc: Global, input: Bytes) -> Result<World, WorldStop>
+pub(crate) fn read_world(alloc: Global, input: Bytes) -> Result<World, WorldStop>
     ensures world { IfOk result (λ world. world_reading input ≡ Ok world) }
     ensures fault { IfErr result (IsFaultOf (world_reading input)) }
     ensures valid { IfOk result (λ world. ValidWorld world) }

@@ -1,4 +1,4 @@
-//! From a world document to the package of its run.
+//! `record`: from a world document to the package of its run.
 
 ghost use Rattle.std.specs.Prelude.{◌≡◌, ◌≤◌, length, IfOk, OnOk};
 ghost use Rattle.ldv_value.specs.Limits.{input_limit, max_steps};
@@ -9,7 +9,7 @@ ghost use Rattle.ldv_top.specs.Headline.{Recorded};
 ghost use Rattle.ldv_top.specs.declared.exit.Exit.{Exit};
 
 use crate::headline::headline_law;
-use crate::reading::read_document;
+use crate::reading::read_world;
 use crate::response::Response;
 use ldv_value::Bytes;
 use package_layout::{SpellStop, spell};
@@ -61,7 +61,7 @@ pub(crate) fn record_response(
         → Recorded mode budget input (due_record mode budget input).bytes) }
 {
     headline_law();
-    match read_document(alloc, input) {
+    match read_world(alloc, input) {
         Ok(world) => recorded_response(alloc, mode, budget, world),
         Err(WorldStop::Fault(fault)) => Ok(Response::NotWorld(fault)),
         Err(WorldStop::NoMemory) => Err(AllocError),

@@ -1,4 +1,4 @@
-//! From a package to the outcome of its run.
+//! `replay`: from a package to the outcome of its run.
 
 ghost use Rattle.std.specs.Prelude.{◌≡◌, ◌≤◌, length, IfOk};
 ghost use Rattle.ldv_value.specs.Limits.{input_limit, max_steps};

@@ -1,21 +1,20 @@
 //! From the input to what is written.
 
-ghost use Rattle.std.specs.Prelude.{◌≡◌, ◌≤◌, length, IfOk};
+ghost use Rattle.std.specs.Prelude.{◌≡◌, ◌≤◌, IfOk};
 ghost use Rattle.ldv_value.specs.Gives.{Gives};
-ghost use Rattle.ldv_value.specs.Limits.{input_limit, max_steps};
+ghost use Rattle.ldv_value.specs.Limits.{max_steps};
 ghost use Rattle.run_model.specs.WorldRun.{outcome_within};
 ghost use Rattle.replay_db.specs.Runs.{CanRun, Stops};
 ghost use Rattle.replay_db.specs.Types.{World};
-ghost use Rattle.ldv_top.specs.Due.{response_due, due_world, due_run};
+ghost use Rattle.ldv_top.specs.Due.{response_due, due_world};
 
-use crate::reading::read_document;
 use ldv_value::Bytes;
 use package_join::Clash;
 use package_layout::DamageKind;
 use replay_db::{EndStop, run_owned};
 use run_model::{Outcome, ProcName, World, outcome_text};
 use std::alloc::{AllocError, Global};
-use world_json::{WorldFault, WorldStop};
+use world_json::WorldFault;
 
 /// The response of a command, before anything is written: the bytes to write, or another exit.
 #[derive(Drop)]
@@ -72,17 +71,4 @@ pub(crate) fn world_response(
 {
     let ended = run_owned(alloc, world, budget);
     ended_response(alloc, budget, ended)
-}
-
-/// The response of `run` to an input.
-pub(crate) fn run_response(alloc: Global, budget: u32, input: Bytes) -> Result<Response, AllocError>
-    requires short { length input ≤ input_limit }
-    requires bounded { budget ≤ max_steps }
-    ensures { IfOk result (λ response. response_due response ≡ due_run budget input) }
-{
-    match read_document(alloc, input) {
-        Ok(world) => world_response(alloc, budget, world),
-        Err(WorldStop::Fault(fault)) => Ok(Response::NotWorld(fault)),
-        Err(WorldStop::NoMemory) => Err(AllocError),
-    }
 }

@@ -229,6 +229,34 @@ stands-row slot number is = by_values (current slot.changes) is
     by_values None is = cc
     by_values (Some values) is = refl
 
+-- and the version of its row
+pub version-told : (slots : List RowHistory) (next : ℕ) → AreInOrder slots next → (slot number v : ℕ)
+    → option_map (λ (row : TableRow). row.number) (row_now (get_or slots slot no_history)) ≡ Some number
+    → v ≡ version (get_or slots slot no_history).changes → v ≡ unwrap_or (version_now (history_of_row number slots)) 0
+version-told slots next order slot number v is own = elim (cases_lt slot (length slots)) [
+  | inl below ↦ by_values below (current here.changes) refl is
+  | inr past ↦ past-none (sym (ap (λ (h : RowHistory). option_map (λ (row : TableRow). row.number) (row_now h)) (get_or_past slots slot no_history past)) ∙ is)
+]
+  where
+    here : RowHistory
+    here = get_or slots slot no_history
+
+    some-number : {a b : ℕ} → Some a ≡ Some b → a ≡ b
+    some-number is = cc
+
+    past-none : None ≡ Some number → v ≡ unwrap_or (version_now (history_of_row number slots)) 0
+    past-none is = cc
+
+    by_values : slot < length slots → (o : Option (List Value)) → current here.changes ≡ o
+        → option_map (λ (row : TableRow). row.number) (option_map (numbered_row here.number) o) ≡ Some number
+        → v ≡ unwrap_or (version_now (history_of_row number slots)) 0
+    by_values below None at stands = cc
+    by_values below (Some values) at stands =
+        let same : here.number ≡ number = some-number stands in
+        own
+        ∙ sym (ap (λ (o : Option RowHistory). unwrap_or (version_now o) 0) (history_here slots next order number slot below same)
+        ∙ ap (λ (o : Option (List Value)). unwrap_or (cond (is_some o) (Some (version here.changes)) None) 0) at)
+
 pub row-made : (all : List RowHistory) (slot : RowHistory) (number version : ℕ) (values : List Value)
     → option_map (λ (row : TableRow). row.number) (row_now slot) ≡ Some number → Some values ≡ current slot.changes
     → version ≡ unwrap_or (version_now (history_of_row number all)) 0
@@ -282,3 +310,5 @@ pub left_standing : (all slots : List RowHistory) (words : List ℕ) (rows : Lis
 left_standing all slots words rows same is = left_chosen all slots [] words rows (λ n. same n ∙ none-fails (row_now (get_or slots n no_history))) is
 
 pub ruleset made_rows = (stands-row, row-made, no-row-made)
+
+pub ruleset slot_stands = (stands-row)

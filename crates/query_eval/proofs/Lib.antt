@@ -10,5 +10,6 @@ pub mod Picks
 pub mod Probes
 pub mod Product
 pub mod Projections
+pub mod SinglePicks
 pub mod StoredLaws
 pub mod Widths

@@ -35,10 +35,9 @@ use Rattle.core_parts.specs.Conditions.{AreConditions}
 use Rattle.query_eval.specs.Conditions.{AreOfCore}
 use Rattle.core_parts.specs.Fixing.{FixesKey}
 use Rattle.core_parts.specs.Conditions.{meets}
-use Rattle.query_eval.specs.Joining.{combos, tests}
 use Rattle.query_eval.specs.Leaving.{row_passes}
-use Rattle.query_eval.specs.Picking.{pick_of, ArePicked}
-use Rattle.query_eval.specs.Sourcing.{table_row, source_rows, HaveWidths, TablesAreWide, all_kept, AreSources, AreWide, SourcesAreWide, LeavesPicked}
+use Rattle.query_eval.specs.Picking.{source_picks, ArePicked}
+use Rattle.query_eval.specs.Sourcing.{table_row, HaveWidths, TablesAreWide, all_kept, AreSources, AreWide, SourcesAreWide, LeavesPicked}
 use Rattle.query_eval.specs.Stored.{table_names, TellVersions, HasVersion, AreChosenOf, IsTaken, chosen_rows, columns_in, width_at, is_name, IsPlace, IsStored, AreStored}
 use Rattle.query_eval.specs.declared.source.Source.{Source}
 use Rattle.query_eval.specs.declared.source.SourceRow.{SourceRow}
@@ -49,7 +48,7 @@ use Rattle.sql_model.specs.Refusals.{cores_of, doubles_source, is_missing, table
 use Rattle.sql_model.specs.Scope.{InScope, catalog_of, is_schema, rows_of, same_text, schema_in, scope_of, table_at, value_at}
 use Rattle.sql_model.proofs.Databases.{sorted_of_database, valid_of_database}
 use Rattle.sql_model.specs.Tables.{AreWellFormed, is_database, is_row, is_valid_table, table_precedes}
-use Rattle.query_eval.specs.Types.{Catalog, Checked, Core, FromItem, Query, Schema, Statement, Table, TableRow, Value}
+use Rattle.query_eval.specs.Types.{Catalog, Checked, Core, FromItem, Schema, Statement, Table, TableRow, Value}
 use Rattle.table_store.specs.Histories.{TableHistory, StoreHistory, history_at, is_history, rows_now, table_now, tables_now}
 use Rattle.table_store.specs.KeyIndex.{has_key}
 
@@ -352,15 +351,14 @@ sources_none store conds from (item ∷ left) before sources end all = absurd (o
 pub ruleset sources_end = (sources_step, sources_none)
 
 -- the picks of a core's sources in a store are those of its tables
-pub stored-picked : (checked : Checked) (place : ℕ) (store : StoreHistory) (keep : Bool) (conds : List Placed) (sources : List Source) (found : List (List SourceRow)) (picks : List Pick) (of : Core)
+pub stored-picked : (checked : Checked) (place : ℕ) (store : StoreHistory) (keep : Bool) (conds : List Placed) (sources : List Source) (picks : List Pick) (of : Core)
     → AreWellFormed (tables_now store)
     → core_at checked place ≡ Some of
     → AreOfCore checked place conds
     → AreStored store conds of.from 0 sources
-    → ((scope : List InScope) → AllPlaced scope conds → SourcesAreWide sources → found ≡ filter (tests scope conds) (combos (map source_rows sources)))
-    → picks ≡ map (pick_of keep sources) found
+    → ((scope : List InScope) → AllPlaced scope conds → SourcesAreWide sources → picks ≡ source_picks scope conds keep sources)
     → ArePicked checked place store keep picks
-stored-picked checked place store keep conds sources found picks of formed at conditions stored joins made query core versions given got tell =
+stored-picked checked place store keep conds sources picks of formed at conditions stored made query core versions given got tell =
     let database : is_database (tables_now store) ≡ true = formed.database in
     let same : of ≡ core = some-same of core (sym at ∙ got) in
     let own : AreStored store conds core.from 0 sources = subst (λ (c : Core). AreStored store conds c.from 0 sources) same stored in
@@ -386,6 +384,6 @@ stored-picked checked place store keep conds sources found picks of formed at co
     keep (tables_now store) core keeps sources conds picks
     (are-sources store database versions tell conds core.from 0 sources all own)
     leaves tested
-    (made ∙ ap (map (pick_of keep sources)) (joins scope tested.placed (sources-wide store database conds core.from 0 sources own)))
+    (made scope tested.placed (sources-wide store database conds core.from 0 sources own))
 
 pub ruleset stored_picks = (stored-picked)

@@ -38,8 +38,12 @@ fn is_met(alloc: Global, cond: &Placed, values: &Values) -> Result<bool, AllocEr
     Ok(is_certain(truth))
 }
 
-// Whether each condition is True over a row.
-fn is_met_all(alloc: Global, conds: &[Placed], values: &Values) -> Result<bool, AllocError>
+/// Whether each condition is True over a row.
+pub(crate) fn is_met_all(
+    alloc: Global,
+    conds: &[Placed],
+    values: &Values,
+) -> Result<bool, AllocError>
     ensures { IfOk result (λ met. (scope : Items InScope) → AllPlaced scope conds.now
         → met ≡ meets scope conds.now values.now) }
 {
@@ -62,11 +66,20 @@ fn add_values(alloc: Global, values: &mut Values, more: &Values) -> Result<(), A
     Ok(())
 }
 
+// How many values rows have, for room.
+fn count_values(rows: &[&SourceRow]) -> usize {
+    let mut count: usize = 0;
+    for row in rows {
+        count = count.saturating_add(row.values.len());
+    }
+    count
+}
+
 /// The values of a joined row.
 pub(crate) fn joined_values(alloc: Global, rows: &[&SourceRow]) -> Result<Values, AllocError>
     ensures { IfOk result (λ values. values ≡ joined (map (λ r. r.now) rows.now)) }
 {
-    let mut values = List::new(alloc);
+    let mut values = List::with_capacity(alloc, count_values(rows))?;
     for row in rows {
         let row: &SourceRow = *row;
         add_values(alloc, &mut values, &row.values)?;

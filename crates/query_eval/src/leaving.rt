@@ -59,14 +59,14 @@ fn slots_passing(alloc: Global, table: &TableStore, masks: &[Mask]) -> Result<Ve
     Ok(words)
 }
 
-// The version of a row; 0 where the row doesn't stand.
-fn version_of(table: &TableStore, number: u32) -> u32
+// The version of the row in a slot, which stands.
+#[tactic(auto, using(crate::proofs::LeavingLaws::slot_stands))]
+fn version_of(table: &TableStore, slot: u64, number: u32) -> u32
+    requires { option_map (λ row. row.number) (row_now (slot_at table.now.slots slot)) ≡ Some number }
     ensures { result ≡ unwrap_or (version_now (history_of_row number table.now.slots)) 0 }
 {
-    match table.version(number) {
-        None => 0,
-        Some(version) => version,
-    }
+    table.tell_order();
+    table.version_at(slot)
 }
 
 // Adds the row of a slot, which stands.
@@ -84,7 +84,7 @@ fn add_row(
     let values = table.row_values(slot)?;
     rows.push(SourceRow {
         number,
-        version: version_of(table, number),
+        version: version_of(table, slot, number),
         values,
     })
 }

@@ -1,15 +1,19 @@
 //! The picked combinations of a core, with their lineages.
 
-ghost use Rattle.std.specs.Prelude.{◌≡◌, List as Items, map, IfOk};
+ghost use Rattle.std.specs.Prelude.{◌≡◌, ◌∷◌, [], List as Items, map, IfOk, IfErr};
 ghost use Rattle.std.specs.FinMap.{empty};
 ghost use Rattle.core_parts.specs.Checking.{HasCore};
-ghost use Rattle.query_eval.specs.Picking.{rows_added, kept_rows, pick_of, ArePicked};
+ghost use Rattle.core_parts.specs.Placing.{AllPlaced};
+ghost use Rattle.query_eval.specs.Picking.{rows_added, kept_rows, pick_of, source_picks, ArePicked};
+ghost use Rattle.query_eval.specs.Sourcing.{SourcesAreWide};
+ghost use Rattle.sql_model.specs.Scope.{InScope};
 
 use crate::conditions::core_conditions;
 use crate::joining::{Combination, Combinations, join, joined_values};
-use crate::source::{Source, SourceRow};
+use crate::single::picks_alone;
+use crate::source::{Source, SourceRow, Sources};
 use crate::stored::sources_of;
-use core_parts::core_of;
+use core_parts::{Placed, core_of};
 use ldv_value::List;
 use lineage::{LineageRows, Pick, Picks};
 use sql_model::Checked;
@@ -35,8 +39,54 @@ pub fn picked(
     let from = core_of(checked, core).from.items();
     let conds = core_conditions(alloc, checked, core)?;
     let sources = sources_of(alloc, store, conds.items(), from)?;
-    let combinations = join(alloc, sources.items(), conds)?;
-    let picks = picks_of(alloc, sources.items(), &combinations, keep)?;
+    let picks = source_picks(alloc, sources, conds, keep)?;
+    Ok(picks)
+}
+
+// The picks of sources: rows of one alone needn't be joined.
+fn source_picks(
+    alloc: Global,
+    sources: Sources,
+    conds: List<Placed>,
+    keep: bool,
+) -> Result<Picks, AllocError>
+    ensures { IfOk result (λ picks. (scope : Items InScope) → AllPlaced scope conds → SourcesAreWide sources
+        → picks ≡ source_picks scope conds keep sources) }
+{
+    match only_of(sources) {
+        Ok(source) => picks_alone(alloc, source.table, source.rows, &conds, keep),
+        Err(many) => joined_picks(alloc, &many, conds, keep),
+    }
+}
+
+// The only source, or the sources back.
+fn only_of(sources: Sources) -> Result<Source, Sources>
+    ensures one { IfOk result (λ source. sources ≡ source ∷ []) }
+    ensures many { IfErr result (λ many. many ≡ sources) }
+{
+    let mut items = sources.into_vec();
+    if items.len() != 1 {
+        return Err(List::of_vec(items));
+    }
+    match items.pop() {
+        Some(source) => Ok(source),
+        None => unreachable!(),
+    }
+}
+
+// The picks of the combinations of sources.
+fn joined_picks(
+    alloc: Global,
+    sources: &Sources,
+    conds: List<Placed>,
+    keep: bool,
+) -> Result<Picks, AllocError>
+    ensures { IfOk result (λ picks. (scope : Items InScope) → AllPlaced scope conds
+        → SourcesAreWide sources.now → picks ≡ source_picks scope conds keep sources.now) }
+{
+    let held = sources.items();
+    let combinations = join(alloc, held, conds)?;
+    let picks = picks_of(alloc, held, &combinations, keep)?;
     Ok(picks)
 }
 
@@ -49,7 +99,7 @@ fn picks_of(
 ) -> Result<Picks, AllocError>
     ensures { IfOk result (λ picks. picks ≡ map (pick_of keep sources.now) combinations.now) }
 {
-    let mut picks = List::new(alloc);
+    let mut picks = List::with_capacity(alloc, combinations.len())?;
     for combination in combinations.items() {
         picks.push(pick_of(alloc, sources, combination, keep)?)?;
     }

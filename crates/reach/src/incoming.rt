@@ -7,13 +7,26 @@ ghost use Rattle.reach.specs.Incoming.{no_edges, incoming_of};
 use std::alloc::{AllocError, Global};
 use trace_graph::{Edge, Edges};
 
-// A list for each place, with no edge yet.
-fn empty_lists(alloc: Global, count: usize) -> Result<Vec<Edges>, AllocError>
-    ensures { IfOk result (λ lists. lists.items ≡ replicate count no_edges) }
+// How many edges come to each of that many places: their lists have no more room than that.
+fn counts_of(alloc: Global, count: usize, edges: &[Edge]) -> Result<Vec<usize>, AllocError>
+    requires { IsTrue (are_between count edges.now) }
+    ensures { IfOk result (λ counts. length counts.items ≡ count) }
 {
-    let mut lists = Vec::with_capacity(alloc, count)?;
-    for _place in 0..count {
-        lists.push(Edges::new(alloc))?;
+    let mut counts = vec![in alloc; 0usize; count]?;
+    for edge in edges {
+        let seen = counts[edge.target];
+        counts[edge.target] = seen.saturating_add(1);
+    }
+    Ok(counts)
+}
+
+// A list for each place, with no edge yet and room for so many.
+fn empty_lists(alloc: Global, counts: &[usize]) -> Result<Vec<Edges>, AllocError>
+    ensures { IfOk result (λ lists. lists.items ≡ replicate (length counts.now) no_edges) }
+{
+    let mut lists = Vec::with_capacity(alloc, counts.len())?;
+    for count in counts {
+        lists.push(Edges::with_capacity(alloc, *count)?)?;
     }
     Ok(lists)
 }
@@ -27,7 +40,8 @@ pub(crate) fn incoming(
     requires { IsTrue (are_between count edges.now) }
     ensures { IfOk result (λ lists. lists.items ≡ incoming_of count edges.now) }
 {
-    let mut lists = empty_lists(alloc, count)?;
+    let counts = counts_of(alloc, count, edges)?;
+    let mut lists = empty_lists(alloc, counts.as_slice())?;
     for edge in edges {
         lists[edge.target].push(*edge)?;
     }

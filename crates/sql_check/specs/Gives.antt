@@ -1,5 +1,5 @@
 -- How a check that may run out of memory gives what the definition of a check gives.
-use Rattle.std.specs.Prelude.{◌≡◌, Result, Err}
+use Rattle.std.specs.Prelude.{◌≡◌, ℕ, List, Result, Ok, Err}
 use Rattle.ldv_value.specs.Gives.{GivesOr}
 use Rattle.sql_check.specs.declared.stop.CheckStop.{CheckStop}
 use Rattle.sql_check.specs.declared.stop.CheckStop.TheVariants.{NoTable, NoColumn, TypeClash, NoMemory}
@@ -8,6 +8,7 @@ use Rattle.sql_model.specs.declared.reply.SqlRefusal.{SqlRefusal}
 use Rattle.sql_model.specs.declared.reply.SqlRefusal.TheVariants.{NoTable as NoTableRefusal}
 use Rattle.sql_model.specs.declared.reply.SqlRefusal.TheVariants.{NoColumn as NoColumnRefusal}
 use Rattle.sql_model.specs.declared.reply.SqlRefusal.TheVariants.{TypeClash as TypeClashRefusal}
+use Rattle.sql_model.specs.declared.statement.Statement.{Statement}
 
 abbrev pub Stops : CheckStop → Result Checked SqlRefusal → Type 0
 Stops NoTable due = due ≡ Err NoTableRefusal
@@ -18,3 +19,8 @@ Stops NoMemory due = Unit {0}
 -- the result is the checked statement that is due, or the refusal that is due, or out of memory
 abbrev pub Gives : Result Checked CheckStop → Result Checked SqlRefusal → Type 0
 Gives = GivesOr Stops
+
+-- the same of the places alone, where the caller has the statement
+abbrev pub GivesPlaces : Result (List (List ℕ)) CheckStop → Statement → Result Checked SqlRefusal → Type 0
+GivesPlaces (Ok places) statement due = due ≡ Ok (record { statement = statement; places = places })
+GivesPlaces (Err stop) statement due = Stops stop due

@@ -1,14 +1,14 @@
 //! The check of a statement.
 
 ghost use Rattle.sql_model.specs.Places.{checked_of};
-ghost use Rattle.sql_check.specs.Gives.{Gives};
+ghost use Rattle.sql_check.specs.Gives.{Gives, GivesPlaces};
 
 use crate::clash::has_type_clash;
 use crate::columns::has_unknown_column;
 use crate::places::places_of;
 use crate::stop::CheckStop;
 use crate::tables::has_unknown_table;
-use ldv_value::CopyItem;
+use ldv_value::{CopyItem, PlaceLists};
 use sql_model::{Catalog, Checked, Statement};
 use std::alloc::Global;
 
@@ -20,6 +20,24 @@ use std::alloc::Global;
 pub fn check(alloc: Global, statement: &Statement, catalog: &Catalog) -> Result<Checked, CheckStop>
     ensures { Gives result (checked_of statement.now catalog.now) }
 {
+    let places = check_places(alloc, statement, catalog)?;
+    let copy = statement.copy_item(alloc)?;
+    Ok(Checked {
+        statement: copy,
+        places,
+    })
+}
+
+/// The places of a statement's columns, as `check` gives them, for a caller that goes on with the statement
+/// itself. `NoTable`, `NoColumn` and `TypeClash` come exactly where `check` has them, and `NoMemory` may come
+/// at any point.
+pub fn check_places(
+    alloc: Global,
+    statement: &Statement,
+    catalog: &Catalog,
+) -> Result<PlaceLists, CheckStop>
+    ensures { GivesPlaces result statement.now (checked_of statement.now catalog.now) }
+{
     if has_unknown_table(alloc, statement, catalog)? {
         return Err(CheckStop::NoTable);
     }
@@ -29,8 +47,6 @@ pub fn check(alloc: Global, statement: &Statement, catalog: &Catalog) -> Result<
     if has_type_clash(alloc, statement, catalog)? {
         return Err(CheckStop::TypeClash);
     }
-    Ok(Checked {
-        statement: statement.copy_item(alloc)?,
-        places: places_of(alloc, statement, catalog)?,
-    })
+    let places = places_of(alloc, statement, catalog)?;
+    Ok(places)
 }

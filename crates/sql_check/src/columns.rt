@@ -4,8 +4,9 @@ ghost use Rattle.std.specs.Prelude.{◌≡◌, ◌||◌, ◌&&◌, ◌++◌, IfO
 ghost use Rattle.std.specs.List.{list_all, list_any, range_with_len};
 ghost use Rattle.sql_model.specs.Kinds.{names_in, outer_names};
 ghost use Rattle.sql_model.specs.Refusals.{groups, item_places, having_places, lacks_in_scope};
-ghost use Rattle.sql_model.specs.Refusals.{core_lacks_column, is_order_key, query_lacks_column};
-ghost use Rattle.sql_model.specs.Refusals.{insert_lacks_column, update_lacks_column, lacks_column};
+ghost use Rattle.sql_model.specs.Refusals.{answer_titles, core_lacks_column, is_order_key};
+ghost use Rattle.sql_model.specs.Refusals.{query_lacks_column, insert_lacks_column};
+ghost use Rattle.sql_model.specs.Refusals.{update_lacks_column, lacks_column};
 ghost use Rattle.sql_model.specs.Scope.{has_column, resolves, places_in};
 ghost use Rattle.sql_check.specs.Sources.{is_among, all_among};
 
@@ -53,8 +54,26 @@ fn query_lacks_column(alloc: Global, query: &Query, catalog: &Catalog) -> Result
     if cores_lack_column(alloc, query.cores.items(), catalog)? {
         return Ok(true);
     }
-    let titles = answer_titles(alloc, catalog, query.cores.items())?;
-    Ok(!are_order_keys(&titles, query.order.items()))
+    lack_order_key(alloc, query.cores.items(), catalog, query.order.items())
+}
+
+// Whether a key of ORDER BY is no output column.
+fn lack_order_key(
+    alloc: Global,
+    cores: &[Core],
+    catalog: &Catalog,
+    order: &[Order],
+) -> Result<bool, AllocError>
+    ensures { IfOk result (λ lacks. lacks
+        ≡ not (list_all (λ part. is_order_key (answer_titles catalog.now cores.now) part.key) order.now)) }
+{
+    match order {
+        [] => Ok(false),
+        _ => {
+            let titles = answer_titles(alloc, catalog, cores)?;
+            Ok(!are_order_keys(&titles, order))
+        }
+    }
 }
 
 fn cores_lack_column(alloc: Global, cores: &[Core], catalog: &Catalog) -> Result<bool, AllocError>

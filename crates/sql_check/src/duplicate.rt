@@ -46,6 +46,17 @@ impl Named for Set {
 pub(crate) fn has_duplicate<N: Named>(alloc: Global, items: &[N]) -> Result<bool, AllocError>
     ensures { IfOk result (λ twice. twice ≡ repeats same_text (map N.name items.now)) }
 {
+    match items {
+        [] => Ok(false),
+        [_item] => Ok(false),
+        _ => repeat_names(alloc, items),
+    }
+}
+
+// The same, where names are looked for.
+fn repeat_names<N: Named>(alloc: Global, items: &[N]) -> Result<bool, AllocError>
+    ensures { IfOk result (λ twice. twice ≡ repeats same_text (map N.name items.now)) }
+{
     let names = all_names(alloc, items)?;
     let twice = has_twice(alloc, names)?;
     Ok(twice)

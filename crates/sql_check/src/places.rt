@@ -4,7 +4,7 @@ ghost use Rattle.std.specs.Prelude.{◌≡◌, ◌++◌, [], ◌∷◌, IfOk, On
 ghost use Rattle.std.specs.List.{flat_map};
 ghost use Rattle.sql_model.specs.Kinds.{names_in};
 ghost use Rattle.sql_model.specs.Places.{core_places, order_places, query_places, places_of};
-ghost use Rattle.sql_model.specs.Refusals.{update_names, delete_names, names_of_items};
+ghost use Rattle.sql_model.specs.Refusals.{answer_titles, update_names, delete_names, names_of_items};
 ghost use Rattle.sql_model.specs.Scope.{places_in};
 
 use crate::output_column::{OutputColumn, answer_titles, key_place};
@@ -51,10 +51,28 @@ fn query_places(alloc: Global, query: &Query, catalog: &Catalog) -> Result<Place
     ensures { IfOk result (λ lists. lists ≡ query_places query.now catalog.now) }
 {
     let mut lists = all_core_places(alloc, query.cores.items(), catalog)?;
-    let titles = answer_titles(alloc, catalog, query.cores.items())?;
-    let keys = order_places(alloc, &titles, query.order.items())?;
+    let keys = key_places(alloc, query.cores.items(), catalog, query.order.items())?;
     lists.push(keys)?;
     Ok(lists)
+}
+
+// The places of the keys of ORDER BY.
+fn key_places(
+    alloc: Global,
+    cores: &[Core],
+    catalog: &Catalog,
+    order: &[Order],
+) -> Result<Places, AllocError>
+    ensures { IfOk result (λ places. places
+        ≡ order_places (answer_titles catalog.now cores.now) order.now) }
+{
+    match order {
+        [] => Ok(List::new(alloc)),
+        _ => {
+            let titles = answer_titles(alloc, catalog, cores)?;
+            order_places(alloc, &titles, order)
+        }
+    }
 }
 
 fn all_core_places(

@@ -15,7 +15,7 @@ use crate::needs::needs_of;
 use crate::tables::{Taking, prepare, tables_asked};
 use dml_versions::{Change, delete, insert, update};
 use ldv_value::{List, Names, Values};
-use sql_check::{CheckStop, check};
+use sql_check::{CheckStop, check_places};
 use sql_model::{Catalog, Checked, Needs, Reply, SqlRefusal, Statement};
 use sql_parse::{ParseStop, parse};
 use std::alloc::{AllocError, Global};
@@ -117,24 +117,29 @@ fn asked_checked(
     }
 }
 
-// What a statement gives, refused by its check or not.
+// What a statement gives, refused by its check or not, and the statement.
 fn asked_or_refused(
     alloc: Global,
-    statement: &Statement,
+    statement: Statement,
     store: &mut Store,
     time: u32,
     keep: bool,
-) -> Result<Change, AllocError>
+) -> Result<(Change, Statement), AllocError>
     requires later { store.old.time < time }
-    ensures outcome { IfOk result (IsOutcome statement.now keep store.old store.new) }
+    ensures outcome { IfOk result (λ r. IsOutcome statement keep store.old store.new r.0) }
+    ensures statement { IfOk result (λ r. r.1 ≡ statement) }
     ensures latest { OnOk result (store.new.time ≤ time) }
     ensures err { OnErr result (store.new ≡ store.old) }
 {
-    match check(alloc, statement, store.catalog()) {
-        Ok(checked) => asked_checked(alloc, &checked, store, time, keep),
-        Err(CheckStop::NoTable) => Ok(refused(alloc, SqlRefusal::NoTable)),
-        Err(CheckStop::NoColumn) => Ok(refused(alloc, SqlRefusal::NoColumn)),
-        Err(CheckStop::TypeClash) => Ok(refused(alloc, SqlRefusal::TypeClash)),
+    match check_places(alloc, &statement, store.catalog()) {
+        Ok(places) => {
+            let checked = Checked { statement, places };
+            let change = asked_checked(alloc, &checked, store, time, keep)?;
+            Ok((change, checked.statement))
+        }
+        Err(CheckStop::NoTable) => Ok((refused(alloc, SqlRefusal::NoTable), statement)),
+        Err(CheckStop::NoColumn) => Ok((refused(alloc, SqlRefusal::NoColumn), statement)),
+        Err(CheckStop::TypeClash) => Ok((refused(alloc, SqlRefusal::TypeClash), statement)),
         Err(CheckStop::NoMemory) => Err(AllocError),
     }
 }
@@ -142,20 +147,20 @@ fn asked_or_refused(
 // A statement. Once it has run, nothing can fail.
 fn asked_statement(
     alloc: Global,
-    statement: &Statement,
+    statement: Statement,
     store: &mut Store,
     time: u32,
     keep: bool,
 ) -> Result<Done, AllocError>
     requires later { store.old.time < time }
-    ensures done { IfOk result (IsDone (Some statement.now) keep store.old store.new) }
+    ensures done { IfOk result (IsDone (Some statement) keep store.old store.new) }
     ensures latest { OnOk result (store.new.time ≤ time) }
     ensures err { OnErr result (store.new ≡ store.old) }
 {
     store.tell_formed();
-    let room = room_for(alloc, &store.catalog().names, statement, keep)?;
-    let change = asked_or_refused(alloc, statement, store, time, keep)?;
-    let tables = tables_of(room, statement, &change.needs, store.catalog(), keep);
+    let room = room_for(alloc, &store.catalog().names, &statement, keep)?;
+    let (change, asked) = asked_or_refused(alloc, statement, store, time, keep)?;
+    let tables = tables_of(room, &asked, &change.needs, store.catalog(), keep);
     Ok(done_of(change, tables))
 }
 
@@ -175,7 +180,7 @@ pub(crate) fn asked(
     ensures err { OnErr result (store.new ≡ store.old) }
 {
     match parse(alloc, text, params) {
-        Ok(statement) => asked_statement(alloc, &statement, store, time, keep),
+        Ok(statement) => asked_statement(alloc, statement, store, time, keep),
         Err(ParseStop::Syntax) => Ok(done_of(refused(alloc, SqlRefusal::Syntax), List::new(alloc))),
         Err(ParseStop::NoMemory) => Err(AllocError),
     }

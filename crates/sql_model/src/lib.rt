@@ -26,8 +26,7 @@
 //! row comes from), `Changes` (INSERT, UPDATE and DELETE, and the refusals that rows decide), `Statements`
 //! (refusal, reply and the tables after), `ForeignKeys` and `References` (what refers to what, and what that
 //! refuses and needs), `Needs` (the rows that a statement needs, and the versions that
-//! it makes) and `Origins` (lineages as sets). `Built` says which statements run so far. `Types` has the
-//! types under one name each.
+//! it makes) and `Origins` (lineages as sets). `Types` has the types under one name each.
 //!
 //! A recursive expression holds its parts in `Boxed` of `sqlite_items`, which contracts see as the part
 //! itself (`docs/DECISIONS.md`).

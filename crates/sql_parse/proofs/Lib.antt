@@ -1,6 +1,7 @@
 pub mod Choices
 pub mod ClausesLaw
 pub mod CoresLaw
+pub mod Cuts
 pub mod ExpressionsBack
 pub mod ExpressionsDepth
 pub mod ExpressionsLaw
@@ -15,6 +16,7 @@ pub mod Repeat
 pub mod RepeatLaws
 pub mod Results
 pub mod SourcesLaw
+pub mod Spelled
 pub mod StatementsLaw
 pub mod Symbols
 pub mod TokensFrom

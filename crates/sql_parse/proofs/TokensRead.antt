@@ -70,10 +70,10 @@ all_ascii (b ∷ piece) h = IsAscii-cons (folded b) (map folded piece) (folded_l
 
 -- ---- where a token begins
 
-letter_starts : (b : ℕ) → is_letter b ≡ true → start b ≡ Some (InWord (folded b ∷ []))
+pub letter_starts : (b : ℕ) → is_letter b ≡ true → start b ≡ Some (InWord (folded b ∷ []))
 letter_starts b h = rw (letter_no_blank b h, h) refl
 
-digit_starts : (b : ℕ) → is_digit b ≡ true → start b ≡ Some (InNumber (b - 48))
+pub digit_starts : (b : ℕ) → is_digit b ≡ true → start b ≡ Some (InNumber (b - 48))
 digit_starts b h = rw (digit_no_blank b h, digit_no_letter b h, h) refl
 
 begin : (b : ℕ) (bs : List ℕ) (p : LexState) → start b ≡ Some p → tokens_from (b ∷ bs) Between ≡ tokens_from bs p

@@ -11,8 +11,9 @@
 //! the statement as which the text with its parameters reads, and that there is at most one. `token_law` and
 //! `expression_law` say the same of tokens and of expressions.
 //!
-//! The way of the text: `scan` cuts it into tokens, `given` puts the parameters into the places of their
-//! `?`, and the other modules read the tokens from left to right, each its part of the grammar.
+//! The way of the text: `scan` cuts it into tokens, with the parameters in the places of their `?` (`given`),
+//! and the other modules read the tokens from left to right, each its part of the grammar. Tokens are lent
+//! from the text and from the parameters (`token`); what a statement keeps is copied where it is read.
 #![tactic(auto)]
 
 mod change;

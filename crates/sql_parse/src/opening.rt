@@ -8,8 +8,9 @@ ghost use Rattle.sql_model.specs.Expressions.{column_opening, word_opening, open
 use crate::column::column_after;
 use crate::reader::{Reader, name_in};
 use crate::stop::ParseStop;
-use ldv_value::{Utf8, Value};
-use sql_model::{Expr, Fold, Opening, Prefix, Token};
+use crate::token::{Lent, Lexeme};
+use ldv_value::{CopyItem, Value};
+use sql_model::{Expr, Fold, Opening, Prefix};
 use std::alloc::Global;
 
 /// The beginning of an operand of at least a level.
@@ -20,18 +21,21 @@ pub(crate) fn read_opening(
 ) -> Result<Opening, ParseStop>
     ensures { Reads result reader.new (opening least reader.old) }
 {
-    let token = reader.token(alloc)?;
+    let token = reader.token()?;
     opens(alloc, reader, least, token)
 }
 
-fn opens(alloc: Global, reader: &mut Reader, least: u8, token: Token) -> Result<Opening, ParseStop>
-    ensures { Reads result reader.new (opens least token reader.old) }
+fn opens(alloc: Global, reader: &mut Reader, least: u8, token: Lexeme) -> Result<Opening, ParseStop>
+    ensures { Reads result reader.new (opens least token.entry reader.old) }
 {
-    match token {
-        Token::Word(word) => word_opening(alloc, reader, least, word),
-        Token::Number(number) => Ok(Opening::Leaf(Expr::Constant(Value::Int(number)))),
-        Token::Quoted(text) => Ok(Opening::Leaf(Expr::Constant(Value::Text(text)))),
-        Token::Given(value) => Ok(Opening::Leaf(Expr::Constant(value))),
+    match token.into_lent() {
+        Lent::Word(word) => word_opening(alloc, reader, least, word),
+        Lent::Number(number) => Ok(Opening::Leaf(Expr::Constant(Value::Int(number)))),
+        Lent::Quoted(text) => Ok(Opening::Leaf(Expr::Constant(Value::Text(text)))),
+        Lent::Given(value) => {
+            let value = value.copy_item(alloc)?;
+            Ok(Opening::Leaf(Expr::Constant(value)))
+        }
     }
 }
 
@@ -39,26 +43,26 @@ fn word_opening(
     alloc: Global,
     reader: &mut Reader,
     least: u8,
-    word: Utf8,
+    word: &str,
 ) -> Result<Opening, ParseStop>
-    ensures { Reads result reader.new (word_opening least word reader.old) }
+    ensures { Reads result reader.new (word_opening least word.now reader.old) }
 {
-    if word.is_text("not") {
+    if word == "not" {
         let opening = negation(least)?;
         Ok(opening)
-    } else if word.is_text("-") {
+    } else if word == "-" {
         Ok(Opening::Nested(Prefix::Minus))
-    } else if word.is_text("(") {
+    } else if word == "(" {
         Ok(Opening::Nested(Prefix::Bracket))
-    } else if word.is_text("null") {
+    } else if word == "null" {
         Ok(Opening::Leaf(Expr::Constant(Value::Null)))
-    } else if word.is_text("count") {
+    } else if word == "count" {
         count_opening(reader)
-    } else if word.is_text("sum") {
+    } else if word == "sum" {
         fold_opening(reader, Fold::Sum)
-    } else if word.is_text("min") {
+    } else if word == "min" {
         fold_opening(reader, Fold::Min)
-    } else if word.is_text("max") {
+    } else if word == "max" {
         fold_opening(reader, Fold::Max)
     } else {
         column_opening(alloc, reader, word)
@@ -100,10 +104,10 @@ fn count_inside(reader: &mut Reader) -> Result<Opening, ParseStop>
     Ok(Opening::Nested(Prefix::FoldOf(Fold::Count)))
 }
 
-fn column_opening(alloc: Global, reader: &mut Reader, word: Utf8) -> Result<Opening, ParseStop>
-    ensures { Reads result reader.new (column_opening word reader.old) }
+fn column_opening(alloc: Global, reader: &mut Reader, word: &str) -> Result<Opening, ParseStop>
+    ensures { Reads result reader.new (column_opening word.now reader.old) }
 {
-    let name = name_in(word)?;
+    let name = name_in(alloc, word)?;
     let column = column_after(alloc, reader, name)?;
     Ok(Opening::Leaf(Expr::Column(column)))
 }

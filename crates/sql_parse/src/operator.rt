@@ -1,13 +1,15 @@
 //! What may be between operands, and how strongly it binds.
 
-ghost use Rattle.std.specs.Prelude.{◌≡◌};
+ghost use Rattle.std.specs.Prelude.{◌≡◌, ◌∷◌, List};
+ghost use Rattle.sql_model.specs.declared.token.Token.{Token};
 ghost use Rattle.sql_model.specs.Levels.{operator_level, operator_left, right_of};
 ghost use Rattle.sql_model.specs.Operators.{comparison_of, compared, joint_in, joint_of, level_of, left_of};
 ghost use Rattle.sql_model.specs.Operators.{may_join, joins};
 
 use crate::reader::Reader;
+use crate::token::{Lent, Lexeme};
 use ldv_value::Cmp;
-use sql_model::{Infix, Operator, Token};
+use sql_model::{Infix, Operator};
 
 /// The next infix operator, if it binds at least as tightly as `least` and can follow an operand of `level`.
 pub(crate) fn joins(reader: &Reader, least: u8, level: u8) -> Option<Infix>
@@ -26,10 +28,19 @@ fn next_joint(reader: &Reader) -> Option<Infix>
 {
     match reader.peek() {
         None => None,
-        Some(Token::Word(word)) => joint_in(word.as_str()),
-        Some(Token::Number(_)) => None,
-        Some(Token::Quoted(_)) => None,
-        Some(Token::Given(_)) => None,
+        Some(token) => joint_at(token),
+    }
+}
+
+// What a token is between operands.
+fn joint_at(token: &Lexeme) -> Option<Infix>
+    ensures { (more : List Token) → result ≡ joint_of (token.now ∷ more) }
+{
+    match token.as_lent() {
+        Lent::Word(word) => joint_in(*word),
+        Lent::Number(_) => None,
+        Lent::Quoted(_) => None,
+        Lent::Given(_) => None,
     }
 }
 

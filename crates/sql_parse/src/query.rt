@@ -12,8 +12,9 @@ use crate::reader::{Reader, name_in};
 use crate::select::core;
 use crate::steps::{Steps, all_steps};
 use crate::stop::ParseStop;
-use ldv_value::Value;
-use sql_model::{Cores, Order, OrderKey, Orders, Query, Token};
+use crate::token::{Lent, Lexeme};
+use ldv_value::{CopyItem, Value};
+use sql_model::{Cores, Order, OrderKey, Orders, Query};
 use std::alloc::Global;
 
 /// A query.
@@ -101,25 +102,25 @@ fn descending(reader: &mut Reader) -> bool
 fn key(alloc: Global, reader: &mut Reader) -> Result<OrderKey, ParseStop>
     ensures { Reads result reader.new (reads_key reader.old) }
 {
-    let token = reader.token(alloc)?;
-    let key = key_of(token)?;
+    let token = reader.token()?;
+    let key = key_of(alloc, token)?;
     Ok(key)
 }
 
-fn key_of(token: Token) -> Result<OrderKey, ParseStop>
-    ensures { Gives result (key_of token) }
+fn key_of(alloc: Global, token: Lexeme) -> Result<OrderKey, ParseStop>
+    ensures { Gives result (key_of token.entry) }
 {
-    match token {
-        Token::Word(word) => {
-            let name = name_in(word)?;
+    match token.into_lent() {
+        Lent::Word(word) => {
+            let name = name_in(alloc, word)?;
             Ok(OrderKey::Name(name))
         }
-        Token::Number(number) => {
+        Lent::Number(number) => {
             let place = place_of(number)?;
             Ok(OrderKey::Place(place))
         }
-        Token::Quoted(_) => Err(ParseStop::Syntax),
-        Token::Given(_) => Err(ParseStop::Syntax),
+        Lent::Quoted(_) => Err(ParseStop::Syntax),
+        Lent::Given(_) => Err(ParseStop::Syntax),
     }
 }
 
@@ -146,18 +147,21 @@ fn limit(alloc: Global, reader: &mut Reader) -> Result<Option<Value>, ParseStop>
 fn bound(alloc: Global, reader: &mut Reader) -> Result<Option<Value>, ParseStop>
     ensures { Reads result reader.new (reads_bound reader.old) }
 {
-    let token = reader.token(alloc)?;
-    let value = bound_of(token)?;
+    let token = reader.token()?;
+    let value = bound_of(alloc, token)?;
     Ok(Some(value))
 }
 
-fn bound_of(token: Token) -> Result<Value, ParseStop>
-    ensures { Gives result (bound_of token) }
+fn bound_of(alloc: Global, token: Lexeme) -> Result<Value, ParseStop>
+    ensures { Gives result (bound_of token.entry) }
 {
-    match token {
-        Token::Word(_) => Err(ParseStop::Syntax),
-        Token::Number(number) => Ok(Value::Int(number)),
-        Token::Quoted(_) => Err(ParseStop::Syntax),
-        Token::Given(value) => Ok(value),
+    match token.into_lent() {
+        Lent::Word(_) => Err(ParseStop::Syntax),
+        Lent::Number(number) => Ok(Value::Int(number)),
+        Lent::Quoted(_) => Err(ParseStop::Syntax),
+        Lent::Given(value) => {
+            let value = value.copy_item(alloc)?;
+            Ok(value)
+        }
     }
 }

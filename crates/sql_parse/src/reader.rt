@@ -6,20 +6,20 @@ ghost use Rattle.sql_model.specs.Reader.{is_word, starts, tail, passed, after_wo
 ghost use Rattle.sql_model.specs.Reader.{name_of, reads_name};
 
 use crate::stop::ParseStop;
-use crate::token::Tokens;
-use ldv_value::{CopyItem, Utf8};
-use sql_model::{Token, is_sql_name};
+use crate::token::{Lent, Lexeme, Tokens};
+use ldv_value::Utf8;
+use sql_model::is_sql_name;
 use std::alloc::Global;
 use std::marker::Model;
 
 /// Tokens, of which those in front are read. Contracts see those that are left.
 #[derive(Drop)]
-pub(crate) struct Reader {
-    tokens: Tokens,
+pub(crate) struct Reader<'a> {
+    tokens: Tokens<'a>,
     place: usize,
 }
 
-impl Model for Reader {
+impl<'a> Model for Reader<'a> {
     ghost use Rattle.std.specs.Prelude.{List, drop};
     ghost use Rattle.sql_model.specs.declared.token.Token.{Token};
 
@@ -28,10 +28,10 @@ impl Model for Reader {
     ghost view = { λ a. drop a.place a.tokens };
 }
 
-impl Reader {
+impl<'a> Reader<'a> {
     /// A reader of tokens.
-    pub fn new(tokens: Tokens) -> Self
-        ensures { result ≡ tokens }
+    pub fn new(tokens: Tokens<'a>) -> Self
+        ensures { result ≡ tokens.entry }
     {
         Reader { tokens, place: 0 }
     }
@@ -48,7 +48,7 @@ impl Reader {
     }
 
     /// The next token.
-    pub fn peek(&self) -> Option<&Token>
+    pub fn peek(&self) -> Option<&Lexeme<'a>>
         ensures { MatchOption result (self.now ≡ []) (λ t. self.now ≡ t.now ∷ tail self.now) }
     {
         self.tokens.get(self.place)
@@ -98,13 +98,13 @@ impl Reader {
     }
 
     /// The next token.
-    pub fn token(&mut self, alloc: Global) -> Result<Token, ParseStop>
+    pub fn token(&mut self) -> Result<Lexeme<'a>, ParseStop>
         ensures { Reads result self.new (reads_token self.old) }
     {
         match self.tokens.get(self.place) {
             None => Err(ParseStop::Syntax),
             Some(token) => {
-                let token = token.copy_item(alloc)?;
+                let token = token.copy()?;
                 self.place += 1;
                 Ok(token)
             }
@@ -115,41 +115,41 @@ impl Reader {
     pub fn name(&mut self, alloc: Global) -> Result<Utf8, ParseStop>
         ensures { Reads result self.new (reads_name self.old) }
     {
-        let token = self.token(alloc)?;
-        name_of(token)
+        let token = self.token()?;
+        name_of(alloc, token)
     }
 }
 
 /// Whether a token is this word or symbol.
-pub(crate) fn is_word(token: &Token, text: &str) -> bool
+pub(crate) fn is_word(token: &Lexeme, text: &str) -> bool
     ensures { result ≡ is_word text.now token.now }
 {
-    match token {
-        Token::Word(word) => word.is_text(text),
-        Token::Number(_) => false,
-        Token::Quoted(_) => false,
-        Token::Given(_) => false,
+    match token.as_lent() {
+        Lent::Word(word) => *word == text,
+        Lent::Number(_) => false,
+        Lent::Quoted(_) => false,
+        Lent::Given(_) => false,
     }
 }
 
 /// A word as a name.
-pub(crate) fn name_in(word: Utf8) -> Result<Utf8, ParseStop>
-    ensures { Gives result (name_in word) }
+pub(crate) fn name_in(alloc: Global, word: &str) -> Result<Utf8, ParseStop>
+    ensures { Gives result (name_in word.now) }
 {
-    if is_sql_name(word.as_str()) {
-        Ok(word)
-    } else {
-        Err(ParseStop::Syntax)
+    if !is_sql_name(word) {
+        return Err(ParseStop::Syntax);
     }
+    let name = Utf8::of(alloc, word)?;
+    Ok(name)
 }
 
-fn name_of(token: Token) -> Result<Utf8, ParseStop>
-    ensures { Gives result (name_of token) }
+fn name_of(alloc: Global, token: Lexeme) -> Result<Utf8, ParseStop>
+    ensures { Gives result (name_of token.entry) }
 {
-    match token {
-        Token::Word(word) => name_in(word),
-        Token::Number(_) => Err(ParseStop::Syntax),
-        Token::Quoted(_) => Err(ParseStop::Syntax),
-        Token::Given(_) => Err(ParseStop::Syntax),
+    match token.into_lent() {
+        Lent::Word(word) => name_in(alloc, word),
+        Lent::Number(_) => Err(ParseStop::Syntax),
+        Lent::Quoted(_) => Err(ParseStop::Syntax),
+        Lent::Given(_) => Err(ParseStop::Syntax),
     }
 }

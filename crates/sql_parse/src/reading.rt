@@ -1,17 +1,18 @@
 //! From a text to its statement.
 
-ghost use Rattle.std.specs.Prelude.{◌≡◌, IfOk, IsErrOf, Some, None};
+ghost use Rattle.std.specs.Prelude.{◌≡◌, IfOk, IsErrOf, Some, None, length, map};
 ghost use Rattle.sql_model.specs.declared.statement.Statement.{Statement};
 ghost use Rattle.sql_model.specs.GrammarOfStatements.{Reads as ReadsAs};
 ghost use Rattle.sql_parse.specs.declared.stop.ParseStop.TheVariants.{Syntax};
 ghost use Rattle.sql_parse.specs.Gives.{Gives, Reads};
+ghost use Rattle.sql_parse.specs.Lexing.{given_of, statement_from};
+ghost use Rattle.sql_model.specs.TextBytes.{folded};
 ghost use Rattle.sql_model.specs.Texts.{reads_statement, is_end, whole_statement, statement_of};
 
 use crate::change::{delete, insert, update};
-use crate::given::placed;
 use crate::query::query;
 use crate::reader::Reader;
-use crate::scan::tokens;
+use crate::scan::{lower_case, tokens};
 use crate::stop::ParseStop;
 use ldv_value::Values;
 use sql_model::Statement;
@@ -31,17 +32,32 @@ pub fn parse(alloc: Global, text: &str, params: &Values) -> Result<Statement, Pa
     parsed(alloc, text, params)
 }
 
+#[tactic(auto, using(crate::proofs::TokensFrom::statement_is))]
 fn parsed(alloc: Global, text: &str, params: &Values) -> Result<Statement, ParseStop>
     ensures { Gives result (statement_of text.now params.now) }
 {
-    let tokens = tokens(alloc, text.as_bytes())?;
-    let given = placed(alloc, tokens, params)?;
+    let lower = lower_case(alloc, text.as_bytes())?;
+    read_lent(alloc, text.as_bytes(), lower.as_slice(), params)
+}
+
+// A statement whose tokens are cut out of its text, which is also given in lower case.
+fn read_lent(
+    alloc: Global,
+    text: &[u8],
+    lower: &[u8],
+    params: &Values,
+) -> Result<Statement, ParseStop>
+    requires low { lower.now ≡ map folded text.now }
+    requires long { length lower.now ≡ length text.now }
+    ensures { Gives result (statement_from (given_of text.now params.now)) }
+{
+    let given = tokens(alloc, text, lower, params)?;
     whole(alloc, Reader::new(given))
 }
 
 // A statement that is all of its tokens, but for a `;` after it.
 fn whole(alloc: Global, tokens: Reader) -> Result<Statement, ParseStop>
-    ensures { Gives result (whole_statement tokens) }
+    ensures { Gives result (whole_statement tokens.entry) }
 {
     let mut reader = tokens;
     let statement = statement(alloc, &mut reader)?;

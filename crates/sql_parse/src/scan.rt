@@ -1,188 +1,333 @@
 //! From the bytes of a text to its tokens.
+//!
+//! A token is cut out of the text where it stands, words out of the text in lower case, which is made once
+//! for all of them.
 
-ghost use Rattle.std.specs.Prelude.{◌≡◌, ◌-◌, IsTrue};
+ghost use Rattle.std.specs.Prelude.{◌≡◌, ◌∷◌, [], ◌++◌, ◌+◌, ◌-◌, ◌<◌, ◌≤◌, List, ℕ, None, false};
+ghost use Rattle.std.specs.Prelude.{length, map, slice_index, slice_range};
+ghost use Rattle.std.specs.Prelude.{IfOk, IfSome, IsTrue, OnOk, OnSome};
 ghost use Rattle.sql_parse.specs.Gives.{Gives};
+ghost use Rattle.sql_parse.specs.Lexing.{Lexes, LexesTo, blank_at, content_at, digit_at, given_of, inside_at};
+ghost use Rattle.sql_parse.specs.Lexing.{letter_at, pair_at, put_at, quote_at, tokens_at};
+ghost use Rattle.sql_model.specs.declared.reading.LexState.TheVariants.{Between, InNumber, InText};
+ghost use Rattle.sql_model.specs.GrammarOfTokens.{is_inside};
 ghost use Rattle.sql_model.specs.TextBytes.{is_blank, is_digit, is_upper, is_letter, folded};
 ghost use Rattle.sql_model.specs.Tokens.{is_whole_symbol, begins_symbol, is_pair, short_symbol, longer};
-ghost use Rattle.sql_model.specs.Tokens.{start, ends, step_between, step_in_word, step_in_number};
-ghost use Rattle.sql_model.specs.Tokens.{step_in_text, step_after_quote, step_in_symbol, step, finish};
-ghost use Rattle.sql_model.specs.Tokens.{tokens_of};
+ghost use Rattle.sql_model.specs.Tokens.{word_token};
 
+use crate::given::placed_token;
 use crate::stop::ParseStop;
-use crate::token::{Tokens, number_token, symbol_token, text_token, word_token};
-use ldv_value::Bytes;
-use sql_model::{LexState, Token};
-use std::alloc::Global;
+use crate::token::{Lexeme, Tokens, number_token, symbol_token, text_token, word_token};
+use ldv_value::{Bytes, Values};
+use std::alloc::{AllocError, Global};
 
-/// The tokens of a text.
-#[tactic(auto, using(crate::proofs::TokensFrom::scan_rules))]
-pub(crate) fn tokens(alloc: Global, text: &[u8]) -> Result<Tokens, ParseStop>
-    ensures { Gives result (tokens_of text.now) }
+/// For so many tokens there is room before the first.
+const ROOM: usize = 24;
+
+/// A text with its letters in lower case.
+#[tactic(auto, using(crate::proofs::Cuts::lower_long))]
+pub(crate) fn lower_case(alloc: Global, text: &[u8]) -> Result<Bytes, AllocError>
+    ensures low { IfOk result (λ lower. lower ≡ map folded text.now) }
+    ensures long { IfOk result (λ lower. length lower ≡ length text.now) }
 {
-    let mut tokens = Tokens::new(alloc);
-    let mut place = LexState::Between;
+    let mut lower = Bytes::with_capacity(alloc, text.len())?;
     for b in text {
-        let (next, token) = step(alloc, place, *b)?;
-        tokens.push_some(token)?;
-        place = next;
+        lower.push(fold(*b))?;
     }
-    let token = finish(alloc, place)?;
-    tokens.push_some(token)?;
-    Ok(tokens)
+    Ok(lower)
 }
 
-fn step(alloc: Global, place: LexState, b: u8) -> Result<(LexState, Option<Token>), ParseStop>
-    ensures { Gives result (step place b) }
-{
-    match place {
-        LexState::Between => between(alloc, b),
-        LexState::InWord(word) => in_word(alloc, word, b),
-        LexState::InNumber(number) => in_number(alloc, number, b),
-        LexState::InText(text) => in_text(text, b),
-        LexState::AfterQuote(text) => after_quote(alloc, text, b),
-        LexState::InSymbol(first) => in_symbol(alloc, first, b),
-        LexState::Ended(token) => ends(alloc, token, b),
-    }
-}
-
-fn between(alloc: Global, b: u8) -> Result<(LexState, Option<Token>), ParseStop>
-    ensures { Gives result (step_between b) }
-{
-    let place = start(alloc, b)?;
-    Ok((place, None))
-}
-
-// A token ends before a byte.
-fn ends(alloc: Global, token: Token, b: u8) -> Result<(LexState, Option<Token>), ParseStop>
-    ensures { Gives result (ends token b) }
-{
-    let place = start(alloc, b)?;
-    Ok((place, Some(token)))
-}
-
-fn in_word(alloc: Global, mut word: Bytes, b: u8) -> Result<(LexState, Option<Token>), ParseStop>
-    ensures { Gives result (step_in_word word b) }
-{
-    if letter(b) || digit(b) {
-        word.push(fold(b))?;
-        return Ok((LexState::InWord(word), None));
-    }
-    let token = word_token(word)?;
-    ends(alloc, token, b)
-}
-
-fn in_number(alloc: Global, number: u64, b: u8) -> Result<(LexState, Option<Token>), ParseStop>
-    ensures { Gives result (step_in_number number b) }
-{
-    if digit(b) {
-        return Ok((LexState::InNumber(longer(number, b)), None));
-    }
-    if letter(b) {
-        return Err(ParseStop::Syntax);
-    }
-    let token = number_token(number)?;
-    ends(alloc, token, b)
-}
-
-fn in_text(mut text: Bytes, b: u8) -> Result<(LexState, Option<Token>), ParseStop>
-    ensures { Gives result (step_in_text text b) }
-{
-    if b == b'\'' {
-        return Ok((LexState::AfterQuote(text), None));
-    }
-    text.push(b)?;
-    Ok((LexState::InText(text), None))
-}
-
-fn after_quote(
+/// The tokens of a text, which is also given in lower case, with the k-th parameter in the place of the
+/// k-th `?`.
+#[tactic(auto, using(crate::proofs::TokensFrom::given_rules))]
+pub(crate) fn tokens<'a>(
     alloc: Global,
-    mut text: Bytes,
-    b: u8,
-) -> Result<(LexState, Option<Token>), ParseStop>
-    ensures { Gives result (step_after_quote text b) }
+    text: &'a [u8],
+    lower: &'a [u8],
+    params: &'a Values,
+) -> Result<Tokens<'a>, ParseStop>
+    requires low { lower.now ≡ map folded text.now }
+    requires long { length lower.now ≡ length text.now }
+    ensures { Gives result (given_of text.now params.now) }
 {
-    if b == b'\'' {
-        text.push(b)?;
-        return Ok((LexState::InText(text), None));
+    let mut tokens = Tokens::with_capacity(alloc, ROOM)?;
+    let mut place = 0;
+    let mut at = blanks_end(text, 0);
+    'lexemes: while at < text.len() {
+        let (token, end) = lexeme_at(alloc, text, lower, at)?;
+        let (given, next) = placed_token(params, place, token)?;
+        tokens.push(given)?;
+        place = next;
+        at = blanks_end(text, end);
     }
-    let token = text_token(text)?;
-    ends(alloc, token, b)
+    if place == params.len() {
+        Ok(tokens)
+    } else {
+        Err(ParseStop::Syntax)
+    }
 }
 
-fn in_symbol(alloc: Global, first: u8, b: u8) -> Result<(LexState, Option<Token>), ParseStop>
-    ensures { Gives result (step_in_symbol first b) }
+// The place after the blanks that stand at a place.
+#[tactic(auto, using(crate::proofs::Cuts::blank_goes))]
+fn blanks_end(text: &[u8], from: usize) -> usize
+    requires { from ≤ length text.now }
+    ensures within { result ≤ length text.now }
+    ensures onward { from ≤ result }
+    ensures full { result < length text.now → is_blank (slice_index text.now result) ≡ false }
+    ensures read { tokens_at text.now from Between ≡ tokens_at text.now result Between }
 {
-    if pair(first, b) {
-        let bytes = Bytes::of_slice(alloc, &[first, b])?;
-        let token = symbol_token(bytes)?;
-        return Ok((LexState::Ended(token), None));
+    let mut at = from;
+    'blanks: while is_blank_at(text, at) {
+        at += 1;
     }
-    let token = short_symbol(alloc, first)?;
-    ends(alloc, token, b)
+    at
 }
 
-fn short_symbol(alloc: Global, b: u8) -> Result<Token, ParseStop>
-    ensures { Gives result (short_symbol b) }
+// The token that begins at a place, with the place after it.
+#[tactic(auto, using(crate::proofs::Cuts::no_token))]
+fn lexeme_at<'a>(
+    alloc: Global,
+    text: &'a [u8],
+    lower: &'a [u8],
+    at: usize,
+) -> Result<(Lexeme<'a>, usize), ParseStop>
+    requires within { at < length text.now }
+    requires full { is_blank (slice_index text.now at) ≡ false }
+    requires low { lower.now ≡ map folded text.now }
+    requires long { length lower.now ≡ length text.now }
+    ensures read { LexesTo result text.now (tokens_at text.now at Between) }
+    ensures on { IfOk result (λ r. at < r.1) }
+    ensures within { IfOk result (λ r. r.1 ≤ length text.now) }
 {
-    if b == b'!' {
-        return Err(ParseStop::Syntax);
-    }
-    let bytes = Bytes::of_slice(alloc, &[b])?;
-    symbol_token(bytes)
-}
-
-// The scanner's state after a byte that starts something new.
-fn start(alloc: Global, b: u8) -> Result<LexState, ParseStop>
-    ensures { Gives result (start b) }
-{
-    if blank(b) {
-        return Ok(LexState::Between);
-    }
+    let b = text[at];
     if letter(b) {
-        let word = Bytes::of_slice(alloc, &[fold(b)])?;
-        return Ok(LexState::InWord(word));
+        return word(text, lower, at);
     }
     if digit(b) {
-        return Ok(LexState::InNumber(value(b)));
+        return number(text, at);
     }
     if b == b'\'' {
-        return Ok(LexState::InText(Bytes::new(alloc)));
+        return quoted_text(alloc, text, at);
     }
     if symbol_begins(b) {
-        return Ok(LexState::InSymbol(b));
+        return symbol(text, at);
     }
     if whole_symbol(b) {
-        let bytes = Bytes::of_slice(alloc, &[b])?;
-        let token = symbol_token(bytes)?;
-        return Ok(LexState::Ended(token));
+        return single_symbol(text, at);
     }
     Err(ParseStop::Syntax)
 }
 
-fn finish(alloc: Global, place: LexState) -> Result<Option<Token>, ParseStop>
-    ensures { Gives result (finish place) }
+// The word that begins at a place.
+#[tactic(auto, using(crate::proofs::Cuts::word_cut))]
+fn word<'a>(text: &[u8], lower: &'a [u8], at: usize) -> Result<(Lexeme<'a>, usize), ParseStop>
+    requires within { at < length text.now }
+    requires letter { IsTrue (is_letter (slice_index text.now at)) }
+    requires low { lower.now ≡ map folded text.now }
+    requires long { length lower.now ≡ length text.now }
+    ensures read { LexesTo result text.now (tokens_at text.now at Between) }
+    ensures on { IfOk result (λ r. at < r.1) }
+    ensures within { IfOk result (λ r. r.1 ≤ length text.now) }
 {
-    match place {
-        LexState::Between => Ok(None),
-        LexState::InWord(word) => {
-            let token = word_token(word)?;
-            Ok(Some(token))
-        }
-        LexState::InNumber(number) => {
-            let token = number_token(number)?;
-            Ok(Some(token))
-        }
-        LexState::InText(_) => Err(ParseStop::Syntax),
-        LexState::AfterQuote(text) => {
-            let token = text_token(text)?;
-            Ok(Some(token))
-        }
-        LexState::InSymbol(b) => {
-            let token = short_symbol(alloc, b)?;
-            Ok(Some(token))
-        }
-        LexState::Ended(token) => Ok(Some(token)),
+    let end = word_end(text, at);
+    let token = word_token(&lower[at..end])?;
+    Ok((token, end))
+}
+
+#[tactic(auto, using(crate::proofs::Cuts::word_rules))]
+fn word_end(text: &[u8], at: usize) -> usize
+    requires within { at < length text.now }
+    requires letter { IsTrue (is_letter (slice_index text.now at)) }
+    ensures on { at < result }
+    ensures within { result ≤ length text.now }
+    ensures read { tokens_at text.now at Between
+        ≡ put_at (word_token (map folded (slice_range text.now at result))) text.now result }
+{
+    let mut end = at + 1;
+    'letters: while is_inside_at(text, end) {
+        end += 1;
     }
+    end
+}
+
+// The number that begins at a place.
+#[tactic(auto, using(crate::proofs::Cuts::number_rules))]
+fn number<'a>(text: &[u8], at: usize) -> Result<(Lexeme<'a>, usize), ParseStop>
+    requires within { at < length text.now }
+    requires digit { IsTrue (is_digit (slice_index text.now at)) }
+    ensures read { LexesTo result text.now (tokens_at text.now at Between) }
+    ensures on { IfOk result (λ r. at < r.1) }
+    ensures within { IfOk result (λ r. r.1 ≤ length text.now) }
+{
+    let mut number = value(text[at]);
+    let mut end = at + 1;
+    'digits: while is_digit_at(text, end) {
+        number = longer(number, text[end]);
+        end += 1;
+    }
+    let token = whole_number(text, number, end)?;
+    Ok((token, end))
+}
+
+// The number of which the digits end at a place. No letter stands directly after it.
+#[tactic(auto, using(crate::proofs::Cuts::number_rules))]
+fn whole_number<'a>(text: &[u8], number: u64, end: usize) -> Result<Lexeme<'a>, ParseStop>
+    requires { digit_at text.now end ≡ false }
+    ensures { Lexes result text.now end (tokens_at text.now end (InNumber number)) }
+{
+    if is_letter_at(text, end) {
+        return Err(ParseStop::Syntax);
+    }
+    let token = number_token(number)?;
+    Ok(token)
+}
+
+// The text between quotes of which the first stands at a place.
+#[tactic(auto, using(crate::proofs::Cuts::content_rules))]
+fn quoted_text<'a>(alloc: Global, text: &[u8], at: usize) -> Result<(Lexeme<'a>, usize), ParseStop>
+    requires within { at < length text.now }
+    requires quote { slice_index text.now at ≡ 39 }
+    ensures read { LexesTo result text.now (tokens_at text.now at Between) }
+    ensures on { IfOk result (λ r. at < r.1) }
+    ensures within { IfOk result (λ r. r.1 ≤ length text.now) }
+{
+    let mut content = Bytes::new(alloc);
+    let mut end = at + 1;
+    'bytes: while let Some(next) = content_next(text, end) {
+        content.push(text[end])?;
+        end = next;
+    }
+    let token = whole_text(text, content, end)?;
+    Ok((token, end + 1))
+}
+
+// The place after the byte of a text's content that stands at a place, where one does. A quote in it is
+// written twice.
+#[tactic(auto, using(crate::proofs::Cuts::byte_rules), unfolding(crate::specs::Lexing::content_at))]
+fn content_next(text: &[u8], at: usize) -> Option<usize>
+    ensures within { OnSome result (at < length text.now) }
+    ensures onward { IfSome result (λ next. at < next) }
+    ensures end { IfSome result (λ next. next ≤ length text.now) }
+    ensures read { IfSome result (λ next. (front : List ℕ) → tokens_at text.now at (InText front)
+        ≡ tokens_at text.now next (InText (front ++ slice_index text.now at ∷ []))) }
+    ensures stops { result ≡ None → content_at text.now at ≡ false }
+{
+    if !is_quote_at(text, at) {
+        if at < text.len() {
+            return Some(at + 1);
+        }
+        return None;
+    }
+    if is_quote_at(text, at + 1) {
+        return Some(at + 2);
+    }
+    None
+}
+
+// The text whose content ends at a place, where its last quote has to stand.
+#[tactic(auto, using(crate::proofs::Cuts::content_rules))]
+fn whole_text<'a>(text: &[u8], content: Bytes, end: usize) -> Result<Lexeme<'a>, ParseStop>
+    requires { content_at text.now end ≡ false }
+    ensures read { Lexes result text.now (end + 1) (tokens_at text.now end (InText content)) }
+    ensures within { OnOk result (end < length text.now) }
+{
+    if end >= text.len() {
+        return Err(ParseStop::Syntax);
+    }
+    let token = text_token(content)?;
+    Ok(token)
+}
+
+// The symbol of one byte or two of which the first stands at a place.
+#[tactic(auto, using(crate::proofs::Cuts::symbol_rules))]
+fn symbol<'a>(text: &'a [u8], at: usize) -> Result<(Lexeme<'a>, usize), ParseStop>
+    requires within { at < length text.now }
+    requires first { IsTrue (begins_symbol (slice_index text.now at)) }
+    ensures read { LexesTo result text.now (tokens_at text.now at Between) }
+    ensures on { IfOk result (λ r. at < r.1) }
+    ensures within { IfOk result (λ r. r.1 ≤ length text.now) }
+{
+    if is_pair_at(text, at) {
+        let token = symbol_token(&text[at..at + 2])?;
+        return Ok((token, at + 2));
+    }
+    let token = short_symbol(text, at)?;
+    Ok((token, at + 1))
+}
+
+#[tactic(auto, using(crate::proofs::Cuts::piece_one))]
+fn short_symbol<'a>(text: &'a [u8], at: usize) -> Result<Lexeme<'a>, ParseStop>
+    requires { at < length text.now }
+    ensures { Gives result (short_symbol (slice_index text.now at)) }
+{
+    if text[at] == b'!' {
+        return Err(ParseStop::Syntax);
+    }
+    symbol_token(&text[at..at + 1])
+}
+
+// The symbol of one byte that stands at a place.
+#[tactic(auto, using(crate::proofs::Cuts::symbol_rules))]
+fn single_symbol<'a>(text: &'a [u8], at: usize) -> Result<(Lexeme<'a>, usize), ParseStop>
+    requires within { at < length text.now }
+    requires whole { IsTrue (is_whole_symbol (slice_index text.now at)) }
+    ensures read { LexesTo result text.now (tokens_at text.now at Between) }
+    ensures on { IfOk result (λ r. at < r.1) }
+    ensures within { IfOk result (λ r. r.1 ≤ length text.now) }
+{
+    let token = symbol_token(&text[at..at + 1])?;
+    Ok((token, at + 1))
+}
+
+#[tactic(auto, unfolding(crate::specs::Lexing::blank_at))]
+fn is_blank_at(text: &[u8], at: usize) -> bool
+    ensures test { result ≡ blank_at text.now at }
+    ensures within { IsTrue result → at < length text.now }
+    ensures full { result ≡ false → at < length text.now → is_blank (slice_index text.now at) ≡ false }
+{
+    at < text.len() && blank(text[at])
+}
+
+#[tactic(auto, unfolding(crate::specs::Lexing::inside_at))]
+fn is_inside_at(text: &[u8], at: usize) -> bool
+    ensures test { result ≡ inside_at text.now at }
+    ensures within { IsTrue result → at < length text.now }
+{
+    at < text.len() && inside(text[at])
+}
+
+#[tactic(auto, unfolding(crate::specs::Lexing::digit_at))]
+fn is_digit_at(text: &[u8], at: usize) -> bool
+    ensures test { result ≡ digit_at text.now at }
+    ensures within { IsTrue result → at < length text.now }
+    ensures digit { IsTrue result → IsTrue (is_digit (slice_index text.now at)) }
+{
+    at < text.len() && digit(text[at])
+}
+
+#[tactic(auto, unfolding(crate::specs::Lexing::letter_at))]
+fn is_letter_at(text: &[u8], at: usize) -> bool
+    ensures { result ≡ letter_at text.now at }
+{
+    at < text.len() && letter(text[at])
+}
+
+#[tactic(auto, unfolding(crate::specs::Lexing::quote_at))]
+fn is_quote_at(text: &[u8], at: usize) -> bool
+    ensures test { result ≡ quote_at text.now at }
+    ensures within { IsTrue result → at < length text.now }
+{
+    at < text.len() && text[at] == b'\''
+}
+
+// Whether the byte at a place and the one after it are one symbol.
+#[tactic(auto, unfolding(crate::specs::Lexing::pair_at))]
+fn is_pair_at(text: &[u8], at: usize) -> bool
+    requires { at < length text.now }
+    ensures test { result ≡ pair_at text.now at }
+    ensures within { IsTrue result → at + 1 < length text.now }
+{
+    at + 1 < text.len() && pair(text[at], text[at + 1])
 }
 
 fn value(b: u8) -> u64
@@ -221,6 +366,12 @@ fn letter(b: u8) -> bool
     ensures { result ≡ is_letter b }
 {
     upper(b) || b'a' <= b && b <= b'z' || b == b'_'
+}
+
+fn inside(b: u8) -> bool
+    ensures { result ≡ is_inside b }
+{
+    letter(b) || digit(b)
 }
 
 fn fold(b: u8) -> u8

@@ -9,8 +9,9 @@ use crate::expression::expression;
 use crate::reader::Reader;
 use crate::steps::{Steps, all_steps};
 use crate::stop::ParseStop;
+use crate::token::{Lent, Lexeme};
 use ldv_value::Utf8;
-use sql_model::{Exprs, FromItem, FromItems, Sources, Token, is_sql_name};
+use sql_model::{Exprs, FromItem, FromItems, Sources, is_sql_name};
 use std::alloc::Global;
 
 /// The sources of a core, at most so many.
@@ -127,13 +128,13 @@ fn names(reader: &Reader) -> bool
     }
 }
 
-fn is_name(token: &Token) -> bool
+fn is_name(token: &Lexeme) -> bool
     ensures { result ≡ is_name token.now }
 {
-    match token {
-        Token::Word(word) => is_sql_name(word.as_str()),
-        Token::Number(_) => false,
-        Token::Quoted(_) => false,
-        Token::Given(_) => false,
+    match token.as_lent() {
+        Lent::Word(word) => is_sql_name(*word),
+        Lent::Number(_) => false,
+        Lent::Quoted(_) => false,
+        Lent::Given(_) => false,
     }
 }

@@ -1,59 +1,128 @@
-//! Tokens of a text.
+//! Tokens of a text, lent from it.
 
+ghost use Rattle.std.specs.Prelude.{◌≡◌, IfOk};
 ghost use Rattle.std.specs.Str.{is_utf8};
-ghost use Rattle.sql_parse.specs.Gives.{Gives};
 ghost use Rattle.ldv_value.specs.Texts.{text_of};
+ghost use Rattle.sql_parse.specs.Gives.{Gives};
+ghost use Rattle.sql_parse.specs.LentTokens.{token_of};
 ghost use Rattle.sql_model.specs.Tokens.{word_token, number_token, text_token, symbol_token};
 
 use crate::stop::ParseStop;
-use ldv_value::{Bytes, List, TEXT_LIMIT, Utf8};
-use sql_model::Token;
+use ldv_value::{Bytes, List, TEXT_LIMIT, Utf8, Value};
+use std::alloc::AllocError;
+use std::marker::Model;
 
 /// The most bytes of a word.
 const WORD_LIMIT: usize = 63;
 
+/// What a token is. Words and the values of parameters stay where they are.
+#[derive(Drop)]
+pub(crate) enum Lent<'a> {
+    /// A word, its letters in lower case, or a symbol.
+    Word(&'a str),
+    /// A number, 0 to 2^63 - 1.
+    Number(i64),
+    /// The content of a text between quotes.
+    Quoted(Utf8),
+    /// The value of a parameter, in place of its `?`.
+    Given(&'a Value),
+}
+
+/// A token; contracts see it as the token by itself.
+#[derive(Drop)]
+pub(crate) struct Lexeme<'a> {
+    lent: Lent<'a>,
+}
+
+impl<'a> Model for Lexeme<'a> {
+    ghost use Rattle.sql_model.specs.declared.token.Token.{Token};
+    ghost use Rattle.sql_parse.specs.LentTokens.{token_of};
+
+    ghost Value = { Token };
+
+    ghost view = { λ a. token_of a.lent };
+}
+
 /// Tokens, in the order of the text.
-pub(crate) type Tokens = List<Token>;
+pub(crate) type Tokens<'a> = List<Lexeme<'a>>;
+
+impl<'a> Lexeme<'a> {
+    /// The token that is this.
+    pub fn of(lent: Lent<'a>) -> Lexeme<'a>
+        ensures { result ≡ token_of lent.entry }
+    {
+        Lexeme { lent }
+    }
+
+    /// What the token is.
+    pub fn as_lent(&self) -> &Lent<'a>
+        ensures { token_of result.now ≡ self.now }
+    {
+        &self.lent
+    }
+
+    /// What the token is.
+    pub fn into_lent(self) -> Lent<'a>
+        ensures { token_of result ≡ self.entry }
+    {
+        let Lexeme { lent } = self;
+        lent
+    }
+
+    /// A copy, which lends the same.
+    pub fn copy(&self) -> Result<Lexeme<'a>, AllocError>
+        ensures { IfOk result (λ copy. copy ≡ self.now) }
+    {
+        match &self.lent {
+            Lent::Word(word) => Ok(Lexeme::of(Lent::Word(*word))),
+            Lent::Number(number) => Ok(Lexeme::of(Lent::Number(*number))),
+            Lent::Quoted(text) => Ok(Lexeme::of(Lent::Quoted(text.copy()?))),
+            Lent::Given(value) => Ok(Lexeme::of(Lent::Given(*value))),
+        }
+    }
+}
 
 /// The token of a word's bytes.
-pub(crate) fn word_token(bytes: Bytes) -> Result<Token, ParseStop>
-    ensures { Gives result (word_token bytes) }
+pub(crate) fn word_token<'a>(bytes: &'a [u8]) -> Result<Lexeme<'a>, ParseStop>
+    ensures { Gives result (word_token bytes.now) }
 {
     if bytes.len() > WORD_LIMIT {
         return Err(ParseStop::Syntax);
     }
-    let text = text(bytes)?;
-    Ok(Token::Word(text))
+    symbol_token(bytes)
 }
 
 /// The token of a number's value.
-pub(crate) fn number_token(number: u64) -> Result<Token, ParseStop>
+pub(crate) fn number_token<'a>(number: u64) -> Result<Lexeme<'a>, ParseStop>
     ensures { Gives result (number_token number) }
 {
     if number < 1 << 63 {
-        Ok(Token::Number(number as i64))
+        Ok(Lexeme::of(Lent::Number(number as i64)))
     } else {
         Err(ParseStop::Syntax)
     }
 }
 
 /// The token of the bytes between quotes.
-pub(crate) fn text_token(bytes: Bytes) -> Result<Token, ParseStop>
+pub(crate) fn text_token<'a>(bytes: Bytes) -> Result<Lexeme<'a>, ParseStop>
     ensures { Gives result (text_token bytes) }
 {
     if bytes.len() > TEXT_LIMIT {
         return Err(ParseStop::Syntax);
     }
     let text = text(bytes)?;
-    Ok(Token::Quoted(text))
+    Ok(Lexeme::of(Lent::Quoted(text)))
 }
 
 /// The token of a symbol's bytes.
-pub(crate) fn symbol_token(bytes: Bytes) -> Result<Token, ParseStop>
-    ensures { Gives result (symbol_token bytes) }
+#[tactic(auto, using(crate::proofs::Spelled::symbol_rules))]
+pub(crate) fn symbol_token<'a>(bytes: &'a [u8]) -> Result<Lexeme<'a>, ParseStop>
+    ensures { Gives result (symbol_token bytes.now) }
 {
-    let text = text(bytes)?;
-    Ok(Token::Word(text))
+    match str::from_utf8(bytes) {
+        Ok(word) => Ok(Lexeme::of(Lent::Word(word))),
+        Err(_) => Err(ParseStop::Syntax),
+    }
 }
 
 #[tactic(auto, using(ldv_value::proofs::Utf8Parts::text_rules))]

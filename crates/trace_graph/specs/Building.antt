@@ -51,6 +51,9 @@ abbrev pub span_with : Option Span → ℕ → Span
 span_with None time = instant time
 span_with (Some span) time = record { first = min span.first time; last = max span.last time }
 
+abbrev pub same_pair : ℕ × ℕ → ℕ × ℕ → Bool
+same_pair a b = a.0 == b.0 && a.1 == b.1
+
 abbrev pub joins : ℕ → ℕ → Edge → Bool
 joins source target edge = source == edge.source && target == edge.target
 

@@ -85,8 +85,8 @@ fn finish(alloc: Global, building: Building<'_>) -> Result<Graph, AllocError>
     ensures { IfOk result (λ graph. graph ≡ parts_of building.entry) }
 {
     let Building { keys, spans } = building;
-    Ok(Graph {
-        nodes: nodes_of(alloc, keys.as_slice())?,
-        edges: edges_of(alloc, spans)?,
-    })
+    // The map of edges is the larger: it is gone before the nodes are made.
+    let edges = edges_of(alloc, spans)?;
+    let nodes = nodes_of(alloc, keys.as_slice())?;
+    Ok(Graph { nodes, edges })
 }

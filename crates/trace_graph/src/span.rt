@@ -1,7 +1,8 @@
 //! The times of each edge.
 
-ghost use Rattle.std.specs.Prelude.{◌≡◌, ◌++◌, [], map, IfOk, OnOk};
-ghost use Rattle.trace_graph.specs.Building.{edge_at, span_with, with_time};
+ghost use Rattle.std.specs.Prelude.{◌≡◌, ◌++◌, [], map, IfOk, OnOk, Some};
+ghost use Rattle.indexmap.specs.IndexMap.{insert_entry};
+ghost use Rattle.trace_graph.specs.Building.{edge_at, same_pair, span_with, with_time};
 
 use crate::edge::{Edge, Edges};
 use indexmap::IndexMap;
@@ -34,7 +35,7 @@ fn span_with(span: Option<Span>, time: u32) -> Span
     }
 }
 
-/// Adds a time to the edge between two places.
+/// Adds a time to the edge between two places. Most edges are new, and a new one is looked up once.
 pub(crate) fn add_time(
     spans: &mut Spans,
     source: usize,
@@ -44,8 +45,25 @@ pub(crate) fn add_time(
     ensures { OnOk result (map edge_at spans.new.entries
         ≡ with_time source target time (map edge_at spans.old.entries)) }
 {
-    let before = spans.get(&(source, target)).copied();
-    spans.insert((source, target), span_with(before, time))?;
+    let before = spans.insert((source, target), span_with(None, time))?;
+    match before {
+        None => Ok(()),
+        Some(span) => widen(spans, source, target, span, time),
+    }
+}
+
+// Puts the span that an edge had back, with a time more.
+fn widen(
+    spans: &mut Spans,
+    source: usize,
+    target: usize,
+    span: Span,
+    time: u32,
+) -> Result<(), AllocError>
+    ensures { OnOk result (spans.new.entries
+        ≡ insert_entry same_pair spans.old.entries (source, target) (span_with (Some span) time)) }
+{
+    spans.insert((source, target), span_with(Some(span), time))?;
     Ok(())
 }
 

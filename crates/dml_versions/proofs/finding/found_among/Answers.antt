@@ -14,3 +14,6 @@ slots-preserved c =
     let test = test_in c.args.table.now c.args.pick.now in
     found_next c.args.words.now test slots c.requires.cover c.slots.found c.add_found.new.found c.slots.at c.in-Some.slot c.after-at.result (found_from test slots 0)
     c.in-Some.ensures c.in_ok-add_found-in-Some.ensures c.after-at.ensures.next c.slots.invariant
+
+pub add_found-requires-clause-known : goal.add_found-requires-clause-known
+add_found-requires-clause-known c = λ is. c.requires.exact is c.in-Some.slot c.in-Some.ensures.1

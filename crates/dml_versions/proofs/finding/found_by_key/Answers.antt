@@ -1,4 +1,5 @@
 use Rattle.std.proofs.Common.{◌++◌, ◌∙◌, List, ap, sym}
+use Rattle.ldv_value.proofs.Booleans.{true≢false}
 use Rattle.table_store.specs.Histories.{last_next}
 use Rattle.dml_versions.proofs.KeyLaws.{found-none, slot-some, slot-found}
 use Rattle.table_store.proofs.StandingRows.{not-there}
@@ -29,3 +30,6 @@ returns-in_ok-add_found-in-Some-slot_of c =
     ∙ ap (λ (l : List Found). l ++ found_at (test_in table c.args.pick.now) table.slots c.in-Some-slot_of.slot) c.new-found.ensures
     ∙ slot-found table.slots (last_next table.nexts) c.tell_order.ensures table.schema.key c.args.key.now.values (test_in table c.args.pick.now)
     (c.requires.fixed.1 (scope_in table) c.requires.placed) c.requires.fixed.0 c.requires.unique c.in-Some.number c.in-Some-slot_of.slot c.in-Some.ensures c.in-Some-slot_of.ensures
+
+pub add_found-requires-clause-known : goal.add_found-requires-clause-known
+add_found-requires-clause-known c = λ is. absurd (true≢false (sym is))

@@ -1,7 +1,6 @@
-use Rattle.std.proofs.Common.{rules, ◌≡◌, ◌+◌, ◌∷◌, ap, ◌∙◌, sym, drop, arith, ℤ, pos, ◌+ℤ◌, ◌*◌, ◌≤ℤ◌, neg_ℤ, w64, SFits, ◌<◌, ◌^◌, length}
-use Rattle.std.proofs.lemmas.Int.{ints, to_z-of_z}
-use Rattle.ldv_value.specs.declared.value.Value.{Value}
-use Rattle.sql_model.specs.Meaning.{total, number_in}
+use Rattle.std.proofs.Common.{rules, ◌≡◌, ◌+◌, ◌∷◌, ap, ◌∙◌, sym, drop, arith, ◌+ℤ◌, w64, SFits}
+use Rattle.std.proofs.lemmas.Int.{ints}
+use Rattle.sql_model.specs.Meaning.{total}
 use Rattle.core_parts.proofs.Lists.{drop-step}
 use Rattle.group_eval.proofs.folds.total.Goals as goal
 

@@ -4,7 +4,6 @@ use Rattle.std.proofs.lemmas.Result.{IfOk-weaker}
 use Rattle.lineage.specs.declared.answer.Pick.{Pick}
 use Rattle.group_eval.specs.Evaluating.{ArePlaced, group_values, item_values}
 use Rattle.core_parts.specs.Placing.{AllPlaced}
-use Rattle.group_eval.specs.Types.{Value}
 use Rattle.core_parts.specs.declared.placed.Placed.{Placed}
 use Rattle.sql_model.specs.Scope.{InScope}
 use Rattle.group_eval.proofs.grouping.group_values.Goals as goal

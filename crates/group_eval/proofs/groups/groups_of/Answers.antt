@@ -1,40 +1,36 @@
-use Rattle.std.proofs.Common.{◌≡◌, ◌+◌, ◌++◌, ◌∷◌, List, drop, map, ap, ◌∙◌, sym}
-use Rattle.std.specs.Prelude.{filter}
-use Rattle.lineage.specs.declared.answer.Pick.{Pick}
-use Rattle.group_eval.specs.Grouping.{key_of, is_under, listed, unlisted}
-use Rattle.group_eval.specs.Types.{Value}
-use Rattle.sql_model.specs.QueryAnswer.{distinct}
-use Rattle.group_eval.proofs.GroupLaws.{group_on, first_on, none_listed}
+use Rattle.std.proofs.Common.{◌≡◌, ◌∙◌, ◌+◌, [], List, ℕ, drop, sym, ap, map, arith}
+use Rattle.std.specs.BTreeMap.{is_at}
+use Rattle.std.specs.Map.{lookup}
+use Rattle.std.proofs.lemmas.List.{drop_all}
 use Rattle.core_parts.proofs.Lists.{drop-step}
+use Rattle.lineage.specs.declared.answer.Pick.{Pick}
+use Rattle.sql_model.specs.KeyOrder.{values_order}
+use Rattle.group_eval.specs.Grouping.{own_picks, number_of, grouped_onto}
+use Rattle.group_eval.specs.Types.{Value}
+use Rattle.group_eval.specs.declared.groups.KeyedGroup.{KeyedGroup}
+use Rattle.group_eval.proofs.GroupLaws.{keyed_are}
 use Rattle.group_eval.proofs.groups.groups_of.Goals as goal
 
 pub loop-pick-init : goal.loop-pick-init
-loop-pick-init c =
-    let picks = c.args.picks.now in
-    let places = c.args.places.now in
-    let m = c.new-map.result in
-    let keys : List (List Value) = distinct (map (key_of places) picks) in
-    record {
-      picks = λ v. ap (λ (l : List Pick). l ++ filter (is_under places v) picks) (c.new-map.ensures v);
-      firsts = ap (λ (l : List Pick). map (key_of places) l ++ unlisted m keys) c.new-firsts.ensures ∙ none_listed m c.new-map.ensures keys;
-    }
+loop-pick-init c = (
+  λ v. ap (λ (es : List (List Value × ℕ)). lookup (is_at (values_order v)) es) c.new-numbers.ensures.empty ∙ ap (number_of v) (sym c.new-made.ensures.items),
+  ap (λ (ms : List KeyedGroup). grouped_onto c.args.places.now ms c.args.picks.now) c.new-made.ensures.items,
+)
 
 pub loop-pick-preserved : goal.loop-pick-preserved
 loop-pick-preserved c =
-    let picks = c.args.picks.now in
-    let places = c.args.places.now in
-    let i = c.loop-pick.pick-index in
-    let pick = c.pick-item.result in
-    let m = c.loop-pick.map in
-    let n = c.add_pick.new.map in
-    let split : drop i picks ≡ pick ∷ drop (i + 1) picks = drop-step picks i pick c.loop-pick-test.true c.pick-item.is in
-    record {
-      picks = λ v.
-          group_on places m n pick (drop (i + 1) picks) c.in_ok-add_pick.ensures.picks v
-          ∙ ap (λ (l : List Pick). listed m v ++ filter (is_under places v) l) (sym split)
-          ∙ c.loop-pick.invariant.picks v;
-      firsts =
-          first_on places m n pick c.loop-pick.firsts c.add_pick.new.firsts (drop (i + 1) picks) c.in_ok-add_pick.ensures.picks c.in_ok-add_pick.ensures.firsts
-          ∙ ap (λ (l : List Pick). map (key_of places) c.loop-pick.firsts ++ unlisted m (distinct (map (key_of places) l))) (sym split)
-          ∙ c.loop-pick.invariant.firsts;
-    }
+    let picks : List Pick = c.args.picks.now in
+    let places : List ℕ = c.args.places.now in
+    let i = c.loop-pick.pick-index in (
+      c.in_ok-add_pick.ensures.index,
+      ap (λ (ms : List KeyedGroup). grouped_onto places ms (drop (i + 1) picks)) c.in_ok-add_pick.ensures.made
+          ∙ ap (grouped_onto places c.loop-pick.made.items) (sym (drop-step picks i c.pick-item.result c.loop-pick-test.true c.pick-item.is))
+          ∙ c.loop-pick.invariant.1,
+    )
+
+pub returns : goal.returns
+returns c =
+    let picks : List Pick = c.args.picks.now in
+    let places : List ℕ = c.args.places.now in
+    let done : drop c.loop-pick.pick-index picks ≡ [] = drop_all c.loop-pick.pick-index picks (omega (arith, c.loop-pick-test.false)) in
+    ap (map own_picks) (sym (ap (grouped_onto places c.loop-pick.made.items) done) ∙ c.loop-pick.invariant.1) ∙ keyed_are places picks

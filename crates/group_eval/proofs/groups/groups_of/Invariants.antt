@@ -1,13 +1,6 @@
-use Rattle.std.proofs.Common.{◌≡◌, ◌++◌, drop, map, List}
-use Rattle.std.specs.Prelude.{filter}
-use Rattle.group_eval.specs.Grouping.{key_of, is_under, listed, unlisted}
-use Rattle.group_eval.specs.Types.{Value}
-use Rattle.sql_model.specs.QueryAnswer.{distinct}
+use Rattle.std.proofs.Common.{◌≡◌, [], drop}
+use Rattle.group_eval.specs.Grouping.{grouped_onto, IsIndex}
 use Rattle.group_eval.proofs.groups.groups_of.Given as goal
 
 abbrev pub invariant-loop-pick : goal.invariant-loop-pick
-invariant-loop-pick l = record {
-  picks : (v : List Value) → listed l.map v ++ filter (is_under l.places v) (drop l.pick-index l.picks) ≡ filter (is_under l.places v) l.picks;
-  firsts : map (key_of l.places) l.firsts ++ unlisted l.map (distinct (map (key_of l.places) (drop l.pick-index l.picks)))
-      ≡ distinct (map (key_of l.places) l.picks);
-}
+invariant-loop-pick l = IsIndex l.numbers l.made.items × (grouped_onto l.places l.made.items (drop l.pick-index l.picks) ≡ grouped_onto l.places [] l.picks)

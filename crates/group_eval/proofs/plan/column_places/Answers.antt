@@ -1,4 +1,4 @@
-use Rattle.std.proofs.Common.{◌≡◌, ◌+◌, ◌++◌, ◌∷◌, [], List, ℕ, drop, take, ap, ◌∙◌, sym}
+use Rattle.std.proofs.Common.{◌≡◌, ◌+◌, ◌++◌, ◌∷◌, List, ℕ, drop, take, ap, ◌∙◌, sym}
 use Rattle.group_eval.specs.Types.{ColumnName}
 use Rattle.sql_model.specs.Scope.{places_in, place_of}
 use Rattle.core_parts.proofs.Lists.{drop-step, moved-one}

@@ -1,4 +1,4 @@
-use Rattle.std.proofs.Common.{map, drop, List, ℕ, [], subst}
+use Rattle.std.proofs.Common.{map, drop, List, ℕ, subst}
 use Rattle.lineage.specs.declared.answer.Pick.{Pick}
 use Rattle.group_eval.proofs.SettleLaws.{settled_is}
 use Rattle.group_eval.specs.Settling.{SettlesTo}

@@ -3,5 +3,5 @@ use Rattle.std.specs.Prelude.{replicate}
 use Rattle.reach.specs.Incoming.{no_edges}
 use Rattle.reach.proofs.incoming.empty_lists.Given as goal
 
-abbrev pub invariant-loop-place : goal.invariant-loop-place
-invariant-loop-place l = l.lists.items ≡ replicate l._place no_edges
+abbrev pub invariant-loop-count : goal.invariant-loop-count
+invariant-loop-count l = l.lists.items ≡ replicate l.count-index no_edges

@@ -1,7 +1,15 @@
-use Rattle.std.proofs.Common.{◌≡◌, drop}
-use Rattle.ldv_value.specs.Scan.{before}
-use Rattle.sql_model.specs.Tokens.{tokens_from, tokens_of}
+use Rattle.std.proofs.Common.{◌≡◌, ◌≤◌, ◌<◌, ◌-◌, length, get_or, false}
+use Rattle.sql_model.specs.declared.reading.LexState.TheVariants.{Between}
+use Rattle.sql_model.specs.TextBytes.{is_blank}
+use Rattle.sql_parse.specs.Lexing.{given_from, given_of, tokens_at}
 use Rattle.sql_parse.proofs.scan.tokens.Given as goal
 
-abbrev pub invariant-loop-b : goal.invariant-loop-b
-invariant-loop-b l = before l.tokens (tokens_from (drop l.b-index l.text) l.place) ≡ tokens_of l.text
+abbrev pub invariant-lexemes : goal.invariant-lexemes
+invariant-lexemes l = record {
+  within : l.at ≤ length l.text;
+  full : l.at < length l.text → is_blank (get_or l.text l.at 0) ≡ false;
+  read : given_from l.params l.tokens l.place (tokens_at l.text l.at Between) ≡ given_of l.text l.params;
+}
+
+abbrev pub decreases-lexemes : goal.decreases-lexemes
+decreases-lexemes l = length l.text - l.at
