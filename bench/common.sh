@@ -12,3 +12,13 @@ trap 'exit 1' HUP INT TERM
 if [ -z "${LDV:-}" ]; then
     printf '{"start":["main"],"files":{"main":"exit 0"}}' | "$here/../ldv" run >"$work/out"
 fi
+
+# usage: aim BENCH LINE VALUE; what is aimed at, or a dash. aims.py has it.
+aim() {
+    python3 "$here/aims.py" "$1" "$2" "$3" "$work/aims"
+}
+
+# How many aims of the lines above are missed.
+count_aims() {
+    python3 "$here/aims.py" --count "$work/aims"
+}

@@ -9,7 +9,8 @@ for it is the load. Beside it a child process loads the same rows into a databas
 the same statements and takes all their rows. Foreign keys are on in both. A case is refused where the two
 didn't find as many rows with the same sum, or didn't refuse as many statements.
 
-Seconds are the least and MiB the greatest of some runs. `load` is in `all` for both.
+Seconds are the least and MiB the greatest of some runs. `load` is in `all` for both. The aim is of `asked`, as
+aims.py has it, and the last line says how many aims are missed.
 """
 import argparse
 import json
@@ -18,6 +19,8 @@ import sqlite3
 import subprocess
 import sys
 import time
+
+import aims
 
 SIZES = [1000, 10000, 100000, 1000000]
 RUNS = 3
@@ -309,22 +312,24 @@ def ratio(a, b):
     return a / max(b, 0.001)
 
 
-def show(case, size, ours, theirs):
+def show(case, size, ours, theirs, tally):
     total, load_time, memory, load_memory, found = ours
     their_total, their_load, their_memory, their_found = theirs
     if found != their_found:
         sys.exit(f'engine: {case} {size}: ldv found {found}, sqlite3 {their_found}')
     asked, their_asked = max(total - load_time, 0.0), their_total - their_load
+    of_asked = ratio(asked, their_asked)
+    aimed = aims.noted('engine', f'{case} {size}', of_asked, tally)
     print(f'{case:12s} {size:8d} {total:8.3f} {load_time:8.3f} {asked:8.3f} {memory:8.1f} {load_memory:8.1f}'
           f' {their_total:8.3f} {their_load:8.3f} {their_asked:8.3f} {their_memory:8.1f}'
-          f' {ratio(total, their_total):7.2f} {ratio(asked, their_asked):7.2f}', flush=True)
+          f' {ratio(total, their_total):7.2f} {of_asked:7.2f} {aimed:>6s}', flush=True)
 
 
 HEAD = (f'{"":12s} {"":8s} {"ldv":>8s} {"":8s} {"":8s} {"":8s} {"":8s} {"sqlite3":>8s} {"":8s} {"":8s} '
         f'{"":8s}'
         f' {"ratio":>7s}\n'
         f'{"case":12s} {"rows":>8s} {"all":>8s} {"load":>8s} {"asked":>8s} {"MiB":>8s} {"of load":>8s}'
-        f' {"all":>8s} {"load":>8s} {"asked":>8s} {"MiB":>8s} {"all":>7s} {"asked":>7s}')
+        f' {"all":>8s} {"load":>8s} {"asked":>8s} {"MiB":>8s} {"all":>7s} {"asked":>7s} {"aim":>6s}')
 
 
 def arguments(words):
@@ -344,11 +349,13 @@ def main(words):
         return
     given = arguments(words)
     print(HEAD)
+    tally = os.path.join(given.folder, 'aims')
     for case in given.cases.split(','):
         for size in map(int, given.sizes.split(',')):
             ours = measure_ldv(given.ldv, given.folder, case, size, given.runs)
             theirs = ours and measure_sqlite(given.folder, case, size, given.runs)
-            show(case, size, ours, theirs)
+            show(case, size, ours, theirs, tally)
+    print(aims.count(tally))
 
 
 if __name__ == '__main__':

@@ -3,7 +3,7 @@
 #
 #   depends  `inspect depends out` of runs with 1,000 to 1,000,000 events, in three forms: each event has another file
 #            (files), all have the same (one), each changes a row (rows). The microseconds for each event are to stay
-#            about the same
+#            about the same; of a million that change rows at most 4.5 are aimed at, and 16 times the bytes in memory
 #   table    `table t STEP` of packages of runs over 1,000 to 1,000,000 rows at the first, the middle and the last step,
 #            as a multiple of `replay` of the same package. At most 1.1 is aimed at
 #   prov     `prov` of the same runs, and `prov depends out` of what it wrote where that isn't longer than an input may
@@ -42,18 +42,21 @@ record() {
 }
 
 depends() {
-    printf '%-6s %9s %9s %10s %9s %9s %12s %9s\n' run events steps bytes-in seconds MiB us/event lines
+    printf '%-6s %9s %9s %10s %9s %9s %9s %6s %9s %6s %9s\n' run events steps bytes-in seconds MiB us/event aim of-bytes \
+        aim lines
     for name in files one rows; do
         for size in $sizes; do
             record "$name" "$size"
             measure "$work/package" "$work/report" "$ldv" inspect depends out
-            awk -v name="$name" -v events="$events" -v steps="$steps" -v bytes="$(wc -c <"$work/package")" \
-                -v s="$seconds" -v m="$memory" -v lines="$(wc -l <"$work/report")" 'BEGIN {
-                printf "%-6s %9d %9d %10d %9.3f %9.1f %12.3f %9d\n", name, events, steps, bytes, s, m,
-                    s * 1000000 / events, lines
-            }'
+            bytes=$(wc -c <"$work/package")
+            each=$(awk -v s="$seconds" -v events="$events" 'BEGIN { printf "%.3f", s * 1000000 / events }')
+            of=$(awk -v m="$memory" -v bytes="$bytes" 'BEGIN { printf "%.2f", m * 1048576 / bytes }')
+            printf '%-6s %9d %9d %10d %9.3f %9.1f %9s %6s %9s %6s %9d\n' "$name" "$events" "$steps" "$bytes" "$seconds" \
+                "$memory" "$each" "$(aim 'depends us' "$name $size" "$each")" "$of" \
+                "$(aim 'depends MiB' "$name $size" "$of")" "$(wc -l <"$work/report")"
         done
     done
+    count_aims
 }
 
 # usage: show_prov COMMAND; a line of the table, of the document in the work folder.

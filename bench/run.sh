@@ -21,12 +21,14 @@ make() {
     python_seconds=
 }
 
-# usage: show PROGRAM TOOK; a line of the table, with the seconds as a multiple of those of Python.
+# usage: show PROGRAM TOOK; a line of the table, with the seconds as a multiple of those of Python, and the aim.
 show() {
-    awk -v program="$1" -v what="$what" -v steps="$steps" -v s="${2% *}" -v m="${2#* }" -v of="$python_seconds" 'BEGIN {
+    of=$(awk -v s="${2% *}" -v of="$python_seconds" 'BEGIN { if (of != "") printf "%.2f", s / (of == 0 ? 0.001 : of) }')
+    aimed=
+    [ -z "$of" ] || aimed=$(aim run "$what" "$of")
+    awk -v program="$1" -v what="$what" -v steps="$steps" -v s="${2% *}" -v m="${2#* }" -v of="$of" -v aimed="$aimed" 'BEGIN {
         if (s == 0) s = 0.001
-        ratio = (of == "") ? "" : sprintf("%.2f", s / (of == 0 ? 0.001 : of))
-        printf "%-25s %-18s %9d %9.3f %9.1f %11.0f %10s\n", what, program, steps, s, m, steps / s, ratio
+        printf "%-25s %-18s %9d %9.3f %9.1f %11.0f %10s %6s\n", what, program, steps, s, m, steps / s, of, aimed
     }'
 }
 
@@ -85,7 +87,8 @@ run() {
     esac
 }
 
-printf '%-25s %-18s %9s %9s %9s %11s %10s\n' run program steps seconds MiB steps/s of-python
+printf '%-25s %-18s %9s %9s %9s %11s %10s %6s\n' run program steps seconds MiB steps/s of-python aim
 for name in ${ONLY:-loop inserts lines processes report}; do
     run "$name"
 done
+count_aims

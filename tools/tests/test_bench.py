@@ -1,4 +1,4 @@
-"""bench/refused.py and bench/hostile.py, with answers that are given to them."""
+"""The benches, with answers and programs that are given to them."""
 import collections
 import os
 import random
@@ -21,6 +21,7 @@ from .support import EXAMPLES, ROOT, InFolder, command, read, tool
 from .test_documents import INSTRUCTIONS
 
 sys.path.append(os.path.join(ROOT, "bench"))
+import aims                                                                  # noqa: E402
 import hostile                                                               # noqa: E402
 import hostile_documents                                                     # noqa: E402
 import hostile_joins                                                         # noqa: E402
@@ -142,6 +143,46 @@ class Comparison(InFolder):
         self.assertEqual((status, err), (1, b"compare: union: the two programs wrote other bytes\n"))
         status, _, err = self.compared(same, self.program("failing", "exit 7"))
         self.assertEqual((status, err), (1, f"compare: {self.folder}/failing run ended with 7\n".encode()))
+
+
+class Aims(InFolder):
+    """What the benches aim at."""
+
+    def test_aims(self):
+        """A value meets its aim by its two decimals, and the last line counts those that don't."""
+        tally = os.path.join(self.folder, "aims")
+        self.assertEqual(aims.count(tally), "no line has an aim")
+        self.assertEqual(aims.noted("run", "loop 3000000", 1.004, tally), "1.00")
+        self.assertEqual(aims.noted("run", "loop 30", 9.0, tally), "-")
+        self.assertEqual(aims.count(tally), "aims missed: 0 of 1")
+        self.assertEqual(aims.noted("hard", "group text last", 2.01, tally), "2.00")
+        self.assertEqual(aims.noted("depends us", "rows 1000000", 4.51, tally), "4.50")
+        self.assertEqual(aims.count(tally), "aims missed: 2 of 3")
+
+    def test_words(self):
+        words = [sys.executable, os.path.join(ROOT, "bench/aims.py")]
+        tally = os.path.join(self.folder, "aims")
+        self.assertEqual(command([*words, "engine", "union 1000000", "2.5", tally]), (0, b"2.00\n", b""))
+        self.assertEqual(command([*words, "--count", tally]), (0, b"aims missed: 1 of 1\n", b""))
+        self.assertEqual(command([*words, "engine"])[:2], (1, b""))
+
+    def test_hard_values(self):
+        """Each case of hard.py is asked over each form of values, and a program that fails is said."""
+        program = self.put("program", "#!/bin/sh\ncat > /dev/null\n")
+        os.chmod(program, 0o755)
+        words = [sys.executable, os.path.join(ROOT, "bench/hard.py"), program, self.folder,
+                 "--size", "10", "--runs", "1"]
+        status, out, err = command(words)
+        self.assertEqual((status, err), (0, b""))
+        rows = [line.split()[:3] for line in out.decode().splitlines()]
+        forms = {"number": ["usual", "falling", "equal"], "text": ["usual", "falling", "equal", "last"]}
+        asked = [[case, kind, form] for case in ("group", "distinct", "union", "order", "join", "update", "insert")
+                 for kind, those in forms.items() for form in those
+                 if form != "equal" or case not in ("join", "insert")]
+        self.assertEqual(rows[1:-1], asked)
+        self.assertEqual(rows[-1][:2], ["aims", "missed:"])
+        self.put("program", "#!/bin/sh\ncat > /dev/null\nexit 7\n")
+        self.assertEqual(command([*words, "--cases", "join"])[0], 1)
 
 
 class FakeCalls:
