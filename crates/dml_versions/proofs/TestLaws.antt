@@ -74,7 +74,7 @@ tests-are expr places columns conds masks are found = record {
 
 -- what holds of the value of an option, at that value
 pub value-is : {X : Type 0} (o : Option X) (x : X) (P : X → Type 0) → o ≡ Some x → IfSome o P → P x
-value-is o x P is holds = subst (λ (p : Option X). IfSome p P) is holds
+value-is {X = X} o x P is holds = subst (λ (p : Option X). IfSome p P) is holds
 
 from-first : (masks : List Mask) (row : List Value) → passes_all masks row ≡ passes_at 0 masks row
 from-first [] row = refl

@@ -29,8 +29,8 @@ returns-in-None-clause-exact c =
     (λ made not is. absurd (true≢false (sym is ∙ not)))
     c.some_tests.ensures.exact
 
-pub returns-in-Some-clause-tests : goal.returns-in-Some-clause-tests
-returns-in-Some-clause-tests c =
+pub returns-clause-tests : goal.returns-clause-tests
+returns-clause-tests c =
     let expr = c.args.expr.now in
     let places = c.args.places.now in
     let columns = c.args.columns.now in
@@ -44,8 +44,8 @@ returns-in-Some-clause-tests c =
     (λ made is. subst (AreTests (Some expr) places columns) (sym (is ∙ ap (map column_test) c.as_slice.ensures.value)) (exact-tests expr places columns c.in_ok-conds.conds masks c.in_ok-conds.ensures exact))
     c.exact_tests.ensures
 
-pub returns-in-Some-clause-exact : goal.returns-in-Some-clause-exact
-returns-in-Some-clause-exact c =
+pub returns-clause-exact : goal.returns-clause-exact
+returns-clause-exact c =
     let expr = c.args.expr.now in
     let places = c.args.places.now in
     let columns = c.args.columns.now in
