@@ -279,11 +279,11 @@ same_joined bytes h =
 
 -- ---- the runs of what was read
 
-so_spelled : (b : Bool) (p q : RunJoined) → cond b (Some p) None ≡ Some q → p ≡ q
+pub so_spelled : (b : Bool) (p q : RunJoined) → cond b (Some p) None ≡ Some q → p ≡ q
 so_spelled true p q e = same-some p q e
 so_spelled false p q e = absurd cc
 
-if_tested : (t : Bool) (o : Option RunJoined) (p : RunJoined) → cond t o None ≡ Some p → (t ≡ true) × (o ≡ Some p)
+pub if_tested : (t : Bool) (o : Option RunJoined) (p : RunJoined) → cond t o None ≡ Some p → (t ≡ true) × (o ≡ Some p)
 if_tested true o p e = (refl, e)
 if_tested false o p e = absurd cc
 

@@ -1,6 +1,6 @@
 //! From bytes to joined packages.
 
-ghost use Rattle.std.specs.Prelude.{◌≡◌, ◌↔◌, true, false, Err, IfOk, IfSome};
+ghost use Rattle.std.specs.Prelude.{◌≡◌, ◌↔◌, [], true, false, Err, IfOk, IfSome};
 ghost use Rattle.std.specs.List.{AllByRecursion};
 ghost use Rattle.package_layout.specs.Runs.{are_runs};
 ghost use Rattle.package_layout.specs.Valid.{HasDigest, has_digest};
@@ -44,6 +44,8 @@ pub fn read_cuts(alloc: Global, bytes: &[u8]) -> Result<RunJoined, PackageStop>
     ensures found { IfOk result (λ r. IsJoinedRead bytes.now (whole_joined r)) }
     // The numbers of its tables are those of their types.
     ensures typed { IfOk result (λ r. AllByRecursion TypedCommonTable r.tables) }
+    // No events stand beside the runs.
+    ensures bare { IfOk result (λ r. (r.first.bare.events ≡ []) × (r.second.bare.events ≡ [])) }
     ensures reading { CutsReadAs result (joined_reading bytes.now) }
 {
     cuts_answer(alloc, bytes)
@@ -109,6 +111,7 @@ fn cuts_answer(alloc: Global, bytes: &[u8]) -> Result<RunJoined, PackageStop>
     ensures first { IfOk result (λ r. are_runs r.first.runs ≡ true) }
     ensures second { IfOk result (λ r. are_runs r.second.runs ≡ true) }
     ensures typed { IfOk result (λ r. AllByRecursion TypedCommonTable r.tables) }
+    ensures bare { IfOk result (λ r. (r.first.bare.events ≡ []) × (r.second.bare.events ≡ [])) }
 {
     if has_joined_magic(bytes) {
         digested_answer(alloc, bytes)
@@ -129,6 +132,7 @@ fn digested_answer(alloc: Global, bytes: &[u8]) -> Result<RunJoined, PackageStop
     ensures first { IfOk result (λ r. are_runs r.first.runs ≡ true) }
     ensures second { IfOk result (λ r. are_runs r.second.runs ≡ true) }
     ensures typed { IfOk result (λ r. AllByRecursion TypedCommonTable r.tables) }
+    ensures bare { IfOk result (λ r. (r.first.bare.events ≡ []) × (r.second.bare.events ≡ [])) }
 {
     if has_digest(bytes) {
         middle_answer(alloc, bytes)
@@ -143,6 +147,7 @@ fn middle_answer(alloc: Global, bytes: &[u8]) -> Result<RunJoined, PackageStop>
     ensures first { IfOk result (λ r. are_runs r.first.runs ≡ true) }
     ensures second { IfOk result (λ r. are_runs r.second.runs ≡ true) }
     ensures typed { IfOk result (λ r. AllByRecursion TypedCommonTable r.tables) }
+    ensures bare { IfOk result (λ r. (r.first.bare.events ≡ []) × (r.second.bare.events ≡ [])) }
 {
     match cuts_in(alloc, middle(bytes)) {
         Ok(joined) => Ok(joined),
