@@ -10,7 +10,7 @@ pub returns-then-is_null : goal.returns-then-is_null
 returns-then-is_null c = λ n.
     let cells = c.args.ints.now.items in
     let mask = c.args.mask.now in
-    c.and_into.ensures n ∙ nulls_kept cells mask c.nulls.result.now c.nulls.ensures.bits c.requires.clear n
+    c.and_into.ensures n ∙ nulls_kept cells mask c.nulls.result.now mask c.nulls.ensures.bits c.requires.clear n
     ∙ (λ j. member mask n && null_passes (sym c.if-is_null.true j) (int_value (get_or cells n None)))
 
 pub returns-else-is_null : goal.returns-else-is_null
