@@ -51,16 +51,10 @@ impl NameTable {
         self.names.len()
     }
 
-    /// No name is there twice.
-    pub fn know_distinct(&self)
-        ensures { Distinct self.now }
-    {
-        let _names = &self.names;
-    }
-
-    /// The slot of a name, or that it isn't there.
+    /// The slot of a name, or `None` where it isn't there. No name is there twice.
     pub fn find(&self, name: &Utf8) -> Option<usize>
-        ensures { IsFound self.now name.now result }
+        ensures found { IsFound self.now name.now result }
+        ensures distinct { Distinct self.now }
     {
         slot_in(&self.slots, name)
     }
