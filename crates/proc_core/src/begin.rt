@@ -52,7 +52,6 @@ fn bind_first(names: &NameTable, name: &Utf8, value: Value, slots: &mut Values)
     ensures { (bs : Items (Binding Value)) → slots.old ≡ map (value_held bs) names.now
         → slots.new ≡ map (value_held (record { name = name.now; bound = value } ∷ bs)) names.now }
 {
-    names.know_distinct();
     match names.find(name) {
         None => {}
         Some(slot) => {

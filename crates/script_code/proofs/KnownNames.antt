@@ -1,76 +1,199 @@
--- Names that stay as others are added.
-use Rattle.std.proofs.Common.{◌≡◌, ℕ, List, [], ◌∷◌, sym, subst}
+-- Names that keep their slots as others are added.
+use Rattle.std.proofs.Common.{◌≡◌, ℕ, List, [], ◌∷◌, map, refl, sym, ap, ◌∙◌, subst}
 use Rattle.script_parse.specs.declared.script.Instr.TheVariants as instr
 use Rattle.script_parse.specs.declared.script.Operand.TheVariants as operand
 use Rattle.script_parse.specs.declared.script.Instr.{Instr}
 use Rattle.script_parse.specs.declared.script.Operand.{Operand}
 use Rattle.script_code.specs.declared.code.Scope.{Scope}
-use Rattle.script_code.specs.Resolved.{HasName, HasNames, HasOperand, HasOperands, HasAll, HasEvery, Keeps, KeepsAll}
+use Rattle.script_code.specs.declared.code.SlotInstr.{SlotInstr}
+use Rattle.script_code.specs.declared.code.SlotInstr.TheVariants.{Own, OnFiles, Spawn, Wait, Sql}
+use Rattle.script_code.specs.declared.code.OwnInstr.TheVariants as own
+use Rattle.script_code.specs.declared.code.FileInstr.TheVariants as on_files
+use Rattle.script_code.specs.declared.code.SlotOperand.{SlotOperand}
+use Rattle.script_code.specs.declared.code.SlotOperand.TheVariants.{Slot}
+use Rattle.script_code.specs.Resolved.{Distinct, slot_of, slot_operand, slot_instr, HasName, HasNames, HasOperand, HasOperands, HasAll, Keeps, KeepsAll}
+use Rattle.script_code.specs.Resolved.{IsSlot, AreSlots, IsOperand, IsOperands, Resolves, IsScope}
+
+-- ---- tables
+
+pub keeps_same : (names new : List (List ℕ)) → new ≡ names → Keeps names new
+keeps_same names new same = record {
+  at = λ name slot is. subst (λ (ns : List (List ℕ)). IsSlot ns name slot) (sym same) is;
+  distinct = λ once. subst Distinct (sym same) once;
+}
+
+pub keeps_itself : (names : List (List ℕ)) → Keeps names names
+keeps_itself names = record { at = λ name slot is. is; distinct = λ once. once }
+
+pub distinct_none : (names : List (List ℕ)) → names ≡ [] → Distinct names
+distinct_none names none = subst Distinct (sym none) tt
 
 module _ (a b : List (List ℕ)) where
-  pub kept_name : (name : List ℕ) → Keeps a b → HasName a name → HasName b name
-  kept_name name keeps has = keeps.has name has
-
-  pub kept_operand : (o : Operand) → Keeps a b → HasOperand a o → HasOperand b o
-  kept_operand (operand.Constant v) keeps has = tt
-  kept_operand (operand.Variable name) keeps has = keeps.has name has
-
-  pub kept_operands : (os : List Operand) → Keeps a b → HasOperands a os → HasOperands b os
-  kept_operands [] keeps has = tt
-  kept_operands (o ∷ os) keeps has = (kept_operand o keeps has.0, kept_operands os keeps has.1)
-
-  pub kept_names : (ns : List (List ℕ)) → Keeps a b → HasNames a ns → HasNames b ns
-  kept_names [] keeps has = tt
-  kept_names (n ∷ ns) keeps has = (keeps.has n has.0, kept_names ns keeps has.1)
+  pub kept_distinct : Keeps a b → Distinct a → Distinct b
+  kept_distinct keeps distinct = keeps.distinct distinct
 
   pub keeps_on : (c : List (List ℕ)) → Keeps a b → Keeps b c → Keeps a c
-  keeps_on c first second = record { has = λ name has. second.has name (first.has name has) }
+  keeps_on c first second = record {
+    at = λ name slot is. second.at name slot (first.at name slot is);
+    distinct = λ once. second.distinct (first.distinct once);
+  }
 
-pub keeps_itself : (a : List (List ℕ)) → Keeps a a
-keeps_itself a = record { has = λ name has. has }
+  pub kept_slot : (name : List ℕ) (slot : ℕ) → Keeps a b → IsSlot a name slot → IsSlot b name slot
+  kept_slot name slot keeps is = keeps.at name slot is
+
+  same_slot : (name : List ℕ) → Keeps a b → HasName a name → slot_of a name ≡ slot_of b name
+  same_slot name keeps has = (keeps.at name (slot_of a name) (refl, has)).0
+
+  pub kept_name : (name : List ℕ) → Keeps a b → HasName a name → HasName b name
+  kept_name name keeps has = (keeps.at name (slot_of a name) (refl, has)).1
+
+  -- ---- operands
+
+  same_operand : (o : Operand) → Keeps a b → HasOperand a o → slot_operand a o ≡ slot_operand b o
+  same_operand (operand.Constant v) keeps has = refl
+  same_operand (operand.Variable name) keeps has = λ j. Slot (same_slot name keeps has j)
+
+  has_operand : (o : Operand) → Keeps a b → HasOperand a o → HasOperand b o
+  has_operand (operand.Constant v) keeps has = tt
+  has_operand (operand.Variable name) keeps has = kept_name name keeps has
+
+  pub kept_operand : (o : Operand) (slotted : SlotOperand) → Keeps a b → IsOperand a o slotted → IsOperand b o slotted
+  kept_operand o slotted keeps is = (is.0 ∙ same_operand o keeps is.1, has_operand o keeps is.1)
+
+  same_operands : (os : List Operand) → Keeps a b → HasOperands a os → map (slot_operand a) os ≡ map (slot_operand b) os
+  same_operands [] keeps has = refl
+  same_operands (o ∷ os) keeps has = λ j. same_operand o keeps has.0 j ∷ same_operands os keeps has.1 j
+
+  has_operands : (os : List Operand) → Keeps a b → HasOperands a os → HasOperands b os
+  has_operands [] keeps has = tt
+  has_operands (o ∷ os) keeps has = (has_operand o keeps has.0, has_operands os keeps has.1)
+
+  pub kept_operands : (os : List Operand) (slotted : List SlotOperand) → Keeps a b → IsOperands a os slotted → IsOperands b os slotted
+  kept_operands os slotted keeps is = (is.0 ∙ same_operands os keeps is.1, has_operands os keeps is.1)
+
+  -- ---- names
+
+  same_names : (ns : List (List ℕ)) → Keeps a b → HasNames a ns → map (slot_of a) ns ≡ map (slot_of b) ns
+  same_names [] keeps has = refl
+  same_names (n ∷ ns) keeps has = λ j. same_slot n keeps has.0 j ∷ same_names ns keeps has.1 j
+
+  has_names : (ns : List (List ℕ)) → Keeps a b → HasNames a ns → HasNames b ns
+  has_names [] keeps has = tt
+  has_names (n ∷ ns) keeps has = (kept_name n keeps has.0, has_names ns keeps has.1)
+
+  pub kept_slots : (ns : List (List ℕ)) (slots : List ℕ) → Keeps a b → AreSlots a ns slots → AreSlots b ns slots
+  kept_slots ns slots keeps are = record { same = are.same ∙ same_names ns keeps are.has; has = has_names ns keeps are.has }
 
 -- ---- scopes
 
-module _ (s t : Scope) where
-  kept_all : (i : Instr) → KeepsAll s t → HasAll s i → HasAll t i
-  kept_all (instr.Let to value) k h = (k.variables.has to h.0, kept_operand s.variables t.variables value k.variables h.1)
-  kept_all (instr.Calc to op left right) k h =
-      (k.variables.has to h.0, kept_operand s.variables t.variables left k.variables h.1, kept_operand s.variables t.variables right k.variables h.2)
-  kept_all (instr.Glue to left right) k h =
-      (k.variables.has to h.0, kept_operand s.variables t.variables left k.variables h.1, kept_operand s.variables t.variables right k.variables h.2)
-  kept_all (instr.ToInt to value) k h = (k.variables.has to h.0, kept_operand s.variables t.variables value k.variables h.1)
-  kept_all (instr.Cut before after by) k h =
-      (k.variables.has before h.0, k.variables.has after h.1, kept_operand s.variables t.variables by k.variables h.2)
-  kept_all (instr.Jump place) k h = tt
-  kept_all (instr.JumpIf op left right place) k h =
-      (kept_operand s.variables t.variables left k.variables h.0, kept_operand s.variables t.variables right k.variables h.1)
-  kept_all (instr.Print operands) k h = kept_operands s.variables t.variables operands k.variables h
-  kept_all (instr.Exit status) k h = kept_operand s.variables t.variables status k.variables h
-  kept_all (instr.OpenPath file mode path place) k h = (k.files.has file h.0, kept_operand s.variables t.variables path k.variables h.1)
-  kept_all (instr.ReadLine to file place) k h = (k.variables.has to h.0, k.files.has file h.1)
-  kept_all (instr.WriteLine file operands) k h = (k.files.has file h.0, kept_operands s.variables t.variables operands k.variables h.1)
-  kept_all (instr.CopyRest source target) k h = (k.files.has source h.0, k.files.has target h.1)
-  kept_all (instr.Close file) k h = k.files.has file h
-  kept_all (instr.Remove path place) k h = kept_operand s.variables t.variables path k.variables h
-  kept_all (instr.Exists to path) k h = (k.variables.has to h.0, kept_operand s.variables t.variables path k.variables h.1)
-  kept_all (instr.Spawn child path arguments place) k h =
-      (k.children.has child h.0, kept_operand s.variables t.variables path k.variables h.1, kept_operands s.variables t.variables arguments k.variables h.2)
-  kept_all (instr.Wait to child) k h = (k.variables.has to h.0, k.children.has child h.1)
-  kept_all (instr.Sql cursor text params) k h =
-      (k.cursors.has cursor h.0, kept_operand s.variables t.variables text k.variables h.1, kept_operands s.variables t.variables params k.variables h.2)
-  kept_all (instr.Fetch cursor to place) k h = (k.cursors.has cursor h.0, kept_names s.variables t.variables to k.variables h.1)
-  kept_all (instr.Count to cursor) k h = (k.variables.has to h.0, k.cursors.has cursor h.1)
-  kept_all (instr.Status to cursor) k h = (k.variables.has to h.0, k.cursors.has cursor h.1)
+module _ (s t : Scope) (k : KeepsAll s t) where
+  variable_same : (n : List ℕ) → HasName s.variables n → slot_of s.variables n ≡ slot_of t.variables n
+  variable_same n h = same_slot s.variables t.variables n k.variables h
 
-  keeps_all_on : (u : Scope) → KeepsAll s t → KeepsAll t u → KeepsAll s u
-  keeps_all_on u first second = record {
-    variables = keeps_on s.variables t.variables u.variables first.variables second.variables;
-    files = keeps_on s.files t.files u.files first.files second.files;
-    cursors = keeps_on s.cursors t.cursors u.cursors first.cursors second.cursors;
-    children = keeps_on s.children t.children u.children first.children second.children;
+  file_same : (n : List ℕ) → HasName s.files n → slot_of s.files n ≡ slot_of t.files n
+  file_same n h = same_slot s.files t.files n k.files h
+
+  cursor_same : (n : List ℕ) → HasName s.cursors n → slot_of s.cursors n ≡ slot_of t.cursors n
+  cursor_same n h = same_slot s.cursors t.cursors n k.cursors h
+
+  child_same : (n : List ℕ) → HasName s.children n → slot_of s.children n ≡ slot_of t.children n
+  child_same n h = same_slot s.children t.children n k.children h
+
+  operand_same : (o : Operand) → HasOperand s.variables o → slot_operand s.variables o ≡ slot_operand t.variables o
+  operand_same o h = same_operand s.variables t.variables o k.variables h
+
+  operands_same : (os : List Operand) → HasOperands s.variables os → map (slot_operand s.variables) os ≡ map (slot_operand t.variables) os
+  operands_same os h = same_operands s.variables t.variables os k.variables h
+
+  variables_same : (ns : List (List ℕ)) → HasNames s.variables ns → map (slot_of s.variables) ns ≡ map (slot_of t.variables) ns
+  variables_same ns h = same_names s.variables t.variables ns k.variables h
+
+  same_instr : (i : Instr) → HasAll s i → slot_instr s i ≡ slot_instr t i
+  same_instr (instr.Let to value) h = λ j. Own (own.Let (variable_same to h.0 j) (operand_same value h.1 j))
+  same_instr (instr.Calc to o left right) h = λ j. Own (own.Calc (variable_same to h.0 j) o (operand_same left h.1 j) (operand_same right h.2 j))
+  same_instr (instr.Glue to left right) h = λ j. Own (own.Glue (variable_same to h.0 j) (operand_same left h.1 j) (operand_same right h.2 j))
+  same_instr (instr.ToInt to value) h = λ j. Own (own.ToInt (variable_same to h.0 j) (operand_same value h.1 j))
+  same_instr (instr.Cut before after by) h = λ j. Own (own.Cut (variable_same before h.0 j) (variable_same after h.1 j) (operand_same by h.2 j))
+  same_instr (instr.Jump place) h = refl
+  same_instr (instr.JumpIf o left right place) h = λ j. Own (own.JumpIf o (operand_same left h.0 j) (operand_same right h.1 j) place)
+  same_instr (instr.Print operands) h = λ j. Own (own.Print (operands_same operands h j))
+  same_instr (instr.Exit status) h = λ j. Own (own.Exit (operand_same status h j))
+  same_instr (instr.OpenPath file mode path place) h = λ j. OnFiles (on_files.OpenPath (file_same file h.0 j) mode (operand_same path h.1 j) place)
+  same_instr (instr.ReadLine to file place) h = λ j. OnFiles (on_files.ReadLine (variable_same to h.0 j) (file_same file h.1 j) place)
+  same_instr (instr.WriteLine file operands) h = λ j. OnFiles (on_files.WriteLine (file_same file h.0 j) (operands_same operands h.1 j))
+  same_instr (instr.CopyRest source target) h = λ j. OnFiles (on_files.CopyRest (file_same source h.0 j) (file_same target h.1 j))
+  same_instr (instr.Close file) h = λ j. Own (own.Close (file_same file h j))
+  same_instr (instr.Remove path place) h = λ j. OnFiles (on_files.Remove (operand_same path h j) place)
+  same_instr (instr.Exists to path) h = λ j. OnFiles (on_files.Exists (variable_same to h.0 j) (operand_same path h.1 j))
+  same_instr (instr.Spawn child path arguments place) h = λ j. Spawn (child_same child h.0 j) (operand_same path h.1 j) (operands_same arguments h.2 j) place
+  same_instr (instr.Wait to child) h = λ j. Wait (variable_same to h.0 j) (child_same child h.1 j)
+  same_instr (instr.Sql cursor text params) h = λ j. Sql (cursor_same cursor h.0 j) (operand_same text h.1 j) (operands_same params h.2 j)
+  same_instr (instr.Fetch cursor to place) h = λ j. Own (own.Fetch (cursor_same cursor h.0 j) (variables_same to h.1 j) place)
+  same_instr (instr.Count to cursor) h = λ j. Own (own.Count (variable_same to h.0 j) (cursor_same cursor h.1 j))
+  same_instr (instr.Status to cursor) h = λ j. Own (own.Status (variable_same to h.0 j) (cursor_same cursor h.1 j))
+
+  variable_kept : (n : List ℕ) → HasName s.variables n → HasName t.variables n
+  variable_kept n h = kept_name s.variables t.variables n k.variables h
+
+  file_kept : (n : List ℕ) → HasName s.files n → HasName t.files n
+  file_kept n h = kept_name s.files t.files n k.files h
+
+  cursor_kept : (n : List ℕ) → HasName s.cursors n → HasName t.cursors n
+  cursor_kept n h = kept_name s.cursors t.cursors n k.cursors h
+
+  child_kept : (n : List ℕ) → HasName s.children n → HasName t.children n
+  child_kept n h = kept_name s.children t.children n k.children h
+
+  operand_kept : (o : Operand) → HasOperand s.variables o → HasOperand t.variables o
+  operand_kept o h = has_operand s.variables t.variables o k.variables h
+
+  operands_kept : (os : List Operand) → HasOperands s.variables os → HasOperands t.variables os
+  operands_kept os h = has_operands s.variables t.variables os k.variables h
+
+  has_all : (i : Instr) → HasAll s i → HasAll t i
+  has_all (instr.Let to value) h = (variable_kept to h.0, operand_kept value h.1)
+  has_all (instr.Calc to o left right) h = (variable_kept to h.0, operand_kept left h.1, operand_kept right h.2)
+  has_all (instr.Glue to left right) h = (variable_kept to h.0, operand_kept left h.1, operand_kept right h.2)
+  has_all (instr.ToInt to value) h = (variable_kept to h.0, operand_kept value h.1)
+  has_all (instr.Cut before after by) h = (variable_kept before h.0, variable_kept after h.1, operand_kept by h.2)
+  has_all (instr.Jump place) h = tt
+  has_all (instr.JumpIf o left right place) h = (operand_kept left h.0, operand_kept right h.1)
+  has_all (instr.Print operands) h = operands_kept operands h
+  has_all (instr.Exit status) h = operand_kept status h
+  has_all (instr.OpenPath file mode path place) h = (file_kept file h.0, operand_kept path h.1)
+  has_all (instr.ReadLine to file place) h = (variable_kept to h.0, file_kept file h.1)
+  has_all (instr.WriteLine file operands) h = (file_kept file h.0, operands_kept operands h.1)
+  has_all (instr.CopyRest source target) h = (file_kept source h.0, file_kept target h.1)
+  has_all (instr.Close file) h = file_kept file h
+  has_all (instr.Remove path place) h = operand_kept path h
+  has_all (instr.Exists to path) h = (variable_kept to h.0, operand_kept path h.1)
+  has_all (instr.Spawn child path arguments place) h = (child_kept child h.0, operand_kept path h.1, operands_kept arguments h.2)
+  has_all (instr.Wait to child) h = (variable_kept to h.0, child_kept child h.1)
+  has_all (instr.Sql cursor text params) h = (cursor_kept cursor h.0, operand_kept text h.1, operands_kept params h.2)
+  has_all (instr.Fetch cursor to place) h = (cursor_kept cursor h.0, has_names s.variables t.variables to k.variables h.1)
+  has_all (instr.Count to cursor) h = (variable_kept to h.0, cursor_kept cursor h.1)
+  has_all (instr.Status to cursor) h = (variable_kept to h.0, cursor_kept cursor h.1)
+
+  pub kept_instr : (i : Instr) (slotted : SlotInstr) → Resolves s i slotted → Resolves t i slotted
+  kept_instr i slotted is = (is.0 ∙ same_instr i is.1, has_all i is.1)
+
+  pub kept_scope : IsScope s → IsScope t
+  kept_scope scope = record {
+    variables = k.variables.distinct scope.variables;
+    files = k.files.distinct scope.files;
+    cursors = k.cursors.distinct scope.cursors;
+    children = k.children.distinct scope.children;
   }
 
-keeps_all_itself : (s : Scope) → KeepsAll s s
+  pub keeps_all_on : (u : Scope) → KeepsAll t u → KeepsAll s u
+  keeps_all_on u second = record {
+    variables = keeps_on s.variables t.variables u.variables k.variables second.variables;
+    files = keeps_on s.files t.files u.files k.files second.files;
+    cursors = keeps_on s.cursors t.cursors u.cursors k.cursors second.cursors;
+    children = keeps_on s.children t.children u.children k.children second.children;
+  }
+
+pub keeps_all_itself : (s : Scope) → KeepsAll s s
 keeps_all_itself s = record {
   variables = keeps_itself s.variables;
   files = keeps_itself s.files;
@@ -78,52 +201,4 @@ keeps_all_itself s = record {
   children = keeps_itself s.children;
 }
 
--- ---- lists, item by item: where the rest is there too, all are
-
-abbrev pub OperandsKnown : List (List ℕ) → List Operand → List Operand → Type 0
-OperandsKnown names all rest = (more : List (List ℕ)) → Keeps names more → HasOperands more rest → HasOperands more all
-
-abbrev pub NamesKnown : List (List ℕ) → List (List ℕ) → List (List ℕ) → Type 0
-NamesKnown names all rest = (more : List (List ℕ)) → Keeps names more → HasNames more rest → HasNames more all
-
-abbrev pub InstrsKnown : Scope → List Instr → List Instr → Type 0
-InstrsKnown s all rest = (more : Scope) → KeepsAll s more → HasEvery more rest → HasEvery more all
-
-pub operand_known : (names new : List (List ℕ)) (all rest others : List Operand) (o : Operand) → rest ≡ o ∷ others → Keeps names new → HasOperand new o
-    → OperandsKnown names all rest → OperandsKnown new all others
-operand_known names new all rest others o first keeps has before = λ more on rests.
-    before more (keeps_on names new more keeps on) (subst (HasOperands more) (sym first) (kept_operand new more o on has, rests))
-
-pub operands_known : (names : List (List ℕ)) (all rest : List Operand) → rest ≡ [] → OperandsKnown names all rest → HasOperands names all
-operands_known names all rest none before = before names (keeps_itself names) (subst (HasOperands names) (sym none) tt)
-
-pub name_known : (names new all rest others : List (List ℕ)) (name : List ℕ) → rest ≡ name ∷ others → Keeps names new → HasName new name
-    → NamesKnown names all rest → NamesKnown new all others
-name_known names new all rest others name first keeps has before = λ more on rests.
-    before more (keeps_on names new more keeps on) (subst (HasNames more) (sym first) (on.has name has, rests))
-
-pub names_known : (names all rest : List (List ℕ)) → rest ≡ [] → NamesKnown names all rest → HasNames names all
-names_known names all rest none before = before names (keeps_itself names) (subst (HasNames names) (sym none) tt)
-
-pub instr_known : (s t : Scope) (all rest others : List Instr) (i : Instr) → rest ≡ i ∷ others → KeepsAll s t → HasAll t i
-    → InstrsKnown s all rest → InstrsKnown t all others
-instr_known s t all rest others i first keeps has before = λ more on rests.
-    before more (keeps_all_on s t more keeps on) (subst (HasEvery more) (sym first) (kept_all t more i on has, rests))
-
-pub instrs_known : (s : Scope) (all rest : List Instr) → rest ≡ [] → InstrsKnown s all rest → HasEvery s all
-instrs_known s all rest none before = before s (keeps_all_itself s) (subst (HasEvery s) (sym none) tt)
-
--- ---- what the first of the rest, and the others, have
-
-pub first_operand : (names : List (List ℕ)) (rest others : List Operand) (o : Operand) → rest ≡ o ∷ others → HasOperands names rest
-    → HasOperand names o × HasOperands names others
-first_operand names rest others o first has = subst (HasOperands names) first has
-
-pub first_name : (names rest others : List (List ℕ)) (name : List ℕ) → rest ≡ name ∷ others → HasNames names rest
-    → HasName names name × HasNames names others
-first_name names rest others name first has = subst (HasNames names) first has
-
-pub first_instr : (s : Scope) (rest others : List Instr) (i : Instr) → rest ≡ i ∷ others → HasEvery s rest → HasAll s i × HasEvery s others
-first_instr s rest others i first has = subst (HasEvery s) first has
-
-pub ruleset known_steps = (kept_name, kept_operand, kept_operands, kept_names, keeps_on)
+pub ruleset known_steps = (kept_name, kept_slot, kept_operand, kept_operands, kept_slots, keeps_on, keeps_same, kept_distinct)

@@ -11,7 +11,7 @@ use Rattle.std.proofs.lemmas.Map.Text.{btree_map_updates_text}
 use Rattle.ldv_value.proofs.Cases.{cases-bool}
 use Rattle.ldv_value.proofs.SameBytes.{bytes_eq-true, bytes_eq-itself, bytes_eq-other}
 use Rattle.ldv_value.proofs.Lists.{list_any-append}
-use Rattle.script_code.specs.Names.{slot_of, HasName, IsFound, IsNamed, Keeps}
+use Rattle.script_code.specs.Names.{Distinct, slot_of, HasName, IsSlot, IsFound, IsNamed, Keeps}
 use Rattle.script_code.proofs.SlotLists.{distinct_more}
 
 -- a test that fails the other way round
@@ -142,31 +142,22 @@ module _ (names new : List (List ℕ)) (name copy : List ℕ) (pushed : new ≡ 
   added_last : new ≡ names ++ name ∷ []
   added_last = pushed ∙ ap (λ (k : List ℕ). names ++ k ∷ []) same
 
-  pub has_added : list_any (bytes_eq name) names ≡ false → HasName new name
-  has_added none = subst (λ (ns : List (List ℕ)). HasName ns name) (sym added_last) (found_new names name none).1
+  pub slot_added : (slot : ℕ) → slot ≡ length names → list_any (bytes_eq name) names ≡ false → IsSlot new name slot
+  slot_added slot at none =
+      let added : IsSlot (names ++ name ∷ []) name (length names) = found_new names name none in
+      subst (λ (ns : List (List ℕ)). IsSlot ns name slot) (sym added_last)
+      (subst (λ (k : ℕ). IsSlot (names ++ name ∷ []) name k) (sym at) added)
 
-  has_before : (q : List ℕ) → HasName names q → HasName new q
-  has_before q has =
-      let stays : slot_of (names ++ name ∷ []) q ≡ slot_of names q = slot_stays names name q has in
+  slot_before : (q : List ℕ) (slot : ℕ) → IsSlot names q slot → IsSlot new q slot
+  slot_before q slot is =
+      let stays : slot_of (names ++ name ∷ []) q ≡ slot_of names q = slot_stays names name q is.1 in
       let long : length (names ++ name ∷ []) ≡ suc (length names) = longer names name in
-      subst (λ (ns : List (List ℕ)). HasName ns q) (sym added_last) (omega (arith, stays, long, has))
+      let within : slot_of names q < length names = is.1 in
+      let after : IsSlot (names ++ name ∷ []) q slot = (is.0 ∙ sym stays, omega (arith, stays, long, within)) in
+      subst (λ (ns : List (List ℕ)). IsSlot ns q slot) (sym added_last) after
 
-  pub keeps_before : Keeps names new
-  keeps_before = record { has = has_before }
-
-pub keeps_same : (names new : List (List ℕ)) → new ≡ names → Keeps names new
-keeps_same names new same = record { has = λ q has. subst (λ (ns : List (List ℕ)). HasName ns q) (sym same) has }
-
--- a name that is there is found
-not_absent_by : (names : List (List ℕ)) (name : List ℕ) → HasName names name → list_any (bytes_eq name) names ≡ false → ⊥
-not_absent_by [] name has none = absurd (omega (arith, has))
-not_absent_by (n ∷ ns) name has none = elim (cases-bool (bytes_eq name n)) [
-  | inl hit ↦ let no : true ≡ false = rw hit at none in absurd cc
-  | inr miss ↦
-      let rest : list_any (bytes_eq name) ns ≡ false = rw miss at none in
-      let more : suc (slot_of ns name) < length (n ∷ ns) = rw miss at has in
-      not_absent_by ns name (omega (arith, more)) rest
-]
-
-pub not_absent : (names : List (List ℕ)) (name : List ℕ) → HasName names name → list_any (bytes_eq name) names ≡ false → ⊥
-not_absent names name has none = not_absent_by names name has none
+  pub keeps_before : list_any (bytes_eq name) names ≡ false → Keeps names new
+  keeps_before none = record {
+    at = slot_before;
+    distinct = λ once. subst Distinct (sym added_last) (distinct_more names name once none);
+  }

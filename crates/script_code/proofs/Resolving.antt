@@ -1,4 +1,4 @@
--- Lists that are resolved item by item.
+-- Lists that are resolved item by item, as names are added.
 use Rattle.std.proofs.Common.{◌≡◌, ℕ, ◌≤◌, ◌-◌, List, [], ◌∷◌, ◌++◌, length, get_or, take, drop, refl, sym, ap, ◌∙◌, subst, append_assoc, arith}
 use Rattle.std.proofs.Math.Seq.{take-length}
 use Rattle.ldv_value.proofs.Lists.{append-nil}
@@ -7,48 +7,19 @@ use Rattle.script_parse.specs.declared.script.Operand.{Operand}
 use Rattle.script_code.specs.declared.code.Scope.{Scope}
 use Rattle.script_code.specs.declared.code.SlotInstr.{SlotInstr}
 use Rattle.script_code.specs.declared.code.SlotOperand.{SlotOperand}
-use Rattle.script_code.specs.Resolved.{Resolves, ResolvesAll, IsOperand, IsOperands, IsSlot, AreSlots}
+use Rattle.script_code.specs.Resolved.{Keeps, KeepsAll, Resolves, ResolvesAll, IsOperand, IsOperands, IsSlot, AreSlots}
+use Rattle.script_code.proofs.KnownNames.{keeps_itself, keeps_on, kept_operand, kept_slot, keeps_all_itself, keeps_all_on, kept_instr}
 
--- so far, with whatever the others become
-abbrev pub InstrsSo : Scope → List Instr → List Instr → List SlotInstr → Type 0
-InstrsSo s all rest so = (more : List SlotInstr) → ResolvesAll s rest more → ResolvesAll s all (so ++ more)
-
+-- so far, with whatever names are added and the others become
 abbrev pub OperandsSo : List (List ℕ) → List Operand → List Operand → List SlotOperand → Type 0
-OperandsSo names all rest so = (more : List SlotOperand) → IsOperands names rest more → IsOperands names all (so ++ more)
+OperandsSo names all rest so =
+    (later : List (List ℕ)) (more : List SlotOperand) → Keeps names later → IsOperands later rest more → IsOperands later all (so ++ more)
 
 abbrev pub SlotsSo : List (List ℕ) → List (List ℕ) → List (List ℕ) → List ℕ → Type 0
-SlotsSo names all rest so = (more : List ℕ) → AreSlots names rest more → AreSlots names all (so ++ more)
+SlotsSo names all rest so = (later : List (List ℕ)) (more : List ℕ) → Keeps names later → AreSlots later rest more → AreSlots later all (so ++ more)
 
-pub instr_step : (s : Scope) (i : Instr) (all is : List Instr) (o : SlotInstr) (so : List SlotInstr) → Resolves s i o
-    → InstrsSo s all (i ∷ is) so → InstrsSo s all is (so ++ o ∷ [])
-instr_step s i all is o so one before = λ more rest.
-    subst (ResolvesAll s all) (sym (append_assoc so (o ∷ []) more)) (before (o ∷ more) (one, rest))
-
-pub instr_end : (s : Scope) (all : List Instr) (so : List SlotInstr) → InstrsSo s all [] so → ResolvesAll s all so
-instr_end s all so before = subst (ResolvesAll s all) (append-nil so) (before [] tt)
-
-pub operand_step : (names : List (List ℕ)) (i : Operand) (all is : List Operand) (o : SlotOperand) (so : List SlotOperand) → IsOperand names i o
-    → OperandsSo names all (i ∷ is) so → OperandsSo names all is (so ++ o ∷ [])
-operand_step names i all is o so one before = λ more rest.
-    subst (IsOperands names all) (sym (append_assoc so (o ∷ []) more)) (before (o ∷ more) ((λ j. one.0 j ∷ rest.0 j), (one.1, rest.1)))
-
-pub operand_end : (names : List (List ℕ)) (all : List Operand) (so : List SlotOperand) → OperandsSo names all [] so → IsOperands names all so
-operand_end names all so before = subst (IsOperands names all) (append-nil so) (before [] (refl, tt))
-
-pub slot_step : (names : List (List ℕ)) (n : List ℕ) (all ns : List (List ℕ)) (o : ℕ) (so : List ℕ) → IsSlot names n o
-    → SlotsSo names all (n ∷ ns) so → SlotsSo names all ns (so ++ o ∷ [])
-slot_step names n all ns o so one before = λ more rest.
-    subst (AreSlots names all) (sym (append_assoc so (o ∷ []) more))
-    (before (o ∷ more) (record { same = λ j. one.0 j ∷ rest.same j; has = (one.1, rest.has) }))
-
-pub slot_end : (names : List (List ℕ)) (all : List (List ℕ)) (so : List ℕ) → SlotsSo names all [] so → AreSlots names all so
-slot_end names all so before = subst (AreSlots names all) (append-nil so) (before [] (record { same = refl; has = tt }))
-
-pub ruleset instr_steps = (instr_step, instr_end)
-
-pub ruleset operand_steps = (operand_step, operand_end)
-
-pub ruleset slot_steps = (slot_step, slot_end)
+abbrev pub InstrsSo : Scope → List Instr → List Instr → List SlotInstr → Type 0
+InstrsSo s all rest so = (later : Scope) (more : List SlotInstr) → KeepsAll s later → ResolvesAll later rest more → ResolvesAll later all (so ++ more)
 
 -- ---- a step of each loop, by the first of the rest
 
@@ -61,33 +32,52 @@ split_first (y ∷ ys) same x some first is =
     let all : take (length ys) ys ≡ ys = take-length ys in
     λ j. sym first j ∷ (sym all ∙ ap (λ (n : ℕ). take n ys) (sym size)) j
 
-module _ (names : List (List ℕ)) where
-  pub operand_next : (all rest others : List Operand) (i : Operand) (o : SlotOperand) (so new : List SlotOperand) → rest ≡ i ∷ others
-      → new ≡ so ++ o ∷ [] → IsOperand names i o → OperandsSo names all rest so → OperandsSo names all others new
-  operand_next all rest others i o so new first pushed one before =
-      subst (OperandsSo names all others) (sym pushed)
-      (operand_step names i all others o so one (subst (λ (l : List Operand). OperandsSo names all l so) first before))
+-- one more at the end, and then others
+more_last : {X : Type 0} (so new more : List X) (x : X) → new ≡ so ++ x ∷ [] → so ++ (x ∷ more) ≡ new ++ more
+more_last {X} so new more x pushed = sym (ap (λ (l : List X). l ++ more) pushed ∙ append_assoc so (x ∷ []) more)
 
-  pub slot_next : (all rest others : List (List ℕ)) (n : List ℕ) (o : ℕ) (so new : List ℕ) → rest ≡ n ∷ others
-      → new ≡ so ++ o ∷ [] → IsSlot names n o → SlotsSo names all rest so → SlotsSo names all others new
-  slot_next all rest others n o so new first pushed one before =
-      subst (SlotsSo names all others) (sym pushed)
-      (slot_step names n all others o so one (subst (λ (l : List (List ℕ)). SlotsSo names all l so) first before))
+module _ (names new : List (List ℕ)) (keeps : Keeps names new) where
+  pub operand_next : (all rest others : List Operand) (o : Operand) (slotted : SlotOperand) (so after : List SlotOperand)
+      → rest ≡ o ∷ others → after ≡ so ++ slotted ∷ [] → IsOperand new o slotted → OperandsSo names all rest so → OperandsSo new all others after
+  operand_next all rest others o slotted so after first pushed one before = λ later more stays are.
+      let now : IsOperand later o slotted = kept_operand new later o slotted stays one in
+      let both : IsOperands later (o ∷ others) (slotted ∷ more) = (λ j. now.0 j ∷ are.0 j, (now.1, are.1)) in
+      let those : IsOperands later rest (slotted ∷ more) = subst (λ (l : List Operand). IsOperands later l (slotted ∷ more)) (sym first) both in
+      let whole : IsOperands later all (so ++ (slotted ∷ more)) = before later (slotted ∷ more) (keeps_on names new later keeps stays) those in
+      subst (IsOperands later all) (more_last so after more slotted pushed) whole
 
-pub instr_next : (s : Scope) (all rest others : List Instr) (i : Instr) (o : SlotInstr) (so new : List SlotInstr) → rest ≡ i ∷ others
-    → new ≡ so ++ o ∷ [] → Resolves s i o → InstrsSo s all rest so → InstrsSo s all others new
-instr_next s all rest others i o so new first pushed one before =
-    subst (InstrsSo s all others) (sym pushed)
-    (instr_step s i all others o so one (subst (λ (l : List Instr). InstrsSo s all l so) first before))
+  pub slot_next : (all rest others : List (List ℕ)) (n : List ℕ) (slot : ℕ) (so after : List ℕ)
+      → rest ≡ n ∷ others → after ≡ so ++ slot ∷ [] → IsSlot new n slot → SlotsSo names all rest so → SlotsSo new all others after
+  slot_next all rest others n slot so after first pushed one before = λ later more stays are.
+      let now : IsSlot later n slot = kept_slot new later n slot stays one in
+      let both : AreSlots later (n ∷ others) (slot ∷ more) = record { same = λ j. now.0 j ∷ are.same j; has = (now.1, are.has) } in
+      let those : AreSlots later rest (slot ∷ more) = subst (λ (l : List (List ℕ)). AreSlots later l (slot ∷ more)) (sym first) both in
+      let whole : AreSlots later all (so ++ (slot ∷ more)) = before later (slot ∷ more) (keeps_on names new later keeps stays) those in
+      subst (AreSlots later all) (more_last so after more slot pushed) whole
+
+pub instr_next : (s t : Scope) → KeepsAll s t → (all rest others : List Instr) (i : Instr) (slotted : SlotInstr) (so after : List SlotInstr)
+    → rest ≡ i ∷ others → after ≡ so ++ slotted ∷ [] → Resolves t i slotted → InstrsSo s all rest so → InstrsSo t all others after
+instr_next s t keeps all rest others i slotted so after first pushed one before = λ later more stays are.
+    let now : Resolves later i slotted = kept_instr t later stays i slotted one in
+    let both : ResolvesAll later (i ∷ others) (slotted ∷ more) = (now, are) in
+    let those : ResolvesAll later rest (slotted ∷ more) = subst (λ (l : List Instr). ResolvesAll later l (slotted ∷ more)) (sym first) both in
+    let whole : ResolvesAll later all (so ++ (slotted ∷ more)) = before later (slotted ∷ more) (keeps_all_on s t keeps later stays) those in
+    subst (ResolvesAll later all) (more_last so after more slotted pushed) whole
 
 -- ---- its end
 
-pub instrs_done : (s : Scope) (all rest : List Instr) (so : List SlotInstr) → rest ≡ [] → InstrsSo s all rest so → ResolvesAll s all so
-instrs_done s all rest so none before = instr_end s all so (subst (λ (l : List Instr). InstrsSo s all l so) none before)
-
 module _ (names : List (List ℕ)) where
   pub operands_done : (all rest : List Operand) (so : List SlotOperand) → rest ≡ [] → OperandsSo names all rest so → IsOperands names all so
-  operands_done all rest so none before = operand_end names all so (subst (λ (l : List Operand). OperandsSo names all l so) none before)
+  operands_done all rest so none before =
+      subst (IsOperands names all) (append-nil so)
+      (before names [] (keeps_itself names) (subst (λ (l : List Operand). IsOperands names l []) (sym none) (refl, tt)))
 
   pub slots_done : (all rest : List (List ℕ)) (so : List ℕ) → rest ≡ [] → SlotsSo names all rest so → AreSlots names all so
-  slots_done all rest so none before = slot_end names all so (subst (λ (l : List (List ℕ)). SlotsSo names all l so) none before)
+  slots_done all rest so none before =
+      subst (AreSlots names all) (append-nil so)
+      (before names [] (keeps_itself names) (subst (λ (l : List (List ℕ)). AreSlots names l []) (sym none) (record { same = refl; has = tt })))
+
+pub instrs_done : (s : Scope) (all rest : List Instr) (so : List SlotInstr) → rest ≡ [] → InstrsSo s all rest so → ResolvesAll s all so
+instrs_done s all rest so none before =
+    subst (ResolvesAll s all) (append-nil so)
+    (before s [] (keeps_all_itself s) (subst (λ (l : List Instr). ResolvesAll s l []) (sym none) tt))

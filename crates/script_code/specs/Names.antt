@@ -22,9 +22,10 @@ HasName names name = slot_of names name < length names
 abbrev pub IsSlot : List (List ℕ) → List ℕ → ℕ → Type 0
 IsSlot names name slot = (slot ≡ slot_of names name) × HasName names name
 
--- all names of one table are in another
+-- each name of one table has the same slot in another, where none is twice if none was
 pub record Keeps (names more : List (List ℕ)) : Type 0 where
-  pub has : (name : List ℕ) → HasName names name → HasName more name
+  pub at : (name : List ℕ) (slot : ℕ) → IsSlot names name slot → IsSlot more name slot
+  pub distinct : Distinct names → Distinct more
 
 -- what a name's look-up finds: its slot, or that it isn't there
 abbrev pub IsFound : List (List ℕ) → List ℕ → Option ℕ → Type 0

@@ -115,12 +115,7 @@ HasAll s (instr.Fetch cursor to place) = HasName s.cursors cursor × HasNames s.
 HasAll s (instr.Count to cursor) = HasName s.variables to × HasName s.cursors cursor
 HasAll s (instr.Status to cursor) = HasName s.variables to × HasName s.cursors cursor
 
--- and those of each instruction of a script
-abbrev pub HasEvery : Scope → List Instr → Type 0
-HasEvery s [] = Unit {0}
-HasEvery s (i ∷ is) = HasAll s i × HasEvery s is
-
--- all names of one scope are in another
+-- each name of one scope has the same slot in another
 pub record KeepsAll (s more : Scope) : Type 0 where
   pub variables : Keeps s.variables more.variables
   pub files : Keeps s.files more.files

@@ -1,8 +1,11 @@
 //! Resolved scripts: instructions that name slots.
 
+ghost use Rattle.script_code.specs.Resolved.{IsScope};
+
 use crate::names::NameTable;
 use ldv_value::{Bytes, Cmp, List, OpenMode, Value};
 use script_parse::CalcOp;
+use std::alloc::Global;
 
 /// What an instruction takes: a constant, or the value in the slot of a variable.
 #[derive(Drop)]
@@ -166,6 +169,21 @@ pub struct Scope {
     pub files: NameTable,
     pub cursors: NameTable,
     pub children: NameTable,
+}
+
+impl Scope {
+    /// A scope of no name.
+    #[tactic(auto, using(crate::proofs::KnownNames::distinct_none))]
+    pub(crate) fn new(alloc: Global) -> Scope
+        ensures { IsScope result }
+    {
+        Scope {
+            variables: NameTable::new(alloc),
+            files: NameTable::new(alloc),
+            cursors: NameTable::new(alloc),
+            children: NameTable::new(alloc),
+        }
+    }
 }
 
 /// A resolved script, which all processes that run it share, with the bytes that it was read from.

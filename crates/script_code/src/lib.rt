@@ -14,8 +14,8 @@
 #![tactic(auto)]
 
 mod code;
-mod collect;
 mod names;
+mod operands;
 mod read;
 mod resolve;
 

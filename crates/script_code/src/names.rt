@@ -1,10 +1,10 @@
 //! Tables of names.
 
-ghost use Rattle.std.specs.Prelude.{◌≡◌, ℕ, List as Items, None, Some, bytes_eq, cond, false};
-ghost use Rattle.std.specs.Prelude.{length, OnErr, OnOk};
+ghost use Rattle.std.specs.Prelude.{◌≡◌, ℕ, List as Items, [], None, Some, bytes_eq, cond, false};
+ghost use Rattle.std.specs.Prelude.{length, IfOk, OnErr, OnOk};
 ghost use Rattle.std.specs.BTreeMap.{get_by_text};
 ghost use Rattle.std.specs.List.{list_any};
-ghost use Rattle.script_code.specs.Names.{Distinct, HasName, IsFound, IsNamed, IsSlot, Keeps};
+ghost use Rattle.script_code.specs.Names.{Distinct, IsFound, IsNamed, IsSlot, Keeps};
 
 use ldv_value::{Names, Utf8};
 use std::alloc::{AllocError, Global};
@@ -35,7 +35,9 @@ impl Model for NameTable {
 
 impl NameTable {
     /// A table of no name.
-    pub(crate) fn new(alloc: Global) -> NameTable {
+    pub(crate) fn new(alloc: Global) -> NameTable
+        ensures { result ≡ [] }
+    {
         NameTable {
             names: Names::new(alloc),
             slots: NameSlots::new(alloc),
@@ -49,44 +51,26 @@ impl NameTable {
         self.names.len()
     }
 
-    /// No name is there twice.
-    pub fn know_distinct(&self)
-        ensures { Distinct self.now }
-    {
-        let _names = &self.names;
-    }
-
-    /// The slot of a name, or that it isn't there.
+    /// The slot of a name, or `None` where it isn't there. No name is there twice.
     pub fn find(&self, name: &Utf8) -> Option<usize>
-        ensures { IsFound self.now name.now result }
+        ensures found { IsFound self.now name.now result }
+        ensures distinct { Distinct self.now }
     {
         slot_in(&self.slots, name)
     }
 
-    /// Adds a name, where it isn't there.
-    #[tactic(auto, using(crate::proofs::NameTables::keeps_same))]
-    pub(crate) fn add(&mut self, name: &Utf8) -> Result<(), AllocError>
-        ensures has { OnOk result (HasName self.new name.now) }
+    /// The slot of a name, which is added where it isn't there.
+    #[tactic(auto, using(crate::proofs::KnownNames::keeps_same))]
+    pub(crate) fn intern(&mut self, name: &Utf8) -> Result<usize, AllocError>
+        ensures slot { IfOk result (IsSlot self.new name.now) }
         ensures keeps { Keeps self.old self.new }
     {
         match self.find(name) {
-            Some(_) => Ok(()),
+            Some(slot) => Ok(slot),
             None => {
-                add_name(&mut self.names, &mut self.slots, name)?;
-                Ok(())
+                let slot = add_name(&mut self.names, &mut self.slots, name)?;
+                Ok(slot)
             }
-        }
-    }
-
-    /// The slot of a name that is there.
-    #[tactic(auto, using(crate::proofs::NameTables::not_absent))]
-    pub(crate) fn slot(&self, name: &Utf8) -> usize
-        requires { HasName self.now name.now }
-        ensures { IsSlot self.now name.now result }
-    {
-        match self.find(name) {
-            Some(slot) => slot,
-            None => unreachable!(),
         }
     }
 }
@@ -100,20 +84,20 @@ fn slot_in(slots: &NameSlots, name: &Utf8) -> Option<usize>
     }
 }
 
-// Adds a name that isn't there. On `AllocError` it isn't there afterwards.
-#[tactic(auto, using(crate::proofs::NameTables::keeps_same))]
-fn add_name(names: &mut Names, slots: &mut NameSlots, name: &Utf8) -> Result<(), AllocError>
+// Adds a name that isn't there, and gives its slot. On `AllocError` it isn't there afterwards.
+#[tactic(auto, using(crate::proofs::KnownNames::keeps_same))]
+fn add_name(names: &mut Names, slots: &mut NameSlots, name: &Utf8) -> Result<usize, AllocError>
     requires named { IsNamed names.old slots.old }
     requires absent { list_any (bytes_eq name.now) names.old ≡ false }
     ensures named { IsNamed names.new slots.new }
-    ensures has { OnOk result (HasName names.new name.now) }
+    ensures slot { IfOk result (IsSlot names.new name.now) }
     ensures keeps { Keeps names.old names.new }
 {
     let slot = names.len();
     let copy = name.copy()?;
     put_slot(slots, name, slot)?;
     match names.push(copy) {
-        Ok(()) => Ok(()),
+        Ok(()) => Ok(slot),
         Err(error) => {
             take_slot(slots, name);
             Err(error)
