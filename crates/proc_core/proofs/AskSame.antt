@@ -10,20 +10,21 @@ use Rattle.run_model.specs.Database.{Question}
 use Rattle.run_model.specs.Outcome.{entry_reply}
 use Rattle.run_model.specs.Step.{Ask, ask, asked_by, ask_by, ask_in, ask_at, took_of, took, replied, entry_of}
 use Rattle.run_model.specs.StepBase.{operand_value, operand_values}
+use Rattle.script_code.specs.declared.code.Code.{Code}
+use Rattle.script_code.specs.declared.code.Scope.{Scope}
+use Rattle.script_code.specs.declared.code.SlotInstr.{SlotInstr}
+use Rattle.script_code.specs.Resolved.{slot_of, HasName, slot_instr, HasAll, IsScope}
+use Rattle.script_code.proofs.SlotLists.{set_slot}
 use Rattle.proc_core.specs.declared.ask.Statement.{Statement}
-use Rattle.proc_core.specs.declared.code.Code.{Code}
-use Rattle.proc_core.specs.declared.code.Scope.{Scope}
-use Rattle.proc_core.specs.declared.code.SlotInstr.{SlotInstr}
 use Rattle.proc_core.specs.declared.machine.Machine.{Machine}
 use Rattle.proc_core.specs.declared.process.SlotCursor.{SlotCursor}
 use Rattle.proc_core.specs.declared.process.SlotProcess.{SlotProcess}
-use Rattle.proc_core.specs.Resolved.{slot_of, HasName, slot_instr, HasAll, IsScope}
 use Rattle.proc_core.specs.Slots.{bound_held, cursor_in, HasReply, HaveReplies, Holds}
 use Rattle.proc_core.specs.SlotAsk.{statement_of, slot_ask, slot_ask_in, slot_ask_at, slot_replied, question_of}
 use Rattle.proc_core.specs.SlotStep.{next_slotted}
 use Rattle.proc_core.specs.Stands.{IsProcess, AreProcesses, IsCore}
 use Rattle.proc_core.proofs.Holding.{value_same, values_same}
-use Rattle.proc_core.proofs.Lookups.{lookup_bound, lookup_other, set_slot}
+use Rattle.proc_core.proofs.Lookups.{lookup_bound, lookup_other}
 use Rattle.proc_core.proofs.Machines.{found, not_found, replaced, AtSame, next_same}
 use Rattle.proc_core.proofs.ReplySame.{set_reply}
 

@@ -5,7 +5,7 @@ use Rattle.std.proofs.lemmas.List.{at_drop_all}
 use Rattle.sql_model.specs.declared.reply.Reply.{Reply}
 use Rattle.proc_core.specs.Types.{Value, Null, Instr}
 use Rattle.run_model.specs.Core.{Binding, Cursor, arguments_from, argument_variables, new_process}
-use Rattle.proc_core.specs.declared.code.Scope.{Scope}
+use Rattle.script_code.specs.declared.code.Scope.{Scope}
 use Rattle.proc_core.specs.declared.process.SlotCursor.{SlotCursor}
 use Rattle.proc_core.specs.declared.process.SlotProcess.{SlotProcess}
 use Rattle.proc_core.specs.Slots.{value_held, bound_held, cursor_in, HaveReplies, Holds}

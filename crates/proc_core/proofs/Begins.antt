@@ -5,9 +5,9 @@ use Rattle.std.specs.List.{list_any}
 use Rattle.ldv_value.proofs.SameBytes.{bytes_eq-itself}
 use Rattle.proc_core.specs.Types.{Value, Null}
 use Rattle.run_model.specs.Core.{Binding}
-use Rattle.proc_core.specs.Resolved.{Distinct, slot_of, HasName}
+use Rattle.script_code.specs.Resolved.{Distinct, slot_of, HasName}
+use Rattle.script_code.proofs.SlotLists.{set_slot, map_absent}
 use Rattle.proc_core.specs.Slots.{value_held, bound_held}
-use Rattle.proc_core.proofs.Lookups.{set_slot, map_absent}
 
 -- no name means anything
 abbrev pub nothing : {X : Type 0} → Option X

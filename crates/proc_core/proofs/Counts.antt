@@ -18,14 +18,14 @@ use Rattle.run_model.specs.StepBase.{Computed, Yields, Misused}
 use Rattle.run_model.specs.StepFiles.{path_in, allows_read, allows_write}
 use Rattle.run_model.specs.StepReplies.{counted, status_value}
 use Rattle.run_model.specs.StepVariables.{calculated, glued, to_number, printed_line}
-use Rattle.proc_core.specs.declared.code.Code.{Code}
-use Rattle.proc_core.specs.declared.code.FileInstr.{FileInstr}
-use Rattle.proc_core.specs.declared.code.FileInstr.TheVariants as on_files
-use Rattle.proc_core.specs.declared.code.OwnInstr.{OwnInstr}
-use Rattle.proc_core.specs.declared.code.OwnInstr.TheVariants as own
-use Rattle.proc_core.specs.declared.code.SlotInstr.{SlotInstr}
-use Rattle.proc_core.specs.declared.code.SlotInstr.TheVariants.{Own, OnFiles, Spawn, Wait, Sql}
-use Rattle.proc_core.specs.declared.code.SlotOperand.TheVariants.{Slot}
+use Rattle.script_code.specs.declared.code.Code.{Code}
+use Rattle.script_code.specs.declared.code.FileInstr.{FileInstr}
+use Rattle.script_code.specs.declared.code.FileInstr.TheVariants as on_files
+use Rattle.script_code.specs.declared.code.OwnInstr.{OwnInstr}
+use Rattle.script_code.specs.declared.code.OwnInstr.TheVariants as own
+use Rattle.script_code.specs.declared.code.SlotInstr.{SlotInstr}
+use Rattle.script_code.specs.declared.code.SlotInstr.TheVariants.{Own, OnFiles, Spawn, Wait, Sql}
+use Rattle.script_code.specs.declared.code.SlotOperand.TheVariants.{Slot}
 use Rattle.proc_core.specs.declared.cut.CutParts.{CutParts}
 use Rattle.proc_core.specs.declared.machine.Machine.{Machine}
 use Rattle.proc_core.specs.declared.process.SlotCursor.{SlotCursor}

@@ -10,9 +10,9 @@ use Rattle.run_model.specs.Core.{OpenFile, Process}
 use Rattle.run_model.specs.StepBase.{operand_values, ended, wrong_kind, too_long, bad_path, not_utf8, with_variable, FileEffect}
 use Rattle.run_model.specs.StepFiles.{path_in, path_at, allows_read, allows_write, if_allowed, open_for, at_place, opened_file, with_open, open_unless, open_path, take_line, read_next, write_where, write_text, write_line, copy_where, copy_between, copy_rest, remove_found, remove_path, number_of_test, test_path}
 use Rattle.run_model.specs.StepVariables.{printed_line}
-use Rattle.proc_core.specs.declared.code.Scope.{Scope}
+use Rattle.script_code.specs.declared.code.Scope.{Scope}
+use Rattle.script_code.specs.Resolved.{slot_of, HasName, slot_operand, HasOperand, HasOperands, IsScope}
 use Rattle.proc_core.specs.declared.process.SlotProcess.{SlotProcess}
-use Rattle.proc_core.specs.Resolved.{slot_of, HasName, slot_operand, HasOperand, HasOperands, IsScope}
 use Rattle.proc_core.specs.Slots.{Holds, slot_ended, slot_value, slot_values, slot_with_variable, slot_with_file}
 use Rattle.proc_core.specs.SlotFiles.{SlotEffect, slot_open_unless, slot_open_path, slot_open_for, slot_at_place, slot_take_line, slot_read_next, slot_write_where, slot_write_text, slot_copy_where, slot_copy_between, slot_remove_found, slot_remove, slot_exists}
 use Rattle.proc_core.proofs.Holding.{value_same, values_same, holds_ended, holds_went_to, holds_went_on, holds_variable, holds_file, open_same}

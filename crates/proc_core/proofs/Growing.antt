@@ -4,7 +4,7 @@ use Rattle.std.specs.Prelude.{Some, slice_get, slice_set}
 use Rattle.std.proofs.lemmas.List.{length-set}
 use Rattle.ready_set.specs.Ready.{Ready}
 use Rattle.proc_core.specs.Types.{Value}
-use Rattle.proc_core.specs.declared.code.Code.{Code}
+use Rattle.script_code.specs.declared.code.Code.{Code}
 use Rattle.proc_core.specs.declared.machine.Machine.{Machine}
 use Rattle.proc_core.specs.declared.process.SlotProcess.{SlotProcess}
 use Rattle.proc_core.specs.SlotReady.{Grows}

@@ -6,11 +6,12 @@ use Rattle.script_parse.specs.declared.script.Operand.TheVariants as operand
 use Rattle.proc_core.specs.Types.{Value, Instr, Operand}
 use Rattle.run_model.specs.Core.{lookup, bind, unbind, OpenFile, Process}
 use Rattle.run_model.specs.StepBase.{operand_value, operand_values, ended, went_on, went_to, with_variable, Computed, Yields, Misused, assign}
-use Rattle.proc_core.specs.declared.code.Scope.{Scope}
+use Rattle.script_code.specs.declared.code.Scope.{Scope}
+use Rattle.script_code.specs.Resolved.{slot_of, HasName, slot_operand, HasOperand, HasOperands, IsScope}
+use Rattle.script_code.proofs.SlotLists.{get_slot, set_slot}
 use Rattle.proc_core.specs.declared.process.SlotProcess.{SlotProcess}
-use Rattle.proc_core.specs.Resolved.{slot_of, HasName, slot_operand, HasOperand, HasOperands, IsScope}
 use Rattle.proc_core.specs.Slots.{value_held, bound_held, joined, open_at, child_at, slot_with_file, Holds, slot_value, slot_values, slot_ended, slot_went_on, slot_went_to, slot_with_variable, slot_assign}
-use Rattle.proc_core.proofs.Lookups.{lookup_bound, lookup_other, lookup_unbound, lookup_unbound_other, get_slot, set_slot}
+use Rattle.proc_core.proofs.Lookups.{lookup_bound, lookup_other, lookup_unbound, lookup_unbound_other}
 
 -- ---- operands
 

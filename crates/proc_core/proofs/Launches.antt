@@ -7,11 +7,11 @@ use Rattle.script_parse.specs.Script.{script_of}
 use Rattle.proc_core.specs.Types.{Instr, Spawned}
 use Rattle.run_model.specs.Core.{Core}
 use Rattle.run_model.specs.Step.{quiet}
-use Rattle.proc_core.specs.declared.code.Code.{Code}
+use Rattle.script_code.specs.declared.code.Code.{Code}
+use Rattle.script_code.specs.Resolved.{IsCode}
 use Rattle.proc_core.specs.declared.machine.Machine.{Machine}
 use Rattle.proc_core.specs.declared.process.SlotProcess.{SlotProcess}
 use Rattle.proc_core.specs.declared.spawning.Spawning.{Spawning}
-use Rattle.proc_core.specs.Resolved.{IsCode}
 use Rattle.proc_core.specs.SlotReady.{Grows}
 use Rattle.proc_core.specs.SlotSpawn.{slot_spawning_at, Runs, IsElse, HasChild}
 use Rattle.proc_core.specs.Stands.{IsCore}

@@ -3,7 +3,7 @@ use Rattle.std.proofs.Common.{◌≡◌, ℕ, List, length, sym, subst}
 use Rattle.std.specs.Prelude.{Some, slice_get}
 use Rattle.proc_core.specs.Types.{Value, Instr}
 use Rattle.run_model.specs.Core.{new_process}
-use Rattle.proc_core.specs.declared.code.Code.{Code}
+use Rattle.script_code.specs.declared.code.Code.{Code}
 use Rattle.proc_core.specs.declared.machine.Machine.{Machine}
 use Rattle.proc_core.specs.declared.process.SlotProcess.{SlotProcess}
 use Rattle.proc_core.specs.Counts.{CountsBelow}

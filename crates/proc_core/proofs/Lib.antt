@@ -12,13 +12,11 @@ pub mod FileSame
 pub mod FlagLaws
 pub mod Growing
 pub mod Holding
-pub mod KnownNames
 pub mod Launches
 pub mod Launching
 pub mod Lookups
 pub mod Machines
 pub mod Moving
-pub mod NameTables
 pub mod Numbers
 pub mod OpenFiles
 pub mod Outcomes
@@ -26,7 +24,6 @@ pub mod OwnSame
 pub mod Programs
 pub mod Readiness
 pub mod ReplySame
-pub mod Resolving
 pub mod Runnable
 pub mod Runs
 pub mod SpawnSame

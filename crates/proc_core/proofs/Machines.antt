@@ -12,13 +12,13 @@ use Rattle.run_model.specs.StepFiles.{path_at, allows_read, open_for, open_path,
 use Rattle.run_model.specs.StepReplies.{fetch, count, status}
 use Rattle.run_model.specs.StepProcesses.{status_in, wait_until, wait_for}
 use Rattle.ldv_value.specs.FileState.{FileState}
-use Rattle.proc_core.specs.declared.code.Code.{Code}
-use Rattle.proc_core.specs.declared.code.Scope.{Scope}
-use Rattle.proc_core.specs.declared.code.SlotInstr.{SlotInstr}
-use Rattle.proc_core.specs.declared.code.SlotInstr.TheVariants.{Wait}
+use Rattle.script_code.specs.declared.code.Code.{Code}
+use Rattle.script_code.specs.declared.code.Scope.{Scope}
+use Rattle.script_code.specs.declared.code.SlotInstr.{SlotInstr}
+use Rattle.script_code.specs.declared.code.SlotInstr.TheVariants.{Wait}
+use Rattle.script_code.specs.Resolved.{slot_of, HasName, Resolves, ResolvesAll, slot_instr, HasAll, IsScope}
 use Rattle.proc_core.specs.declared.machine.Machine.{Machine}
 use Rattle.proc_core.specs.declared.process.SlotProcess.{SlotProcess}
-use Rattle.proc_core.specs.Resolved.{slot_of, HasName, Resolves, ResolvesAll, slot_instr, HasAll, IsScope}
 use Rattle.proc_core.specs.Slots.{Holds, child_at, slot_ended, slot_with_variable}
 use Rattle.proc_core.specs.SlotFiles.{SlotEffect}
 use Rattle.proc_core.specs.SlotStep.{slotted_at, next_slotted, slot_status_in, slot_wait_until, slot_wait_for, slot_effect, IsKept}

@@ -14,7 +14,7 @@ use Rattle.sql_model.specs.Sorting.{put_sorted, sorted_by}
 use Rattle.run_model.specs.Core.{Process, Core}
 use Rattle.run_model.specs.Outcome.{insert_by_name, by_name, outcome_of_process, outcomes_of_paths, outcome_of}
 use Rattle.run_model.specs.declared.outcome.ProcOutcome.{ProcOutcome}
-use Rattle.proc_core.specs.declared.code.Code.{Code}
+use Rattle.script_code.specs.declared.code.Code.{Code}
 use Rattle.proc_core.specs.declared.machine.Machine.{Machine}
 use Rattle.proc_core.specs.declared.process.SlotProcess.{SlotProcess}
 use Rattle.proc_core.specs.SlotOutcome.{slot_outcome, slot_outcomes, name_cmp, slot_outcomes_by_name, slot_outcome_of}

@@ -11,11 +11,11 @@ use Rattle.run_model.specs.Core.{Process, Core}
 use Rattle.run_model.specs.Step.{execute, asked_by}
 use Rattle.run_model.specs.StepBase.{operand_value, operand_values, went_to, with_variable, wrong_kind, too_long, Computed, Yields, assign, own}
 use Rattle.run_model.specs.StepVariables.{let_value, calculated, calculate, glued, glue, to_number, let_number, first_place, before_place, after_place, cut_values, cut, jump_where, jump_if, printed_line, print_line, print, exit_status, exit}
-use Rattle.proc_core.specs.declared.code.Scope.{Scope}
-use Rattle.proc_core.specs.declared.code.OwnInstr.{OwnInstr}
-use Rattle.proc_core.specs.declared.code.OwnInstr.TheVariants as owned
+use Rattle.script_code.specs.declared.code.Scope.{Scope}
+use Rattle.script_code.specs.declared.code.OwnInstr.{OwnInstr}
+use Rattle.script_code.specs.declared.code.OwnInstr.TheVariants as owned
+use Rattle.script_code.specs.Resolved.{slot_of, HasName, slot_operand, HasOperand, HasOperands, IsScope}
 use Rattle.proc_core.specs.declared.process.SlotProcess.{SlotProcess}
-use Rattle.proc_core.specs.Resolved.{slot_of, HasName, slot_operand, HasOperand, HasOperands, IsScope}
 use Rattle.proc_core.specs.Slots.{Holds, slot_value, slot_assign, slot_ended, slot_with_variable}
 use Rattle.proc_core.specs.SlotOwn.{slot_own}
 use Rattle.proc_core.specs.SlotVariables.{parts_of, slot_cut_parts, slot_jump_where, slot_print_line}

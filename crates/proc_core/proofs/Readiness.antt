@@ -6,6 +6,7 @@ use Rattle.std.proofs.lemmas.Bool.{cases_Bool, cases_eq}
 use Rattle.std.proofs.lemmas.List.{length-set, length-map}
 use Rattle.std.proofs.lemmas.Option.{slice_get_past, slice_get_within}
 use Rattle.ready_set.specs.Ready.{Ready}
+use Rattle.script_code.specs.declared.code.Code.{Code}
 use Rattle.proc_core.specs.Flags.{runnable_flags, awaited}
 use Rattle.proc_core.specs.FlagsLaw.{OthersPass}
 use Rattle.proc_core.proofs.FlagLaws.{get-set_same, get-set_other, get-append_left, get-append_end, awaited_named, goes_on, ends, ends_under, spawns, new_runs}
@@ -15,7 +16,6 @@ use Rattle.run_model.specs.RunLaw.{MayRun}
 use Rattle.run_model.specs.Schedule.{is_waiting, is_runnable, choose}
 use Rattle.run_model.specs.StepProcesses.{child_of, parent_of, status_in}
 use Rattle.run_model.proofs.NeverStuck.{IsAbove, ChildrenLater, Ordered, chosen_runs}
-use Rattle.proc_core.specs.declared.code.Code.{Code}
 use Rattle.proc_core.specs.declared.machine.Machine.{Machine}
 use Rattle.proc_core.specs.declared.process.SlotProcess.{SlotProcess}
 use Rattle.proc_core.specs.SlotReady.{Grows, marked_by, marked, marked_above, refreshed, IsKin, AreKin, IsReady}

@@ -10,14 +10,15 @@ use Rattle.run_model.specs.Core.{lookup, bind, unbind, OpenFile, Cursor, Process
 use Rattle.run_model.specs.StepBase.{with_variable, wrong_kind}
 use Rattle.run_model.specs.StepFiles.{close_file, close}
 use Rattle.run_model.specs.StepReplies.{next_row, with_values, one_more, fetch_row, fetch_from, fetch, counted, count, status_value, status}
-use Rattle.proc_core.specs.declared.code.Scope.{Scope}
+use Rattle.script_code.specs.declared.code.Scope.{Scope}
+use Rattle.script_code.specs.Resolved.{slot_of, HasName, HasNames, IsScope}
+use Rattle.script_code.proofs.SlotLists.{get_slot, set_slot}
 use Rattle.proc_core.specs.declared.process.SlotCursor.{SlotCursor}
 use Rattle.proc_core.specs.declared.process.SlotProcess.{SlotProcess}
-use Rattle.proc_core.specs.Resolved.{slot_of, HasName, HasNames, IsScope}
 use Rattle.proc_core.specs.Slots.{bound_held, joined, cursor_of, cursor_at, cursor_in, HasReply, HaveReplies, Holds, slot_ended, slot_with_variable, slot_with_file, slot_with_cursor, slot_assign}
 use Rattle.proc_core.specs.SlotReplies.{slot_close_file, slot_close, slot_with_values, slot_one_more, slot_fetch_row, slot_next_row, slot_fetch_from, slot_fetch, slot_count, slot_status}
 use Rattle.proc_core.proofs.Holding.{holds_ended, holds_went_on, holds_went_to, holds_variable, holds_closed, holds_assign, open_same}
-use Rattle.proc_core.proofs.Lookups.{lookup_bound, lookup_other, get_slot, set_slot}
+use Rattle.proc_core.proofs.Lookups.{lookup_bound, lookup_other}
 
 -- ---- cursors among replies
 

@@ -2,18 +2,18 @@
 use Rattle.std.proofs.Common.{◌≡◌, ℕ, zero, suc, ◌+◌, List, [], ◌∷◌, refl, ap, ◌∙◌}
 use Rattle.std.specs.Prelude.{Option, Some, None, slice_get, not, ◌&&◌, is_none, if◌then◌else◌}
 use Rattle.script_parse.specs.declared.script.Instr.TheVariants as instr
+use Rattle.script_code.specs.declared.code.Code.{Code}
+use Rattle.script_code.specs.declared.code.Scope.{Scope}
+use Rattle.script_code.specs.declared.code.SlotInstr.{SlotInstr}
+use Rattle.script_code.specs.Resolved.{slot_instr, HasAll}
 use Rattle.proc_core.specs.Flags.{runnable_flags}
 use Rattle.ready_set.specs.Ready.{numbers}
 use Rattle.proc_core.proofs.FlagLaws.{flags_runnable}
 use Rattle.proc_core.specs.Types.{Instr}
 use Rattle.run_model.specs.Core.{Process, Core, lookup}
 use Rattle.run_model.specs.Schedule.{still_runs, waits_for, waits_at, is_waiting, is_runnable, runnable_from, runnable, choose, pick_of, moved_x}
-use Rattle.proc_core.specs.declared.code.Code.{Code}
-use Rattle.proc_core.specs.declared.code.Scope.{Scope}
-use Rattle.proc_core.specs.declared.code.SlotInstr.{SlotInstr}
 use Rattle.proc_core.specs.declared.machine.Machine.{Machine}
 use Rattle.proc_core.specs.declared.process.SlotProcess.{SlotProcess}
-use Rattle.proc_core.specs.Resolved.{slot_instr, HasAll}
 use Rattle.proc_core.specs.Slots.{Holds}
 use Rattle.proc_core.specs.SlotStep.{next_slotted, slot_still_runs, slot_waits_for, slot_waits_at, slot_is_runnable, slot_runnable_from}
 use Rattle.proc_core.specs.Stands.{IsProcess, AreProcesses, IsCore}

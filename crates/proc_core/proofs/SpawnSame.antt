@@ -4,16 +4,17 @@ use Rattle.std.specs.Prelude.{Option, Some, slice_set}
 use Rattle.proc_core.specs.Types.{Value, Instr}
 use Rattle.run_model.specs.Core.{bind, Process, Core}
 use Rattle.run_model.specs.StepProcesses.{child_of, parent_of, spawn_script}
-use Rattle.proc_core.specs.declared.code.Code.{Code}
-use Rattle.proc_core.specs.declared.code.Scope.{Scope}
+use Rattle.script_code.specs.declared.code.Code.{Code}
+use Rattle.script_code.specs.declared.code.Scope.{Scope}
+use Rattle.script_code.specs.Resolved.{slot_of, HasName, IsScope}
+use Rattle.script_code.proofs.SlotLists.{set_slot}
 use Rattle.proc_core.specs.declared.machine.Machine.{Machine}
 use Rattle.proc_core.specs.declared.process.SlotProcess.{SlotProcess}
-use Rattle.proc_core.specs.Resolved.{slot_of, HasName, IsScope}
 use Rattle.proc_core.specs.Slots.{bound_held, Holds}
 use Rattle.proc_core.specs.SlotSpawn.{slot_parent, slot_with_new}
 use Rattle.proc_core.specs.Stands.{IsProcess, AreProcesses, IsCore}
 use Rattle.proc_core.proofs.AskSame.{get_before}
-use Rattle.proc_core.proofs.Lookups.{lookup_bound, lookup_other, set_slot}
+use Rattle.proc_core.proofs.Lookups.{lookup_bound, lookup_other}
 use Rattle.proc_core.proofs.Machines.{replaced}
 
 -- ---- one script and one process more

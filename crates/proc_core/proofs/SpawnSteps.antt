@@ -13,14 +13,14 @@ use Rattle.run_model.specs.Step.{execute_next, quiet_of, quiet}
 use Rattle.run_model.specs.StepBase.{Effect, operand_values, ended, went_to, bad_path}
 use Rattle.run_model.specs.StepFiles.{path_in, path_at}
 use Rattle.run_model.specs.StepProcesses.{Spawning as Says, child_of, parent_of, spawn_script, spawn_file, spawn_path}
-use Rattle.proc_core.specs.declared.code.Code.{Code}
-use Rattle.proc_core.specs.declared.code.Scope.{Scope}
-use Rattle.proc_core.specs.declared.code.SlotInstr.{SlotInstr}
-use Rattle.proc_core.specs.declared.code.SlotInstr.TheVariants.{Own, OnFiles, Spawn, Wait, Sql}
+use Rattle.script_code.specs.declared.code.Code.{Code}
+use Rattle.script_code.specs.declared.code.Scope.{Scope}
+use Rattle.script_code.specs.declared.code.SlotInstr.{SlotInstr}
+use Rattle.script_code.specs.declared.code.SlotInstr.TheVariants.{Own, OnFiles, Spawn, Wait, Sql}
+use Rattle.script_code.specs.Resolved.{slot_of, HasName, slot_instr, HasAll, IsCode}
 use Rattle.proc_core.specs.declared.machine.Machine.{Machine}
 use Rattle.proc_core.specs.declared.process.SlotProcess.{SlotProcess}
 use Rattle.proc_core.specs.declared.spawning.Spawning.{Spawning}
-use Rattle.proc_core.specs.Resolved.{slot_of, HasName, slot_instr, HasAll, IsCode}
 use Rattle.proc_core.specs.Slots.{Holds, slot_ended, slot_went_to}
 use Rattle.proc_core.specs.SlotSpawn.{slot_spawning, slot_spawning_in, slot_spawning_at, Runs, script_in, slot_parent, slot_with_new, IsElse, IsNoChild, HasChild}
 use Rattle.proc_core.specs.SlotStep.{next_slotted, IsKept}

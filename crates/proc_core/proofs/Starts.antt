@@ -4,17 +4,16 @@ use Rattle.std.specs.Prelude.{Option, Some, slice_get, is_some, option_and_then,
 use Rattle.std.specs.List.{AllByRecursion}
 use Rattle.ldv_value.specs.FileState.{FileState, content_at, untouched}
 use Rattle.script_parse.specs.Script.{script_of}
+use Rattle.script_code.specs.declared.code.Code.{Code}
+use Rattle.script_code.specs.Resolved.{IsCode, IsRead}
 use Rattle.proc_core.proofs.FlagLaws.{new_runs}
 use Rattle.proc_core.specs.Types.{File, Instr, Text}
 use Rattle.run_model.specs.Core.{Process, new_process, start_core}
 use Rattle.run_model.specs.RunLaw.{started}
-use Rattle.proc_core.specs.declared.code.Code.{Code}
 use Rattle.proc_core.specs.declared.machine.Machine.{Machine}
 use Rattle.proc_core.specs.declared.process.SlotProcess.{SlotProcess}
-use Rattle.proc_core.specs.Resolved.{IsCode}
 use Rattle.proc_core.specs.Running.{Stands}
 use Rattle.proc_core.specs.SlotReady.{IsKin, IsReady}
-use Rattle.proc_core.specs.SlotSpawn.{IsRead}
 use Rattle.proc_core.specs.Slots.{Holds}
 use Rattle.proc_core.specs.Stands.{AreProcesses, HasStartScript, IsCore, IsStartScript}
 

@@ -3,6 +3,9 @@ use Rattle.std.proofs.Common.{◌≡◌, ℕ, ◌<◌, List, [], ◌++◌, lengt
 use Rattle.std.specs.Prelude.{Option, Some, None, slice_get}
 use Rattle.std.proofs.lemmas.Option.{slice_get_within}
 use Rattle.ldv_value.proofs.Lists.{append-nil}
+use Rattle.script_code.specs.declared.code.Code.{Code}
+use Rattle.script_code.specs.declared.code.SlotInstr.{SlotInstr}
+use Rattle.script_code.specs.declared.code.SlotInstr.TheVariants.{Own, OnFiles, Spawn, Wait, Sql}
 use Rattle.proc_core.specs.Flags.{runnable_flags}
 use Rattle.proc_core.specs.Types.{Event}
 use Rattle.run_model.specs.Core.{Core}
@@ -14,9 +17,6 @@ use Rattle.run_model.specs.State.{State, Stepped}
 use Rattle.run_model.specs.Step.{step}
 use Rattle.run_model.proofs.Equations.{run-zero, events-zero}
 use Rattle.proc_core.specs.declared.ask.Statement.{Statement}
-use Rattle.proc_core.specs.declared.code.Code.{Code}
-use Rattle.proc_core.specs.declared.code.SlotInstr.{SlotInstr}
-use Rattle.proc_core.specs.declared.code.SlotInstr.TheVariants.{Own, OnFiles, Spawn, Wait, Sql}
 use Rattle.proc_core.specs.declared.machine.Machine.{Machine}
 use Rattle.proc_core.specs.declared.process.SlotProcess.{SlotProcess}
 use Rattle.proc_core.specs.declared.stop.Stopped.{Stopped}

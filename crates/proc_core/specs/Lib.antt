@@ -2,8 +2,6 @@ pub mod Acts
 pub mod Counts
 pub mod Flags
 pub mod FlagsLaw
-pub mod Names
-pub mod Resolved
 pub mod Running
 pub mod SlotAsk
 pub mod SlotCopy

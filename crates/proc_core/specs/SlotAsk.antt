@@ -4,10 +4,10 @@ use Rattle.std.specs.Prelude.{None}
 use Rattle.sql_model.specs.declared.reply.Reply.{Reply}
 use Rattle.proc_core.specs.Types.{Value, Null, Int, Text}
 use Rattle.run_model.specs.Database.{Question}
+use Rattle.script_code.specs.declared.code.Code.{Code}
+use Rattle.script_code.specs.declared.code.SlotInstr.{SlotInstr}
+use Rattle.script_code.specs.declared.code.SlotInstr.TheVariants.{Own, OnFiles, Spawn, Wait, Sql}
 use Rattle.proc_core.specs.declared.ask.Statement.{Statement}
-use Rattle.proc_core.specs.declared.code.Code.{Code}
-use Rattle.proc_core.specs.declared.code.SlotInstr.{SlotInstr}
-use Rattle.proc_core.specs.declared.code.SlotInstr.TheVariants.{Own, OnFiles, Spawn, Wait, Sql}
 use Rattle.proc_core.specs.declared.machine.Machine.{Machine}
 use Rattle.proc_core.specs.declared.process.SlotProcess.{SlotProcess}
 use Rattle.proc_core.specs.Slots.{slot_value, slot_values, slot_went_on}

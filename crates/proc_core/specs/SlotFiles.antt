@@ -13,8 +13,8 @@ use Rattle.run_model.specs.StepBase.{wrong_kind, too_long, bad_path, not_utf8}
 use Rattle.run_model.specs.StepFiles.{path_in, allows_read, allows_write, if_allowed, opened_file, open_act}
 use Rattle.run_model.specs.StepFiles.{number_of_test}
 use Rattle.run_model.specs.StepVariables.{printed_line}
-use Rattle.proc_core.specs.declared.code.FileInstr.{FileInstr}
-use Rattle.proc_core.specs.declared.code.FileInstr.TheVariants as on_files
+use Rattle.script_code.specs.declared.code.FileInstr.{FileInstr}
+use Rattle.script_code.specs.declared.code.FileInstr.TheVariants as on_files
 use Rattle.proc_core.specs.declared.process.SlotProcess.{SlotProcess}
 use Rattle.proc_core.specs.Slots.{open_at, slot_value, slot_values, slot_ended, slot_went_on, slot_went_to}
 use Rattle.proc_core.specs.Slots.{slot_with_variable, slot_with_file}

@@ -1,6 +1,6 @@
 -- The step of an instruction that changes its own process only, over slots.
-use Rattle.proc_core.specs.declared.code.OwnInstr.{OwnInstr}
-use Rattle.proc_core.specs.declared.code.OwnInstr.TheVariants as own
+use Rattle.script_code.specs.declared.code.OwnInstr.{OwnInstr}
+use Rattle.script_code.specs.declared.code.OwnInstr.TheVariants as own
 use Rattle.proc_core.specs.declared.process.SlotProcess.{SlotProcess}
 use Rattle.proc_core.specs.Slots.{slot_went_to}
 use Rattle.proc_core.specs.SlotReplies.{slot_close, slot_fetch, slot_count, slot_status}

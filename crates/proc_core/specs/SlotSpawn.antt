@@ -8,15 +8,15 @@ use Rattle.script_parse.specs.Script.{script_of}
 use Rattle.proc_core.specs.Types.{Value, Instr}
 use Rattle.run_model.specs.Core.{new_process}
 use Rattle.run_model.specs.StepFiles.{path_in}
-use Rattle.proc_core.specs.declared.code.Code.{Code}
-use Rattle.proc_core.specs.declared.code.SlotInstr.{SlotInstr}
-use Rattle.proc_core.specs.declared.code.SlotInstr.TheVariants.{Own, OnFiles, Spawn, Wait, Sql}
+use Rattle.script_code.specs.declared.code.Code.{Code}
+use Rattle.script_code.specs.declared.code.SlotInstr.{SlotInstr}
+use Rattle.script_code.specs.declared.code.SlotInstr.TheVariants.{Own, OnFiles, Spawn, Wait, Sql}
+use Rattle.script_code.specs.Resolved.{IsRead}
 use Rattle.proc_core.specs.declared.machine.Machine.{Machine}
 use Rattle.proc_core.specs.declared.process.SlotProcess.{SlotProcess}
 use Rattle.proc_core.specs.declared.program.Program.{Program}
 use Rattle.proc_core.specs.declared.program.Program.TheVariants.{Absent, Refused, Known, New}
 use Rattle.proc_core.specs.declared.spawning.Spawning.{Spawning}
-use Rattle.proc_core.specs.Resolved.{IsCode}
 use Rattle.proc_core.specs.Slots.{Holds, slot_value, slot_values, slot_went_on, slot_with_child}
 use Rattle.proc_core.specs.SlotStep.{next_slotted}
 
@@ -49,11 +49,6 @@ abbrev pub Runs : List Code → List SlotProcess → List ℕ → ℕ → Type 0
 Runs codes rs bytes index =
     (k : ℕ) × (r : SlotProcess) × (code : Code) × (slice_get rs k ≡ Some r) × (r.code ≡ index)
     × (slice_get codes index ≡ Some code) × (code.source ≡ bytes)
-
--- what bytes were read as: the resolved form of a script, or no script
-abbrev pub IsRead : List ℕ → Option Code → Type 0
-IsRead bytes None = script_of bytes ≡ None
-IsRead bytes (Some code) = (script : List Instr) × (script_of bytes ≡ Some script) × IsCode code script
 
 -- the same as what there is to run
 abbrev pub IsProgramRead : List ℕ → Program → Type 0

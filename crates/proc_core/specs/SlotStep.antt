@@ -5,9 +5,9 @@ use Rattle.std.specs.Prelude.{option_and_then, Bool, true, false, not, ◌&&◌,
 use Rattle.ldv_value.specs.FileState.{FileState}
 use Rattle.proc_core.specs.Types.{Int, Waited}
 use Rattle.run_model.specs.StepBase.{wrong_kind}
-use Rattle.proc_core.specs.declared.code.Code.{Code}
-use Rattle.proc_core.specs.declared.code.SlotInstr.{SlotInstr}
-use Rattle.proc_core.specs.declared.code.SlotInstr.TheVariants.{Own, OnFiles, Spawn, Wait, Sql}
+use Rattle.script_code.specs.declared.code.Code.{Code}
+use Rattle.script_code.specs.declared.code.SlotInstr.{SlotInstr}
+use Rattle.script_code.specs.declared.code.SlotInstr.TheVariants.{Own, OnFiles, Spawn, Wait, Sql}
 use Rattle.proc_core.specs.declared.process.SlotProcess.{SlotProcess}
 use Rattle.proc_core.specs.Slots.{child_at, slot_ended, slot_went_on, slot_with_variable}
 use Rattle.proc_core.specs.SlotOwn.{slot_own}

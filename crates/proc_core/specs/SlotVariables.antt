@@ -9,8 +9,8 @@ use Rattle.run_model.specs.StepBase.{wrong_kind, too_long, Yields}
 use Rattle.run_model.specs.StepVariables.{calculated, glued, to_number, first_place, before_place}
 use Rattle.run_model.specs.StepVariables.{after_place}
 use Rattle.run_model.specs.StepVariables.{printed_line, exit_status}
-use Rattle.proc_core.specs.declared.code.SlotOperand.{SlotOperand}
-use Rattle.proc_core.specs.declared.code.SlotOperand.TheVariants.{Slot}
+use Rattle.script_code.specs.declared.code.SlotOperand.{SlotOperand}
+use Rattle.script_code.specs.declared.code.SlotOperand.TheVariants.{Slot}
 use Rattle.proc_core.specs.declared.cut.CutParts.{CutParts}
 use Rattle.proc_core.specs.declared.process.SlotProcess.{SlotProcess}
 use Rattle.proc_core.specs.Slots.{slot_value, slot_values, slot_ended, slot_went_on, slot_went_to}

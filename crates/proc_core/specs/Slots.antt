@@ -9,9 +9,9 @@ use Rattle.proc_core.specs.Types.{Value, Instr}
 use Rattle.run_model.specs.Core.{Binding, lookup, OpenFile, Cursor, Process}
 use Rattle.run_model.specs.Outcome.{entry_reply}
 use Rattle.run_model.specs.StepBase.{Computed, Yields, Misused}
-use Rattle.proc_core.specs.declared.code.SlotOperand.{SlotOperand}
-use Rattle.proc_core.specs.declared.code.SlotOperand.TheVariants.{Constant, Slot}
-use Rattle.proc_core.specs.declared.code.Scope.{Scope}
+use Rattle.script_code.specs.declared.code.SlotOperand.{SlotOperand}
+use Rattle.script_code.specs.declared.code.SlotOperand.TheVariants.{Constant, Slot}
+use Rattle.script_code.specs.declared.code.Scope.{Scope}
 use Rattle.proc_core.specs.declared.computed.Computed.{Computed as Result}
 use Rattle.proc_core.specs.declared.computed.Computed.TheVariants as results
 use Rattle.proc_core.specs.declared.process.SlotCursor.{SlotCursor}

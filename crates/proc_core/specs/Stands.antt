@@ -6,10 +6,10 @@ use Rattle.script_parse.specs.Script.{script_of}
 use Rattle.proc_core.specs.Types.{Instr, Event}
 use Rattle.run_model.specs.Core.{Process, Core}
 use Rattle.run_model.specs.State.{State}
-use Rattle.proc_core.specs.declared.code.Code.{Code}
+use Rattle.script_code.specs.declared.code.Code.{Code}
+use Rattle.script_code.specs.Resolved.{IsCode}
 use Rattle.proc_core.specs.declared.machine.Machine.{Machine}
 use Rattle.proc_core.specs.declared.process.SlotProcess.{SlotProcess}
-use Rattle.proc_core.specs.Resolved.{IsCode}
 use Rattle.proc_core.specs.Slots.{Holds}
 
 -- a process by slots, whose resolved script is one of these

@@ -8,11 +8,11 @@ ghost use Rattle.proc_core.specs.SlotAsk.{statement_of, slot_ask, slot_ask_in, s
 ghost use Rattle.proc_core.specs.SlotStep.{HasRoom};
 ghost use Rattle.proc_core.specs.declared.process.SlotProcess.{SlotProcess};
 
-use crate::code::{SlotInstr, SlotOperands};
 use crate::machine::{Codes, Machine, next_in};
 use crate::process::{SlotCursor, SlotProcess};
 use crate::variables::value_of;
 use ldv_value::{Utf8, Value, Values};
+use script_code::{SlotInstr, SlotOperands};
 use sql_model::Reply;
 use std::alloc::{AllocError, Global};
 

@@ -8,12 +8,11 @@ ghost use Rattle.run_model.specs.Core.{Binding, argument_name, arguments_from, a
 ghost use Rattle.run_model.specs.Core.{new_process};
 ghost use Rattle.proc_core.specs.Slots.{value_held, Holds};
 
-use crate::code::Code;
 use crate::file_slots::FileSlots;
-use crate::names::NameTable;
 use crate::process::{SlotCursor, SlotProcess};
 use itoa::Buffer;
 use ldv_value::{Bytes, CopyItem, List, Parts, Utf8, Value, Values};
+use script_code::{Code, NameTable};
 use sql_model::Replies;
 use std::alloc::{AllocError, Global};
 
@@ -53,7 +52,6 @@ fn bind_first(names: &NameTable, name: &Utf8, value: Value, slots: &mut Values)
     ensures { (bs : Items (Binding Value)) → slots.old ≡ map (value_held bs) names.now
         → slots.new ≡ map (value_held (record { name = name.now; bound = value } ∷ bs)) names.now }
 {
-    names.know_distinct();
     match names.find(name) {
         None => {}
         Some(slot) => {

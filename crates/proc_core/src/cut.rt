@@ -8,11 +8,11 @@ ghost use Rattle.run_model.specs.StepVariables.{begins_with, first_place};
 ghost use Rattle.proc_core.specs.SlotVariables.{parts_at, parts_of, slot_cut, slot_cut_parts};
 ghost use Rattle.proc_core.specs.Slots.{slot_value};
 
-use crate::code::SlotOperand;
 use crate::computed::WRONG_KIND;
 use crate::process::SlotProcess;
 use crate::variables::{value_at, variable_at};
 use ldv_value::{Utf8, Value};
+use script_code::SlotOperand;
 use std::alloc::{AllocError, Global};
 
 /// The parts of a text around another.

@@ -3,11 +3,11 @@
 ghost use Rattle.std.specs.Prelude.{◌≡◌, ◌+◌, ◌<◌, ◌^◌, OnOk};
 ghost use Rattle.proc_core.specs.SlotOwn.{slot_own};
 
-use crate::code::OwnInstr;
 use crate::cut::cut;
 use crate::process::SlotProcess;
 use crate::replies::{close, count, fetch, status};
 use crate::variables::{calculate, exit, glue, jump_if, let_number, let_value, print};
+use script_code::OwnInstr;
 use std::alloc::{AllocError, Global};
 
 /// Executes an instruction that changes its own process only.

@@ -20,7 +20,6 @@ ghost use Rattle.proc_core.specs.SlotFiles.{Appended, slot_write_text, slot_on_o
 ghost use Rattle.proc_core.specs.SlotFiles.{slot_exists, slot_on_files};
 ghost use Rattle.proc_core.specs.Stands.{Told};
 
-use crate::code::{FileInstr, SlotOperand, SlotOperands};
 use crate::computed::{BAD_PATH, NOT_UTF8, TOO_LONG, WRONG_KIND};
 use crate::copy::copy;
 use crate::file_slots::SlotFile;
@@ -30,6 +29,7 @@ use crate::variables::{line_of, value_of};
 use file_tree::{AppendStop, Tree, TreeStop};
 use ldv_value::{Bytes, LineRead, OpenMode, Utf8, Value, is_path};
 use run_model::Tracer;
+use script_code::{FileInstr, SlotOperand, SlotOperands};
 use std::alloc::{AllocError, Global};
 
 // The path that a value is.

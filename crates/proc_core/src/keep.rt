@@ -17,7 +17,6 @@ ghost use Rattle.proc_core.specs.SlotStep.{slot_child_status, slot_status_in, sl
 ghost use Rattle.proc_core.specs.Stands.{IsCore, Told};
 ghost use Rattle.proc_core.specs.declared.process.SlotProcess.{SlotProcess};
 
-use crate::code::{FileInstr, OwnInstr, SlotInstr};
 use crate::computed::WRONG_KIND;
 use crate::execute::execute_own;
 use crate::files::execute_on_files;
@@ -28,6 +27,7 @@ use crate::tell::{Who, tell};
 use file_tree::Tree;
 use ldv_value::Value;
 use run_model::{Act, Tracer};
+use script_code::{FileInstr, OwnInstr, SlotInstr};
 use std::alloc::{AllocError, Global};
 
 /// Ends a process.

@@ -8,16 +8,15 @@ ghost use Rattle.run_model.specs.Core.{Core};
 ghost use Rattle.run_model.specs.Events.{event_at};
 ghost use Rattle.run_model.specs.Step.{quiet};
 ghost use Rattle.run_model.specs.StepBase.{bad_path};
+ghost use Rattle.script_code.specs.declared.code.Code.{Code};
 ghost use Rattle.proc_core.specs.Counts.{CountsBelow};
 ghost use Rattle.proc_core.specs.SlotReady.{Grows};
 ghost use Rattle.proc_core.specs.SlotSpawn.{HasChild, IsNoChild, slot_spawning_at};
 ghost use Rattle.proc_core.specs.SlotStep.{HasRoom};
 ghost use Rattle.proc_core.specs.Slots.{slot_ended, slot_went_to};
 ghost use Rattle.proc_core.specs.Stands.{IsCore, Told};
-ghost use Rattle.proc_core.specs.declared.code.Code.{Code};
 ghost use Rattle.proc_core.specs.declared.process.SlotProcess.{SlotProcess};
 
-use crate::code::Code;
 use crate::computed::BAD_PATH;
 use crate::keep::end_at;
 use crate::machine::Machine;
@@ -28,6 +27,7 @@ use crate::spawning::Spawning;
 use crate::tell::{PathAct, Who, tell_path};
 use ldv_value::{Utf8, Values};
 use run_model::Tracer;
+use script_code::Code;
 use std::alloc::AllocError;
 
 // Ends a process, whose value is no path.

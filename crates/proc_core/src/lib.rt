@@ -1,9 +1,9 @@
 //! The runtime: processes that run scripts over files and a database, under a scheduler.
 //!
-//! A script is resolved when it is read: a slot stands for each of its names (`specs/Resolved.antt`). A
-//! process holds values by slot (`specs/Slots.antt`), and each instruction is said over slots in the files
-//! beside it whose names begin with `Slot`. `specs/Stands.antt` says when a run is in a state of `run_model`;
-//! lemmas in `proofs/` say that a step over slots is then the step that `run_model` defines.
+//! A script is resolved when it is read: a slot stands for each of its names (`script_code`). A process holds
+//! values by slot (`specs/Slots.antt`), and each instruction is said over slots in the files beside it whose
+//! names begin with `Slot`. `specs/Stands.antt` says when a run is in a state of `run_model`; lemmas in
+//! `proofs/` say that a step over slots is then the step that `run_model` defines.
 //!
 //! Who may run is kept in a `ReadySet`: of each process whether it is runnable (`specs/Flags.antt`). The
 //! sorted list of its numbers is then the one that the scheduler chooses from; what happens to the flags as a
@@ -13,8 +13,6 @@
 
 mod ask;
 mod begin;
-mod code;
-mod collect;
 mod computed;
 mod copy;
 mod cut;
@@ -25,13 +23,11 @@ mod keep;
 mod launch;
 mod law;
 mod machine;
-mod names;
 mod outcome;
 mod process;
 mod program;
 mod ready;
 mod replies;
-mod resolve;
 mod run;
 mod schedule;
 mod spawn;

@@ -4,11 +4,11 @@ ghost use Rattle.std.specs.Prelude.{◌≡◌, ◌+◌, ◌<◌, ◌^◌, OnSome
 ghost use Rattle.std.specs.Option.{option_map};
 ghost use Rattle.proc_core.specs.SlotStep.{next_slotted, HasRoom};
 
-use crate::code::{Code, SlotInstr};
 use crate::process::SlotProcess;
 use file_tree::Tree;
 use ldv_value::{List, Numbers};
 use ready_set::ReadySet;
+use script_code::{Code, SlotInstr};
 use std::alloc::Global;
 use std::collections::BTreeMap;
 

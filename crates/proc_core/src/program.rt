@@ -1,14 +1,13 @@
 //! What there is to run at a path.
 
 ghost use Rattle.std.specs.Prelude.{◌≡◌, IfOk, IfSome};
-ghost use Rattle.proc_core.specs.SlotSpawn.{Runs, IsRead, IsProgramRead, IsProgramOf, IsProgram};
+ghost use Rattle.script_code.specs.Resolved.{IsRead};
+ghost use Rattle.proc_core.specs.SlotSpawn.{Runs, IsProgramRead, IsProgramOf, IsProgram};
 
-use crate::code::Code;
 use crate::machine::{Codes, Machine};
 use crate::process::SlotProcess;
-use crate::resolve::resolve;
-use ldv_value::{Bytes, MAX_PROCESSES, Utf8};
-use script_parse::{ScriptStop, parse_script};
+use ldv_value::{MAX_PROCESSES, Utf8};
+use script_code::{Code, read_code};
 use std::alloc::{AllocError, Global};
 
 /// What there is to run at a path.
@@ -52,20 +51,6 @@ fn read_program(alloc: Global, bytes: &[u8]) -> Result<Program, AllocError>
     match read_code(alloc, bytes)? {
         None => Ok(Program::Refused),
         Some(code) => Ok(Program::New(code)),
-    }
-}
-
-/// The resolved script of bytes, where they are one.
-pub(crate) fn read_code(alloc: Global, bytes: &[u8]) -> Result<Option<Code>, AllocError>
-    ensures { IfOk result (IsRead bytes.now) }
-{
-    match parse_script(alloc, bytes) {
-        Ok(script) => {
-            let source = Bytes::of_slice(alloc, bytes)?;
-            Ok(Some(resolve(alloc, source, &script.instructions)?))
-        }
-        Err(ScriptStop::Line(_)) => Ok(None),
-        Err(ScriptStop::NoMemory) => Err(AllocError),
     }
 }
 

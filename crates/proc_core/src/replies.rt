@@ -11,11 +11,11 @@ ghost use Rattle.proc_core.specs.SlotReplies.{slot_next_row, slot_with_values, s
 ghost use Rattle.proc_core.specs.SlotReplies.{slot_status};
 
 use crate::ask::set_cursor;
-use crate::code::Slots;
 use crate::computed::{Computed, NUMBER_TOO_LARGE, WRONG_KIND};
 use crate::process::{SlotCursor, SlotProcess};
 use crate::variables::assign;
 use ldv_value::{Value, Values};
+use script_code::Slots;
 use sql_model::Reply;
 use std::alloc::AllocError;
 

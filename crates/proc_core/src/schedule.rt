@@ -12,10 +12,10 @@ ghost use Rattle.proc_core.specs.SlotStep.{slot_still_runs};
 ghost use Rattle.proc_core.specs.Slots.{child_at};
 ghost use Rattle.proc_core.specs.Stands.{IsCore};
 
-use crate::code::SlotInstr;
 use crate::machine::{Codes, Machine, next_in};
 use crate::process::SlotProcess;
 use ready_set::ReadySet;
+use script_code::SlotInstr;
 
 fn still_runs(processes: &[SlotProcess], number: u32) -> bool
     ensures { result ≡ slot_still_runs (slice_get processes.now number) }

@@ -6,19 +6,19 @@ ghost use Rattle.std.specs.Prelude.{IfOk, OnOk, List as Items};
 ghost use Rattle.ldv_value.specs.Limits.{max_processes};
 ghost use Rattle.proc_core.specs.Types.{Instr};
 ghost use Rattle.run_model.specs.Core.{new_process};
+ghost use Rattle.script_code.specs.declared.code.Code.{Code};
 ghost use Rattle.proc_core.specs.Counts.{MaySpawn};
 ghost use Rattle.proc_core.specs.SlotSpawn.{HasChild, slot_parent, slot_with_new};
 ghost use Rattle.proc_core.specs.SlotStep.{HasRoom};
 ghost use Rattle.proc_core.specs.Slots.{Holds, slot_with_child};
-ghost use Rattle.proc_core.specs.declared.code.Code.{Code};
 ghost use Rattle.proc_core.specs.declared.process.SlotProcess.{SlotProcess};
 
 use crate::begin::begin;
-use crate::code::Code;
 use crate::machine::{Codes, Machine};
 use crate::process::SlotProcess;
 use ldv_value::Values;
 use ready_set::ReadySet;
+use script_code::Code;
 use std::alloc::{AllocError, Global};
 
 // A slot means a child.

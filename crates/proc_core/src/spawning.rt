@@ -6,11 +6,11 @@ ghost use Rattle.proc_core.specs.SlotSpawn.{slot_spawning, slot_spawning_in, slo
 ghost use Rattle.proc_core.specs.SlotStep.{HasRoom};
 
 use crate::ask::values_of;
-use crate::code::SlotInstr;
 use crate::files::path_of;
 use crate::machine::{Codes, Machine, next_in};
 use crate::process::SlotProcess;
 use ldv_value::{Utf8, Values};
+use script_code::SlotInstr;
 use std::alloc::{AllocError, Global};
 
 /// What a `spawn` says: a slot for the child, the path, none where the value isn't one, the arguments, and

@@ -6,21 +6,19 @@ ghost use Rattle.ldv_value.specs.FileState.{content_at, untouched};
 ghost use Rattle.script_parse.specs.Script.{script_of};
 ghost use Rattle.proc_core.specs.Types.{Instr, File, Text};
 ghost use Rattle.run_model.specs.Core.{new_process, start_core};
+ghost use Rattle.script_code.specs.Resolved.{IsCode, IsRead};
 ghost use Rattle.proc_core.specs.Counts.{CountsBelow};
-ghost use Rattle.proc_core.specs.Resolved.{IsCode};
 ghost use Rattle.proc_core.specs.SlotReady.{IsReady};
-ghost use Rattle.proc_core.specs.SlotSpawn.{IsRead};
 ghost use Rattle.proc_core.specs.Slots.{Holds};
 ghost use Rattle.proc_core.specs.Stands.{IsCore};
 
 use crate::begin::begin;
-use crate::code::Code;
 use crate::machine::{Codes, Machine};
 use crate::process::SlotProcess;
-use crate::program::read_code;
 use file_tree::Tree;
 use ldv_value::{Numbers, Parts, Utf8, Value, Values};
 use ready_set::ReadySet;
+use script_code::{Code, read_code};
 use std::alloc::{AllocError, Global};
 use std::collections::BTreeMap;
 

@@ -13,10 +13,10 @@ ghost use Rattle.proc_core.specs.SlotVariables.{slot_let, slot_calculate, slot_g
 ghost use Rattle.proc_core.specs.SlotVariables.{slot_jump_if, slot_jump_where, slot_print, slot_print_line};
 ghost use Rattle.proc_core.specs.SlotVariables.{slot_exit};
 
-use crate::code::{SlotOperand, SlotOperands};
 use crate::computed::{Computed, TOO_LONG, WRONG_KIND, calculated, glued, to_number};
 use crate::process::SlotProcess;
 use ldv_value::{Bytes, Cmp, CopyItem, PRINTED_LIMIT, Value, append_text, holds};
+use script_code::{SlotOperand, SlotOperands};
 use script_parse::CalcOp;
 use std::alloc::{AllocError, Global};
 

@@ -5,12 +5,15 @@ use Rattle.std.specs.List.{range_with_len, list_all}
 use Rattle.std.proofs.lemmas.Bool.{cases_lt, cases_eq, ne_eqb}
 use Rattle.std.proofs.lemmas.List.FromFn.{length-map-range_with_len, get_or-map-range_with_len, map-range_with_len_more, fill_by_all}
 use Rattle.std.proofs.lemmas.List.{get_or_past, length-set, length-map, get_or-map}
+use Rattle.std.proofs.lemmas.Option.{unwrap_or-slice_get}
 use Rattle.ldv_value.proofs.Booleans.{and-parts}
 use Rattle.table_store.specs.Types.{Cmp, Value, Null}
 use Rattle.sql_model.specs.Scope.{value_at}
-use Rattle.table_store.specs.Cells.{Cells, is_of_kind, null_passes, passes_test}
-use Rattle.table_store.specs.Grid.{Slot, slots_of, slot_of, values_at, kinds_of, no_cells, no_slot, new_slot, IsGrid, AreLong, IsRising, ArePushed, AreSet, fits_kinds, FitColumns, slot_null, slot_passes}
-use Rattle.table_store.proofs.FlagLaws.{same_below}
+use Rattle.column_store.specs.Cells.{Cells, is_of_kind}
+use Rattle.table_store.specs.Scans.{null_passes, passes_test}
+use Rattle.column_store.specs.Columns.{values_at, kinds_of, no_cells, AreLong, ArePushed, AreSet, FitColumns}
+use Rattle.table_store.specs.Grid.{Slot, slots_of, slot_of, no_slot, new_slot, IsGrid, IsRising, fits_kinds, slot_null, slot_passes}
+use Rattle.column_store.proofs.FlagLaws.{same_below}
 
 pub slots_len : (numbers since : List ℕ) (standing : List Bool) (columns : List Cells) → length (slots_of numbers since standing columns) ≡ length numbers
 slots_len numbers since standing columns = length-map-range_with_len (slot_of numbers since standing columns) 0 (length numbers)
@@ -250,23 +253,8 @@ pub ruleset grid_rules = (slots_len, slot_is, seen_len, seen_slot)
 
 -- ---- places of values
 
-pub place_past : (values : List Value) (place : ℕ) → length values ≤ place → value_at values place ≡ Null
-place_past [] place past = refl
-place_past (v ∷ values) zero past = absurd (omega (arith, past))
-place_past (v ∷ values) (suc place) past = place_past values place (omega (arith, past))
-
 pub place_index : (values : List Value) (place : ℕ) → value_at values place ≡ get_or values place Null
-place_index [] place = refl
-place_index (v ∷ values) zero = refl
-place_index (v ∷ values) (suc place) = place_index values place
-
-pub row_past : (columns : List Cells) (slot place : ℕ) → length columns ≤ place → value_at (values_at columns slot) place ≡ Null
-row_past columns slot place past = place_past (values_at columns slot) place (omega (arith, past, length-map columns (λ (column : Cells). get_or column.items slot Null)))
-
-pub row_place : (columns : List Cells) (slot place : ℕ) → place < length columns → value_at (values_at columns slot) place ≡ get_or (get_or columns place no_cells).items slot Null
-row_place columns slot place within = place_index (values_at columns slot) place ∙ get_or-map (λ (column : Cells). get_or column.items slot Null) columns place no_cells Null within
-
-pub ruleset place_rules = (row_past, row_place)
+place_index values place = unwrap_or-slice_get values place Null
 
 -- ---- a column that is looked through
 

@@ -1,4 +1,3 @@
-pub mod CellLaws
 pub mod ChangeLaws
 pub mod ChildIndexLaws
 pub mod ChildLaws
@@ -7,7 +6,6 @@ pub mod ChildSetLaws
 pub mod ChosenLaws
 pub mod ClaimLaws
 pub mod FirstLaws
-pub mod FlagLaws
 pub mod FormedLaws
 pub mod GivenKeyLaws
 pub mod GridLaws
@@ -16,7 +14,6 @@ pub mod IndexChangeLaws
 pub mod IndexLaws
 pub mod IndexViewLaws
 pub mod InsertLaws
-pub mod IntCellLaws
 pub mod KeptKeyLaws
 pub mod KeyMapLaws
 pub mod LaterLaws
@@ -30,6 +27,7 @@ pub mod RefusalLaws
 pub mod RekeyLaws
 pub mod RowLaws
 pub mod RowWalks
+pub mod ScanLaws
 pub mod SearchLaws
 pub mod StandingRows
 pub mod StoreChangeLaws

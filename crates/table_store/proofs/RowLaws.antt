@@ -6,7 +6,7 @@ use Rattle.std.proofs.lemmas.Bool.{cases_lt}
 use Rattle.std.proofs.lemmas.List.{length-map, get_or-map, get_or_past}
 use Rattle.row_version.specs.History.{History, current}
 use Rattle.table_store.specs.Types.{Cmp, Value, Null, TableRow}
-use Rattle.table_store.specs.Cells.{null_passes, passes_test}
+use Rattle.table_store.specs.Scans.{null_passes, passes_test}
 use Rattle.table_store.specs.Grid.{Slot, no_slot, new_slot, AreNumberedFrom, next_after, slot_null, slot_passes}
 use Rattle.table_store.specs.RowOrder.{AreInOrder}
 use Rattle.table_store.specs.Histories.{RowHistory, no_history, added}

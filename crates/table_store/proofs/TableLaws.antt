@@ -15,7 +15,8 @@ use Rattle.ldv_value.specs.Sorted.{is_strictly_sorted, precedes_first}
 use Rattle.row_version.specs.History.{current, version}
 use Rattle.sql_model.specs.Tables.{has_kind, each_value, fits, is_row, numbers_test, is_valid_table, are_keys_unique, row_values}
 use Rattle.table_store.specs.Types.{Cmp, Value, Null, Int, Text, Column, Table, TableRow}
-use Rattle.table_store.specs.Cells.{is_of_kind, passes_test}
+use Rattle.column_store.specs.Cells.{is_of_kind}
+use Rattle.table_store.specs.Scans.{passes_test}
 use Rattle.table_store.specs.Grid.{fits_kinds, are_of_kinds, AreNumberedFrom, next_after}
 use Rattle.table_store.specs.Histories.{RowHistory, no_history, slot_of_row, row_of, row_now, rows_now, is_of_number, history_of_row, version_now, added, table_now}
 use Rattle.table_store.specs.KeyIndex.{Held, AreHeld, AreIndexed}

@@ -2,7 +2,7 @@
 use Rattle.std.specs.Prelude.{◌≡◌, List, Bool, true, false, not, slice_get, slice_index_or}
 use Rattle.std.specs.List.{list_all, AllByRecursion}
 use Rattle.std.specs.Option.{option_map_or}
-use Rattle.table_store.specs.Cells.{null_passes, passes_test}
+use Rattle.table_store.specs.Scans.{null_passes, passes_test}
 use Rattle.table_store.specs.Histories.{RowHistory, row_now}
 use Rattle.table_store.specs.Types.{Column, Null, TableRow, Value}
 use Rattle.table_store.specs.declared.cell_test.CellTest.{CellTest}

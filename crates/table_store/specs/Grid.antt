@@ -3,7 +3,9 @@ use Rattle.std.specs.Prelude.{◌≡◌, ◌==◌, ℕ, ℤ, ◌+◌, ◌<◌, �
 use Rattle.std.specs.Prelude.{◌++◌, length, map, zip, slice_index, slice_index_or, slice_set}
 use Rattle.std.specs.List.{range_with_len, list_all}
 use Rattle.table_store.specs.Types.{Cmp, Value, Null, TableRow}
-use Rattle.table_store.specs.Cells.{Cells, is_of_kind, null_passes, passes_test}
+use Rattle.column_store.specs.Cells.{Cells, is_of_kind}
+use Rattle.column_store.specs.Columns.{AreLong, kinds_of, values_at}
+use Rattle.table_store.specs.Scans.{null_passes, passes_test}
 use Rattle.table_store.specs.declared.grid.Grid.TheInside.{Inside}
 
 -- a row in its slot: since when it has its first values, whether it stands, and its last values
@@ -19,18 +21,8 @@ pub record Rows : Type 0 where
   pub kinds : List Bool
   pub next : ℕ
 
-abbrev pub no_cells : Cells
-no_cells = record { text = false; items = []; spare = 0 }
-
 abbrev pub no_slot : Slot
 no_slot = record { number = 0; since = 0; stands = false; values = [] }
-
--- the cell of each column in a slot
-abbrev pub values_at : List Cells → ℕ → List Value
-values_at columns slot = map (λ column. slice_index_or column.items slot Null) columns
-
-abbrev pub kinds_of : List Cells → List Bool
-kinds_of columns = map (λ column. column.text) columns
 
 abbrev pub slot_of : List ℕ → List ℕ → List Bool → List Cells → ℕ → Slot
 slot_of numbers since standing columns slot = record {
@@ -55,10 +47,6 @@ seen_rows a = record {
 abbrev pub IsRising : List ℕ → Type 0
 IsRising numbers = (i j : ℕ) → i < j → j < length numbers → slice_index numbers i < slice_index numbers j
 
-abbrev pub AreLong : ℕ → List Cells → Type 0
-AreLong count columns = (k : ℕ) → k < length columns
-    → length (slice_index_or columns k no_cells).items ≡ count
-
 -- the parts fit together
 pub record IsGrid (numbers since : List ℕ) (standing : List Bool) (columns : List Cells) (next : ℕ)
     : Type 0 where
@@ -72,31 +60,10 @@ pub record IsGrid (numbers since : List ℕ) (standing : List Bool) (columns : L
 abbrev pub IsTable : Inside → Type 0
 IsTable a = IsGrid a.numbers.items a.since.items a.standing.items a.columns.items a.next
 
--- each column has a cell more
-pub record ArePushed (old : List Cells) (values : List Value) (new : List Cells) : Type 0 where
-  pub count : length new ≡ length old
-  pub cells : (k : ℕ) → k < length old → (slice_index_or new k no_cells).items
-      ≡ (slice_index_or old k no_cells).items ++ slice_index_or values k Null ∷ []
-  pub kinds : (k : ℕ) → k < length old → (slice_index_or new k no_cells).text
-      ≡ (slice_index_or old k no_cells).text
-
--- each column has another cell in a slot
-pub record AreSet (old : List Cells) (slot : ℕ) (values : List Value) (new : List Cells) : Type 0 where
-  pub count : length new ≡ length old
-  pub cells : (k : ℕ) → k < length old → (slice_index_or new k no_cells).items
-      ≡ slice_set (slice_index_or old k no_cells).items slot (slice_index_or values k Null)
-  pub kinds : (k : ℕ) → k < length old → (slice_index_or new k no_cells).text
-      ≡ (slice_index_or old k no_cells).text
-
 -- a value for each column, of its kind
 abbrev pub fits_kinds : List Bool → List Value → Bool
 fits_kinds kinds values = (length values == length kinds)
     && list_all (λ p. is_of_kind p.0 p.1) (zip kinds values)
-
--- the same column by column
-abbrev pub FitColumns : List Cells → List Value → Type 0
-FitColumns columns values = (k : ℕ) → k < length columns
-    → is_of_kind (slice_index_or columns k no_cells).text (slice_index_or values k Null) ≡ true
 
 -- ---- rows that are added
 

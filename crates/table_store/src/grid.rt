@@ -10,18 +10,16 @@ ghost use Rattle.ldv_value.specs.Order.{order};
 ghost use Rattle.table_store.specs.Types.{Null};
 ghost use Rattle.sql_model.specs.Keys.{values_at};
 ghost use Rattle.sql_model.specs.Scope.{value_at};
-ghost use Rattle.table_store.specs.LentCells.{lent_value};
+ghost use Rattle.column_store.specs.LentCells.{lent_value};
 ghost use Rattle.table_store.specs.Grid.{IsRising, Slot, no_slot, fits_kinds, are_of_kinds, AreNumberedFrom};
 ghost use Rattle.table_store.specs.Grid.{next_after, new_slot, slot_null, slot_passes};
 
-use crate::bits::Bits;
-use crate::cell::Cell;
-use crate::column::Column;
-use crate::columns::{
-    cell_at, compare_cells, copy_cells, empty_columns, keep_nulls_at, reserve_cells, set_cells,
-};
-use crate::grow::reserve_eighth;
 use crate::push::push_rows;
+use crate::scan::{keep_nulls_at, select};
+use column_store::{
+    Bits, Cell, Column, cell_at, compare_cells, copy_cells, empty_columns, reserve_cells,
+    reserve_eighth, set_cells,
+};
 use lanes::and_into;
 use ldv_value::{Cmp, Places, Values};
 use sql_model::TableRows;
@@ -153,7 +151,7 @@ impl Grid {
             (slice_index_or self.now.slots n no_slot) }
     {
         let chosen = &self.columns[column];
-        chosen.select(op, constant, mask);
+        select(chosen, op, constant, mask);
         and_into(mask, self.standing.words());
     }
 

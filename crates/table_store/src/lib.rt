@@ -20,15 +20,15 @@
 //!   `tell_times` and `tell_few` lend a caller what is known of the order of its rows, of their changes and
 //!   of their number.
 //!
-//! How a table is kept: the last values of its rows stand in columns, one for each column of the schema. A
-//! column of INT is a list of words with a bit for each NULL, and one of TEXT a list of values (`column`).
-//! A bit says of each row whether it stands (`grid`). A row that has changed has a chain of `row_version`
-//! beside it (`chains`, `rows`). An index has the number of each row under its key (`index`): in a map of
-//! numbers where a key is one number, and in a map of lists of values otherwise (`key_map`). The index may
-//! have keys that no row has any more, so that a change that fails half way needn't take keys back: whoever
-//! looks up a key looks at the row too. Another index has, for each foreign key, the numbers of rows under
-//! the keys to which they refer (`child_set`, `child_index`). By it the rows that would lose their parent are
-//! found (`child_rows`), and it too may have more than what is so now.
+//! How a table is kept: the last values of its rows stand in columns (`column_store`), one for each column
+//! of the schema. A bit says of each row whether it stands (`grid`). A scan goes over the words that a
+//! column lends and over these bits (`scan`). A row that has changed has a chain of `row_version` beside it
+//! (`chains`, `rows`). An index has the number of each row under its key (`index`): in a map of numbers
+//! where a key is one number, and in a map of lists of values otherwise (`key_map`). The index may have keys
+//! that no row has any more, so that a change that fails half way needn't take keys back: whoever looks up a
+//! key looks at the row too. Another index has, for each foreign key, the numbers of rows under the keys to
+//! which they refer (`child_set`, `child_index`). By it the rows that would lose their parent are found
+//! (`child_rows`), and it too may have more than what is so now.
 //!
 //! How rows change: all room that a change takes is made first (`room`), and then the change can't fail
 //! (`apply`). Keys of new rows go into the index one after the other (`claim`). Where rows get other
@@ -39,8 +39,6 @@
 #![tactic(auto)]
 
 mod apply;
-mod bits;
-mod cell;
 mod cell_test;
 mod chains;
 mod change;
@@ -51,15 +49,11 @@ mod children;
 mod chosen;
 mod claim;
 mod clash;
-mod column;
-mod columns;
 mod given;
 mod grid;
-mod grow;
 mod high_keys;
 mod index;
 mod insert;
-mod int_column;
 mod key_map;
 mod nexts;
 mod parent_rows;
@@ -69,13 +63,14 @@ mod refusals;
 mod rekey;
 mod room;
 mod rows;
+mod scan;
 mod stop;
 mod store;
 mod table;
 mod table_rows;
 
-pub use cell::Cell;
 pub use cell_test::{CellTest, ColumnTest};
+pub use column_store::Cell;
 pub use stop::StoreStop;
 pub use store::Store;
 pub use table::TableStore;

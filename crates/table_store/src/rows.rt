@@ -9,8 +9,8 @@ ghost use Rattle.lanes.specs.Sets.{member};
 ghost use Rattle.ldv_value.specs.Order.{order};
 ghost use Rattle.sql_model.specs.Keys.{values_at};
 ghost use Rattle.sql_model.specs.Scope.{value_at};
-ghost use Rattle.table_store.specs.LentCells.{lent_value};
-ghost use Rattle.table_store.specs.Cells.{null_passes, passes_test};
+ghost use Rattle.column_store.specs.LentCells.{lent_value};
+ghost use Rattle.table_store.specs.Scans.{null_passes, passes_test};
 ghost use Rattle.table_store.specs.Types.{Null};
 ghost use Rattle.row_version.specs.History.{written, current, as_of, version};
 ghost use Rattle.table_store.specs.Grid.{are_of_kinds, AreNumberedFrom, next_after};
@@ -19,11 +19,11 @@ ghost use Rattle.table_store.specs.RowChanges.{changes_given, RiseFrom, AllFitKi
 ghost use Rattle.table_store.specs.RowOrder.{AreInOrder};
 
 use crate::apply::apply_all;
-use crate::cell::Cell;
 use crate::chains::Chains;
 use crate::change::RowChange;
 use crate::grid::Grid;
 use crate::room::make_room;
+use column_store::Cell;
 use ldv_value::{Cmp, Places, Values};
 use sql_model::TableRows;
 use std::alloc::{AllocError, Global};

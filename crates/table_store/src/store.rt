@@ -10,7 +10,7 @@ ghost use Rattle.row_version.specs.History.{current};
 ghost use Rattle.ldv_value.specs.Sorted.{text_precedes};
 ghost use Rattle.sql_model.specs.Scope.{catalog_of, table_at};
 ghost use Rattle.sql_model.specs.Tables.{AreWellFormed, have_distinct_columns, is_database, is_valid_table};
-ghost use Rattle.table_store.specs.Cells.{null_passes, passes_test};
+ghost use Rattle.table_store.specs.Scans.{null_passes, passes_test};
 ghost use Rattle.table_store.specs.Histories.{history_at, is_history, table_now, tables_now, last_since};
 ghost use Rattle.table_store.specs.Histories.{rows_after, next_number_after, AreKeptBefore, changed_at};
 ghost use Rattle.table_store.specs.Histories.{inserted, replaced, removed, version_now, history_of_row};

@@ -1,5 +1,5 @@
 use Rattle.std.proofs.Common.{◌≡◌, ℕ, List, [], ◌∷◌, ◌++◌, get_or, ap, ◌∙◌}
-use Rattle.proc_core.specs.declared.code.Code.{Code}
+use Rattle.script_code.specs.declared.code.Code.{Code}
 use Rattle.proc_core.proofs.AtNumber.{item_same}
 use Rattle.proc_core.proofs.Launching.{holds_so}
 use Rattle.proc_core.proofs.spawn.new_child.Goals as goal

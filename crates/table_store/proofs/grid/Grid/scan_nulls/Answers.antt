@@ -1,8 +1,9 @@
 use Rattle.std.proofs.Common.{◌≡◌, ◌∙◌, ◌+◌, ◌/◌, ◌&&◌, ap, sym, ℕ, List, length, get_or}
 use Rattle.lanes.specs.Sets.{member}
 use Rattle.sql_model.specs.Scope.{value_at}
-use Rattle.table_store.specs.Cells.{null_passes}
-use Rattle.table_store.specs.Grid.{Slot, Rows, no_slot, slot_null, values_at}
+use Rattle.table_store.specs.Scans.{null_passes}
+use Rattle.column_store.specs.Columns.{values_at}
+use Rattle.table_store.specs.Grid.{Slot, Rows, no_slot, slot_null}
 use Rattle.table_store.proofs.GridLaws.{seen_len, nulls_slot}
 use Rattle.table_store.proofs.grid.Grid.scan_nulls.Goals as goal
 

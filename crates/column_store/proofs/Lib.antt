@@ -1,0 +1,4 @@
+pub mod CellLaws
+pub mod ColumnLaws
+pub mod FlagLaws
+pub mod IntCellLaws

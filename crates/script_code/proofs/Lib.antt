@@ -1,0 +1,4 @@
+pub mod KnownNames
+pub mod NameTables
+pub mod Resolving
+pub mod SlotLists

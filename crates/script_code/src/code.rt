@@ -1,0 +1,196 @@
+//! Resolved scripts: instructions that name slots.
+
+ghost use Rattle.script_code.specs.Resolved.{IsScope};
+
+use crate::names::NameTable;
+use ldv_value::{Bytes, Cmp, List, OpenMode, Value};
+use script_parse::CalcOp;
+use std::alloc::Global;
+
+/// What an instruction takes: a constant, or the value in the slot of a variable.
+#[derive(Drop)]
+pub enum SlotOperand {
+    Constant(Value),
+    Slot(usize),
+}
+
+/// Operands, in the order of the line.
+pub type SlotOperands = List<SlotOperand>;
+
+/// Slots of variables, in the order of the line.
+pub type Slots = List<usize>;
+
+/// An instruction that changes its own process only.
+#[derive(Drop)]
+pub enum OwnInstr {
+    /// `let x = v`
+    Let {
+        to: usize,
+        value: SlotOperand,
+    },
+    /// `let x = v + w`, also `-` and `*`
+    Calc {
+        to: usize,
+        op: CalcOp,
+        left: SlotOperand,
+        right: SlotOperand,
+    },
+    /// `let x = v ++ w`
+    Glue {
+        to: usize,
+        left: SlotOperand,
+        right: SlotOperand,
+    },
+    /// `let x = int v`
+    ToInt {
+        to: usize,
+        value: SlotOperand,
+    },
+    /// `cut x y v`: x is `before`, y is `after`
+    Cut {
+        before: usize,
+        after: usize,
+        by: SlotOperand,
+    },
+    /// `goto L`
+    Jump {
+        place: u32,
+    },
+    /// `if v = w goto L`, and the other comparisons
+    JumpIf {
+        op: Cmp,
+        left: SlotOperand,
+        right: SlotOperand,
+        place: u32,
+    },
+    /// `print v v*`
+    Print {
+        values: SlotOperands,
+    },
+    /// `exit v`
+    Exit {
+        status: SlotOperand,
+    },
+    /// `close f`
+    Close {
+        file: usize,
+    },
+    /// `fetch c x x* else L`
+    Fetch {
+        cursor: usize,
+        to: Slots,
+        place: u32,
+    },
+    /// `count x c`
+    Count {
+        to: usize,
+        cursor: usize,
+    },
+    /// `status x c`
+    Status {
+        to: usize,
+        cursor: usize,
+    },
+}
+
+/// An instruction that changes its own process and files.
+#[derive(Drop)]
+pub enum FileInstr {
+    /// `open f M v else L`
+    OpenPath {
+        file: usize,
+        mode: OpenMode,
+        path: SlotOperand,
+        place: u32,
+    },
+    /// `readline x f else L`
+    ReadLine {
+        to: usize,
+        file: usize,
+        place: u32,
+    },
+    /// `write f v v*`
+    WriteLine {
+        file: usize,
+        values: SlotOperands,
+    },
+    /// `copy f g`: f is `source`, g is `target`
+    CopyRest {
+        source: usize,
+        target: usize,
+    },
+    /// `remove v else L`
+    Remove {
+        path: SlotOperand,
+        place: u32,
+    },
+    /// `exists x v`
+    Exists {
+        to: usize,
+        path: SlotOperand,
+    },
+}
+
+/// An instruction of `script_parse`, in which a slot stands for each name. A slot is the index of the name
+/// among the names of its kind, and `place` is the place of a label, as there.
+#[derive(Drop)]
+pub enum SlotInstr {
+    /// Changes its own process only.
+    Own(OwnInstr),
+    /// Changes its own process and files.
+    OnFiles(FileInstr),
+    /// `spawn p v v* else L`
+    Spawn {
+        child: usize,
+        path: SlotOperand,
+        arguments: SlotOperands,
+        place: u32,
+    },
+    /// `wait x p`
+    Wait {
+        to: usize,
+        child: usize,
+    },
+    /// `sql c v v*`
+    Sql {
+        cursor: usize,
+        text: SlotOperand,
+        params: SlotOperands,
+    },
+}
+
+/// Instructions, in the order of the lines.
+pub type SlotInstrs = List<SlotInstr>;
+
+/// The names of a script, each kind in a name space of its own.
+#[derive(Drop)]
+pub struct Scope {
+    pub variables: NameTable,
+    pub files: NameTable,
+    pub cursors: NameTable,
+    pub children: NameTable,
+}
+
+impl Scope {
+    /// A scope of no name.
+    #[tactic(auto, using(crate::proofs::KnownNames::distinct_none))]
+    pub(crate) fn new(alloc: Global) -> Scope
+        ensures { IsScope result }
+    {
+        Scope {
+            variables: NameTable::new(alloc),
+            files: NameTable::new(alloc),
+            cursors: NameTable::new(alloc),
+            children: NameTable::new(alloc),
+        }
+    }
+}
+
+/// A resolved script, which all processes that run it share, with the bytes that it was read from.
+#[derive(Drop)]
+pub struct Code {
+    /// The bytes that were read.
+    pub source: Bytes,
+    pub scope: Scope,
+    pub instructions: SlotInstrs,
+}
